@@ -32,6 +32,6 @@ none_false false m e = refl
 pub past_end : (xs : List ℕ) → position ends_line xs ≡ None → length xs ≤ position_or_len ends_line xs
 past_end xs e = let no = none_false _ _ e in grind (arith, nat_tests)
 
--- where there is none, all is one line
+-- if there is none, everything is one line
 pub lines_of-None : (xs : List ℕ) → position ends_line xs ≡ None → lines_of xs ≡ xs ∷ []
 lines_of-None xs e = let past = past_end xs e in slice_split_none ends_line xs (λ k d h. fails_before_first ends_line xs k d (omega arith))

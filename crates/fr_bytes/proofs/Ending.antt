@@ -1,4 +1,4 @@
--- Which lines end in the bytes of an input, and what has begun behind the last of them.
+-- Which lines end in the bytes of an input, and what has begun after the last of them.
 use Rattle.std.proofs.Common.{◌≡◌, ◌∙◌, ℕ, ◌+◌, ◌<◌, ◌≤◌, ◌==◌, Bool, true, false, List, [], ◌∷◌, ◌++◌, length, get_or, take, refl, sym, ap, subst}
 use Rattle.std.proofs.Common.{Option, Some, None, not, unwrap_or, ⊎_elim, arith}
 use Rattle.std.proofs.lemmas.Bool.{cases_lt}
@@ -14,11 +14,11 @@ use Rattle.fr_bytes.proofs.Cutting.{past_end}
 abbrev pub ends_line : ℕ → Bool
 ends_line x = x == 10
 
--- there is at most one line more than there are bytes
+-- there is at most one more line than there are bytes
 pub few_lines : (xs : List ℕ) → length (lines_of xs) ≤ length xs + 1
 few_lines xs = omega (arith, length-slice_split ends_line xs, count_by-le-length ends_line xs)
 
--- the lines of these bytes: those that have ended, and then the one that has begun, with which the bytes behind go on
+-- the lines of these bytes: those that have ended, and then the one that has begun, which the bytes after it continue
 pub record Parted (xs : List ℕ) : Type 0 where
   pub ended : List (List ℕ)
   pub begun : List ℕ
@@ -86,15 +86,15 @@ module _ (xs begun : List ℕ) (ended : List (List ℕ)) (cut : lines_of xs ≡ 
   same_parts : (ended ≡ (parted xs).ended) × (begun ≡ (parted xs).begun)
   same_parts = same_from_push ended (parted xs).ended begun (parted xs).begun (sym cut ∙ (parted xs).cut)
 
-  -- the line that has begun goes on with the bytes behind it
+  -- the bytes after it continue the line that has begun
   pub lines_go_on : (ys : List ℕ) → lines_of (xs ++ ys) ≡ ended ++ lines_of (begun ++ ys)
   lines_go_on ys = let same = same_parts in (parted xs).goes_on ys ∙ (λ i. sym same.0 i ++ lines_of (sym same.1 i ++ ys))
 
-  -- it has no byte 10,
+  -- it has no byte 10
   pub begun_alone : lines_of begun ≡ begun ∷ []
   begun_alone = subst (λ (b : List ℕ). lines_of b ≡ b ∷ []) (sym same_parts.1) (parted xs).alone
 
-  -- and is no longer than the bytes
+  -- it is no longer than the bytes
   pub begun_short : length begun ≤ length xs
   begun_short = subst (λ (b : List ℕ). length b ≤ length xs) (sym same_parts.1) (parted xs).short
 
@@ -115,7 +115,7 @@ begun_later x begun alone = of (ends_line x) refl
         ∙ (sym (slice_split-cons_no ends_line x begun within) ∙ alone) in
         (within, rest.cut ∙ only rest.ended rest.begun one)
 
--- where a line has begun, the first line of the bytes behind it goes on with it
+-- if a line has begun, the first line of the bytes after it continues it
 pub line_goes_on : (begun piece front : List ℕ) (behind : List (List ℕ)) → lines_of begun ≡ begun ∷ []
     → lines_of piece ≡ front ∷ behind → lines_of (begun ++ piece) ≡ (begun ++ front) ∷ behind
 line_goes_on [] piece front behind alone lines = lines
@@ -126,23 +126,23 @@ line_goes_on (x ∷ begun) piece front behind alone lines =
 none_before : (xs : List ℕ) → All (λ x. ends_line x ≡ false) (before_first ends_line xs)
 none_before xs = λ k d h. let k' = fails_before_first ends_line xs k d (grind (arith, common_steps)) in grind (arith, common_steps)
 
--- what stands before the first byte 10 is one line,
+-- what is before the first byte 10 is one line
 pub front_alone : (xs : List ℕ) → lines_of (before_first ends_line xs) ≡ before_first ends_line xs ∷ []
 front_alone xs = slice_split_none ends_line (before_first ends_line xs) (none_before xs)
 
--- and all where no byte 10 is
+-- everything is one line if there is no byte 10
 pub front_whole : (xs : List ℕ) → length xs ≤ position_or_len ends_line xs → before_first ends_line xs ≡ xs
 front_whole xs none = take_all (position_or_len ends_line xs) xs none
 
 pub one_line : (xs : List ℕ) → length xs ≤ position_or_len ends_line xs → lines_of xs ≡ xs ∷ []
 one_line xs none = subst (λ (l : List ℕ). lines_of l ≡ l ∷ []) (front_whole xs none) (front_alone xs)
 
--- where the first byte 10 was found, which is at the end where there is none
+-- where the first byte 10 is, or the end if there is none
 pub end_or_all : (xs : List ℕ) (found : Option ℕ) → position ends_line xs ≡ found → unwrap_or found (length xs) ≡ position_or_len ends_line xs
 end_or_all xs (Some i) found = let at = position-Some ends_line xs i 0 found in sym (position_or_len_is ends_line xs i 0 (omega arith) at.2 (λ _. at.1))
 end_or_all xs None found = omega (arith, past_end xs found, prefix_len-le-length (λ x. not (ends_line x)) xs)
 
--- the first line is what stands before the first byte 10
+-- the first line is what is before the first byte 10
 pub first_line_is : (xs : List ℕ) → (behind : List (List ℕ)) × (lines_of xs ≡ before_first ends_line xs ∷ behind)
 first_line_is xs =
     ⊎_elim

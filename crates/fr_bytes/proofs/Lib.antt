@@ -1,4 +1,4 @@
--- parts of a list, put together
+-- parts of a list, joined
 pub mod Pieces
 -- cutting off the first line
 pub mod Cutting

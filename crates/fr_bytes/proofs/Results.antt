@@ -1,4 +1,4 @@
--- What holds where a result is an error, or is none, holds of the result.
+-- What holds if a result is an error, or if it is not, holds of the result.
 use Rattle.std.proofs.Common.{◌≡◌, Result, Ok, Err, IfErr, IsErrAnd, OnErr, OnOk, subst, sym}
 
 pub on_ok : {T E : Type 0} (r : Result T E) (P : Type 0) → P → OnOk r P
@@ -9,7 +9,7 @@ pub on_err : {T E : Type 0} (r : Result T E) (P : Type 0) → P → OnErr r P
 on_err (Ok x) P h = tt
 on_err (Err e) P h = h
 
--- what holds of a fault holds of the result of the `?` that hands it on
+-- what holds of a fault holds of the result of the `?` that returns it
 pub handed_on : {T E : Type 0} (r : Result T E) (fault : E) (P : E → Type 0) → IsErrAnd r (λ y. y ≡ fault) → P fault
     → IfErr r P
 handed_on (Ok x) fault P is h = tt

@@ -10,15 +10,16 @@ use crate::fault::RunFault;
 use std::alloc::Global;
 use std::io::Read;
 
-/// The most bytes of an input.
+/// The greatest number of bytes of an input.
 pub const MAX_BYTES: usize = 16_777_216;
 
-/// How many bytes of an input are asked for at once.
+/// How many bytes of an input are requested at once.
 pub const PIECE: usize = 65_536;
 
-/// All that the reader has, if that is at most [`MAX_BYTES`]; whatever the result, at most one byte more is read.
-/// `Read` where a read failed, `TooLong` where the reader has more, `Memory` where bytes that it gave found no room;
-/// never `Write` or `Start`. `O(b)` for b bytes read.
+/// Reads all bytes of the reader, at most [`MAX_BYTES`]. In every case it reads at most one byte more than that.
+///
+/// Fails with `Read` if a read fails, with `TooLong` if the reader has more bytes, and with `Memory` if there is no
+/// memory for bytes that were read. It never fails with `Write` or `Start`. O(b) for b bytes read.
 pub fn read_input<R: Read>(alloc: Global, reader: &mut R) -> Result<Vec<u8>, RunFault>
     ensures ok { IfOk result (λ input. ReadsInput (R.remaining reader.old) (R.remaining reader.new) input.items) }
     ensures limit { ReadsAtMostOneTooMany (R.remaining reader.old) (R.remaining reader.new) }
@@ -28,7 +29,7 @@ pub fn read_input<R: Read>(alloc: Global, reader: &mut R) -> Result<Vec<u8>, Run
     read_by_pieces(alloc, reader, &mut piece)
 }
 
-/// The same, by reads of at most so many bytes as this piece has.
+/// Does the same, by reads of at most as many bytes as `piece` has.
 fn read_by_pieces<R: Read>(
     alloc: Global,
     reader: &mut R,
@@ -53,8 +54,8 @@ fn read_by_pieces<R: Read>(
     Err(RunFault::TooLong)
 }
 
-/// Reads once, into a piece, and tells how many bytes came. Where the piece has room, a read that succeeds brings a
-/// byte, or the reader is at its end; a read that fails is `Read`. It costs what the read does.
+/// Reads once into `piece`, and returns how many bytes were read. If `piece` is not empty and the result is 0, the
+/// reader is at its end. Fails with `Read` if the read fails. The cost is that of the read.
 pub fn read_piece<R: Read>(reader: &mut R, piece: &mut [u8]) -> Result<usize, RunFault>
     ensures brings { IfOk result (λ count. count ≡ 0 → 0 < length piece.old → IsAtEnd (R.remaining reader.new)) }
     ensures bytes { IfOk result (λ count. Consumes (R.remaining reader.old) (R.remaining reader.new) (take count piece.new)) }

@@ -1,8 +1,8 @@
-//! Inputs and outputs as bytes, over whatever readers and writers a caller has.
+//! Input and output as bytes, over any readers and writers.
 //!
-//! [`read_input`] reads all of an input, and [`read_piece`] what comes of one at once. [`Lines`] goes through the
-//! lines of an input, [`first_line`] cuts off the first, and [`front_size`] tells how long it is. [`write_whole`]
-//! writes a text, [`write_out`] also flushes, and [`RunFault`] says why one of the programs stopped.
+//! [`read_input`] reads all of an input, and [`read_piece`] reads once. [`Lines`] iterates over the lines of an input,
+//! [`first_line`] splits off the first one, and [`front_size`] returns its length. [`write_whole`] writes bytes, and
+//! [`write_out`] also flushes. [`RunFault`] says why one of the programs stopped.
 #![tactic(auto)]
 
 mod fault;

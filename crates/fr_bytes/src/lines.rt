@@ -6,15 +6,15 @@ ghost use Rattle.std.specs.Option.{option_copied, option_map_or};
 ghost use Rattle.std.specs.Iterator.{YieldsFirstRef, item_count};
 ghost use Rattle.fr_bytes.specs.Lines.{lines_of, lines_left};
 
-/// The lines of an input, one after the other. What stands behind the last byte 10 is a line too, empty or not. To go
-/// through all is linear in the input.
+/// Iterates over the lines of an input. The bytes after the last newline (byte 10) are a line too, even if there are
+/// none. Iterating over all lines takes linear time.
 #[derive(Drop)]
 pub struct Lines<'a> {
     rest: Option<&'a [u8]>,
 }
 
 impl<'a> Lines<'a> {
-    /// The lines of this input. `O(1)`.
+    /// The lines of this input. O(1).
     pub fn new(input: &'a [u8]) -> Lines<'a>
         ensures { lines_left result ≡ lines_of input.now }
     {
@@ -36,7 +36,8 @@ impl<'a> Iterator for Lines<'a> {
     }
 }
 
-/// The first line of a text, and what stands behind its byte 10, if it has one. `O(b)` for a line of b bytes.
+/// Splits a text after its first line: returns the line, and the text after its newline if it has one. O(b) for a line
+/// of b bytes.
 pub fn first_line(text: &[u8]) -> (&[u8], Option<&[u8]>)
     ensures first { lines_of text.now ≡ result.0.now ∷ option_map_or lines_of (option_copied result.1) [] }
     ensures shorter { IfSome result.1 (λ rest. length rest.now < length text.now) }
@@ -47,15 +48,14 @@ pub fn first_line(text: &[u8]) -> (&[u8], Option<&[u8]>)
     }
 }
 
-/// Where the first line of a text ends, if there is a byte 10.
+/// Where the first line of a text ends, if it has a newline.
 fn line_end(text: &[u8]) -> Option<usize>
     ensures { result ≡ position (λ x. x == 10) text.now }
 {
     text.iter().position(|byte| *byte == b'\n')
 }
 
-/// How many bytes of a text stand before its first byte 10, which is all of them where there is none. `O(b)` for b of
-/// these.
+/// How many bytes of a text are before its first newline: all of them if there is none. O(b) for b of these bytes.
 pub fn front_size(text: &[u8]) -> usize
     ensures { result ≡ position_or_len (λ x. x == 10) text.now }
 {

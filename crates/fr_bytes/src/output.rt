@@ -1,4 +1,4 @@
-//! Writing all of some bytes, or a beginning of them where a write fails.
+//! Writing all of some bytes, or a beginning of them if a write fails.
 
 ghost use Rattle.std.specs.Prelude.{◌≡◌, ℕ, List, OnOk, OnErr, IfErr, take};
 ghost use Rattle.std.specs.Io.KnownBytes.{Appends, Keeps};
@@ -7,8 +7,8 @@ ghost use Rattle.fr_bytes.specs.Bytes.{IsBeginning};
 use crate::fault::RunFault;
 use std::io::Write;
 
-/// Writes all of the bytes. Any error, and a write that takes no byte, is the fault `Write`: what went out is then
-/// their beginning. `O(b)` for b bytes.
+/// Writes all of the bytes. Fails with `Write` if a write fails or accepts no byte; then a beginning of the bytes was
+/// written. O(b) for b bytes.
 pub fn write_whole<W: Write>(writer: &mut W, bytes: &[u8]) -> Result<(), RunFault>
     ensures ok { OnOk result (Appends (W.contents writer.old) (W.contents writer.new) bytes.now) }
     ensures err { OnErr result ((n : ℕ) × Appends (W.contents writer.old) (W.contents writer.new) (take n bytes.now)) }
@@ -24,8 +24,8 @@ pub fn write_whole<W: Write>(writer: &mut W, bytes: &[u8]) -> Result<(), RunFaul
     Ok(())
 }
 
-/// Writes all of the bytes, and flushes once. Any error, and a write that takes no byte, is the fault `Write`: what
-/// went out is then a beginning of the bytes. `O(b)` for b bytes.
+/// Writes all of the bytes and flushes once. Fails with `Write` if a write or the flush fails, or if a write accepts no
+/// byte; then a beginning of the bytes was written. O(b) for b bytes.
 pub fn write_out<W: Write>(writer: &mut W, bytes: &[u8]) -> Result<(), RunFault>
     ensures ok { OnOk result (Appends (W.contents writer.old) (W.contents writer.new) bytes.now) }
     ensures err { OnErr result ((front : List ℕ) × IsBeginning front bytes.now × Appends (W.contents writer.old) (W.contents writer.new) front) }
@@ -35,7 +35,7 @@ pub fn write_out<W: Write>(writer: &mut W, bytes: &[u8]) -> Result<(), RunFault>
     flush(writer)
 }
 
-/// Flushes a writer. Any error is the fault `Write`. It costs what the flush does.
+/// Flushes a writer. Fails with `Write` if that fails. The cost is that of the flush.
 pub fn flush<W: Write>(writer: &mut W) -> Result<(), RunFault>
     ensures kept { Keeps (W.contents writer.old) (W.contents writer.new) }
     ensures kind { IfErr result (λ fault. fault ≡ RunFault.Write) }

@@ -1,4 +1,4 @@
--- An input has but one output text, of which the answers to its first lines are a beginning.
+-- An input has only one output text, and the answers to its first lines are a beginning of it.
 use Rattle.std.proofs.Common.{◌≡◌, ◌∙◌, ℕ, ◌++◌, List, [], ◌∷◌, take, drop, append_assoc, sym, ap, subst, Option, None}
 use Rattle.std.proofs.lemmas.List.{take-append-drop}
 use Rattle.fr_lines.specs.Requests.{reading}
@@ -14,7 +14,7 @@ use Rattle.fr_bytes.specs.Bytes.{IsBeginning}
 pub output_unique : (bytes a b : List ℕ) → IsOutput bytes a → IsOutput bytes b → a ≡ b
 output_unique bytes a b h k = (answers_unique None (lines_of bytes) a b h.0 k.0 h.1 k.1).0
 
--- the answers to some lines are a beginning of the answers to these and more
+-- the answers to some lines are a beginning of the answers to these and more lines
 pub answers_begin : (s : Option State) (xs ys : List (List ℕ)) (a b : List ℕ) (p q : Option State) → AreAnswers s xs a p
     → AreAnswers s (xs ++ ys) b q → IsBeginning a b
 answers_begin s [] ys a b p q h k = (b, ap (λ (o : List ℕ). o ++ b) (sym h.0))
@@ -39,10 +39,10 @@ output_begins_with bytes a b lines p h k =
     answers_begin None (take lines (lines_of bytes)) (drop lines (lines_of bytes)) a b p k.0 h
     (subst (λ (ls : List (List ℕ)). AreAnswers None ls b k.0) all k.1)
 
--- what begins a beginning
+-- a beginning of a beginning
 pub begins-trans : (a b c : List ℕ) → IsBeginning a b → IsBeginning b c → IsBeginning a c
 begins-trans a b c h k = (h.0 ++ k.0, k.1 ∙ (ap (λ (o : List ℕ). o ++ k.0) h.1 ∙ append_assoc a h.0 k.0))
 
--- a beginning of what comes behind
+-- a beginning of what follows
 pub begins_behind : (front out whole : List ℕ) → IsBeginning out whole → IsBeginning (front ++ out) (front ++ whole)
 begins_behind front out whole h = (h.0, ap (λ (l : List ℕ). front ++ l) h.1 ∙ sym (append_assoc front out h.0))

@@ -1,4 +1,4 @@
--- The output text of a play is determined by the input and the draw.
+-- The input and the draw determine the output text of a play.
 use Rattle.std.proofs.Common.{◌≡◌, ◌∙◌, ℕ, ◌<◌, List, length, refl, sym, ap, subst, inl, inr, arith, Option, Some, None, Result, Ok, Err}
 use Rattle.std.specs.Prelude.{option_map}
 use Rattle.fr_graph.specs.Faults.{IsFaultless}
@@ -68,6 +68,6 @@ reading_unique draw (Some (Err NotRequest)) a b j k p q = refusal_unique 2 2 a b
 reading_unique draw (Some (Err Memory)) a b j k p q = absurd p
 reading_unique draw None a b j k p q = refusal_unique 3 3 a b j k refl p q
 
--- the play of an input has one output text
+-- the play of an input has only one output text
 pub play_output_unique : (draw : Draw) (bytes a b : List ℕ) (j k : ℕ) → IsPlayOutput draw bytes a j → IsPlayOutput draw bytes b k → (a ≡ b) × (j ≡ k)
 play_output_unique draw bytes a b j k p q = reading_unique draw (option_map reading (first_asking bytes)) a b j k p q

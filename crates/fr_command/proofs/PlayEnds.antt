@@ -1,4 +1,4 @@
--- What has been written once a play ends, whole or in part.
+-- What has been written when a play ends, all or a part.
 use Rattle.std.proofs.Common.{ℕ, List, Option}
 use Rattle.std.specs.Io.KnownBytes.{Appends}
 use Rattle.fr_bytes.specs.Bytes.{IsBeginning}

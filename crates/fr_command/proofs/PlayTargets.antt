@@ -32,7 +32,7 @@ repeat_at (suc m) xs i d low =
     ∙ (repeat_at m xs (i - length xs) d shorter ∙ ap (λ (k : ℕ). get_or xs k d) (sym (mod-eq-sub-mod past))))
     (cases_lt i (length xs))
 
--- one target more
+-- one more target
 pub one_more_turn : (m : ℕ) (nodes : List ℕ) (i : ℕ) (turns : List Target) → i < m → 0 < length nodes → turns ≡ map Turn (take i (repeat m nodes))
     → turns ++ Turn (get_or nodes (i % length nodes) 0) ∷ [] ≡ map Turn (take (i + 1) (repeat m nodes))
 one_more_turn m nodes i turns low some so_far =
@@ -50,7 +50,7 @@ turns_none : (m : ℕ) → map Turn (take m []) ≡ []
 turns_none zero = refl
 turns_none (suc m) = refl
 
--- where there is no node, there is no target
+-- if there is no node, there is no target
 pub no_turns : (m : ℕ) (nodes : List ℕ) → true ≡ (length nodes == 0) → map Turn (take m (repeat m nodes)) ≡ []
 no_turns m [] none = ap (λ (xs : List ℕ). map Turn (take m xs)) (repeat_none m) ∙ turns_none m
 no_turns m (x ∷ xs) none = let long = eqb-true (length (x ∷ xs)) 0 (sym none) in absurd (omega arith)
@@ -75,7 +75,7 @@ linked_joined links x t =
     (λ head. (is.1.0, inr (subst (λ (v : ℕ). Points links is.1.0 v) (eqb-true is.1.1 x head) (is.0, is.2, is.3))))
     (or_cases (is.1.0 == x) (is.1.1 == x) is.4)
 
--- whether a node has links, by its row
+-- whether a node has links, from its row
 pub linked_by_row : (n : ℕ) (links : List (ℕ × ℕ)) (x : ℕ) → 0 < length (row n links x) → is_linked links x ≡ true
 linked_by_row n links x some = let j = row_linked n links x some in joined_linked links x j.0 j.1
 
@@ -86,13 +86,13 @@ alone_by_row n links x net none = unlinked (is_linked links x) refl
     unlinked true e = let j = linked_joined links x e in absurd (row_alone n links x net none j.0 j.1)
     unlinked false e = e
 
--- one node more
+-- one more node
 one_node_seen : (d : ℕ) (links : List (ℕ × ℕ)) (x : ℕ) (b : Bool) → (not (x == d) && is_linked links x) ≡ b
     → turnable_nodes (x + 1) d links ≡ turnable_nodes x d links ++ cond b (x ∷ []) []
 one_node_seen d links x b is =
     sym (filtered_more (λ y. not (y == d) && is_linked links y) x b [] (turnable_nodes x d links) is refl)
 
--- which has links and is not the destination,
+-- it has links and is not the destination
 pub wanted_node : (d : ℕ) (links : List (ℕ × ℕ)) (x : ℕ) → ¬ (x ≡ d) → is_linked links x ≡ true
     → turnable_nodes (x + 1) d links ≡ turnable_nodes x d links ++ x ∷ []
 wanted_node d links x other linked = one_node_seen d links x true (both (x == d) (is_linked links x) (ne_eqb x d other) linked)
@@ -100,7 +100,7 @@ wanted_node d links x other linked = one_node_seen d links x true (both (x == d)
     both : (a b : Bool) → a ≡ false → b ≡ true → (not a && b) ≡ true
     both a b e f = rw (e, f) refl
 
--- has no link,
+-- it has no link
 pub alone_node : (d : ℕ) (links : List (ℕ × ℕ)) (x : ℕ) → is_linked links x ≡ false → turnable_nodes (x + 1) d links ≡ turnable_nodes x d links
 alone_node d links x alone = one_node_seen d links x false (second (not (x == d)) (is_linked links x) alone) ∙ append-nil (turnable_nodes x d links)
   where
@@ -108,7 +108,7 @@ alone_node d links x alone = one_node_seen d links x false (second (not (x == d)
     second true b e = e
     second false b e = refl
 
--- or is the destination
+-- it is the destination
 pub destination_node : (d : ℕ) (links : List (ℕ × ℕ)) (x : ℕ) → x ≡ d → turnable_nodes (x + 1) d links ≡ turnable_nodes x d links
 destination_node d links x here = one_node_seen d links x false (first (x == d) (is_linked links x) (eq-eqb x d here)) ∙ append-nil (turnable_nodes x d links)
   where

@@ -1,4 +1,4 @@
--- How far the answering of an input has come.
+-- How many lines of an input are answered.
 use Rattle.std.proofs.Common.{◌≡◌, ◌∙◌, ℕ, ◌+◌, ◌≤◌, Bool, true, false, cond, not, List, [], ◌∷◌, ◌++◌, length, take, Option, Some, None}
 use Rattle.std.proofs.Common.{append-nil, refl, sym, ap, subst, arith}
 use Rattle.std.specs.Prelude.{slice_get}
@@ -60,7 +60,7 @@ next_line whole line all left now old mid count is h = subst (λ (ls : List (Lis
 
 module _ (whole line : List ℕ) (left : List (List ℕ)) (now : Option State) (old mid : Option (List ℕ)) (count : ℕ)
     (h : HasAnswered whole (line ∷ left) now old mid count) where
-  -- one line more is answered, or was blank
+  -- one more line is answered, or was blank
   pub one_line_more : (next : Option State) (new : Option (List ℕ)) (out : List ℕ) (answered : ℕ)
       → answered ≡ cond (not (is_blank line)) 1 0 → AreAnswers now (line ∷ []) out next → Appends mid new out
       → HasAnswered whole left next old new (count + answered)
@@ -135,7 +135,7 @@ all_answered whole now old new count h =
       counted = h.counted ∙ ap asking_count all;
     }
 
--- the whole was answered, and what came then wrote nothing
+-- everything was answered, and what came then wrote nothing
 pub output_begins : (whole : List ℕ) (old mid new : Option (List ℕ)) (count : ℕ) → WritesOutput whole old mid count
     → Keeps mid new → WritesBeginning whole old new
 output_begins whole old mid new count w kept = record {
@@ -147,7 +147,7 @@ output_begins whole old mid new count w kept = record {
   writes = Appends-kept old mid new w.out w.writes kept;
 }
 
--- and it was flushed
+-- it was flushed
 pub flushed : (whole : List ℕ) (old mid new : Option (List ℕ)) (count : ℕ) → WritesOutput whole old mid count → Keeps mid new → WritesOutput whole old new count
 flushed whole old mid new count w kept = record {
   out = w.out;

@@ -1,4 +1,4 @@
--- How far an input was served.
+-- How much of an input was served.
 use Rattle.std.proofs.Common.{◌≡◌, ◌≢◌, ◌∙◌, ℕ, ◌+◌, ◌<◌, ◌≤◌, List, [], ◌∷◌, ◌++◌, length, take, drop, take-append-drop, length-append, append_assoc}
 use Rattle.std.proofs.Common.{append-nil, refl, sym, ap, subst, Option, true, false, not, arith}
 use Rattle.std.proofs.Math.Seq.{take-add}
@@ -39,7 +39,7 @@ says_on first mid last xs ys u v w h k = record {
   writes = Appends-trans u v w h.text k.text h.writes k.writes;
 }
 
--- and what came then wrote nothing
+-- what came then wrote nothing
 pub says_kept : (first last : Talk) (xs : List ℕ) (u v w : Option (List ℕ)) → Says first xs last u v → Keeps v w → Says first xs last u w
 says_kept first last xs u v w h kept = record {
   text = h.text;
@@ -47,7 +47,7 @@ says_kept first last xs u v w h kept = record {
   writes = Appends-kept u v w h.text h.writes kept;
 }
 
--- all that was written is a beginning too
+-- everything that was written is a beginning, too
 pub says_begins : (first last : Talk) (piece : List ℕ) (done : ℕ) (u v : Option (List ℕ))
     → Says first (take done piece) last u v → BeginsInPiece first piece u v
 says_begins first last piece done u v h = record {
@@ -72,7 +72,7 @@ ends_begun old last text out before after end begins writes = record {
   writes = writes;
 }
 
--- of a text and its end
+-- the same for a text and its end
 pub text_begun : (text end : List ℕ) (n : ℕ) → IsBeginning (take n text) (text ++ end)
 text_begun text end n = (drop n text ++ end, ap (λ (l : List ℕ). l ++ end) (sym (take-append-drop n text)) ∙ append_assoc (take n text) (drop n text) end)
 
@@ -102,7 +102,7 @@ module _ (first mid : Talk) (piece : List ℕ) (done : ℕ) (u v : Option (List 
     untaken = subst (λ (t : Talk). IsTakeFault (carried t (drop done piece)) (drop done piece) fault) (sym same) why;
   }
 
-  -- why the front of what is left of a piece is not answered is why the piece is not
+  -- a fault at the first line of the rest of a piece is a fault of the piece
   pub fails_later : (new : Talk) (w : Option (List ℕ)) (fault : RunFault)
       → IsFrontFault mid (drop done piece) new v w fault → IsPieceFault first piece new u w fault
   fails_later new w Read why = stops_later Read new w why.0 why.1 why.2
@@ -116,7 +116,7 @@ pub blank_or_some : (line : List ℕ) → is_blank line ≡ false → line ≢ [
 blank_or_some [] asks = cc
 blank_or_some (x ∷ xs) asks = λ e. cc
 
--- the lines that ended in what was read were answered
+-- the lines that ended in the bytes read were answered
 pub record HasServed (r s u v : Option (List ℕ)) (talk : Talk) : Type 0 where
   pub bytes : List ℕ
   pub reads : Consumes r s bytes
@@ -136,7 +136,7 @@ read_nothing r s t bytes piece count none h k =
     let both : Consumes r t (bytes ++ []) = Consumes-trans r s t bytes [] h (subst (λ (n : ℕ). Consumes s t (take n piece)) none k) in
     subst (λ (l : List ℕ). Consumes r t l) (append-nil bytes) both
 
--- or some, to the front of the room for a piece
+-- a read brought some bytes, to the front of the room for a piece
 pub read_on : (r s t : Option (List ℕ)) (bytes piece room : List ℕ) (count : ℕ) → count ≤ length piece → Consumes r s bytes
     → Consumes s t (take count piece) → Consumes r t (bytes ++ take count (piece ++ room))
 read_on r s t bytes piece room count few h k = Consumes-trans r s t bytes (take count (piece ++ room)) h
@@ -155,7 +155,7 @@ module _ (bytes : List ℕ) (talk : Talk) (u v : Option (List ℕ)) (h : Says si
     writes = Appends-kept u v w h.text h.writes kept;
   }
 
-  -- the end of the input ended that line, and its answer was written,
+  -- the end of the input ended that line, and its answer was written
   pub output_written : (last : Talk) (text : List ℕ) (w : Option (List ℕ)) → Ends talk text last → Appends v w text
       → WritesOutput bytes u w (asking_count (lines_of bytes))
   output_written last text w end more =
@@ -168,7 +168,7 @@ module _ (bytes : List ℕ) (talk : Talk) (u v : Option (List ℕ)) (h : Says si
         counted = refl;
       }
 
-  -- or a beginning of it,
+  -- or a beginning of its answer was written
   output_begun : (w : Option (List ℕ)) → BeginsAnswer talk.state talk.begun v w → WritesBeginning bytes u w
   output_begun w part =
       let last : Talk = record { state = part.last; begun = [] } in
@@ -199,7 +199,7 @@ module _ (bytes : List ℕ) (talk : Talk) (u v : Option (List ℕ)) (h : Says si
   )
 
   module _ (piece : List ℕ) (w : Option (List ℕ)) where
-    -- the answer to a piece behind was begun,
+    -- the answer to a later piece was begun
     piece_begun : BeginsInPiece talk piece v w → WritesBeginning (bytes ++ piece) u w
     piece_begun k =
         let output = each_output (bytes ++ piece) in
@@ -219,7 +219,7 @@ module _ (bytes : List ℕ) (talk : Talk) (u v : Option (List ℕ)) (h : Says si
         }
 
     module _ (fault : RunFault) (new : Talk) (k : StopsInPiece fault talk piece new v w) where
-      -- or it stops at a line, behind which there is none where what is left of the piece does not end it
+      -- or it stops at a line, after which there is none if the rest of the piece does not end it
       piece_stopped : (line : List ℕ) × (stop : AnswersBefore (bytes ++ piece) line u w) × IsTakeFault line (drop k.count piece) fault
           × (lines_of (drop k.count piece) ≡ drop k.count piece ∷ [] → stop.behind ≡ [])
       piece_stopped =
@@ -243,7 +243,7 @@ module _ (bytes : List ℕ) (talk : Talk) (u v : Option (List ℕ)) (h : Says si
           } in
           (carried new rest, answers, k.untaken, λ one. ap (λ (ls : List (List ℕ)). drop 1 ls) (sym first.1 ∙ one))
 
-      -- which is all that the bytes have behind the last end, where these were few
+      -- this is all that the bytes have after the last newline, if there were few
       stopped_at_last : length talk.begun + length piece ≤ most_bytes + 1 → most_bytes < length (carried new (drop k.count piece))
           → (last : Talk) × Says silence (bytes ++ piece) last u w × (length last.begun ≡ most_bytes + 1)
       stopped_at_last few long =

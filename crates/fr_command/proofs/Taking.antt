@@ -1,4 +1,4 @@
--- What a conversation has taken, and the text that it has answered.
+-- What a conversation has taken, and its answers.
 use Rattle.std.proofs.Common.{◌≡◌, ◌∙◌, ℕ, List, [], ◌∷◌, ◌++◌, append_assoc, refl, sym, ap, subst, true, Option, None}
 use Rattle.std.proofs.lemmas.List.{same_from_push}
 use Rattle.fr_route.specs.Blank.{is_blank}
@@ -40,20 +40,20 @@ each_taken bytes =
     let taken : Takes silence bytes answers.0 talk = record { ended = parts.ended; cut = parts.cut; are_answers = answers.2 } in
     (answers.0, talk, taken)
 
--- whatever comes behind them, the answer to some bytes is a beginning of the output text
+-- whatever follows, the answer to some bytes is a beginning of the output text
 pub answer_stands : (bytes more text whole : List ℕ) (talk : Talk) → Takes silence bytes text talk → IsOutput (bytes ++ more) whole → IsBeginning text whole
 answer_stands bytes more text whole talk h output =
     let all : AreAnswers None (h.ended ++ lines_of (talk.begun ++ more)) whole output.0 =
     subst (λ (ls : List (List ℕ)). AreAnswers None ls whole output.0) (lines_go_on bytes talk.begun h.ended h.cut more) output.1 in
     answers_begin None h.ended (lines_of (talk.begun ++ more)) text whole talk.state output.0 h.are_answers all
 
--- and with that to the line that the end of the input ends it is the whole
+-- with the answer to the line that ends with the input, it is the whole text
 pub output_ends : (bytes text more : List ℕ) (talk last : Talk) → Takes silence bytes text talk → Ends talk more last → IsOutput bytes (text ++ more)
 output_ends bytes text more talk last h end =
     let all = answers_append None talk.state last.state h.ended (talk.begun ∷ []) text more h.are_answers end.0 in
     (last.state, subst (λ (ls : List (List ℕ)). AreAnswers None ls (text ++ more) last.state) (sym h.cut) all)
 
--- bytes with no end go to the line that has begun
+-- bytes without a newline are added to the line that has begun
 pub takes_none : (old new : Talk) (bytes : List ℕ) → lines_of old.begun ≡ old.begun ∷ [] → lines_of bytes ≡ bytes ∷ []
     → new.begun ≡ old.begun ++ bytes → new.state ≡ old.state → Takes old bytes [] new
 takes_none old new bytes alone one begun state = record {
@@ -62,7 +62,7 @@ takes_none old new bytes alone one begun state = record {
   are_answers = (refl, state);
 }
 
--- bytes that end it have its answer
+-- bytes that end the line have its answer
 pub takes_line : (old held new : Talk) (bytes front text : List ℕ) → lines_of old.begun ≡ old.begun ∷ []
     → lines_of bytes ≡ front ∷ [] ∷ [] → held.begun ≡ old.begun ++ front → held.state ≡ old.state
     → Ends held text new → Takes old bytes text new

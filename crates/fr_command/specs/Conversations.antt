@@ -1,4 +1,4 @@
--- What a conversation holds between the pieces of an input, and what it answers to them.
+-- The state of a conversation between the pieces of an input, and its answers. This project's own.
 use Rattle.std.specs.Prelude.{◌≡◌, ◌≢◌, ◌==◌, ℕ, ◌+◌, true, List, [], ◌∷◌, ◌++◌, length, min, Option, None, String, string_bytes}
 use Rattle.std.specs.List.{before_first, position_or_len}
 use Rattle.std.specs.Option.{option_map_or}
@@ -8,48 +8,49 @@ use Rattle.fr_route.specs.States.{State}
 use Rattle.fr_bytes.specs.Lines.{lines_of}
 use Rattle.fr_route.specs.Answers.{AreAnswers}
 
--- the state after the lines that have ended, and the line that has begun behind them
+-- the state after the lines that have ended, and the line that has begun after them
 pub record Talk : Type 0 where
   pub state : Option State
   pub begun : List ℕ
 
--- nothing was said yet
+-- the conversation before any bytes
 abbrev pub silence : Talk
 silence = record { state = None; begun = [] }
 
--- to these bytes this text is the answer: the answers to the lines that end in them. What stands behind the last end has begun
+-- the answer to these bytes: the answers to the lines that end in them. The bytes after the last newline are the line
+-- that has begun
 pub record Takes (old : Talk) (bytes text : List ℕ) (new : Talk) : Type 0 where
   pub ended : List (List ℕ)
   pub cut : lines_of (old.begun ++ bytes) ≡ ended ++ new.begun ∷ []
   pub are_answers : AreAnswers old.state ended text new.state
 
--- the input ends, and so the line that has begun does
+-- the input ends, and so the line that has begun ends
 abbrev pub Ends : Talk → List ℕ → Talk → Type 0
 Ends old text new = AreAnswers old.state (old.begun ∷ []) text new.state × (new.begun ≡ [])
 
--- the line that has begun, as far as this piece carries it on
+-- the line that has begun, with the bytes of this piece up to its first newline
 abbrev pub carried : Talk → List ℕ → List ℕ
 carried talk piece = talk.begun ++ before_first (λ x. x == 10) piece
 
--- memory may be wanted for a line in whose front or end these bytes stand: it has a byte, and if it is blank, it does not end in them
+-- a line with these bytes may need memory: it is not empty, and if it is blank, it does not end in these bytes
 abbrev pub MayWantMemory : List ℕ → List ℕ → Type 0
 MayWantMemory line bytes = (line ≢ []) × (is_blank line ≡ true → lines_of bytes ≡ bytes ∷ [])
 
--- how many bytes of a piece are in its first line, with the byte 10 that ends it
+-- how many bytes of a piece are in its first line, with its newline
 abbrev pub line_size : List ℕ → ℕ
 line_size piece = min (position_or_len (λ x. x == 10) piece + 1) (length piece)
 
--- an answer with byte 10 behind it, where there is one
+-- an answer with byte 10 after it, if there is one
 abbrev pub text_of : {Z : Type 0} → Option (String Z) → List ℕ
 text_of answer = option_map_or (λ text. string_bytes text ++ 10 ∷ []) answer []
 
--- these bytes were taken, and the answer to them was written, and nothing else
+-- these bytes were taken, and exactly the answer to them was written
 pub record Says (old : Talk) (bytes : List ℕ) (new : Talk) (before after : Option (List ℕ)) : Type 0 where
   pub text : List ℕ
   pub takes : Takes old bytes text new
   pub writes : Appends before after text
 
--- what was written is the answers to the lines of these bytes before this one, and nothing else
+-- exactly the answers to the lines of these bytes before this line were written
 pub record AnswersBefore (bytes line : List ℕ) (old new : Option (List ℕ)) : Type 0 where
   pub before : List (List ℕ)
   pub behind : List (List ℕ)

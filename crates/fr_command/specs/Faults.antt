@@ -1,4 +1,4 @@
--- Why a run, a service, a play and a conversation stop, and what was read and written by then.
+-- When a run, a service, a play and a conversation fail, and what was read and written by then. This project's own.
 use Rattle.std.specs.Prelude.{◌≡◌, ◌≢◌, ℕ, ◌+◌, ◌<◌, ◌⊎◌, true, false, List, [], length, Option}
 use Rattle.std.specs.Io.KnownBytes.{Consumes, Keeps}
 use Rattle.fr_route.specs.Blank.{is_blank}
@@ -10,13 +10,13 @@ use Rattle.fr_command.specs.Outputs.{WritesBeginning, StopsAtLine}
 use Rattle.fr_command.specs.Conversations.{Talk, Says, AnswersBefore, MayWantMemory, silence}
 use Rattle.fr_command.specs.Plays.{WritesPlayBeginning}
 
--- the whole input was read, and what was written is the answers to the lines before one that is not blank
+-- the whole input was read, and the answers to the lines before one that is not blank were written
 abbrev pub StopsAfterReading : (before after old new : Option (List ℕ)) → Type 0
 StopsAfterReading before after old new = (bytes : List ℕ) × ReadsInput before after bytes × StopsAtLine bytes old new
 
--- why a run stops. If a read failed or the input is too long, nothing was written. If a write failed, what went
--- out is a beginning of the output. If a thread was missing, or memory, it was at a line; or memory was missing
--- for a byte of the input, and nothing was written
+-- Why a run fails. If a read fails or the input is too long, nothing was written. If a write fails, a beginning of the
+-- output was written. A thread or memory is missing for a line, and then the answers to the lines before it were
+-- written; or memory is missing for the input, and then nothing was written.
 abbrev pub IsRunFault : (before after old new : Option (List ℕ)) → RunFault → Type 0
 IsRunFault before after old new Read = Keeps old new
 IsRunFault before after old new Write = (bytes : List ℕ) × ReadsInput before after bytes × WritesBeginning bytes old new
@@ -25,9 +25,9 @@ IsRunFault before after old new Start = StopsAfterReading before after old new
 IsRunFault before after old new Memory =
     (Keeps old new × ReadsSome before after) ⊎ StopsAfterReading before after old new
 
--- why a service stops. If a read failed, whichever it was, the lines that had ended were answered, and no other;
--- so too if the last byte read makes a line too long. If a write failed, what went out is a beginning of the
--- output. If a thread was missing at a line, or memory, the lines before it were answered
+-- Why a service fails. If a read fails, or the last byte read makes a line too long, exactly the lines that had ended
+-- were answered. If a write fails, a beginning of the output was written. If a thread or memory is missing for a line,
+-- the lines before it were answered.
 abbrev pub IsServeFault : (before after old new : Option (List ℕ)) → RunFault → Type 0
 IsServeFault before after old new Read =
     (bytes : List ℕ) × (talk : Talk) × Consumes before after bytes × Says silence bytes talk old new
@@ -42,8 +42,8 @@ IsServeFault before after old new Memory =
     (bytes : List ℕ) × (line : List ℕ) × Consumes before after bytes × (stop : AnswersBefore bytes line old new)
     × (line ≢ []) × (is_blank line ≡ true → stop.behind ≡ [])
 
--- why a play of a drawn schedule stops. If a write failed, what went out is a beginning of the output; else
--- nothing was written. It starts no thread
+-- Why a play fails. If a write fails, a beginning of the output was written; otherwise nothing was written. It starts
+-- no thread.
 abbrev pub IsDrawnPlayFault : (draw : Draw) (before after old new : Option (List ℕ)) → RunFault → Type 0
 IsDrawnPlayFault draw before after old new Read = Keeps old new
 IsDrawnPlayFault draw before after old new Write =
@@ -52,9 +52,8 @@ IsDrawnPlayFault draw before after old new TooLong = Keeps old new × ReadsOneTo
 IsDrawnPlayFault draw before after old new Start = ⊥
 IsDrawnPlayFault draw before after old new Memory = Keeps old new
 
--- why a conversation takes nothing of a piece, which carries its line on to this one: the line is too long, or it
--- is not blank and there was no thread for its answer, or memory was missing. A conversation reads and writes
--- nothing
+-- Why a conversation takes nothing of a piece, with which its line becomes `line`: the line is too long; or it is not
+-- blank, and a thread is missing for its answer; or memory is missing. A conversation reads and writes nothing.
 abbrev pub IsTakeFault : (line piece : List ℕ) → RunFault → Type 0
 IsTakeFault line piece Read = ⊥
 IsTakeFault line piece Write = ⊥
@@ -62,7 +61,7 @@ IsTakeFault line piece TooLong = most_bytes < length line
 IsTakeFault line piece Start = is_blank line ≡ false
 IsTakeFault line piece Memory = MayWantMemory line piece
 
--- why a conversation does not end this line: it is not blank, and a thread or memory was missing for its answer
+-- why a conversation does not end this line: it is not blank, and a thread or memory is missing for its answer
 abbrev pub IsFinishFault : (line : List ℕ) → RunFault → Type 0
 IsFinishFault line Read = ⊥
 IsFinishFault line Write = ⊥

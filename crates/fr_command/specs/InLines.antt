@@ -1,4 +1,4 @@
--- Why a line, or the lines of an input, are not all answered, and what was written by then.
+-- Why a line, or the lines of an input, are not all answered, and what was written by then. For proofs only.
 use Rattle.std.specs.Prelude.{◌≡◌, ℕ, false, List, [], ◌∷◌, Option}
 use Rattle.std.specs.Io.KnownBytes.{Appends, Keeps}
 use Rattle.fr_route.specs.Answers.{AreAnswers}
@@ -9,7 +9,7 @@ use Rattle.fr_bytes.specs.declared.fault.RunFault.{RunFault}
 use Rattle.fr_bytes.specs.declared.fault.RunFault.TheVariants.{Read, Write, TooLong, Start, Memory}
 use Rattle.fr_command.specs.Outputs.{WritesBeginning, StopsAtLine}
 
--- what was written is a beginning of the answer to this line, in a session of this state
+-- a beginning of the answer to this line was written, in a session of this state
 pub record BeginsAnswer (state : Option State) (line : List ℕ) (before after : Option (List ℕ)) : Type 0 where
   pub answer : List ℕ
   pub last : Option State
@@ -18,8 +18,8 @@ pub record BeginsAnswer (state : Option State) (line : List ℕ) (before after :
   pub begins : IsBeginning out answer
   pub writes : Appends before after out
 
--- why a line is not answered: a write failed, or the line is not blank, a thread or memory was missing, and
--- nothing was written
+-- why a line is not answered: a write failed; or the line is not blank, a thread or memory is missing, and nothing was
+-- written
 abbrev pub IsLineFault : (state : Option State) (line : List ℕ) (before after : Option (List ℕ)) → RunFault → Type 0
 IsLineFault state line before after Read = ⊥
 IsLineFault state line before after Write = BeginsAnswer state line before after
@@ -27,7 +27,7 @@ IsLineFault state line before after TooLong = ⊥
 IsLineFault state line before after Start = (is_blank line ≡ false) × Keeps before after
 IsLineFault state line before after Memory = (is_blank line ≡ false) × Keeps before after
 
--- why the lines of an input are not all answered: a write failed, or a thread or memory was missing at a line
+-- why the lines of an input are not all answered: a write failed, or a thread or memory is missing for a line
 abbrev pub IsAnsweringFault : (bytes : List ℕ) (before after : Option (List ℕ)) → RunFault → Type 0
 IsAnsweringFault bytes before after Read = ⊥
 IsAnsweringFault bytes before after Write = WritesBeginning bytes before after

@@ -1,4 +1,4 @@
--- How far a piece of an input was answered where something failed.
+-- How far a piece of an input is answered if something fails. For proofs only.
 use Rattle.std.specs.Prelude.{◌≡◌, ◌≢◌, ℕ, ◌+◌, ◌<◌, ◌≤◌, List, [], length, take, drop, Option}
 use Rattle.std.specs.Io.KnownBytes.{Appends, Keeps}
 use Rattle.fr_bytes.specs.Bytes.{most_bytes, IsBeginning}
@@ -7,14 +7,13 @@ use Rattle.fr_bytes.specs.declared.fault.RunFault.TheVariants.{Read, Write, TooL
 use Rattle.fr_command.specs.Conversations.{Talk, Takes, Says, carried}
 use Rattle.fr_command.specs.Faults.{IsTakeFault}
 
--- some bytes of the piece were taken, and the answer to them was written; for this fault nothing was taken of what
--- is left of it
+-- some bytes of the piece were taken, and their answer was written; with this fault, nothing was taken of the rest
 pub record StopsInPiece (fault : RunFault) (old : Talk) (piece : List ℕ) (new : Talk) (before after : Option (List ℕ)) : Type 0 where
   pub count : ℕ
   pub says : Says old (take count piece) new before after
   pub untaken : IsTakeFault (carried new (drop count piece)) (drop count piece) fault
 
--- what was written is a beginning of the answer to some bytes of the piece
+-- a beginning of the answer to some bytes of the piece was written
 pub record BeginsInPiece (old : Talk) (piece : List ℕ) (before after : Option (List ℕ)) : Type 0 where
   pub count : ℕ
   pub new : Talk
@@ -29,14 +28,14 @@ abbrev pub IsPieceFault : (old : Talk) (piece : List ℕ) (new : Talk) (before a
 IsPieceFault old piece new before after Write = BeginsInPiece old piece before after
 IsPieceFault old piece new before after fault = StopsInPiece fault old piece new before after
 
--- why the front of a piece is not answered: a write failed, or the conversation could not take it, and nothing was
+-- why the first line of a piece is not answered: a write failed; or the conversation could not take it, and nothing was
 -- written
 abbrev pub IsFrontFault : (old : Talk) (piece : List ℕ) (new : Talk) (before after : Option (List ℕ)) → RunFault → Type 0
 IsFrontFault old piece new before after Write = BeginsInPiece old piece before after
 IsFrontFault old piece new before after fault =
     (new ≡ old) × Keeps before after × IsTakeFault (carried old piece) piece fault
 
--- why a line that has begun cannot go on with these bytes: it is too long, or memory was missing for one of them
+-- why these bytes are not added to the line that has begun: the line would be too long, or memory is missing
 abbrev pub IsHoldFault : (begun bytes : List ℕ) → RunFault → Type 0
 IsHoldFault begun bytes Read = ⊥
 IsHoldFault begun bytes Write = ⊥

@@ -1,4 +1,5 @@
--- What a run writes. Where a writer does not tell its bytes, as standard output does not, the words of std about it say nothing.
+-- The output of a run, defined by docs/LINES.md. This project's own. If the bytes of a writer are not known, as those
+-- of standard output, `Appends` holds of any bytes and says nothing.
 use Rattle.std.specs.Prelude.{◌≡◌, ℕ, List, count_by, not, take, Option, None, Some, false, slice_get}
 use Rattle.std.specs.Io.KnownBytes.{Appends}
 use Rattle.fr_bytes.specs.Bytes.{IsBeginning}
@@ -15,8 +16,8 @@ IsOutput bytes out = (last : Option State) × AreAnswers None (lines_of bytes) o
 abbrev pub asking_count : List (List ℕ) → ℕ
 asking_count lines = count_by (λ line. not (is_blank line)) lines
 
--- what was written is the output text of these bytes, of which there is but one, and nothing else; the count is that of their
--- lines that are not blank
+-- exactly the output text of these bytes was written, which is their only one; `count` is the number of their lines
+-- that are not blank
 pub record WritesOutput (bytes : List ℕ) (old new : Option (List ℕ)) (count : ℕ) : Type 0 where
   pub out : List ℕ
   pub output : IsOutput bytes out
@@ -24,7 +25,7 @@ pub record WritesOutput (bytes : List ℕ) (old new : Option (List ℕ)) (count 
   pub writes : Appends old new out
   pub counted : count ≡ asking_count (lines_of bytes)
 
--- what was written is a beginning of the one output text of these bytes
+-- a beginning of the only output text of these bytes was written
 pub record WritesBeginning (bytes : List ℕ) (old new : Option (List ℕ)) : Type 0 where
   pub whole : List ℕ
   pub out : List ℕ
@@ -33,8 +34,8 @@ pub record WritesBeginning (bytes : List ℕ) (old new : Option (List ℕ)) : Ty
   pub begins : IsBeginning out whole
   pub writes : Appends old new out
 
--- what was written is the answers to the lines before the one at this place, which is not blank, and so a beginning of the output
--- text of these bytes
+-- the answers to the lines before the one at this place, which is not blank, were written. They are a beginning of the
+-- output text
 pub record StopsAtLine (bytes : List ℕ) (old new : Option (List ℕ)) : Type 0 where
   pub place : ℕ
   pub line : List ℕ

@@ -1,4 +1,4 @@
--- What the play of a drawn schedule prints.
+-- The output of the play of a drawn schedule, defined by docs/PLAYS.md. This project's own.
 use Rattle.std.specs.Prelude.{◌≡◌, ℕ, ◌<◌, ◌⊎◌, ◌==◌, ◌&&◌, ◌||◌, not, Bool, List, [], ◌∷◌, ◌++◌, length, take, map, filter, find, replicate, codes, decimal, Option, Some, None, option_map, Result, Ok, Err}
 use Rattle.std.specs.List.{list_any, repeat, range_with_len, flat_map}
 use Rattle.std.specs.Io.KnownBytes.{Appends}
@@ -27,15 +27,15 @@ use Rattle.fr_words.specs.declared.draws.Draw.{Draw}
 abbrev pub is_linked : List (ℕ × ℕ) → ℕ → Bool
 is_linked links x = list_any (λ (l : ℕ × ℕ). (l.0 == x) || (l.1 == x)) links
 
--- the nodes with links but the destination, in rising order
+-- the nodes with links, except the destination, in increasing order
 abbrev pub turnable_nodes : ℕ → ℕ → List (ℕ × ℕ) → List ℕ
 turnable_nodes n d links = filter (λ x. not (x == d) && is_linked links x) (range_with_len 0 n)
 
--- what a worker is to do: turn these nodes, again and again, cut to as many as there are steps
+-- the targets of a worker: turns of these nodes, again and again, as many as there are steps
 abbrev pub targets_for : ℕ → ℕ → List (ℕ × ℕ) → ℕ → List Target
 targets_for n d links steps = map Turn (take steps (repeat steps (turnable_nodes n d links)))
 
--- what a call came to
+-- the reply to a call
 abbrev pub reply_text : Reply → List ℕ
 reply_text (Turned count) = codes "turned " ++ decimal count
 reply_text (Held by) = codes "held " ++ decimal by
@@ -43,15 +43,15 @@ reply_text (Moved had count) = codes "moved " ++ (decimal had ++ (codes " " ++ d
 reply_text Cut = codes "cut"
 reply_text Sink = codes "sink"
 
--- the worker, the node, and what the call came to
+-- the worker, the node, and the reply to the call
 abbrev pub entry_text : Entry → List ℕ
 entry_text e = decimal e.worker ++ (codes " " ++ (decimal e.node ++ (codes " " ++ reply_text e.reply)))
 
--- a line of this text, ended by byte 10
+-- this text and a newline, byte 10
 abbrev pub line_of : List ℕ → List ℕ
 line_of text = text ++ 10 ∷ []
 
--- the entries, one a line
+-- the entries, one on each line
 abbrev pub entries_text : List Entry → List ℕ
 entries_text entries = flat_map (λ (e : Entry). line_of (entry_text e)) entries
 
@@ -60,23 +60,23 @@ abbrev pub end_text : List (ℕ × ℕ) → List Entry → List ℕ → List ℕ
 end_text first entries counts =
     entries_text entries ++ (line_of (links_text (in_order (links_at first counts))) ++ line_of (counts_text counts))
 
--- what a play prints on a network with these first links, and how many entries it has
+-- the text that a play prints on a network with these first links, and how many entries it has
 pub record IsPlayText (draw : Draw) (n d : ℕ) (first : List (ℕ × ℕ)) (out : List ℕ) (count : ℕ) : Type 0 where
   pub entries : List Entry
   pub counts : List ℕ
-  -- the entries are what the drawn schedule makes of workers with the same targets,
+  -- the entries are those of the drawn schedule, for workers with equal targets
   pub play : IsPlay n d first (replicate draw.workers (targets_for n d first draw.steps)) (drawn draw.seed draw.steps draw.workers) entries
-  -- they lead to these counts,
+  -- they lead to these counts
   pub run : IsRunTo n d first entries counts
-  -- and all that is printed
+  -- exactly this is printed
   pub text : out ≡ end_text first entries counts
   pub number : count ≡ length entries
 
--- that it is refused by this number is all that is printed
+-- exactly the refusal with this number is printed
 abbrev pub IsRefusal : ℕ → List ℕ → ℕ → Type 0
 IsRefusal number out count = (out ≡ line_of (refusal_text number)) × (count ≡ 0)
 
--- the request is a network, which is accepted and played
+-- the request is a network that is accepted and played
 pub record IsAcceptedPlay (draw : Draw) (request : PlainRequest) (out : List ℕ) (count : ℕ) : Type 0 where
   pub nodes : ℕ
   pub dest : ℕ
@@ -86,13 +86,13 @@ pub record IsAcceptedPlay (draw : Draw) (request : PlainRequest) (out : List ℕ
   pub destination : dest < nodes
   pub play : IsPlayText draw nodes dest (in_order links) out count
 
--- the play of a request: what is refused where there is no network yet is refused here, by the same number
+-- the play of a request. A request that is refused without a network is refused here too, with the same number
 abbrev pub IsPlayOf : Draw → PlainRequest → List ℕ → ℕ → Type 0
 IsPlayOf draw request out count =
     ((number : ℕ) × IsRefused None request number × IsRefusal number out count)
     ⊎ IsAcceptedPlay draw request out count
 
--- the play of a line as it is read, if there is one
+-- the play of a line that was read with this result, if there is a line
 abbrev pub IsPlayOfReading : Draw → Option (Result PlainRequest LineFault) → List ℕ → ℕ → Type 0
 IsPlayOfReading draw (Some (Ok request)) out count = IsPlayOf draw request out count
 IsPlayOfReading draw (Some (Err NotJson)) out count = IsRefusal 1 out count
@@ -104,19 +104,19 @@ IsPlayOfReading draw None out count = IsRefusal 3 out count
 abbrev pub first_asking : List ℕ → Option (List ℕ)
 first_asking bytes = find (λ line. not (is_blank line)) (lines_of bytes)
 
--- the output text of the play of an input, and how many entries it has
+-- the text that the play of an input prints, and how many entries it has
 abbrev pub IsPlayOutput : Draw → List ℕ → List ℕ → ℕ → Type 0
 IsPlayOutput draw bytes out count = IsPlayOfReading draw (option_map reading (first_asking bytes)) out count
 
--- what was written is the output text of the play of these bytes, of which there is but one, and nothing else; the count is
--- that of its entries
+-- exactly the text of the play of these bytes was written, which is their only one; `count` is the number of its
+-- entries
 pub record WritesPlay (draw : Draw) (bytes : List ℕ) (old new : Option (List ℕ)) (count : ℕ) : Type 0 where
   pub out : List ℕ
   pub output : IsPlayOutput draw bytes out count
   pub only : (other : List ℕ) (number : ℕ) → IsPlayOutput draw bytes other number → (other ≡ out) × (number ≡ count)
   pub writes : Appends old new out
 
--- what was written is a beginning of the one output text of the play of these bytes
+-- a beginning of the only text of the play of these bytes was written
 pub record WritesPlayBeginning (draw : Draw) (bytes : List ℕ) (old new : Option (List ℕ)) : Type 0 where
   pub whole : List ℕ
   pub count : ℕ

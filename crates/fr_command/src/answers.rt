@@ -15,7 +15,7 @@ use std::io::Write;
 use std::sync::Wait;
 use std::thread::Threads;
 
-/// Writes the answer to each line of the input that is not blank, and tells how many were answered.
+/// Writes the answer to each line of the input that is not blank, and returns how many were answered.
 pub(crate) fn answer_all<T: Threads + Wait + Sync, W: Write, G: Gate + Sync>(
     crew: &Crew<'_, T, G>,
     input: &[u8],
@@ -34,8 +34,7 @@ pub(crate) fn answer_all<T: Threads + Wait + Sync, W: Write, G: Gate + Sync>(
     Ok(count)
 }
 
-/// Writes the answer to a line, with byte 10 behind it, and tells how many there are: a blank line has none, and any
-/// other one.
+/// Writes the answer to a line and a newline, and returns how many answers that are: 0 for a blank line, otherwise 1.
 fn answer_one<T: Threads + Wait + Sync, W: Write, G: Gate + Sync>(
     crew: &Crew<'_, T, G>,
     session: &mut Session,
@@ -58,7 +57,7 @@ fn answer_one<T: Threads + Wait + Sync, W: Write, G: Gate + Sync>(
     }
 }
 
-/// The answer to a line, with byte 10 behind it, if there is one.
+/// The answer to a line with a newline after it, or `None` for a blank line.
 fn answer_text<T: Threads + Wait + Sync, G: Gate + Sync>(
     crew: &Crew<'_, T, G>,
     session: &mut Session,

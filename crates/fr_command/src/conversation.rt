@@ -1,5 +1,5 @@
-//! A conversation: the bytes of an input come in pieces that are cut anywhere, and each line is answered once its end
-//! has come.
+//! A conversation: the bytes of an input come in pieces that can end anywhere, and each line is answered once it has
+//! ended.
 
 ghost use Rattle.std.specs.Prelude.{◌≡◌, ◌≢◌, ◌<◌, ◌≤◌, ◌+◌, ◌++◌, ◌↔◌, ◌∷◌, [], length, take, true, IfErr, IfOk, OnOk, OnErr};
 ghost use Rattle.fr_route.specs.Blank.{is_blank as is_blank_line};
@@ -18,16 +18,17 @@ use std::marker::Model;
 use std::sync::Wait;
 use std::thread::Threads;
 
-/// How far a piece was taken, and the answer to the line that ended there.
+/// The result for a piece: how many bytes were taken, and the answer to the line that ended there.
 #[derive(Debug, Drop)]
 pub struct Taken {
     /// How many bytes of the piece were taken.
     pub count: usize,
-    /// The answer, without a line end; None for a blank line, and where no line has ended.
+    /// The answer, without a newline. `None` for a blank line, and if no line has ended.
     pub answer: Option<String>,
 }
 
-/// A session, and the line that has begun. Contracts see the state of the session with the bytes of that line.
+/// A session, and the line that has begun. The value in contracts is the state of the session, and the bytes of that
+/// line.
 #[derive(Debug, Drop)]
 pub struct Conversation {
     session: Session,
@@ -48,7 +49,7 @@ impl Model for Conversation {
 }
 
 impl Conversation {
-    /// A conversation in which nothing was said yet. `O(1)`.
+    /// A conversation without a network and without bytes. O(1).
     pub fn new(alloc: Global) -> Conversation
         ensures { result ≡ silence }
     {
@@ -58,14 +59,14 @@ impl Conversation {
         }
     }
 
-    /// The session, in the state after the lines that have ended. `O(1)`.
+    /// The session, in the state after the lines that have ended. O(1).
     pub fn session(&self) -> &Session
         ensures { result.now ≡ self.now.state }
     {
         &self.session
     }
 
-    /// The line that has begun: what was taken behind the last line end. `O(1)`.
+    /// The line that has begun: what was taken after the last newline. O(1).
     pub fn begun(&self) -> &[u8]
         ensures line { result.now ≡ self.now.begun }
         ensures alone { lines_of result.now ≡ result.now ∷ [] }
@@ -74,12 +75,15 @@ impl Conversation {
         &self.begun
     }
 
-    /// Takes the front of a piece, up to its first byte 10 and with it, and answers the line that ends there; without
-    /// one, all of the piece goes to the line that has begun. Whatever the fault, nothing was taken, and the piece can
-    /// be handed in again: `TooLong` where the line has more than [`MAX_BYTES`] bytes, `Start` where a thread could
-    /// not be started, which with the budget 0 never comes, and `Memory` where the line or its answer found no room,
-    /// which a blank line wants only where it does not end in the piece; never `Read` or `Write`. `O(b)` for b bytes
-    /// taken, and at a line end what [`Session::answer_line`] costs.
+    /// Takes a piece up to its first newline, and answers the line that ends there. Without a newline, the whole piece
+    /// is added to the line that has begun.
+    ///
+    /// Fails with `TooLong` if the line has more than [`MAX_BYTES`] bytes; with `Start` if a thread could not be
+    /// started, which never happens if the budget is 0; and with `Memory` if there is no memory for the line or its
+    /// answer. A blank line that ends in the piece needs no memory. It never fails with `Read` or `Write`. If it fails,
+    /// nothing was taken, and the caller can pass the piece again.
+    ///
+    /// O(b) for b bytes taken, and at a newline the cost of [`Session::answer_line`].
     pub fn take<T: Threads + Wait + Sync, G: Gate + Sync>(
         &mut self,
         rt: &T,
@@ -97,7 +101,7 @@ impl Conversation {
     {
         let kept = self.begun.len();
         let end = front_size(piece);
-        // Before the line is held, so that a blank one takes no memory.
+        // This comes before the line is kept, so that a blank line allocates nothing.
         if self.ends_blank(piece, end) {
             self.begun.clear();
             return Ok(Taken {
@@ -124,9 +128,9 @@ impl Conversation {
         }
     }
 
-    /// Ends the line that has begun, as the end of an input does, and answers it; None where it is blank. Whatever the
-    /// fault, `Start` or `Memory` as [`take`](Conversation::take) has them, nothing has changed. It costs what
-    /// [`Session::answer_line`] does.
+    /// Ends the line that has begun, as the end of an input does, and answers it. Returns `None` for a blank line.
+    /// Fails with `Start` or `Memory` as [`take`](Conversation::take) does; then nothing has changed. The cost is that
+    /// of [`Session::answer_line`].
     pub fn finish<T: Threads + Wait + Sync, G: Gate + Sync>(
         &mut self,
         rt: &T,
@@ -148,8 +152,8 @@ impl Conversation {
         }
     }
 
-    /// Whether the line that has begun goes on with this front of a piece, ends there, is blank, and is no longer than
-    /// may be.
+    /// Whether the line that has begun ends after the first `front` bytes of this piece, is blank, and is within the
+    /// limit.
     fn ends_blank(&self, piece: &[u8], front: usize) -> bool
         requires { front ≤ length piece.now }
         ensures { (result ≡ true) ↔ ((front < length piece.now) × (is_blank_line (self.now.begun ++ take front piece.now) ≡ true)
@@ -161,7 +165,7 @@ impl Conversation {
             && is_blank(&piece[..front])
     }
 
-    /// Holds bytes without a line end behind those of the line that has begun.
+    /// Keeps bytes without a newline after those of the line that has begun.
     fn hold(&mut self, bytes: &[u8]) -> Result<(), RunFault>
         requires { lines_of bytes.now ≡ bytes.now ∷ [] }
         ensures ok { OnOk result ((self.new.begun ≡ self.old.begun ++ bytes.now) × (self.new.state ≡ self.old.state)) }

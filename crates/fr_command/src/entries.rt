@@ -1,4 +1,4 @@
-//! What a play is to try, and the text of what it came to.
+//! The targets of a play, and the text of its result.
 
 ghost use Rattle.std.specs.Prelude.{◌≡◌, ◌++◌, ℕ, List, decimal, string_bytes, take, map, replicate, IfOk, OnOk};
 ghost use Rattle.std.specs.List.{repeat};
@@ -33,7 +33,7 @@ pub(crate) fn targets_of(
     Ok(targets)
 }
 
-/// The nodes with links but the destination, in rising order.
+/// The nodes with links, except the destination, in increasing order.
 fn turnable_nodes(alloc: Global, net: &Net, dest: u32) -> Result<Vec<u32>, AllocError>
     ensures { IfOk result (λ nodes. nodes.items ≡ turnable_nodes_of net.now.nodes dest net.now.links) }
 {
@@ -46,7 +46,7 @@ fn turnable_nodes(alloc: Global, net: &Net, dest: u32) -> Result<Vec<u32>, Alloc
     Ok(nodes)
 }
 
-/// So many turns: of each of the nodes, and again from the first. None if there is no node.
+/// `most` turns: one of each of these nodes, and again from the first one. None if there are no nodes.
 fn targets_in_turn(alloc: Global, nodes: &[u32], most: usize) -> Result<Vec<Target>, AllocError>
     ensures { IfOk result (λ turns. turns.items ≡ map Turn (take most (repeat most nodes.now))) }
 {
@@ -60,7 +60,7 @@ fn targets_in_turn(alloc: Global, nodes: &[u32], most: usize) -> Result<Vec<Targ
     Ok(turns)
 }
 
-/// The entries of a play, one a line, and then the links and the counts at the end.
+/// The entries of a play, one on each line, and then the links and the counts at the end.
 pub(crate) fn end_text(
     alloc: Global,
     net: &Net,
@@ -79,7 +79,7 @@ pub(crate) fn end_text(
     lines_at_end(alloc, entries, &end, &counts)
 }
 
-/// The entries, one a line, and then the links of this network and these counts.
+/// The entries, one on each line, and then the links of this network and these counts.
 fn lines_at_end(
     alloc: Global,
     entries: &[Entry],
@@ -96,14 +96,14 @@ fn lines_at_end(
     Ok(text)
 }
 
-/// The line of a network's links.
+/// Appends the line with a network's links.
 fn push_links(text: &mut String, alloc: Global, net: &Net) -> Result<(), AllocError>
     ensures { OnOk result (string_bytes text.new ≡ string_bytes text.old ++ line_of (links_text net.now.links)) }
 {
     push_line(text, &links_line(alloc, net.links())?)
 }
 
-/// A line, with byte 10 behind it.
+/// Appends a line and a newline.
 pub(crate) fn push_line(text: &mut String, line: &str) -> Result<(), AllocError>
     ensures { OnOk result (string_bytes text.new ≡ string_bytes text.old ++ line_of line.now) }
 {
@@ -111,7 +111,7 @@ pub(crate) fn push_line(text: &mut String, line: &str) -> Result<(), AllocError>
     text.push('\n')
 }
 
-/// The entries, one a line.
+/// Appends the entries, one on each line.
 fn push_entries(text: &mut String, entries: &[Entry]) -> Result<(), AllocError>
     ensures { OnOk result (string_bytes text.new ≡ string_bytes text.old ++ entries_text entries.now) }
 {
@@ -122,7 +122,7 @@ fn push_entries(text: &mut String, entries: &[Entry]) -> Result<(), AllocError>
     Ok(())
 }
 
-/// An entry: the worker, the node, and what the call came to.
+/// Appends an entry: the worker, the node, and the reply to the call.
 fn push_entry(text: &mut String, entry: Entry) -> Result<(), AllocError>
     ensures { OnOk result (string_bytes text.new ≡ string_bytes text.old ++ entry_text entry) }
 {
@@ -132,7 +132,7 @@ fn push_entry(text: &mut String, entry: Entry) -> Result<(), AllocError>
     push_reply(text, entry.reply)
 }
 
-/// What a call came to.
+/// Appends the reply to a call.
 fn push_reply(text: &mut String, reply: Reply) -> Result<(), AllocError>
     ensures { OnOk result (string_bytes text.new ≡ string_bytes text.old ++ reply_text reply) }
 {
@@ -148,7 +148,7 @@ fn push_reply(text: &mut String, reply: Reply) -> Result<(), AllocError>
     }
 }
 
-/// A word, and a number behind it.
+/// Appends a word and a number.
 pub(crate) fn push_count(text: &mut String, word: &str, count: u64) -> Result<(), AllocError>
     ensures { OnOk result (string_bytes text.new ≡ string_bytes text.old ++ (word.now ++ decimal count)) }
 {

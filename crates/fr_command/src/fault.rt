@@ -1,11 +1,12 @@
-//! What a session's fault is to a run, and how the program ends for a fault.
+//! How a session's fault ends a run, and how the program ends.
 
 ghost use Rattle.std.specs.Prelude.{◌≡◌, ◌⊎◌, ◌↔◌};
 
 use fr_bytes::RunFault;
 use fr_route::AnswerFault;
 
-/// The exit status of a fault, and its line on standard error. It has no clause, and is only tested. `O(1)`.
+/// The exit status for a fault, and the line for standard error. No clause says what they are; they are only tested.
+/// O(1).
 pub fn run_end(fault: &RunFault) -> (u8, &'static str) {
     match fault {
         RunFault::Read => (1, "revroute: read fault"),
@@ -16,7 +17,7 @@ pub fn run_end(fault: &RunFault) -> (u8, &'static str) {
     }
 }
 
-/// The fault of a run whose session gives no answer for this one.
+/// The fault of a run whose session fails with this fault.
 pub(crate) fn run_fault(fault: AnswerFault) -> RunFault
     ensures start { (result ≡ RunFault.Start) ↔ (fault ≡ AnswerFault.Start) }
     ensures memory { (result ≡ RunFault.Memory) ↔ (fault ≡ AnswerFault.Memory) }

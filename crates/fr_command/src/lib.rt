@@ -1,12 +1,12 @@
-//! What the commands of the program do, over whatever readers and writers a caller has.
+//! What the commands of the program do, with any readers and writers.
 //!
-//! [`run`] answers the lines of an input, and [`play_drawn`] plays the schedule of a [`Draw`] on its network.
-//! [`serve`] answers each line as soon as it has come, and stands on a [`Conversation`], for which the bytes come from
-//! wherever a caller has them. The parts of [`run`] serve whoever reads an input to write another text:
-//! [`read_input`], [`Lines`], [`first_line`] and [`write_whole`]. [`task_of`] reads the words of a command line, and
-//! [`task_end`] says how the program ends where they ask for no task.
+//! [`run`] answers the lines of an input, and [`play_drawn`] plays the schedule of a [`Draw`] on its network. [`serve`]
+//! answers each line as soon as it has ended. It uses a [`Conversation`], to which a caller can pass bytes from any
+//! source. Parts of [`run`] are public, for programs that read an input and write another text: [`read_input`],
+//! [`Lines`], [`first_line`] and [`write_whole`]. [`task_of`] reads the words of a command line, and [`task_end`] says
+//! how the program ends if they do not ask for a task.
 //!
-//! Costs are told for n nodes, m links, and d links at a node, as read off the code.
+//! Costs are for n nodes, m links, and d links at a node. They are read off the code, not proved.
 #![tactic(auto)]
 
 mod answers;

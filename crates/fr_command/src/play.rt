@@ -1,4 +1,4 @@
-//! A play: the network of an input, turned by single steps of workers under a drawn schedule.
+//! A play: single steps of workers turn the network of an input, in the order of a drawn schedule.
 
 ghost use Rattle.std.specs.Prelude.{◌≡◌, ◌<◌, List, ℕ, not, replicate, string_bytes, find, IfErr, IfOk};
 ghost use Rattle.std.specs.Option.{option_copied};
@@ -22,17 +22,20 @@ use fr_words::Draw;
 use std::alloc::{AllocError, Global};
 use std::io::{Read, Write};
 
-/// Reads the whole input, plays the schedule of the draw on the network of the first line that is not blank, writes
-/// the entries, one a line, and then the links and the counts at the end, flushes once, and tells how many entries
-/// there are. Each worker goes through the nodes with links but the destination in rising order, and again from the
-/// first, up to as many as there are steps. Where there is no such line, or it is refused as the first line of a run
-/// would be, or is no network, all that is written is that it is refused. At most one byte past the limit,
-/// [`MAX_BYTES`](crate::MAX_BYTES), is read.
+/// Reads the whole input, and plays the schedule of the draw on the network of the first line that is not blank. Writes
+/// the entries, one on each line, and then the links and the counts at the end; flushes once; and returns how many
+/// entries there are. Each worker goes through the nodes with links, except the destination, in increasing order and
+/// again from the first, for at most as many nodes as there are steps.
 ///
-/// `Read` where a read failed, `TooLong` where the input goes past the limit, and `Memory` where no room could be had:
-/// then nothing is written. `Write` where a write or the flush failed: what went out is a beginning of the output.
-/// Never `Start`. `O(b)` for b bytes of input, what [`read_line`] costs for one line, `O(n + m + w s)` for w workers
-/// and s steps, `O(d)` an entry, and what [`Net::turned_by`] costs at the end.
+/// If there is no such line, if it is not a network, or if it is refused as the first line of a run would be, only the
+/// refusal is written. At most one byte more than [`MAX_BYTES`](crate::MAX_BYTES) is read.
+///
+/// Fails with `Read` if a read fails, with `TooLong` if the input is longer than the limit, and with `Memory` if an
+/// allocation is refused; then nothing was written. Fails with `Write` if a write or the flush fails; then a beginning
+/// of the output was written. It never fails with `Start`.
+///
+/// O(b) for b bytes of input, the cost of [`read_line`] for one line, O(n + m + w s) for w workers and s steps, O(d)
+/// for each entry, and the cost of [`Net::turned_by`] at the end.
 pub fn play_drawn<R: Read, W: Write>(
     alloc: Global,
     reader: &mut R,
@@ -52,7 +55,7 @@ pub fn play_drawn<R: Read, W: Write>(
     Ok(count)
 }
 
-/// What the play of an input prints, and how many entries it has.
+/// The text that the play of an input prints, and how many entries it has.
 fn play_input(alloc: Global, input: &[u8], draw: Draw) -> Result<(String, u64), AllocError>
     ensures { IfOk result (λ made. IsPlayOutput draw input.now (string_bytes made.0) made.1) }
 {
@@ -75,7 +78,7 @@ fn first_asking(input: &[u8]) -> Option<&[u8]>
     Lines::new(input).find(|line| !is_blank(line))
 }
 
-/// That the input is refused, with no entry.
+/// The text for a refusal, without entries.
 fn refusal(alloc: Global, refusal: Refusal) -> Result<(String, u64), AllocError>
     ensures { IfOk result (λ made. IsRefusal (number_of refusal) (string_bytes made.0) made.1) }
 {
@@ -85,7 +88,7 @@ fn refusal(alloc: Global, refusal: Refusal) -> Result<(String, u64), AllocError>
     Ok((text, 0))
 }
 
-/// The play on the network of these links, or for which fault it is refused.
+/// The play on the network of these links, or why the network is refused.
 fn play_links(
     alloc: Global,
     nodes: u32,
@@ -118,14 +121,14 @@ fn play_net(alloc: Global, net: &Net, dest: u32, draw: Draw) -> Result<(String, 
     Ok((text, entries.len() as u64))
 }
 
-/// What the calls of a play on a network come to.
+/// The entries of a play on a network: the calls and their replies.
 fn entries_of(alloc: Global, net: &Net, dest: u32, draw: Draw) -> Result<Vec<Entry>, AllocError>
     ensures { IfOk result (λ entries. IsPlay net.now.nodes dest net.now.links
         (replicate draw.workers (targets_for net.now.nodes dest net.now.links draw.steps)) (drawn draw.seed draw.steps draw.workers) entries.items) }
 {
     let targets = targets_of(alloc, net, dest, draw)?;
     let schedule = draw.schedule(alloc)?;
-    // The schedule names workers, and a machine takes these targets, so want of memory is the only fault.
+    // The schedule names only workers, and a machine accepts these targets. So `play` can fail only for want of memory.
     match play(alloc, net, dest, targets, &schedule) {
         Ok(entries) => Ok(entries),
         Err(_) => Err(AllocError),

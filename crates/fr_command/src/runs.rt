@@ -1,4 +1,4 @@
-//! A run: reads the whole input, and answers its lines one after another.
+//! A run: it reads the whole input, and answers its lines one after the other.
 
 ghost use Rattle.std.specs.Prelude.{◌≡◌, ◌≢◌, List, ℕ, IfErr, IfOk};
 ghost use Rattle.fr_bytes.specs.Bytes.{ReadsInput, ReadsAtMostOneTooMany};
@@ -13,17 +13,18 @@ use std::io::{Read, Write};
 use std::sync::Wait;
 use std::thread::Threads;
 
-/// Reads the whole input, answers each of its lines that is not blank, flushes once at the end, and tells how many
-/// lines were answered. At most one byte past the limit, [`MAX_BYTES`](crate::MAX_BYTES), is read. The input is cut
-/// into lines at each byte 10, and `specs/Answers.antt` of fr_route says what the answer to a line is. Each network is
-/// settled by threads, by the plan and under the gate, on which no answer depends. It waits for these threads, which
-/// end where the calls of the gate return; with the budget 0 there are none, and `Start` never comes.
+/// Reads the whole input, answers each line that is not blank, flushes once at the end, and returns how many lines were
+/// answered. Each line ends at a newline (byte 10). `specs/Answers.antt` of fr_route defines the answers. Threads
+/// settle each network, with this plan and gate; no answer depends on them. The call waits for these threads, which end
+/// once the calls of the gate return. At most one byte more than [`MAX_BYTES`](crate::MAX_BYTES) is read.
 ///
-/// `Read` where a read failed, `TooLong` where the input goes past the limit, and `Memory` where it found no room:
-/// then nothing is written. `Write` where a write or the flush failed: what went out is a beginning of the output.
-/// `Start` where a thread could not be started, or `Memory`, at a line: what went out is the answers to the lines
-/// before it. `O(b)` for b bytes of input, and what [`Session::answer_line`](fr_route::Session::answer_line) costs for
-/// each line.
+/// Fails with `Read` if a read fails, with `TooLong` if the input is longer than the limit, and with `Memory` if there
+/// is no memory for the input; then nothing was written. Fails with `Write` if a write or the flush fails; then a
+/// beginning of the output was written. Fails with `Start` if a thread cannot be started for a line, or with `Memory`
+/// if there is no memory for it; then the answers to the lines before it were written. With the budget 0 there are no
+/// threads, and it never fails with `Start`.
+///
+/// O(b) for b bytes of input, and the cost of [`Session::answer_line`](fr_route::Session::answer_line) for each line.
 pub fn run<T: Threads + Wait + Sync, R: Read, W: Write, G: Gate + Sync>(
     rt: &T,
     alloc: Global,

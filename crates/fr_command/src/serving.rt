@@ -1,4 +1,4 @@
-//! Serving: each line of an input is answered before more is read.
+//! Serving: each line of an input is answered before more input is read.
 
 ghost use Rattle.std.specs.Prelude.{◌≡◌, ◌≢◌, ◌∷◌, [], ℕ, List, take, IfOk, OnOk, OnErr, IfErr};
 ghost use Rattle.std.specs.Io.KnownBytes.{Appends, Consumes, IsAtEnd};
@@ -18,14 +18,17 @@ use std::io::{Read, Write};
 use std::sync::Wait;
 use std::thread::Threads;
 
-/// Answers each line of the input that is not blank, and writes its answer and flushes before it reads on; at the end,
-/// what it has written is what [`run`](crate::run) writes. The input may be of any length, and each of its lines has
-/// at most [`MAX_BYTES`] bytes: `TooLong` comes with the byte that makes one longer, and no byte behind it is read. It
-/// waits for the reader, and for the threads that settle networks, as [`run`](crate::run) does.
+/// Answers each line of the input that is not blank. It writes each answer, and flushes, before it reads on. At the end
+/// of the input it has written exactly what [`run`](crate::run) writes. The input may have any length, and each line at
+/// most [`MAX_BYTES`] bytes. It waits for the reader, and for the threads that settle networks, as [`run`](crate::run)
+/// does.
 ///
-/// At `Read` and `TooLong` the lines that had ended are answered, at `Start` and `Memory` those before the one that
-/// found no thread or no room, and at `Write` what went out is a beginning of the output. It costs what `run` does,
-/// but room for the longest line and no more.
+/// Fails with `Read` if a read fails, and with `TooLong` at the first byte that makes a line too long, after which
+/// nothing is read; then all lines that had ended were answered. Fails with `Start` or `Memory` if a thread or memory
+/// is missing for a line; then the lines before it were answered. Fails with `Write` if a write or a flush fails; then
+/// a beginning of the output was written.
+///
+/// The cost is that of `run`, but memory is needed only for the longest line.
 pub fn serve<T: Threads + Wait + Sync, R: Read, W: Write, G: Gate + Sync>(
     rt: &T,
     alloc: Global,
@@ -81,7 +84,7 @@ fn answer_piece<T: Threads + Wait + Sync, W: Write, G: Gate + Sync>(
     flush(writer)
 }
 
-/// Answers the line that ends in the front of a piece, if one does, and tells how many bytes were taken.
+/// Answers the first line that ends in a piece, if there is one, and returns how many bytes were taken.
 fn answer_front<T: Threads + Wait + Sync, W: Write, G: Gate + Sync>(
     crew: &Crew<'_, T, G>,
     conversation: &mut Conversation,
@@ -99,7 +102,7 @@ fn answer_front<T: Threads + Wait + Sync, W: Write, G: Gate + Sync>(
     Ok(taken.count)
 }
 
-/// Answers the line that the end of the input ends, and flushes.
+/// Answers the last line, which the end of the input ends, and flushes.
 fn answer_end<T: Threads + Wait + Sync, W: Write, G: Gate + Sync>(
     crew: &Crew<'_, T, G>,
     conversation: &mut Conversation,
@@ -116,7 +119,7 @@ fn answer_end<T: Threads + Wait + Sync, W: Write, G: Gate + Sync>(
     flush(writer)
 }
 
-/// Writes an answer with byte 10 behind it, if there is one.
+/// Writes an answer and a newline, if there is one.
 fn write_answer<W: Write>(writer: &mut W, answer: Option<String>) -> Result<(), RunFault>
     ensures ok { OnOk result (Appends (W.contents writer.old) (W.contents writer.new) (text_of answer)) }
     ensures err { OnErr result ((out : List ℕ) × IsBeginning out (text_of answer)

@@ -7,9 +7,9 @@ use fr_route::VERSION;
 use fr_words::{Task, TaskFault};
 use std::alloc::Global;
 
-/// The task that the words of a command line ask for, as [`fr_words::task_of`] reads them, where the program has the
-/// version [`VERSION`]: `Version` where they ask for it, `Usage` where they ask for help or are not those of the
-/// command line, and `Memory` where no room could be had. `O(b)` for b bytes of words.
+/// The task that the words of a command line ask for, as [`fr_words::task_of`] reads them, for a program with the
+/// version [`VERSION`]. Fails with `Version` if the words ask for the version, with `Usage` if they ask for help or are
+/// not those of the command line, and with `Memory` if an allocation is refused. O(b) for b bytes of words.
 pub fn task_of<'a>(alloc: Global, words: &'a [&'a str]) -> Result<Task, TaskFault>
     ensures ok { IfOk result (IsTaskIn (map (λ s. s.now) words.entry.now)) }
     ensures fault { IfErr result (IsFaultOf (map (λ s. s.now) words.entry.now)) }

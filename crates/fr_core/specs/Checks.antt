@@ -1,4 +1,5 @@
--- What a checker of histories finds: the first entry that is not legal, with the first test that it fails.
+-- What a checker of histories finds: the first entry that is not legal, with the first test that it fails. This
+-- project's own.
 use Rattle.std.specs.Prelude.{◌≡◌, ℕ, ◌+◌, ◌<◌, ◌≤◌, ◌⊎◌, List, ◌∷◌, ◌++◌, length, replicate}
 use Rattle.fr_graph.specs.Links.{Points}
 use Rattle.fr_graph.specs.Turn.{IsSink}
@@ -12,7 +13,7 @@ use Rattle.fr_core.specs.declared.entry.Entry.{Entry}
 use Rattle.fr_core.specs.declared.entry.Reply.{Reply}
 use Rattle.fr_core.specs.declared.entry.Reply.TheVariants.{Turned, Held, Moved, Cut, Sink}
 
--- a turn of x to the count k fails this test, and none before it; the other tests are none of a turn
+-- a turn of x to the count k fails this test, and none before it. The other tests are not for turns
 abbrev pub FailsTurn : ℕ → ℕ → Moment → ℕ → ℕ → Why → Type 0
 FailsTurn n d m x k Destination = x ≡ d
 FailsTurn n d m x k Capped = ¬ (x ≡ d) × (n ≤ count_at m x)
@@ -23,7 +24,7 @@ FailsTurn n d m x k NotHeld = ⊥
 FailsTurn n d m x k NotMoved = ⊥
 FailsTurn n d m x k NotCut = ⊥
 
--- the reply on the node x fails this test, and none before it. Each other kind of reply has one test
+-- the reply on node x fails this test, and none before it. Each other kind of reply has one test
 abbrev pub FailsReply : ℕ → ℕ → Moment → ℕ → Reply → Why → Type 0
 FailsReply n d m x (Turned k) why = FailsTurn n d m x k why
 FailsReply n d m x (Held by) why = (why ≡ NotHeld) × ¬ Points m.links x by
@@ -35,7 +36,7 @@ FailsReply n d m x Sink why = (why ≡ NotSink) × ¬ IsSink m.links x
 abbrev pub Fails : ℕ → ℕ → Moment → Entry → Why → Type 0
 Fails n d m e why = ((why ≡ NoNode) × (n ≤ e.node)) ⊎ ((e.node < n) × FailsReply n d m e.node e.reply why)
 
--- the entry at this place is the first that is not legal after those before it
+-- the entry at this place is the first one that is not legal after those before it
 pub record IsBadAt (n d : ℕ) (m : Moment) (entries : List Entry) (index : ℕ) (why : Why) : Type 0 where
   pub front : List Entry
   pub bad : Entry
@@ -45,8 +46,8 @@ pub record IsBadAt (n d : ℕ) (m : Moment) (entries : List Entry) (index : ℕ)
   pub run : IsRun n d m front
   pub fails : Fails n d (after_all m front) bad why
 
--- the fault stands: d is no node, or it is one and the entry is the first that is not legal in a history from the counts 0;
--- want of memory is no fault of entries
+-- why a history is refused: d is not a node; or it is a node, and the entry is the first one that is not legal in the
+-- history from the counts 0. `Memory` is not a fault of entries
 abbrev pub IsCheckFault : ℕ → ℕ → List (ℕ × ℕ) → List Entry → CheckFault → Type 0
 IsCheckFault n d first entries Range = n ≤ d
 IsCheckFault n d first entries (BadAt index why) = (d < n) × IsBadAt n d (moment_of first (replicate n 0)) entries index why

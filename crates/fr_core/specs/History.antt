@@ -1,4 +1,5 @@
--- Histories of replies, and what they make of the links and of the counts (J. Welch and J. Walter, "Link Reversal Algorithms").
+-- Histories of replies, and what they make of the links and of the counts. Histories are those of Herlihy and Wing
+-- (1990); the links and counts are those of J. Welch and J. Walter, "Link Reversal Algorithms" (2011).
 use Rattle.std.specs.Prelude.{ℕ, ◌+◌, ◌==◌, ◌&&◌, if◌then◌else◌, Bool, true, false, List, [], ◌∷◌, slice_index, slice_set}
 use Rattle.std.specs.List.{count_by, filter}
 use Rattle.fr_graph.specs.Counts.{links_at}
@@ -19,18 +20,18 @@ abbrev pub links_after : List (ℕ × ℕ) → List Entry → List (ℕ × ℕ)
 links_after links [] = links
 links_after links (e ∷ h) = links_after (if is_turned e.reply then turn e.node links else links) h
 
--- how many turns a history has, and how many of one node
+-- how many turns a history has, and how many of them are of one node
 abbrev pub turn_count : List Entry → ℕ
 turn_count h = count_by (λ (e : Entry). is_turned e.reply) h
 
 abbrev pub turn_count_of : ℕ → List Entry → ℕ
 turn_count_of x h = count_by (λ (e : Entry). is_turned e.reply && (e.node == x)) h
 
--- the count of x after a history: what it began with, and one for each turn of x
+-- the count of x after a history: its count before, and one for each turn of x
 abbrev pub count_after : List ℕ → List Entry → ℕ → ℕ
 count_after counts h x = slice_index counts x + turn_count_of x h
 
--- the links and the counts at one point of a history, which the field calls a configuration
+-- the links and the counts at one point of a history, in the literature a configuration
 pub record Moment : Type 0 where
   pub links : List (ℕ × ℕ)
   pub counts : List ℕ
@@ -38,7 +39,8 @@ pub record Moment : Type 0 where
 abbrev pub count_at : Moment → ℕ → ℕ
 count_at m x = slice_index m.counts x
 
--- after a reply: a turn reverses the node's links and adds one to its count, and every other reply leaves all as it was
+-- the moment after a reply: a turn reverses the node's links and adds one to its count, and any other reply changes
+-- nothing
 abbrev pub after_reply : Moment → ℕ → Reply → Moment
 after_reply m x (Turned k) = record { links = turn x m.links; counts = slice_set m.counts x (count_at m x + 1) }
 after_reply m x (Held by) = m
@@ -53,7 +55,7 @@ abbrev pub after_all : Moment → List Entry → Moment
 after_all m [] = m
 after_all m (e ∷ es) = after_all (after m e) es
 
--- the moment at which these first links have these counts
+-- the moment with these counts, for these first links
 abbrev pub moment_of : List (ℕ × ℕ) → List ℕ → Moment
 moment_of first counts = record { links = links_at first counts; counts = counts }
 

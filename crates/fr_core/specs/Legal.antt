@@ -1,5 +1,5 @@
--- Which replies full reversal by one thread gives (Gafni and Bertsekas, 1981), with the cap: a node turns only while its
--- count is below the number of nodes.
+-- Which replies full reversal on one thread gives (Gafni and Bertsekas, 1981), with a cap: a node turns only while its
+-- count is below the number of nodes. The cap is this project's own.
 use Rattle.std.specs.Prelude.{◌≡◌, ℕ, ◌+◌, ◌<◌, List, [], ◌∷◌}
 use Rattle.fr_graph.specs.Links.{Points}
 use Rattle.fr_graph.specs.Turn.{IsSink}
@@ -17,8 +17,8 @@ pub record CanTurn (n d : ℕ) (m : Moment) (x : ℕ) : Type 0 where
 abbrev pub NoneCanTurn : ℕ → ℕ → Moment → Type 0
 NoneCanTurn n d m = (x : ℕ) → ¬ CanTurn n d m x
 
--- Turned: the node can turn, and k is its count with this turn. Held: a link points from it to the other node.
--- Moved: k is its count, and above the count that was had. Cut: its count is the cap. Sink: it is one
+-- Turned: the node can turn, and k is its count with this turn. Held: a link points from it to the other node. Moved: k
+-- is its count, and is greater than the count before. Cut: its count is the cap. Sink: it is a sink.
 abbrev pub IsLegalReply : ℕ → ℕ → Moment → ℕ → Reply → Type 0
 IsLegalReply n d m x (Turned k) = CanTurn n d m x × (k ≡ count_at m x + 1)
 IsLegalReply n d m x (Held by) = Points m.links x by
@@ -26,7 +26,7 @@ IsLegalReply n d m x (Moved had k) = (k ≡ count_at m x) × (had < k)
 IsLegalReply n d m x Cut = count_at m x ≡ n
 IsLegalReply n d m x Sink = IsSink m.links x
 
--- the reply is one that full reversal by one thread gives at this point
+-- full reversal on one thread gives this reply at this point
 abbrev pub IsLegal : ℕ → ℕ → Moment → Entry → Type 0
 IsLegal n d m e = (e.node < n) × IsLegalReply n d m e.node e.reply
 

@@ -1,18 +1,20 @@
--- The state of the search by levels. The queue has each reached node once, in rising order of the counts. For `finish` alone.
+-- The state of the search by levels. The queue has each reached node once, in increasing order of the counts. For
+-- proofs only.
 use Rattle.std.specs.Prelude.{◌≡◌, ℕ, ◌+◌, ◌<◌, ◌≤◌, ◌⊎◌, List, length, slice_index}
 use Rattle.fr_graph.specs.Links.{Points, IsAlone}
 use Rattle.fr_core.specs.Reaching.{IsQueued, unreached_count}
 use Rattle.fr_core.specs.Walks.{HasWalk}
 
--- a node with no link, one that is not reached, or one of the queue
+-- a node without a link, a node that is not reached, or a node of the queue
 abbrev pub IsSeen : ℕ → List (ℕ × ℕ) → List ℕ → List ℕ → ℕ → Type 0
 IsSeen n first counts queue x =
     (IsAlone first x × (slice_index counts x ≡ 0))
     ⊎ (¬ IsAlone first x × (slice_index counts x ≡ n))
     ⊎ IsQueued queue x
 
--- the search began at d. Of the queue's nodes those before place `closed` have been followed from head to tail, and those
--- before `opened` from tail to head; those from `start` on have the count `level`, and those from `opened` to `start` one less
+-- The search began at d. The nodes of the queue before place `closed` have been followed from head to tail, and those
+-- before `opened` from tail to head. The nodes from `start` on have the count `level`, and those from `opened` to
+-- `start` have one less.
 pub record IsLevelSearch (n d : ℕ) (first : List (ℕ × ℕ)) (counts queue : List ℕ) (closed opened start level : ℕ) : Type 0 where
   pub one_each : length counts ≡ n
   pub begun : 0 < length queue

@@ -1,20 +1,21 @@
--- The machine: workers turn nodes and look at them by single loads and exchanges on the counts of a network. A step is the load
--- of one count or the exchange of one count, and the steps of the workers come in whatever order a schedule has. In the table t
--- is a turn of x or a look at x.
+-- The machine: workers turn nodes and look at them by single loads and exchanges on the counts of a network. A step is
+-- the load or the exchange of one count. The workers make their steps in the order of a schedule. This project's own,
+-- in the style of Herlihy and Wing (1990). In the table, t is a turn of x or a look at x.
 --
---   phase              the step                                 what it comes to
+--   phase              the step                                 the result
 --   Idle, none left    nothing
 --   Idle, turn of x    loads the count c of x                   c is n: decides Cut
---                                                               else Looking (turn of x) c 0
+--                                                               otherwise Looking (turn of x) c 0
 --   Idle, look at x    loads the count c of x                   Looking (look at x) c 0
 --   Looking t c j      loads the count of neighbour j of x      below its bound: decides Held by it
---                                                               else, the last neighbour: of a turn Swapping x c,
---                                                                                         of a look Confirming x c
---                                                               else Looking t c (j + 1)
+--                                                               otherwise, the last neighbour:
+--                                                                 Swapping x c for a turn,
+--                                                                 Confirming x c for a look
+--                                                               otherwise Looking t c (j + 1)
 --   Swapping x c       exchanges the count of x, if it is c,    it was c: decides Turned, with c + 1
---                      for c + 1                                else decides Moved, with c and what it found
+--                      for c + 1                                otherwise decides Moved, with c and the count found
 --   Confirming x c     loads the count of x                     it is c: decides Sink
---                                                               else decides Moved, with c and what it found
+--                                                               otherwise decides Moved, with c and the count found
 use Rattle.std.specs.Prelude.{ℕ, ◌+◌, ◌==◌, nat_lt, if◌then◌else◌, List, [], ◌∷◌, ◌++◌, length, map, replicate, Option, Some, None, slice_index, slice_index_or, slice_set, option_to_list}
 use Rattle.fr_graph.specs.Rows.{row}
 use Rattle.fr_graph.specs.declared.first.First.{First}
@@ -46,7 +47,7 @@ fresh targets = record { left = targets; phase = Idle }
 abbrev pub start : ℕ → List (List Target) → MachineState
 start n targets = record { counts = replicate n 0; workers = map fresh targets }
 
--- what a step comes to: the counts, the worker, and the node and the reply of the call that it decides, if it decides one
+-- the result of a step: the counts, the worker, and the node and reply of a call that it decides
 pub record Outcome : Type 0 where
   pub counts : List ℕ
   pub worker : WorkerState
@@ -64,7 +65,7 @@ all_but_first (t ∷ ts) = ts
 abbrev pub decides : List ℕ → List Target → ℕ → Reply → Outcome
 decides counts left x reply = record { counts = counts; worker = record { left = all_but_first left; phase = Idle }; decided = Some (x, reply) }
 
--- the bound of a neighbour: the link points to a node of count c from there on
+-- the bound of a neighbour: the link points to a node with count c once the neighbour's count is at least the bound
 abbrev pub bound_of : First → ℕ → ℕ
 bound_of Outward c = c + 1
 bound_of Inward c = c
@@ -116,7 +117,7 @@ abbrev pub step_idle : ℕ → List ℕ → List Target → Outcome
 step_idle n counts [] = goes_on counts [] Idle
 step_idle n counts (t ∷ ts) = begin_call n counts (t ∷ ts) t
 
--- a step of a worker with these targets left, by its phase
+-- the result of a step of a worker with these targets left, by its phase
 abbrev pub outcome : ℕ → List (ℕ × ℕ) → List ℕ → List Target → Phase → Outcome
 outcome n first counts left Idle = step_idle n counts left
 outcome n first counts left (Looking t c j) = load_neighbour (row n first (node_of t)) counts left t c j
@@ -126,7 +127,7 @@ outcome n first counts left (Confirming x c) = confirm counts left x c
 abbrev pub worker_of : MachineState → ℕ → WorkerState
 worker_of m k = slice_index_or m.workers k (fresh [])
 
--- what a step of worker k comes to
+-- the result of a step of worker k
 abbrev pub outcome_of : ℕ → List (ℕ × ℕ) → MachineState → ℕ → Outcome
 outcome_of n first m k = outcome n first m.counts (worker_of m k).left (worker_of m k).phase
 
@@ -134,7 +135,7 @@ outcome_of n first m k = outcome n first m.counts (worker_of m k).left (worker_o
 abbrev pub step : ℕ → List (ℕ × ℕ) → MachineState → ℕ → MachineState
 step n first m k = record { counts = (outcome_of n first m k).counts; workers = slice_set m.workers k (outcome_of n first m k).worker }
 
--- the entry of a call that worker k decided, if it decided one
+-- the entry of a call that worker k decided, if there is one
 abbrev pub entry_of : ℕ → Option (ℕ × Reply) → List Entry
 entry_of k None = []
 entry_of k (Some d) = record { worker = k; node = d.0; reply = d.1 } ∷ []
@@ -149,7 +150,7 @@ abbrev pub state_after : ℕ → List (ℕ × ℕ) → MachineState → List ℕ
 state_after n first m [] = m
 state_after n first m (k ∷ ks) = state_after n first (step n first m k) ks
 
--- what the steps of worker k alone decide under a schedule, in order
+-- what the steps of worker k decide under a schedule, in order
 abbrev pub decided_by : ℕ → List (ℕ × ℕ) → MachineState → ℕ → List ℕ → List (ℕ × Reply)
 decided_by n first m k [] = []
 decided_by n first m k (j ∷ ks) =

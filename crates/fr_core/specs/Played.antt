@@ -1,4 +1,4 @@
--- What a machine makes of a schedule.
+-- What a machine does under a schedule. This project's own.
 use Rattle.std.specs.Prelude.{◌≡◌, ℕ, List, [], ◌++◌, map, slice_index_or}
 use Rattle.fr_core.specs.History.{part}
 use Rattle.fr_core.specs.Machine.{MachineState, start, worker_of, entries_of, state_after, decided_by}
@@ -9,7 +9,7 @@ use Rattle.fr_core.specs.declared.entry.Entry.{Entry}
 use Rattle.fr_core.specs.declared.entry.Reply.{Reply}
 use Rattle.fr_core.specs.declared.targets.Target.{Target}
 
--- a machine as contracts see it: the network, the destination and the state
+-- the value of a machine in contracts: the network, the destination and the state
 pub record MachineView : Type 0 where
   pub nodes : ℕ
   pub dest : ℕ
@@ -23,7 +23,7 @@ started n d links targets = record { nodes = n; dest = d; links = links; state =
 abbrev pub answer_of : Entry → ℕ × Reply
 answer_of e = (e.node, e.reply)
 
--- the part of worker k among the entries: what its steps decide, in order, an answer to each target that it has used up
+-- the part of worker k of the entries: what its steps decide, in order, an answer to each target that it has used up
 pub record HasPart (n : ℕ) (first : List (ℕ × ℕ)) (targets : List (List Target)) (schedule : List ℕ) (entries : List Entry) (k : ℕ) : Type 0 where
   pub replies : map answer_of (part k entries) ≡ decided_by n first (start n targets) k schedule
   pub used : List Target
@@ -32,16 +32,17 @@ pub record HasPart (n : ℕ) (first : List (ℕ × ℕ)) (targets : List (List T
 
 -- what a schedule makes of a machine before its first step
 pub record IsPlay (n d : ℕ) (first : List (ℕ × ℕ)) (targets : List (List Target)) (schedule : List ℕ) (entries : List Entry) : Type 0 where
-  -- none of the faults stands,
+  -- there is no fault
   pub playable : IsPlayable n d first targets schedule
-  -- the entries are those that the steps of the schedule decide, in order,
+  -- the entries are those that the steps of the schedule decide, in order
   pub decided : entries ≡ entries_of n first (start n targets) schedule
-  -- they are a run to the counts of the machine,
+  -- they are a run to the counts of the machine
   pub run : IsRunTo n d first entries (state_after n first (start n targets) schedule).counts
-  -- and each worker's part of them is its replies
+  -- each worker's part of them is its replies
   pub parts : (k : ℕ) → HasPart n first targets schedule entries k
 
--- the machine has come from its start with these targets to where it is by the steps of some schedule, which decided these entries
+-- the steps of some schedule, which decided these entries, brought the machine from its start with these targets to its
+-- state
 pub record HasCome (m : MachineView) (targets : List (List Target)) (entries : List Entry) : Type 0 where
   pub schedule : List ℕ
   pub play : IsPlay m.nodes m.dest m.links targets schedule entries

@@ -1,4 +1,4 @@
--- Which replies a call has, and which call a target asks for.
+-- Which replies a call can have, and which call a target asks for. This project's own.
 use Rattle.std.specs.Prelude.{◌≡◌, ℕ, List, [], ◌∷◌}
 use Rattle.fr_core.specs.declared.entry.Reply.{Reply}
 use Rattle.fr_core.specs.declared.entry.Reply.TheVariants.{Turned, Held, Moved, Cut, Sink}

@@ -1,11 +1,11 @@
--- The counts at which every schedule ends. The settled count of a node is its work under full reversal (J. Welch and
--- J. Walter, "Link Reversal Algorithms"), where the turns of a part without the destination stop at the cap.
+-- The counts at which every schedule ends. The settled count of a node is its work under full reversal (J. Welch and J.
+-- Walter, "Link Reversal Algorithms", 2011), where the turns of a part without the destination stop at the cap.
 use Rattle.std.specs.Prelude.{◌≡◌, ℕ, ◌<◌, ◌⊎◌, List, length, slice_index}
 use Rattle.fr_graph.specs.Links.{IsAlone}
 use Rattle.fr_core.specs.Walks.{IsJoined, IsLeastAway}
 
--- 0 for a node with no link, the least away number for a node that is joined with the destination d (so 0 for d itself, by
--- the walk of no step), and n for every other
+-- 0 for a node without a link; the least away number for a node that is joined with the destination d (so 0 for d
+-- itself, by the walk without steps); and n for every other node
 abbrev pub IsSettledCount : ℕ → ℕ → List (ℕ × ℕ) → ℕ → ℕ → Type 0
 IsSettledCount n d links x k =
     (IsAlone links x × (k ≡ 0))

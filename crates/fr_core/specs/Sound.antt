@@ -1,4 +1,4 @@
--- What holds of a machine between any two steps, and what a worker needs for its step. For the machine's own functions alone.
+-- What holds of a machine between two steps, and what a worker needs for its step. For proofs only.
 use Rattle.std.specs.Prelude.{◌≡◌, ℕ, ◌<◌, ◌≤◌, List, ◌++◌, length, slice_get, slice_index, Option, Some}
 use Rattle.std.specs.List.{All}
 use Rattle.fr_graph.specs.Counts.{AreLawful}
@@ -18,19 +18,19 @@ abbrev pub IsFit : ℕ → ℕ → List (ℕ × ℕ) → Target → Type 0
 IsFit n d first (Turn x) = IsTurnable n d first x
 IsFit n d first (Look x) = IsLookable n first x
 
--- the count is one from which the call goes on: a look goes on at the cap as well
+-- the call continues with this count; a look continues at the cap, too
 abbrev pub IsInRange : ℕ → Target → ℕ → Type 0
 IsInRange n (Turn x) c = c < n
 IsInRange n (Look x) c = c ≤ n
 
--- the first target of a list that would be refused
+-- the first target of a list that is refused
 pub record IsFirstRefused (n d : ℕ) (links : List (ℕ × ℕ)) (list : List Target) (at : ℕ) : Type 0 where
   pub target : Target
   pub here : slice_get list at ≡ Some target
   pub refused : IsTargetRefused n d links target
   pub first : (i : ℕ) (t : Target) → slice_get list i ≡ Some t → i < at → ¬ IsTargetRefused n d links t
 
--- what a call stands on after the load of its node's own count c: the first j neighbours meet their bounds
+-- what a call relies on after it has loaded the count c of its node: the first j neighbours meet their bounds
 pub record IsUnderWay (n d : ℕ) (first : List (ℕ × ℕ)) (counts : List ℕ) (t : Target) (c j : ℕ) : Type 0 where
   pub fit : IsFit n d first t
   pub low : c ≤ slice_index counts (node_of t)
@@ -51,16 +51,16 @@ pub record IsSound (n d : ℕ) (first : List (ℕ × ℕ)) (m : MachineState) : 
   pub lawful : AreLawful n d first m.counts
   pub workers : All (IsSoundWorker n d first m.counts) m.workers
 
--- what a machine keeps
+-- what holds of a machine at all times
 pub record IsSoundMachine (m : MachineView) : Type 0 where
   pub net : IsNet m.nodes m.links
   pub sound : IsSound m.nodes m.dest m.links m.state
 
--- a target is on a node below n
+-- the node of a target is below n
 abbrev pub IsOnNode : ℕ → Target → Type 0
 IsOnNode n t = node_of t < n
 
--- the phase is at nodes and places that are there
+-- the nodes and places of a phase exist
 abbrev pub IsPhaseInside : ℕ → List (ℕ × ℕ) → Phase → Type 0
 IsPhaseInside n first Idle = Unit {0}
 IsPhaseInside n first (Looking t c j) = (node_of t < n) × (c ≤ n) × (j < length (row n first (node_of t)))
@@ -71,14 +71,15 @@ pub record CanStep (n : ℕ) (first : List (ℕ × ℕ)) (worker : WorkerState) 
   pub left : All (IsOnNode n) worker.left
   pub phase : IsPhaseInside n first worker.phase
 
--- a machine and its parts, as the fields have them
+-- the value of a machine, from its fields
 abbrev pub view_of : ℕ → ℕ → List (ℕ × ℕ) → List ℕ → List WorkerState → MachineView
 view_of n d links counts workers = record { nodes = n; dest = d; links = links; state = record { counts = counts; workers = workers } }
 
 abbrev pub outcome_with : List ℕ → WorkerState → Option (ℕ × Reply) → Outcome
 outcome_with counts worker decided = record { counts = counts; worker = worker; decided = decided }
 
--- part of the way through a schedule: from the machine `begun` these entries have come, the machine is `now`, and the rest is to come
+-- part of the way through a schedule: from the machine `begun` these entries have come, the machine is `now`, and the
+-- rest is still to come
 pub record IsOnTheWay (begun now : MachineView) (entries : List Entry) (rest whole : List ℕ) : Type 0 where
   pub nodes : now.nodes ≡ begun.nodes
   pub dest : now.dest ≡ begun.dest

@@ -1,9 +1,10 @@
--- Walks over links in either direction, and their away numbers (J. Welch and J. Walter, "Link Reversal Algorithms").
+-- Walks over links in either direction, and their away numbers (J. Welch and J. Walter, "Link Reversal Algorithms",
+-- 2011).
 use Rattle.std.specs.Prelude.{◌≡◌, ℕ, ◌+◌, ◌≤◌, ◌⊎◌, List, [], ◌∷◌}
 use Rattle.fr_graph.specs.Links.{Points}
 
--- a walk from u by these nodes ends at x, and its away number is the number of its steps along a link, from tail to head.
--- (Among the links of a network no step goes both along a link and against one, so a walk has one away number.)
+-- A walk from u along these nodes ends at x. Its away number is the number of its steps along a link, from tail to
+-- head. (In a network, no step goes both along a link and against one, so a walk has only one away number.)
 abbrev pub IsWalk : List (ℕ × ℕ) → ℕ → List ℕ → ℕ → ℕ → Type 0
 IsWalk links u [] away x = (x ≡ u) × (away ≡ 0)
 IsWalk links u (v ∷ vs) away x =
@@ -14,7 +15,7 @@ IsWalk links u (v ∷ vs) away x =
 abbrev pub HasWalk : List (ℕ × ℕ) → ℕ → ℕ → ℕ → Type 0
 HasWalk links d x away = (vs : List ℕ) × IsWalk links d vs away x
 
--- a walk leads from d to x, as the walk of no step leads from d to d: the field calls them connected
+-- a walk leads from d to x; the walk without steps leads from d to d. In the literature, d and x are connected
 abbrev pub IsJoined : List (ℕ × ℕ) → ℕ → ℕ → Type 0
 IsJoined links d x = (away : ℕ) × HasWalk links d x away
 

@@ -1,4 +1,4 @@
-//! The checker of histories: whether each entry is one that full reversal by one thread gives after those before it.
+//! The checker of histories. It tests whether full reversal on one thread can give each entry after those before it.
 
 ghost use Rattle.std.specs.Prelude.{◌≡◌, ◌≢◌, ℕ, ◌<◌, ◌↔◌, IsTrue, All, length, slice_index, IfOk, IfErr, IfSome, IfNone};
 ghost use Rattle.fr_graph.specs.Counts.{AreLawful, IsKept, links_at};
@@ -21,13 +21,14 @@ pub use fault::{CheckFault, Why};
 use fr_graph::Net;
 use std::alloc::Global;
 
-/// Whether a link points from node `x` to `w` now. No link does where `w` is no neighbour of `x`, or no node at all.
+/// Whether a link points from node `x` to `w` now. The answer is `false` if `w` is not a neighbour of `x`, or not a
+/// node.
 fn points(net: &Net, counts: &[u64], x: u32, w: u32) -> bool
     requires one_each { length counts.now ≡ net.now.nodes }
     requires node { x < net.now.nodes }
     ensures { IsTrue result ↔ Points (links_at net.now.links counts.now) x w }
 {
-    // By the law the row has each link of `x`.
+    // By this law, the row has each link of `x`.
     net.network_law();
     let row = net.row(x);
     for (neighbour, first) in row {
@@ -65,7 +66,7 @@ fn turn_fault(net: &Net, dest: u32, counts: &[u64], x: u32, count: u64) -> Optio
     }
 }
 
-/// The test that `by` holds node `x`: a link points from `x` to it.
+/// Tests that `by` holds node `x`: a link points from `x` to it.
 fn held_fault(net: &Net, counts: &[u64], x: u32, by: u32) -> Option<Why>
     requires one_each { length counts.now ≡ net.now.nodes }
     requires node { x < net.now.nodes }
@@ -79,7 +80,7 @@ fn held_fault(net: &Net, counts: &[u64], x: u32, by: u32) -> Option<Why>
     }
 }
 
-/// The test that a count moved from `had` to `count`: that is what it is `now`, and it is above `had`.
+/// Tests that a count moved from `had` to `count`: the node has this count now, and it is greater than `had`.
 fn moved_fault(now: u64, had: u64, count: u64) -> Option<Why>
     ensures none { IfNone result ((count ≡ now) × (had < count)) }
     ensures some { IfSome result (λ why. (why ≡ NotMoved) × ¬ ((count ≡ now) × (had < count))) }
@@ -91,7 +92,7 @@ fn moved_fault(now: u64, had: u64, count: u64) -> Option<Why>
     }
 }
 
-/// The test that a node is cut: its count, `now`, is the number of nodes.
+/// Tests that a node is cut: its count, `now`, is the number of nodes.
 fn cut_fault(nodes: u32, now: u64) -> Option<Why>
     ensures none { IfNone result (now ≡ nodes) }
     ensures some { IfSome result (λ why. (why ≡ NotCut) × ¬ (now ≡ nodes)) }
@@ -103,7 +104,7 @@ fn cut_fault(nodes: u32, now: u64) -> Option<Why>
     }
 }
 
-/// The test that node `x` is a sink.
+/// Tests that node `x` is a sink.
 fn sink_fault(net: &Net, counts: &[u64], x: u32) -> Option<Why>
     requires one_each { length counts.now ≡ net.now.nodes }
     requires kept { All (IsKept counts.now) net.now.links }
@@ -139,11 +140,14 @@ fn fault_of(net: &Net, dest: u32, counts: &[u64], entry: Entry) -> Option<Why>
     }
 }
 
-/// Checks a history from the counts 0, entry by entry, and answers how often each node has turned at its end; or
-/// `BadAt` with the first entry that is not legal after those before it, and the first test that it fails. It stands
-/// on what the entries say alone, and not on how they came to be. Links are never turned, since the counts say where
-/// they point, and the counts are all the memory that it takes. `Range` where `dest` is no node, before any entry is
-/// looked at; `Memory` where no room could be had for the counts. `O(n)`, and `O(d)` an entry.
+/// Checks a history entry by entry, from the counts 0, and returns how often each node has turned at its end. The
+/// answer depends only on the entries, not on how they were made.
+///
+/// Fails with `Range` if `dest` is not a node, which is tested first; with `BadAt` and the first entry that is not
+/// legal after those before it, and the first test that it fails; and with `Memory` if there is no memory for the
+/// counts.
+///
+/// The links are never turned, because the counts determine their directions. O(n), and O(d) for each entry.
 pub fn check_run(
     alloc: Global,
     net: &Net,

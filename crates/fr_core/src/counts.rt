@@ -1,5 +1,5 @@
-//! What the counts of a network say: where a link points now, which counts are lawful, which nodes are sinks, and
-//! whether none of them can turn.
+//! What the counts of a network determine: the direction of each link, whether the counts are lawful, which nodes are
+//! sinks, and whether one of them can turn.
 
 ghost use Rattle.std.specs.Prelude.{◌≡◌, ℕ, ◌<◌, ◌↔◌, IsTrue, length, All};
 ghost use Rattle.fr_graph.specs.Counts.{AreLawful, IsKept, links_at};
@@ -14,8 +14,8 @@ ghost use Rattle.fr_core.specs.Settled.{AreSettled};
 use crate::directions::Sense;
 use fr_graph::{First, Net};
 
-/// Where the link between nodes `x` and `w` points now, as seen from `x`: `first` is its first direction as seen from
-/// `x`, and `cx` and `cw` are how often `x` and `w` have turned. None where the counts give it no direction. `O(1)`.
+/// The current direction of the link between nodes `x` and `w`, seen from `x`. `first` is its first direction seen from
+/// `x`; `cx` and `cw` are how often `x` and `w` have turned. `None` if these counts give the link no direction. O(1).
 pub fn sense(first: First, cx: u64, cw: u64) -> Option<Sense>
     ensures { result ≡ sense_of first cx cw }
 {
@@ -33,7 +33,7 @@ pub fn sense(first: First, cx: u64, cw: u64) -> Option<Sense>
     }
 }
 
-/// The most that the count of node `x` can be: 0 where it has no link, and else the number of nodes.
+/// The greatest count that node `x` can have: 0 if it has no link, otherwise the number of nodes.
 pub(crate) fn most_count(net: &Net, x: u32) -> u64
     requires { x < net.now.nodes }
     ensures { IsMostCount net.now.nodes net.now.links x result }
@@ -42,7 +42,7 @@ pub(crate) fn most_count(net: &Net, x: u32) -> u64
     if net.degree(x) == 0 { 0 } else { nodes as u64 }
 }
 
-/// Whether no node's count is above the most that it can be.
+/// Whether each node's count is at most the greatest that it can have.
 fn fits_nodes(net: &Net, counts: &[u64]) -> bool
     requires { length counts.now ≡ net.now.nodes }
     ensures { IsTrue result ↔ ((x : ℕ) → x < net.now.nodes → IsLawfulCount net.now.nodes net.now.links counts.now x) }
@@ -61,11 +61,11 @@ fn fits_row(net: &Net, counts: &[u64], x: u32) -> bool
     requires node { x < net.now.nodes }
     ensures { IsTrue result ↔ ((w : ℕ) → Points net.now.links x w → IsKept counts.now (x, w)) }
 {
-    // By the law the row has each link of `x`.
+    // By this law, the row has each link of `x`.
     net.network_law();
     let row = net.row(x);
     for (w, first) in row {
-        // A link whose head is `x` is looked at in the row of its tail.
+        // A link whose head is `x` is tested in the row of its tail.
         if *first == First::Outward
             && sense(First::Outward, counts[x as usize], counts[*w as usize]).is_none()
         {
@@ -80,7 +80,7 @@ fn fits_links(net: &Net, counts: &[u64]) -> bool
     requires { length counts.now ≡ net.now.nodes }
     ensures { IsTrue result ↔ All (IsKept counts.now) net.now.links }
 {
-    // By the law each link has a node as its tail.
+    // By this law, the tail of each link is a node.
     net.network_law();
     for x in 0..net.nodes() {
         if !fits_row(net, counts, x) {
@@ -90,10 +90,10 @@ fn fits_links(net: &Net, counts: &[u64]) -> bool
     true
 }
 
-/// Whether the counts are lawful: one for each node, 0 at `dest` and at nodes with no link, none above the number of
-/// nodes, and each link with a direction. By the law these are the counts that turns of nodes other than `dest` lead
-/// to from the counts 0: the clauses `all` and `reached` of [`run_law`](crate::laws::run_law). `dest` has to be a
-/// node. `O(n + m)`.
+/// Whether the counts are lawful: one for each node, 0 at `dest` and at nodes without a link, at most the number of
+/// nodes, and each link has a direction. By the clauses `all` and `reached` of [`run_law`](crate::laws::run_law), these
+/// are exactly the counts to which turns of nodes other than `dest` lead from the counts 0. `dest` must be a node. O(n
+/// + m).
 pub fn lawful(net: &Net, dest: u32, counts: &[u64]) -> bool
     requires { dest < net.now.nodes }
     ensures { IsTrue result ↔ AreLawful net.now.nodes dest net.now.links counts.now }
@@ -104,15 +104,15 @@ pub fn lawful(net: &Net, dest: u32, counts: &[u64]) -> bool
     fits_nodes(net, counts) && fits_links(net, counts)
 }
 
-/// Whether node `x` is a sink of the links that the counts give: it has a link, and each of its links points to it.
-/// There has to be a count for each node, and each link has to have a direction by them, as by lawful counts. `O(d)`.
+/// Whether node `x` is a sink of the links that the counts give: it has a link, and all its links point to it. There
+/// must be a count for each node, and the counts must give each link a direction, as lawful counts do. O(d).
 pub fn is_sink(net: &Net, counts: &[u64], x: u32) -> bool
     requires one_each { length counts.now ≡ net.now.nodes }
     requires kept { All (IsKept counts.now) net.now.links }
     requires node { x < net.now.nodes }
     ensures { IsTrue result ↔ IsSink (links_at net.now.links counts.now) x }
 {
-    // By the law the row has each link of `x`.
+    // By this law, the row has each link of `x`.
     net.network_law();
     let row = net.row(x);
     for (w, first) in row {
@@ -124,8 +124,8 @@ pub fn is_sink(net: &Net, counts: &[u64], x: u32) -> bool
     !row.is_empty()
 }
 
-/// Whether node `x` can turn at these counts, which have to be lawful: it is a sink, not the destination, and its
-/// count is below the cap. `O(d)`.
+/// Whether node `x` can turn at these counts, which must be lawful: it is a sink, it is not the destination, and its
+/// count is below the cap. O(d).
 pub fn can_turn(net: &Net, dest: u32, counts: &[u64], x: u32) -> bool
     requires lawful { AreLawful net.now.nodes dest net.now.links counts.now }
     requires node { x < net.now.nodes }
@@ -134,14 +134,14 @@ pub fn can_turn(net: &Net, dest: u32, counts: &[u64], x: u32) -> bool
     x != dest && counts[x as usize] < u64::from(net.nodes()) && is_sink(net, counts, x)
 }
 
-/// Whether lawful counts are the settled ones: no node can turn any more. It looks at nodes until it finds one that
-/// can. `O(n + m)`.
+/// Whether lawful counts are the settled ones: no node can turn any more. The call looks at nodes until it finds one
+/// that can turn. O(n + m).
 pub fn are_settled(net: &Net, dest: u32, counts: &[u64]) -> bool
     requires node { dest < net.now.nodes }
     requires lawful { AreLawful net.now.nodes dest net.now.links counts.now }
     ensures { IsTrue result ↔ AreSettled net.now.nodes dest net.now.links counts.now }
 {
-    // By the law lawful counts are settled where no node can turn.
+    // By this law, lawful counts are settled if no node can turn.
     net.network_law();
     for x in 0..net.nodes() {
         if can_turn(net, dest, counts, x) {

@@ -1,5 +1,5 @@
-//! Nodes that are cut off, as turns show it: if no link joins nodes that have turned with others, no way leads from
-//! them to the destination, which never turns.
+//! Nodes that are cut off, detected from turns: if no link joins the nodes that have turned with the others, no walk
+//! leads from them to the destination, which never turns.
 
 ghost use Rattle.std.specs.Prelude.{◌≡◌, ℕ, ◌<◌, ◌≤◌, ◌↔◌, IsTrue, All, length, map};
 ghost use Rattle.fr_graph.specs.Counts.{AreLawful};
@@ -32,7 +32,7 @@ fn are_apart(net: &Net, turns: &Turns) -> bool
     requires { length turns.now ≡ net.now.nodes }
     ensures { IsTrue result ↔ AreApart net.now.links turns.now }
 {
-    // By the law each row has all links of its node.
+    // By this law, each row has all links of its node.
     net.network_law();
     let counts = turns.counts();
     let turned = turns.nodes();
@@ -44,9 +44,9 @@ fn are_apart(net: &Net, turns: &Turns) -> bool
     true
 }
 
-/// If no link joins nodes that have turned with others, these nodes are cut off, and turn up to the cap: then it gives
-/// them that count. Otherwise the counts stay. No node can turn afterwards that could not before. At most it looks at
-/// each neighbour of a node that has turned.
+/// If no link joins the nodes that have turned with the others, they are cut off, and would turn up to the cap. Then
+/// they get this count; otherwise the counts are unchanged. No node can turn afterwards that could not before. The call
+/// looks at most at each neighbour of a node that has turned.
 pub(crate) fn cap_cut_off(net: &Net, dest: u32, turns: &mut Turns)
     requires node { dest < net.now.nodes }
     requires lawful { AreLawful net.now.nodes dest net.now.links turns.old }

@@ -1,6 +1,6 @@
-//! Which way a link points.
+//! The current direction of a link.
 
-/// Where a link points now, as seen from the node `x` at one of its ends.
+/// The current direction of a link, seen from the node `x` at one of its ends.
 #[derive(Debug, Drop, Clone, Copy, PartialEq, Eq)]
 pub enum Sense {
     /// The link points from `x` to the neighbour.

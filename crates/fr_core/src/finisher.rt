@@ -1,4 +1,4 @@
-//! Where every schedule ends, found on one thread.
+//! The counts at which every schedule ends, found on one thread.
 
 ghost use Rattle.std.specs.Prelude.{◌≡◌, ℕ, ◌<◌, ◌≤◌, ◌↔◌, ◌^◌, IsTrue, length, slice_index, sum};
 ghost use Rattle.fr_graph.specs.Counts.{AreLawful};
@@ -11,15 +11,15 @@ use crate::levels;
 use crate::worklist::{turn_few, turn_few_of_all};
 use fr_graph::{MAX_NODES, Net, Turns};
 
-/// Searches for the settled counts, in a table of its own, and makes the turns those that they tell. No part of its
-/// callers, so that the table takes no room on the stack where a few turns are enough.
+/// Searches for the settled counts in a table of its own, and sets the turns to them. It is not inlined, so that the
+/// table takes no stack if a few turns are enough.
 #[inline(never)]
 fn search(net: &Net, dest: u32, turns: &mut Turns)
     requires one_each { length turns.old ≡ net.now.nodes }
     requires node { dest < net.now.nodes }
     ensures { AreSettled net.now.nodes dest net.now.links turns.new }
 {
-    // By the law the table has room for a count of each node.
+    // By this law, the table has room for a count of each node.
     net.network_law();
     let mut table = [0; MAX_NODES as usize];
     let counts = &mut table[..net.nodes() as usize];
@@ -27,7 +27,7 @@ fn search(net: &Net, dest: u32, turns: &mut Turns)
     turns.copy_from(counts);
 }
 
-/// How many turns these counts tell.
+/// The number of turns of these counts.
 fn total_of(counts: &[u64]) -> u64
     requires { sum counts.now < 2 ^ 64 }
     ensures { result ≡ sum counts.now }
@@ -35,7 +35,7 @@ fn total_of(counts: &[u64]) -> u64
     counts.iter().sum()
 }
 
-/// Goes on to the settled counts: node by node where few turns are left, and else by a search.
+/// Continues to the settled counts: node by node if few turns are left, otherwise by a search.
 fn settle(net: &Net, dest: u32, turns: &mut Turns)
     requires net { IsNet net.now.nodes net.now.links }
     requires node { dest < net.now.nodes }
@@ -47,37 +47,38 @@ fn settle(net: &Net, dest: u32, turns: &mut Turns)
     }
 }
 
-/// Goes from lawful counts to those at which turning node by node ends, and answers how many turns lie between: a
-/// search writes the settled counts, also where a turn or none is left, since counts alone do not tell where nodes
-/// have turned. It allocates nothing. That turning ends there is a law, the clause `leads` of
-/// [`schedule_law`](crate::laws::schedule_law): a run of turns alone leads from the old counts to the new ones, has as
-/// many turns as this answers, and leaves no node that can turn. By its clause `alike` each run that leaves no such
-/// node ends there too. The destination has to be a node, and the counts have to be lawful, as
-/// [`lawful`](crate::lawful) tests; those of no turns are. `O(n + m)`, however many turns there are.
+/// Continues from lawful counts to the settled ones, and returns how many turns are between them. The clause `leads` of
+/// [`schedule_law`](crate::laws::schedule_law) says what this means: a run of this many turns leads from the old counts
+/// to the new ones, and then no node can turn. By its clause `alike`, every run after which no node can turn ends at
+/// these counts.
+///
+/// A search writes the settled counts. It is always a full search, because the counts alone do not show where nodes
+/// have turned. The destination must be a node, and the counts must be lawful, as [`lawful`](crate::lawful) tests; the
+/// counts 0 are. The call does not allocate. O(n + m), however many turns there are.
 pub fn finish(net: &Net, dest: u32, counts: &mut [u64]) -> u64
     requires node { dest < net.now.nodes }
     requires lawful { AreLawful net.now.nodes dest net.now.links counts.old }
     ensures settled { AreSettled net.now.nodes dest net.now.links counts.new }
     ensures run { IsFinish net.now.nodes dest net.now.links counts.old counts.new result }
 {
-    // By the law there are few nodes, so the totals are exact.
+    // By this law, there are few nodes, so the totals are exact.
     net.network_law();
     let before = total_of(counts);
     levels::settle(net, dest, counts);
     total_of(counts) - before
 }
 
-/// Goes where [`finish`] goes, over [`Turns`], and answers the same. Few turns are made one by one; a small part that
-/// is cut off is known by them, and given the counts at which it ends; and where they would cost more, a search writes
-/// the settled counts in their place. It allocates nothing. The destination has to be a node, and the counts have to
-/// be lawful. `O(n + m)`, however many turns there are.
+/// Does the same as [`finish`] with [`Turns`]. Few turns are made one by one. A small part that is cut off is detected
+/// by its turns, and gets its final counts. If turning would cost more, a search writes the settled counts. The
+/// destination must be a node, and the counts must be lawful. The call does not allocate. O(n + m), however many turns
+/// there are.
 pub fn finish_turns(net: &Net, dest: u32, turns: &mut Turns) -> u64
     requires node { dest < net.now.nodes }
     requires lawful { AreLawful net.now.nodes dest net.now.links turns.old }
     ensures settled { AreSettled net.now.nodes dest net.now.links turns.new }
     ensures run { IsFinish net.now.nodes dest net.now.links turns.old turns.new result }
 {
-    // By the law there are few nodes, so the totals are exact.
+    // By this law, there are few nodes, so the totals are exact.
     net.network_law();
     let before = turns.total();
     settle(net, dest, turns);
@@ -85,11 +86,13 @@ pub fn finish_turns(net: &Net, dest: u32, turns: &mut Turns) -> u64
     after - before
 }
 
-/// Goes to where [`finish`] goes, and looks for nodes that can turn among `from` alone and among the neighbours of
-/// nodes that it turns: for a caller that knows where the first of them are. Where few turn, no other node costs a
-/// step. It allocates nothing. The destination has to be a node, and the counts have to be lawful. Each node that can
-/// turn has to be in `from`, and all that are there have to be nodes; they need not be able to turn, and may stand
-/// there twice. `O(d)` a node of `from`, and `O(d²)` a turn where few turn, else as [`finish_turns`].
+/// Continues to the settled counts, like [`finish`], for a caller that knows which nodes can turn. It looks for nodes
+/// that can turn only in `from`, and among the neighbours of nodes that it turns. If few nodes turn, other nodes cost
+/// nothing.
+///
+/// The destination must be a node, and the counts must be lawful. `from` must contain each node that can turn. All its
+/// elements must be nodes; they need not be able to turn, and may occur twice. The call does not allocate. O(d) for
+/// each node of `from`, and O(d²) for each turn if few nodes turn; otherwise the cost of [`finish_turns`].
 pub fn finish_from(net: &Net, dest: u32, turns: &mut Turns, from: &[u32])
     requires node { dest < net.now.nodes }
     requires lawful { AreLawful net.now.nodes dest net.now.links turns.old }
@@ -102,14 +105,17 @@ pub fn finish_from(net: &Net, dest: u32, turns: &mut Turns, from: &[u32])
     }
 }
 
-/// Goes to where [`finish_from`] goes, if a few turns lead there, or these and the turns of a small part that is cut
-/// off. Else it gives up, once it has looked at as many neighbours as there are nodes and as all rows have, or has no
-/// more room for nodes that may turn; it does so twice at most, with little room and with as much as a network can
-/// have nodes. The counts are then those of some turns, and lawful. No turn is ever taken back. The answer is yes
-/// exactly where no node can turn any more, and no where it gave up with a node that can: it then looks for one, as
-/// [`are_settled`] does. For a caller that has other means where there is more to turn, as threads. It allocates
-/// nothing. It wants the same counts, and the same nodes in `from`. It costs what [`finish_from`] does where few turn,
-/// and at most `O(n + m)` beside the looks at `from`.
+/// Continues to the settled counts, like [`finish_from`], if few turns lead there. It is for a caller that has other
+/// means, such as threads, if there is more to turn. Returns whether the counts are settled: `true` exactly if no node
+/// can turn any more. Otherwise the counts are lawful, and turns may have been made; no turn is ever taken back.
+///
+/// A small part that is cut off gets its final counts. The call stops turning once it has looked at as many neighbours
+/// as there are nodes and then at as many as all rows have, or if it has no room for more nodes that may turn. It tries
+/// at most twice, first with little room and then with room for as many nodes as a network can have. When it stops, it
+/// looks for a node that can turn, as [`are_settled`] does.
+///
+/// What the destination, the counts and `from` must be is the same as for [`finish_from`]. The call does not allocate.
+/// The cost is that of [`finish_from`] if few nodes turn, and at most O(n + m) in addition to looking at `from`.
 pub fn finish_soon(net: &Net, dest: u32, turns: &mut Turns, from: &[u32]) -> bool
     requires node { dest < net.now.nodes }
     requires lawful { AreLawful net.now.nodes dest net.now.links turns.old }
@@ -118,7 +124,7 @@ pub fn finish_soon(net: &Net, dest: u32, turns: &mut Turns, from: &[u32]) -> boo
     ensures forth { (x : ℕ) → slice_index turns.old x ≤ slice_index turns.new x }
     ensures settled { IsTrue result ↔ AreSettled net.now.nodes dest net.now.links turns.new }
 {
-    // By the law a settled network is one in which no node can turn.
+    // By this law, a network is settled exactly if no node can turn.
     net.network_law();
     turn_few(net, dest, turns, from) || are_settled(net, dest, turns.counts())
 }

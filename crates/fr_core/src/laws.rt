@@ -1,5 +1,5 @@
-//! The laws of full reversal with counts: each clause here is a law of `specs/Laws.antt`, proved. The functions do
-//! nothing; they are the table of contents of the mathematics that the other contracts stand on.
+//! The laws of full reversal with counts. Each clause is a law of `specs/Laws.antt`, proved. The functions do nothing.
+//! They are the table of contents of the mathematics on which the other contracts are based.
 
 ghost use Rattle.fr_core.specs.Laws.{NoLoopStands, LinksComeFromFirst, SenseShowsTheLink, LawfulGivesANet, ZerosGiveFirst, OrderDoesNotMatter};
 ghost use Rattle.fr_core.specs.Laws.{TurnIsACount, RunKeepsLawful, MomentIsAfter, NoLoopEverStands, RunAddsUp, LawfulIsReached, SinkByCounts};
@@ -9,7 +9,7 @@ ghost use Rattle.fr_core.specs.Laws.{EachNetSettles, EachRunSettles, RunsEndAlik
 ghost use Rattle.fr_core.specs.Laws.{MissedBoundHolds, SeenBoundsSink, MachineRuns, PartsAreReplies};
 ghost use Rattle.fr_core.specs.Laws.{BadIsNoRun, RunOrBad, OneIsBad};
 
-/// The links that counts give: no closed walk stands among them, and those of lawful counts are a network.
+/// The links that counts give contain no cycle, and those of lawful counts are a network.
 pub fn links_law()
     ensures acyclic { NoLoopStands }
     ensures comes { LinksComeFromFirst }
@@ -19,8 +19,8 @@ pub fn links_law()
     ensures order { OrderDoesNotMatter }
 {}
 
-/// A turn changes the links as its count does, so a run keeps counts lawful, and no loop ever stands. Turns lead to
-/// all lawful counts: these are just the counts that runs from the counts 0 lead to.
+/// A turn changes the links exactly as its count does. So counts stay lawful in a run, and the links never contain a
+/// cycle. The lawful counts are exactly those to which runs lead from the counts 0.
 pub fn run_law()
     ensures one { TurnIsACount }
     ensures all { RunKeepsLawful }
@@ -30,16 +30,17 @@ pub fn run_law()
     ensures reached { LawfulIsReached }
 {}
 
-/// A sink shows in the counts, also in counts that were loaded one after the other while others turned: what a
-/// neighbour missed holds the node, and what all had met makes it a sink if it has kept its own count.
+/// Counts show whether a node is a sink, even if they were loaded one after the other while other nodes turned. A
+/// neighbour that missed its bound holds the node. If all neighbours had met their bounds, the node is a sink, provided
+/// that it has kept its own count.
 pub fn sink_law()
     ensures sink { SinkByCounts }
     ensures missed { MissedBoundHolds }
     ensures seen { SeenBoundsSink }
 {}
 
-/// Where no node can turn the counts are settled, there is but one list of such counts, and no lawful count is above
-/// its own.
+/// If no node can turn, the counts are settled. There is exactly one list of settled counts, and no lawful count is
+/// greater than the settled one.
 pub fn settled_law()
     ensures bound { LawfulIsAtMostAway }
     ensures settled { NoTurnLeftIsSettled }
@@ -48,7 +49,7 @@ pub fn settled_law()
     ensures most { LawfulIsAtMostSettled }
 {}
 
-/// Which settled counts are 0, which are the cap, and which nodes are joined with the destination.
+/// Which settled counts are 0, which are the cap, and how they show which nodes are joined with the destination.
 pub fn count_law()
     ensures zero { ZeroIsAPath }
     ensures cap { CapIsNotJoined }
@@ -56,7 +57,7 @@ pub fn count_law()
     ensures joined { JoinedByCounts }
 {}
 
-/// Every run can be carried on until no node can turn, and all runs that come so far end at the same counts.
+/// Every run can be continued until no node can turn, and all such runs end at the same counts.
 pub fn schedule_law()
     ensures exists { EachNetSettles }
     ensures each { EachRunSettles }
@@ -65,13 +66,14 @@ pub fn schedule_law()
     ensures bounded { TurnsAreBounded }
 {}
 
-/// The machine under every schedule: what it decides is a run, and each worker's part of it is the worker's replies.
+/// The machine under every schedule: the entries that it decides are a run, and each worker's part of them is its
+/// replies.
 pub fn machine_law()
     ensures run { MachineRuns }
     ensures parts { PartsAreReplies }
 {}
 
-/// Each history is a run, or has one first entry that is not legal, and never both.
+/// Each history either is a run, or has exactly one first entry that is not legal.
 pub fn check_law()
     ensures excludes { BadIsNoRun }
     ensures either { RunOrBad }

@@ -12,15 +12,16 @@ use crate::counts::most_count;
 use crate::queue::{ALL_NODES, Queue};
 use fr_graph::{First, Net};
 
-/// A level of the search: the count of its nodes, and the first direction of the links by which it is reached.
+/// A level of the search: the count of its nodes, and the first direction of the links along which the search reaches
+/// it.
 #[derive(Drop, Clone, Copy)]
 struct Level {
     count: u64,
     wanted: First,
 }
 
-/// Gives the neighbour of a row entry the count of this level and a place in the queue, if its link first points that
-/// way and no search has reached it.
+/// Reaches the neighbour of a row entry, if its link first points in the wanted direction and the search has not
+/// reached it yet: it gets the count of this level and a place in the queue.
 fn reach(
     net: &Net,
     entry: (u16, First),
@@ -65,8 +66,8 @@ fn reach_neighbours(
     }
 }
 
-/// Follows links from head to tail, which costs no turn: from the nodes of the level of this count, and from those
-/// that join it. The level begins in the queue at `start`. The search began at the first node of the queue.
+/// Follows links from head to tail, which costs no turn, from the nodes of the level and from those that are added to
+/// it. The level begins at place `start` of the queue. The search began at the first node of the queue.
 fn close_level(
     net: &Net,
     count: u64,
@@ -93,8 +94,8 @@ fn close_level(
     }
 }
 
-/// Follows links from tail to head, which costs a turn: from the nodes of the level before, which begin in the queue
-/// at `start`. The nodes that this reaches are the first of the new level.
+/// Follows links from tail to head, which costs a turn, from the nodes of the previous level, which begins at place
+/// `start` of the queue. The nodes that this reaches are the first ones of the new level.
 fn open_level(net: &Net, count: u64, counts: &mut [u64], queue: &mut Queue<ALL_NODES>, start: usize)
     requires net { IsNet net.now.nodes net.now.links }
     requires one_each { length counts.old ≡ net.now.nodes }
@@ -113,7 +114,8 @@ fn open_level(net: &Net, count: u64, counts: &mut [u64], queue: &mut Queue<ALL_N
     }
 }
 
-/// Gives each node the largest count that it can have, which marks a node that no search has reached.
+/// Gives each node the greatest count that it can have. For a node with links, this count means that the search has not
+/// reached it.
 fn clear(net: &Net, counts: &mut [u64])
     requires { length counts.old ≡ net.now.nodes }
     ensures { (x : ℕ) → x < net.now.nodes → IsMostCount net.now.nodes net.now.links x (slice_index counts.new x) }
@@ -123,8 +125,8 @@ fn clear(net: &Net, counts: &mut [u64])
     }
 }
 
-/// Writes the settled counts, level by level. A level has the nodes of one count, and the search reaches the next one
-/// from it. It takes no memory, and reads each row twice.
+/// Writes the settled counts, level by level. A level has the nodes with one count, and the search reaches the next
+/// level from it. It does not allocate, and reads each row twice.
 pub(crate) fn settle(net: &Net, dest: u32, counts: &mut [u64])
     requires net { IsNet net.now.nodes net.now.links }
     requires one_each { length counts.old ≡ net.now.nodes }

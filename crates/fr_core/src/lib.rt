@@ -1,13 +1,16 @@
-//! The core of full link reversal, with no threads: what a history is and which are runs, where a run ends, and the
-//! finisher that goes there on one thread.
+//! The core of full link reversal, without threads: histories and runs, the counts at which a run ends, and the
+//! finisher, which computes them on one thread.
 //!
-//! [`lawful`] tests the counts of a network, [`sense`] and [`is_sink`] say what lawful counts make of its links, and
-//! [`finish`] goes to the counts at which every schedule ends, as do [`finish_turns`], over a table of turns,
-//! [`finish_from`], which is told where to look, and [`finish_soon`], if a few turns lead there. A [`Machine`] turns
-//! nodes and looks at them by single atomic steps of its workers, in whatever order these come, [`play`] follows a
-//! schedule, and [`check_run`] checks a history, entry by entry. The laws behind them are in [`laws`].
+//! [`lawful`] tests the counts of a network. [`sense`] and [`is_sink`] say what lawful counts make of its links.
+//! [`finish`] continues to the counts at which every schedule ends. [`finish_turns`] does so with a table of turns,
+//! [`finish_from`] for callers that know where to look, and [`finish_soon`] if few turns lead there. The workers of a
+//! [`Machine`] turn nodes and look at them by single atomic steps, in any order. [`play`] follows a schedule, and
+//! [`check_run`] checks a history entry by entry. The laws behind these calls are in [`laws`].
 //!
-//! Costs are told for n nodes, m links, and d links at a node, as read off the code.
+//! Full reversal is the method of E. Gafni and D. Bertsekas ("Distributed Algorithms for Generating Loop-Free Routes in
+//! Networks with Frequently Changing Topology", 1981).
+//!
+//! Costs are for n nodes, m links, and d links at a node. They are read off the code, not proved.
 #![tactic(auto)]
 
 mod check;

@@ -19,16 +19,15 @@ use fr_graph::Net;
 use std::alloc::{AllocError, Global};
 use std::marker::Model;
 
-/// Workers at the counts of a network, each with its targets. A step is the atomic load or the compare and exchange of
-/// one count, and who steps next is the caller's choice, so a caller can go through any interleaving. Whatever it is,
-/// the decided calls are a run: each reply is the one that full reversal on one thread gives at that point. So whoever
-/// keeps the entries that the steps answer holds a run to the counts: `HasCome` says of a machine which entries
-/// brought it where it is, and the clauses `come` of `new` and of `step` and `run` of `counts` carry it. A step takes
-/// no memory.
+/// Workers at the counts of a network, each with its targets. A step is an atomic load, or an atomic compare and
+/// exchange, of one count. The caller chooses who makes the next step, so it can go through any interleaving. The
+/// decided calls are always a run: each reply is the one that full reversal on one thread gives at that point.
+/// `HasCome` says which entries brought a machine to its state; the clauses `come` of `new` and `step`, and `run` of
+/// `counts`, use it. A step does not allocate.
 #[derive(Debug, Drop)]
 pub struct Machine<'a> {
     net: &'a Net,
-    // For contracts alone, which say that the counts are lawful.
+    // Only for contracts, which say that the counts are lawful.
     dest: u32,
     counts: Vec<u64>,
     workers: Vec<Worker>,
@@ -48,9 +47,11 @@ impl<'a> Model for Machine<'a> {
 }
 
 impl<'a> Machine<'a> {
-    /// A machine before its first step, with a worker for each list of targets, or the first fault that stands: `Range` where
-    /// `dest` is no node, and then `BadTarget` with the first target that is no node or a node with no link, or is a turn of the
-    /// destination. `Memory` where no room could be had for the counts or the workers. `O(n + k)` for k targets.
+    /// Makes a machine before its first step, with a worker for each list of targets.
+    ///
+    /// Fails with `Range` if `dest` is not a node; with `BadTarget` and the first target that is not a node, has no
+    /// link, or is a turn of the destination; and with `Memory` if there is no memory for the counts or the workers.
+    /// The faults are tested in this order. O(n + k) for k targets.
     pub fn new(
         alloc: Global,
         net: &'a Net,
@@ -74,7 +75,7 @@ impl<'a> Machine<'a> {
         Ok(Machine::start(alloc, net, dest, targets)?)
     }
 
-    /// The machine, once no fault stands.
+    /// The machine, if there is no fault.
     fn start(
         alloc: Global,
         net: &'a Net,
@@ -97,7 +98,7 @@ impl<'a> Machine<'a> {
         })
     }
 
-    /// How many workers there are. `O(1)`.
+    /// The number of workers. O(1).
     pub fn workers(&self) -> usize
         ensures { result ≡ length self.now.state.workers }
     {
@@ -115,8 +116,8 @@ impl<'a> Machine<'a> {
         &self.counts
     }
 
-    /// One atomic step of a worker, from 0 to one below how many there are, and the entry if the step decides a call.
-    /// Once a worker's targets are used up, its steps change nothing. `O(1)`.
+    /// Makes one atomic step of a worker, which must be below the number of workers. Returns the entry if the step
+    /// decides a call. After a worker has used up its targets, its steps change nothing. O(1).
     pub fn step(&mut self, worker: u32) -> Option<Entry>
         requires { worker < length self.old.state.workers }
         ensures next { self.new ≡ record self.old { state = step self.old.nodes self.old.links self.old.state worker } }
@@ -133,7 +134,7 @@ impl<'a> Machine<'a> {
         })
     }
 
-    /// A step for each number of the schedule, and the entries that these decide.
+    /// Makes a step for each number of the schedule, and returns the entries that these steps decide.
     pub(crate) fn follow(
         &mut self,
         alloc: Global,

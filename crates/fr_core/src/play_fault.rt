@@ -6,15 +6,15 @@ ghost use Rattle.fr_core.specs.declared.play_fault.PlayFault.TheVariants.{Memory
 use std::alloc::{AllocError, AllocFailed};
 use thiserror::Error;
 
-/// Why a machine cannot be made, or a schedule cannot be played. The variants stand in the order in which the faults
-/// are tested.
+/// Why a machine cannot be made, or a schedule cannot be played. The variants are listed in the order in which the
+/// faults are tested.
 #[derive(Debug, Drop, Error, PartialEq, Eq)]
 pub enum PlayFault {
-    /// The destination is no node, or a number of the schedule is no worker.
+    /// The destination is not a node, or a number of the schedule is not a worker.
     #[error("the destination is no node, or a number of the schedule is no worker")]
     Range,
-    /// The first target, by worker and then by place in the worker's list, that is no node or a node with no link, or
-    /// is a turn of the destination.
+    /// The first target, by worker and then by place in the worker's list, that is not a node, has no link, or is a
+    /// turn of the destination.
     #[error("target {at} of worker {worker} is no node or has no link, or is a turn of the destination")]
     BadTarget { worker: usize, at: usize },
     /// An allocation was refused.
@@ -22,7 +22,7 @@ pub enum PlayFault {
     Memory,
 }
 
-// By hand, since clauses say which fault a `?` gives.
+// Written by hand, because clauses say which fault a `?` returns.
 impl From<AllocError> for PlayFault {
     ghost from_gives = { λ _ fault. fault ≡ Memory };
 

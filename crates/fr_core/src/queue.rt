@@ -5,11 +5,11 @@ ghost use Rattle.std.specs.Prelude.{◌≡◌, ℕ, ◌+◌, ◌<◌, ◌≤◌,
 use fr_graph::MAX_NODES;
 use std::marker::Model;
 
-/// How many places a queue needs to have room for all nodes of a network.
+/// How many places a queue needs for all nodes of a network.
 pub(crate) const ALL_NODES: usize = MAX_NODES as usize;
 
-/// Nodes in the order in which they were put there: those that a search reached, or those that may turn. There is room
-/// for `PLACES` nodes. Making a queue clears all places, so a long queue costs more than a short one even if it stays
+/// Nodes in the order in which they were added: those that a search reached, or those that may turn. There is room for
+/// `PLACES` nodes. Making a queue clears all its places, so a long queue costs more than a short one, even if it stays
 /// empty.
 #[derive(Drop)]
 pub(crate) struct Queue<const PLACES: usize> {
@@ -50,14 +50,14 @@ impl<const PLACES: usize> Queue<PLACES> {
         self.places[..self.len][at]
     }
 
-    /// All nodes, in the order in which they were put there.
+    /// All nodes, in the order in which they were added.
     pub fn nodes(&self) -> &[u32]
         ensures { result.now ≡ self.now }
     {
         &self.places[..self.len]
     }
 
-    /// Whether there is room for so many nodes more.
+    /// Whether there is room for so many more nodes.
     pub fn has_room(&self, more: usize) -> bool
         ensures { IsTrue result ↔ (length self.now + more ≤ PLACES) }
     {

@@ -12,7 +12,7 @@ use crate::targets::Target;
 use fr_graph::Net;
 use std::alloc::Global;
 
-/// Whether a number of the schedule is no worker.
+/// Whether a number of the schedule is not a worker.
 fn names_no_worker(schedule: &[u32], workers: usize) -> bool
     ensures { IsTrue result ↔ Any (λ k. workers ≤ k) schedule.now }
 {
@@ -20,11 +20,13 @@ fn names_no_worker(schedule: &[u32], workers: usize) -> bool
 }
 
 /// Plays a schedule: a machine with a worker for each list of targets makes one step for each number of the schedule.
-/// The entries that these steps decide, in order: each reply is the one that full reversal on one thread gives at that
-/// point, and each worker's part of them is its replies. Or the first fault that stands: `Range` where `dest` is no
-/// node or a number of the schedule is no worker, and then `BadTarget` with the first target that is no node or a node
-/// with no link, or is a turn of the destination. `Memory` where no room could be had for the machine or the entries.
-/// `O(n + k + s)` for k targets and a schedule of s steps.
+/// Returns the entries that these steps decide, in order. Each reply is the one that full reversal on one thread gives
+/// at that point, and each worker's part of the entries is its replies.
+///
+/// Fails with `Range` if `dest` is not a node or a number of the schedule is not a worker; with `BadTarget` and the
+/// first target that is not a node, has no link, or is a turn of the destination; and with `Memory` if there is no
+/// memory for the machine or the entries. The faults are tested in this order. O(n + k + s) for k targets and a
+/// schedule of s steps.
 pub fn play(
     alloc: Global,
     net: &Net,

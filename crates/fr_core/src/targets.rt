@@ -1,4 +1,4 @@
-//! What a machine's workers are to do.
+//! The targets of a machine's workers.
 
 ghost use Rattle.std.specs.Prelude.{◌≡◌, ◌↔◌, IsTrue, IfSome, IfNone};
 ghost use Rattle.fr_core.specs.Targets.{node_of, IsUnturnable, IsUnlookable, IsTargetRefused, IsFirstBadTarget, AreAccepted, AreAllAccepted, lists_of};
@@ -6,17 +6,17 @@ ghost use Rattle.fr_core.specs.Sound.{IsFirstRefused};
 
 use fr_graph::Net;
 
-/// One thing that a worker of a machine is to do.
+/// One target of a worker of a machine.
 #[derive(Debug, Drop, Clone, Copy, PartialEq, Eq)]
 pub enum Target {
     /// Turn this node, if it is a sink.
     Turn(u32),
-    /// Look where a link of this node points, and turn nothing.
+    /// Look whether a link points away from this node, and turn nothing.
     Look(u32),
 }
 
 impl Target {
-    /// The node that it is on.
+    /// The node of the target.
     pub(crate) fn node(self) -> u32
         ensures { result ≡ node_of self }
     {
@@ -26,14 +26,14 @@ impl Target {
     }
 }
 
-/// Whether a look at node `x` would be refused: it is no node, or has no link.
+/// Whether a look at node `x` is refused: it is not a node, or has no link.
 fn is_unlookable(net: &Net, x: u32) -> bool
     ensures { IsTrue result ↔ IsUnlookable net.now.nodes net.now.links x }
 {
     x >= net.nodes() || net.degree(x) == 0
 }
 
-/// Whether a turn of node `x` would be refused: a look at it would be, or it is the destination.
+/// Whether a turn of node `x` is refused: a look at it is, or it is the destination.
 fn is_unturnable(net: &Net, dest: u32, x: u32) -> bool
     ensures { IsTrue result ↔ IsUnturnable net.now.nodes dest net.now.links x }
 {
@@ -63,7 +63,7 @@ fn first_refused(net: &Net, dest: u32, targets: &[Target]) -> Option<usize>
     None
 }
 
-/// The places, among the lists and in its list, of the first target that a machine refuses.
+/// The worker and the place of the first target that a machine refuses.
 pub(crate) fn first_bad(net: &Net, dest: u32, targets: &[Vec<Target>]) -> Option<(usize, usize)>
     ensures found { IfSome result (λ p. IsFirstBadTarget net.now.nodes dest net.now.links
         (lists_of targets.now) p.0 p.1) }

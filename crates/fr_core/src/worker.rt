@@ -13,38 +13,37 @@ use fr_graph::{First, Net};
 use std::collections::VecDeque;
 use std::marker::Model;
 
-/// Where a worker stands in a call on a node.
+/// How far a worker is in a call on a node.
 #[derive(Debug, Drop, Clone, Copy, PartialEq, Eq)]
 pub(crate) enum Phase {
-    /// The worker is in no call.
+    /// The worker is not in a call.
     Idle,
-    /// The node of the target had turned so often, and the neighbour at this place of its row is the next to be looked
-    /// at.
+    /// The node of the target had this count, and the neighbour at this place of its row is the next one to look at.
     Looking {
         target: Target,
         count: u64,
         place: u32,
     },
-    /// The node of a turn had turned so often, and no neighbour held it.
+    /// The node of a turn had this count, and no neighbour held it.
     Swapping {
         node: u32,
         count: u64,
     },
-    /// The node of a look had turned so often, and no neighbour held it.
+    /// The node of a look had this count, and no neighbour held it.
     Confirming {
         node: u32,
         count: u64,
     },
 }
 
-/// A worker: the targets that it has not used up, and where it stands in the call on the first of them.
+/// A worker: the targets that it has not used up, and how far it is in the call on the first of them.
 #[derive(Debug, Drop)]
 pub(crate) struct Worker {
     left: VecDeque<Target>,
     phase: Phase,
 }
 
-/// A call that has begun: its target, and the count that the worker loaded of the target's node.
+/// A call that has begun: its target, and the count of the target's node that the worker loaded.
 #[derive(Drop, Clone, Copy)]
 struct Call {
     target: Target,
@@ -59,7 +58,8 @@ impl Model for Worker {
     ghost view = { λ s. record { left = s.left.items; phase = s.phase } };
 }
 
-/// The bound of a neighbour: its link points to a node of this count once the neighbour's count is no less.
+/// The bound of a neighbour. Its link points to a node with this count once the neighbour's count is at least the
+/// bound.
 fn bound_of(first: First, count: u64) -> u64
     requires { count < 2 ^ 32 }
     ensures { result ≡ bound_of first count }
@@ -70,7 +70,7 @@ fn bound_of(first: First, count: u64) -> u64
     }
 }
 
-/// The phase of a call that no neighbour held.
+/// The phase of a call after no neighbour held the node.
 fn phase_unheld(target: Target, count: u64) -> Phase
     ensures { result ≡ phase_unheld target count }
 {
@@ -97,7 +97,7 @@ impl Worker {
         self.phase
     }
 
-    /// A decided call uses up its target.
+    /// Ends a decided call, which uses up its target.
     fn end_call(&mut self)
         ensures { self.new ≡ record { left = all_but_first self.old.left; phase = Idle } }
     {
@@ -105,7 +105,7 @@ impl Worker {
         self.phase = Phase::Idle;
     }
 
-    /// The load of the own count for a turn.
+    /// Loads the own count for a turn.
     fn load_own(&mut self, nodes: u32, counts: &[u64], node: u32) -> Option<(u32, Reply)>
         requires { node < length counts.now }
         ensures { outcome_with counts.now self.new result ≡ load_own nodes counts.now self.old.left node }
@@ -123,7 +123,7 @@ impl Worker {
         None
     }
 
-    /// The load of the own count for a look.
+    /// Loads the own count for a look.
     fn load_to_look(&mut self, counts: &[u64], node: u32) -> Option<(u32, Reply)>
         requires { node < length counts.now }
         ensures { outcome_with counts.now self.new result ≡ load_to_look counts.now self.old.left node }
@@ -136,7 +136,7 @@ impl Worker {
         None
     }
 
-    /// The first step of a call.
+    /// Makes the first step of a call.
     fn begin_call(&mut self, nodes: u32, counts: &[u64]) -> Option<(u32, Reply)>
         requires inside { All (IsOnNode (length counts.now)) self.old.left }
         requires phase { self.old.phase ≡ Idle }
@@ -151,7 +151,7 @@ impl Worker {
         }
     }
 
-    /// The load of a neighbour's count.
+    /// Loads a neighbour's count.
     fn load_neighbour(
         &mut self,
         net: &Net,
@@ -166,7 +166,7 @@ impl Worker {
         ensures { outcome_with counts.now self.new result
             ≡ load_neighbour (row net.now.nodes net.now.links (node_of call.target)) counts.now self.old.left call.target call.count place }
     {
-        // By the law there are few nodes, so few neighbours.
+        // By this law, there are few nodes, and so few neighbours.
         net.network_law();
         let node = call.target.node();
         let degree = net.degree(node);
@@ -187,7 +187,7 @@ impl Worker {
         None
     }
 
-    /// The exchange of the own count.
+    /// Exchanges the own count.
     fn exchange(&mut self, counts: &mut [u64], node: u32, count: u64) -> Option<(u32, Reply)>
         requires node { node < length counts.old }
         requires below_cap { count < 2 ^ 32 }
@@ -207,7 +207,7 @@ impl Worker {
         Some((node, reply))
     }
 
-    /// The second load of the own count, with which a look ends.
+    /// Loads the own count a second time, which ends a look.
     fn confirm(&mut self, counts: &[u64], node: u32, count: u64) -> Option<(u32, Reply)>
         requires { node < length counts.now }
         ensures { outcome_with counts.now self.new result ≡ confirm counts.now self.old.left node count }
@@ -226,7 +226,8 @@ impl Worker {
         ))
     }
 
-    /// One step: the load or the exchange of one count. The node and the reply of the call, if the step decides it.
+    /// Makes one step: the load or the exchange of one count. Returns the node and the reply of the call if the step
+    /// decides it.
     pub fn step(&mut self, net: &Net, counts: &mut [u64]) -> Option<(u32, Reply)>
         requires one_each { length counts.old ≡ net.now.nodes }
         requires can { CanStep net.now.nodes net.now.links self.old }

@@ -15,8 +15,8 @@ use crate::cut_off::cap_cut_off;
 use crate::queue::{ALL_NODES, Queue};
 use fr_graph::{Net, Turns};
 
-/// How many places the short list has, from which turning begins when the nodes that can turn are known. Clearing so
-/// few places costs less than the turns of most changes.
+/// How many places the short list has, which is used first if the nodes that can turn are known. Clearing so few places
+/// costs less than the turns of most changes.
 const FEW: usize = 256;
 
 /// Puts all nodes that can turn into the empty worklist.
@@ -74,8 +74,8 @@ fn add_neighbours<const PLACES: usize>(net: &Net, x: u32, work: &mut Queue<PLACE
     true
 }
 
-/// Turns node `x` if it can turn, and adds its neighbours to the worklist, since they may be sinks afterwards. If
-/// there is no room for them, it returns false and turns nothing.
+/// Turns node `x` if it can turn, and adds its neighbours to the worklist, because they may be sinks afterwards. If
+/// there is no room for them, it turns nothing and returns `false`.
 fn visit<const PLACES: usize>(
     net: &Net,
     dest: u32,
@@ -107,8 +107,8 @@ struct Stage {
     allowance: usize,
 }
 
-/// Turns nodes from a worklist, and returns how far it came. At the end of the list no node can turn any more. It
-/// stops earlier if the worklist is full, or if it would look at more neighbours than the stage allows.
+/// Turns nodes from a worklist, and returns how far it came. If it reaches the end of the list, no node can turn any
+/// more. It stops earlier if the worklist is full, or if it would look at more neighbours than the stage allows.
 fn turn_sinks<const PLACES: usize>(
     net: &Net,
     dest: u32,
@@ -136,9 +136,9 @@ fn turn_sinks<const PLACES: usize>(
     at
 }
 
-/// Turns nodes from a worklist while that is cheap, and returns how far it came. At the end of the list no node can
-/// turn any more. It stops earlier if the worklist is full, or once it has looked at as many neighbours as there are
-/// nodes and then at as many as all rows have.
+/// Turns nodes from a worklist while that is cheap, and returns how far it came. If it reaches the end of the list, no
+/// node can turn any more. It stops earlier if the worklist is full, or once it has looked at as many neighbours as
+/// there are nodes, and then at as many as all rows have.
 fn turn_listed<const PLACES: usize>(
     net: &Net,
     dest: u32,
@@ -151,9 +151,11 @@ fn turn_listed<const PLACES: usize>(
     ensures later { AreLater net.now dest turns.old turns.new }
     ensures work { IsWorklist net.now dest turns.new work.new result }
 {
-    // By the law there are few enough links that twice their number fits: so many entries all rows have together.
+    // By this law, there are so few links that twice their number fits. That is how many entries all rows have
+    // together.
     net.network_law();
-    // A small part that is cut off would turn on and on. A few turns show it, and need not be gone on with.
+    // A small part that is cut off would turn again and again. A few turns show this, and the rest of the turns is
+    // skipped.
     let few = Stage {
         start: 0,
         allowance: net.nodes() as usize,
@@ -169,8 +171,8 @@ fn turn_listed<const PLACES: usize>(
     turn_sinks(net, dest, turns, work, rest)
 }
 
-/// Turns nodes while that is cheap, from a long list of all that can turn, and returns whether none can turn any more.
-/// It is a function of its own so that the list takes no stack while its caller searches.
+/// Turns nodes while that is cheap, from a long list of all that can turn. Returns whether no node can turn any more.
+/// It is not inlined, so that the list takes no stack while its caller searches.
 #[inline(never)]
 pub(crate) fn turn_few_of_all(net: &Net, dest: u32, turns: &mut Turns) -> bool
     requires node { dest < net.now.nodes }
@@ -184,8 +186,8 @@ pub(crate) fn turn_few_of_all(net: &Net, dest: u32, turns: &mut Turns) -> bool
     end >= work.len()
 }
 
-/// Turns nodes from a list that has room for all, starting with those of `from` that can turn, and returns whether
-/// none can turn any more. It is a function of its own since the short list of [`turn_few`] is mostly enough.
+/// Turns nodes from a list that has room for all, beginning with those of `from` that can turn. Returns whether no node
+/// can turn any more. It is not inlined, because the short list of [`turn_few`] is enough most often.
 #[inline(never)]
 fn turn_many(net: &Net, dest: u32, turns: &mut Turns, from: &[u32]) -> bool
     requires node { dest < net.now.nodes }
@@ -203,9 +205,9 @@ fn turn_many(net: &Net, dest: u32, turns: &mut Turns, from: &[u32]) -> bool
     end >= work.len()
 }
 
-/// Turns nodes while that is cheap, starting with those of `from`, which contains all that can turn. Returns whether
-/// none can turn any more. It tries a short list before a long one, turns from either as [`turn_listed`] does, and
-/// stops where the long one ends.
+/// Turns nodes while that is cheap, beginning with those of `from`, which contains all that can turn. Returns whether
+/// no node can turn any more. It tries a short list and then a long one, turns nodes from both as [`turn_listed`] does,
+/// and stops at the end of the long one.
 pub(crate) fn turn_few(net: &Net, dest: u32, turns: &mut Turns, from: &[u32]) -> bool
     requires node { dest < net.now.nodes }
     requires lawful { AreLawful net.now.nodes dest net.now.links turns.old }

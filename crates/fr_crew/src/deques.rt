@@ -1,4 +1,5 @@
-//! Where the workers find the nodes that they try: a deque for each, from which the others steal. None of its calls waits.
+//! Where the workers find the nodes that they try: each has a deque, from which the others steal. None of its calls
+//! waits.
 
 ghost use Rattle.std.specs.Prelude.{◌≡◌, ◌<◌, ◌≤◌, IfSome, length};
 ghost use Rattle.fr_crew.specs.Candidates.{IsCandidate};
@@ -13,14 +14,14 @@ use rand_core::utils::NextWord;
 use rand_pcg::Lcg64Xsh32;
 use std::alloc::{AllocError, Global};
 
-/// How often a steal is tried while others take from the same deque. Then that deque is passed over.
+/// How often a steal is tried while others take from the same deque. After that, the deque is skipped.
 const TRIES: u32 = 64;
 
-/// What other workers steal from a deque by.
+/// The handle with which other workers steal from a deque.
 pub(crate) type Stealer<J> = crossbeam_deque::Stealer<u32, Global, (), Candidates<J>>;
 
-/// A worker's own deque, which gives first what was put first, and the draws that name the deque from which the worker steals first.
-/// In a crew of one, a queue that is not shared takes its place.
+/// A worker's own deque, in which the first candidate put is the first one taken, and the draws of the deque from which
+/// the worker steals first. A crew of one uses a queue that is not shared instead.
 #[derive(Drop)]
 pub(crate) struct Deque<J: Naming> {
     own: Worker<u32, Global, (), Candidates<J>>,
@@ -30,7 +31,7 @@ pub(crate) struct Deque<J: Naming> {
 }
 
 impl<J: Naming> Deque<J> {
-    /// The deque of the worker of this number, with room for so many candidates.
+    /// The deque of the worker with this number, with room for so many candidates.
     pub fn new(alloc: Global, room: usize, seed: u64, number: u32) -> Result<Deque<J>, AllocError> {
         Ok(Deque {
             own: Worker::fifo_as(alloc, room)?,
@@ -40,12 +41,12 @@ impl<J: Naming> Deque<J> {
         })
     }
 
-    /// What other workers steal from it by.
+    /// The handle with which other workers steal from it.
     pub fn stealer(&self) -> Result<Stealer<J>, AllocError> {
         self.own.stealer()
     }
 
-    /// From now on it shares nothing: for the only worker of a crew, before any candidate is put.
+    /// Makes it share nothing from now on: for the only worker of a crew, before any candidate is put.
     pub fn unshare(&mut self, alloc: Global, round: &Round) -> Result<(), AllocError>
         requires { round.now.setup ≡ J.setup }
     {
@@ -53,8 +54,8 @@ impl<J: Naming> Deque<J> {
         Ok(())
     }
 
-    /// Puts a candidate at the end, unless it stands in a deque. One that finds no memory is dropped, and so left to the finisher or to
-    /// the worker that puts it next.
+    /// Puts a candidate at the end, unless it is in a deque. A candidate for which there is no memory is dropped. It is
+    /// left to the finisher, or to the worker that puts it next.
     #[inline(always)]
     pub fn put(&mut self, standing: &Standing<J>, x: u32)
         requires { IsCandidate J.setup x }
@@ -62,12 +63,12 @@ impl<J: Naming> Deque<J> {
         if let Some(unshared) = &mut self.unshared {
             unshared.put(x);
         } else if !standing.has(x) {
-            // Most stand in a deque already, and to look is cheaper than an exchange.
+            // Most candidates are in a deque already, and a load is cheaper than an exchange.
             self.share(standing, x);
         }
     }
 
-    /// Puts a candidate at the end of what is shared, unless another worker just did.
+    /// Puts a candidate at the end of the shared deque, unless another worker has just put it.
     #[inline(never)]
     fn share(&mut self, standing: &Standing<J>, x: u32)
         requires { IsCandidate J.setup x }
@@ -77,7 +78,7 @@ impl<J: Naming> Deque<J> {
         }
     }
 
-    /// Puts all neighbours of a node but the destination: each may be a sink now that the node has turned.
+    /// Puts all neighbours of a node, except the destination: each of them may be a sink after the node has turned.
     pub fn put_neighbours(&mut self, standing: &Standing<J>, round: &Round, x: u32)
         requires named { round.now.setup ≡ J.setup }
         requires node { x < J.setup.nodes }
@@ -91,7 +92,7 @@ impl<J: Naming> Deque<J> {
         }
     }
 
-    /// The candidate of its own that was put first, which stands in no deque then.
+    /// Takes the first of its own candidates. The candidate is then in no deque.
     pub fn take(&mut self, standing: &Standing<J>) -> Option<u32>
         ensures { IfSome result (IsCandidate J.setup) }
     {
@@ -103,7 +104,7 @@ impl<J: Naming> Deque<J> {
         Some(x)
     }
 
-    /// A candidate of another worker, which stands in no deque then.
+    /// Steals a candidate of another worker. The candidate is then in no deque.
     pub fn steal(&mut self, standing: &Standing<J>, stealers: &[Stealer<J>]) -> Option<u32>
         requires { 0 < length stealers.now }
         ensures { IfSome result (IsCandidate J.setup) }
@@ -113,8 +114,8 @@ impl<J: Naming> Deque<J> {
         Some(x)
     }
 
-    /// A candidate of another worker. A draw names the deque from which the worker steals first; the others follow in the order of their
-    /// numbers, round the end.
+    /// Steals a candidate of another worker. A draw names the deque from which the worker steals first. The others
+    /// follow in the order of their numbers, and continue with 0 after the last.
     fn steal_from_each(&mut self, stealers: &[Stealer<J>]) -> Option<u32>
         requires { 0 < length stealers.now }
         ensures { IfSome result (IsCandidate J.setup) }
@@ -132,7 +133,7 @@ impl<J: Naming> Deque<J> {
     }
 }
 
-/// Steals the candidate that was put first into another's deque.
+/// Steals the first candidate of another worker's deque.
 fn steal<J: Naming>(stealer: &Stealer<J>) -> Option<u32>
     ensures { IfSome result (IsCandidate J.setup) }
 {

@@ -9,10 +9,10 @@ use thiserror::Error;
 /// Why a network could not be settled.
 #[derive(Clone, Copy, Debug, Drop, Error, PartialEq, Eq)]
 pub enum CrewFault {
-    /// The destination is no node of the network. This is tested first.
+    /// The destination is not a node of the network. This is tested first.
     #[error("the destination is no node")]
     Range,
-    /// A thread could not be started. Those that were started have ended.
+    /// A thread could not be started. The threads that were started have ended.
     #[error("a thread could not be started")]
     Start,
     /// An allocation was refused.
@@ -20,7 +20,7 @@ pub enum CrewFault {
     Memory,
 }
 
-// By hand, since clauses say which fault a `?` gives.
+// Written by hand, because clauses say which fault a `?` returns.
 impl From<AllocError> for CrewFault {
     ghost from_gives = { λ _ fault. fault ≡ Memory };
 

@@ -1,13 +1,14 @@
-//! What is called round each call of a worker.
+//! Gates, which are called before and after each call of a worker.
 
-/// Is called by each worker of a crew before and after each of its calls that try to turn a node, so that it can watch the
-/// workers or hold them up. A worker's calls are numbered from 1. All threads of a crew share the gate, and none holds a
-/// lock while it is called. A crew waits for its threads, so it ends only where each call of its gate returns. What it costs is yours.
+/// Each worker of a crew calls its gate before and after each of its calls that try to turn a node, so a gate can watch
+/// the workers or delay them. The calls of a worker are numbered from 1. All threads of a crew share the gate, and no
+/// lock is held while it is called. A crew waits for its threads, so it ends only if each call of its gate returns. The
+/// cost is that of the implementation.
 pub trait Gate {
-    /// Is called by a worker before its call of this number.
+    /// A worker calls this before its call with this number.
     fn before(&self, worker: u32, call: u64);
 
-    /// Is called by a worker after its call of this number was answered.
+    /// A worker calls this after its call with this number was answered.
     fn after(&self, worker: u32, call: u64);
 }
 

@@ -1,12 +1,15 @@
-//! A crew that settles a network: many workers in threads of their own turn sinks at once, and whatever the schedule, the
-//! links and counts come out the same.
+//! Crews that settle networks: several workers, in threads of their own, turn sinks at the same time. The resulting
+//! links and counts do not depend on the schedule.
 //!
-//! [`settle`] opens a round, runs it by the workers of a [`Plan`], and finishes on one thread what these leave. A [`Gate`] is
-//! called round each call of a worker. [`settle_alone`] needs no thread and comes to the same. [`settled_counts`] and
-//! [`settled_counts_alone`] answer the counts alone, and leave the network as it is. [`live_walk`] follows the links of an open
-//! round while workers turn.
+//! [`settle`] opens a round, runs it with the workers of a [`Plan`], and finishes on one thread what they leave. A
+//! [`Gate`] is called before and after each call of a worker. [`settle_alone`] has the same result without threads.
+//! [`settled_counts`] and [`settled_counts_alone`] return only the counts, and do not change the network. [`live_walk`]
+//! follows the links of an open round while workers turn nodes.
 //!
-//! Costs are told for n nodes, m links, and d links at a node, as read off the code.
+//! Full reversal is the method of E. Gafni and D. Bertsekas ("Distributed Algorithms for Generating Loop-Free Routes in
+//! Networks with Frequently Changing Topology", 1981).
+//!
+//! Costs are for n nodes, m links, and d links at a node. They are read off the code, not proved.
 #![tactic(auto)]
 
 mod deques;

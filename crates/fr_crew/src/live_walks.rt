@@ -14,11 +14,11 @@ use thiserror::Error;
 /// How a walk ended.
 #[derive(Clone, Copy, Debug, Drop, PartialEq, Eq)]
 pub enum LiveEnd {
-    /// It came to the destination.
+    /// It reached the destination.
     Here,
     /// The last node was a sink when it was looked at.
     AtSink,
-    /// It made as many looks as it might, and had not come to the destination.
+    /// It made the greatest number of looks without reaching the destination.
     Limit,
 }
 
@@ -29,7 +29,7 @@ pub struct LiveWalk {
     pub end: LiveEnd,
 }
 
-/// Why a walk was not begun. The variants stand in the order in which they are tested.
+/// Why a walk is not begun. The variants are listed in the order in which they are tested.
 #[derive(Clone, Copy, Debug, Drop, Error, PartialEq, Eq)]
 pub enum LiveFault {
     /// The network has no such node.
@@ -43,7 +43,7 @@ pub enum LiveFault {
     Memory,
 }
 
-// By hand, since a clause says which fault a `?` gives.
+// Written by hand, because a clause says which fault a `?` returns.
 impl From<AllocError> for LiveFault {
     ghost from_gives = { λ _ fault. fault ≡ Memory };
 
@@ -52,7 +52,7 @@ impl From<AllocError> for LiveFault {
     }
 }
 
-/// Walks on from node `x`, the only one in `nodes`, and pushes each node to which it hops.
+/// Continues a walk from node `x`, which is the only one in `nodes`, and appends each node to which it hops.
 fn walk_on(round: &Round, worker: &mut Worker, nodes: &mut Vec<u32>, x: u32, limit: u32) -> LiveEnd
     requires own { IsOwn round.now worker.old }
     requires node { IsLookable round.now.setup.nodes round.now.setup.links x }
@@ -60,9 +60,9 @@ fn walk_on(round: &Round, worker: &mut Worker, nodes: &mut Vec<u32>, x: u32, lim
     ensures keeps { KeepsWorker worker.old worker.new }
     ensures walked { HasWalked worker.old worker.new round.now.setup.dest x limit nodes.new.items result }
 {
-    // What it has seen shows that what it knows is true, also where the walk makes no look.
+    // The call shows that what the worker knows is true, even if the walk makes no look.
     let _seen = worker.seen(x);
-    // By the law a link joins two nodes of the network.
+    // By this law, a link joins two nodes of the network.
     round.net().network_law();
     let dest = round.dest();
     let mut here = x;
@@ -79,7 +79,7 @@ fn walk_on(round: &Round, worker: &mut Worker, nodes: &mut Vec<u32>, x: u32, lim
                 nodes.push_reserved(by);
                 here = by;
             }
-            // It turned meanwhile, and is looked at again.
+            // The node turned meanwhile, and is looked at again.
             Reply::Moved { .. } => {}
             Reply::Sink => return LiveEnd::AtSink,
             Reply::Turned { .. } | Reply::Cut => unreachable!(),
@@ -92,14 +92,15 @@ fn walk_on(round: &Round, worker: &mut Worker, nodes: &mut Vec<u32>, x: u32, lim
     }
 }
 
-/// Walks from node `x` by looks, while other workers turn: it hops to the neighbour that holds the node where it is,
-/// and looks again if the node moved meanwhile. It ends at the destination, at a sink, or after `limit` looks. Each look
-/// is true at its own moment, and no two need be true at one: the walk may visit a node twice. It waits for nobody.
+/// Walks from node `x` by looks, while other workers turn nodes. The walk hops to the neighbour that holds the current
+/// node, and looks again if the node has moved meanwhile. It ends at the destination, at a sink, or after `limit`
+/// looks. Each look is true at its own moment, but not all at the same one, so the walk may visit a node twice. It does
+/// not wait.
 ///
-/// The worker has to be one of this round. A walk is refused with `NoNode` or `Alone`, tested in this order, if `x` is no
-/// node or a node with no link. Then it takes room for `limit` and one nodes, before the first look, and fails with
-/// `Memory` if the allocation is refused. After a fault nothing has changed, and the worker knows what it knew. At most
-/// `limit` looks, `O(d²)` each.
+/// The worker must be one of this round. Fails with `NoNode` or `Alone`, tested in this order, if `x` is not a node or
+/// has no link. Before the first look, the call allocates room for `limit + 1` nodes, and fails with `Memory` if that
+/// is refused. If it fails, nothing has changed, and the worker knows what it knew before. It makes at most `limit`
+/// looks, of O(d²) each.
 pub fn live_walk(
     alloc: Global,
     round: &Round,

@@ -1,4 +1,4 @@
-//! A worker with its own deque, and the handles by which the others steal from it.
+//! Workers with their own deques, and the handles with which the others steal from them.
 
 ghost use Rattle.std.specs.Prelude.{◌≡◌, ◌<◌, ◌≤◌, IfOk, length, vec_len};
 ghost use Rattle.std.specs.List.{AllByRecursion as Each};
@@ -18,14 +18,15 @@ pub(crate) struct Member<J: Naming> {
     pub deque: Deque<J>,
 }
 
-/// All members of a crew, and by what the others steal from each, in the same order.
+/// All members of a crew, and in the same order the handles with which the others steal from each.
 #[derive(Drop)]
 pub(crate) struct Members<J: Naming> {
     pub members: Vec<Member<J>>,
     pub stealers: Vec<Stealer<J>>,
 }
 
-/// Gives each worker a deque of its own, with room for so many candidates at first. The only worker of a crew shares nothing.
+/// Gives each worker a deque of its own, with room for so many candidates at first. The only worker of a crew shares
+/// nothing.
 pub(crate) fn equip<J: Naming>(
     alloc: Global,
     round: &Round,
@@ -52,11 +53,12 @@ pub(crate) fn equip<J: Naming>(
     Ok(Members { members, stealers })
 }
 
-/// How much more room a deque has at first than is dealt to it: a turn makes candidates of all neighbours of a node.
+/// How much more room a deque has at first than it is dealt: a turn makes candidates of all neighbours of a node.
 const SLACK: usize = 64;
 
-/// How many candidates the deque of each of so many workers is to have room for at first: as many as are dealt to one, and some more,
-/// but no more than there are nodes, since none stands there twice. It grows where that is too little.
+/// How many candidates the deque of each worker has room for at first: as many as are dealt to one worker and some
+/// more, but at most as many as there are nodes, because no node is in a deque twice. A deque grows if that is too
+/// little.
 pub(crate) fn room_for(round: &Round, from: Option<&[u32]>, workers: usize) -> usize
     requires { 0 < workers }
     ensures { result ≤ round.now.setup.nodes }
@@ -70,8 +72,8 @@ pub(crate) fn room_for(round: &Round, from: Option<&[u32]>, workers: usize) -> u
     if room < nodes { room } else { nodes }
 }
 
-/// Deals a node to the member whose number is `turn` modulo the number of members, where the node is a candidate: it has a link, and is
-/// not the destination.
+/// Deals a node to the member whose number is `turn` modulo the number of members, if the node is a candidate: it has a
+/// link, and is not the destination.
 fn deal_node<J: Naming>(
     round: &Round,
     standing: &Standing<J>,
@@ -90,7 +92,8 @@ fn deal_node<J: Naming>(
     }
 }
 
-/// Deals all candidates in rising order, each to the member whose number is that of the node modulo the number of members.
+/// Deals all candidates in increasing order, each to the member whose number is the node's modulo the number of
+/// members.
 fn deal_all<J: Naming>(round: &Round, standing: &Standing<J>, members: &mut [Member<J>])
     requires named { round.now.setup ≡ J.setup }
     requires some { 0 < length members.old }
@@ -101,7 +104,8 @@ fn deal_all<J: Naming>(round: &Round, standing: &Standing<J>, members: &mut [Mem
     }
 }
 
-/// Deals the candidates among these nodes, each to the member whose number is the node's place modulo the number of members.
+/// Deals the candidates among these nodes, each to the member whose number is the node's place modulo the number of
+/// members.
 fn deal_each<J: Naming>(
     round: &Round,
     standing: &Standing<J>,
@@ -117,8 +121,7 @@ fn deal_each<J: Naming>(
     }
 }
 
-/// Deals the first candidates: those among the nodes of `from`, where it is given, and else all nodes with a link but the
-/// destination.
+/// Deals the first candidates: those among the nodes of `from`, or all candidates if there is no `from`.
 pub(crate) fn deal<J: Naming>(
     round: &Round,
     standing: &Standing<J>,

@@ -1,4 +1,4 @@
-//! Which round the deques of a type belong to, and what may stand in them.
+//! The round to which the deques of a type belong, and what they may contain.
 
 ghost use Rattle.std.specs.Prelude.{[]};
 ghost use Rattle.fr_round.specs.declared.view.Setup.{Setup};
@@ -6,7 +6,7 @@ ghost use Rattle.fr_round.specs.declared.view.Setup.{Setup};
 use crossbeam_deque::protocol::{Outcome, Protocol};
 use std::marker::{Brand, PhantomData};
 
-/// What a round was opened with, as the type of its deques names it. It is picked where the round is settled.
+/// The setup of a round, as the type of its deques names it. It is chosen where the round is settled.
 pub(crate) trait Naming {
     ghost setup: { Setup };
 }
@@ -15,7 +15,7 @@ impl Naming for Brand {
     ghost setup = { record { nodes = 0; dest = 0; links = []; workers = 0 } };
 }
 
-/// The rule of the deques of a round, and what each call on them tells: every task is a candidate of the round.
+/// The rule of the deques of a round, and what each call on them shows: every task is a candidate of the round.
 pub(crate) struct Candidates<J>(PhantomData<J>);
 
 impl<J: Naming> Protocol<u32, ()> for Candidates<J> {

@@ -19,7 +19,7 @@ use std::marker::Brand;
 use std::sync::Wait;
 use std::thread::Threads;
 
-/// A network that is settled: no node but the destination is a sink that could turn.
+/// A settled network: no node except the destination is a sink that can turn.
 #[derive(Debug, Drop)]
 pub struct Settled {
     /// The network with its settled links.
@@ -28,29 +28,31 @@ pub struct Settled {
     pub counts: Vec<u64>,
     /// How many turns the workers made, which depends on the schedule.
     pub by_workers: u64,
-    /// How many turns were left to the finisher.
+    /// How many turns the finisher made.
     pub by_finisher: u64,
 }
 
-/// Turns a network until no node can turn: full reversal (E. Gafni and D. Bertsekas, 1981) by the workers of the plan, each
-/// in a thread of its own but for the last, which works on the thread that calls, and what they leave by
-/// [`finish_turns`](fr_core::finish_turns) on one thread. Whatever the plan, the gate and the schedule, the answer is the same but for who
-/// made how many turns.
+/// Turns a network until no node can turn, by full reversal (E. Gafni and D. Bertsekas, 1981). The workers of the plan
+/// turn nodes, each in a thread of its own, except the last one, which uses the calling thread.
+/// [`finish_turns`](fr_core::finish_turns) then turns what they leave. The result does not depend on the plan, the gate
+/// and the schedule, except for who made how many turns.
 ///
-/// Each worker has a deque of candidates. At first these are all nodes with a link but the destination, each dealt to the worker
-/// whose number is the node's modulo the number of workers. A worker takes a candidate of its own, or else steals one from another
-/// worker, and tries to turn it. It makes candidates of its own of all neighbours but the destination where it did, and of the node
-/// itself where another worker was faster; but none that stands in a deque is put again. It ends when it finds no
-/// candidate, or when its budget is spent. Only in the second case does it leave candidates in its deque. No thread is started by a crew of
-/// one, nor where no node can turn at all, nor where no worker may make a call. There is no lock, and the crew waits only for its threads
-/// to end.
+/// Each worker has a deque of candidates. At first these are all nodes with a link except the destination, each dealt
+/// to the worker whose number is the node's modulo the number of workers. A worker takes one of its own candidates, or
+/// steals one from another worker, and tries to turn it. If it does, it puts all neighbours except the destination into
+/// its deque; if another worker was faster, it puts the node itself. A node that is in a deque is not put again. A
+/// worker ends when it finds no candidate, or when its budget is spent; only then can it leave candidates in its deque.
+/// No thread is started for a crew of one, if no node can turn, or if no worker may make a call. There is no lock, and
+/// the crew waits only for its threads to end.
 ///
-/// `Range` where the destination is no node, which is tested first. The room for the whole round, but for that by which deques grow, is
-/// taken before the first thread is started, and `Memory` answered where there is none; after that the only fault is `Start`, since a
-/// candidate for which a deque finds no more room is left to the finisher. `Start` comes where a thread could not be started, and never
-/// where none has to be. Where there is a fault, the network is given up. It waits for its threads, which end where the calls of the gate
-/// return. It costs what [`settle_alone`] does where no node can turn or no worker may make a call; else `O(m + k n + T d (d + k))` steps
-/// of k workers for T turns.
+/// Fails with `Range` if the destination is not a node, which is tested first; with `Memory` if an allocation is
+/// refused; and with `Start` if a thread could not be started, which never happens if none has to be. All memory except
+/// that for growing deques is allocated before the first thread is started. After that, the only fault is `Start`,
+/// because a candidate for which a deque has no room is left to the finisher. If the call fails, the network is
+/// dropped. It waits for its threads, which end once the calls of the gate return.
+///
+/// If no node can turn or no worker may make a call, the cost is that of [`settle_alone`]. Otherwise it is O(m + k n +
+/// T d (d + k)) steps of k workers for T turns.
 pub fn settle<R: Threads + Wait + Sync, G: Gate + Sync>(
     rt: &R,
     alloc: Global,
@@ -81,11 +83,11 @@ pub fn settle<R: Threads + Wait + Sync, G: Gate + Sync>(
     settled_by(&crew, net, dest, turns)
 }
 
-/// Turns a network until no node can turn, on the thread that calls: by [`finish_turns`](fr_core::finish_turns) alone. The answer is that
-/// of [`settle`], all turns being the finisher's. It starts no thread and waits for nobody.
+/// Does the same on the calling thread, by [`finish_turns`](fr_core::finish_turns). The result is that of [`settle`],
+/// with all turns made by the finisher. It starts no thread and does not wait.
 ///
-/// `Range` where the destination is no node, which is tested first, or else `Memory`; never `Start`. Where there is a fault, the
-/// network is given up. `O(n + m)`, and what [`Net::turn`] costs.
+/// Fails with `Range` if the destination is not a node, which is tested first, and with `Memory` if an allocation is
+/// refused; never with `Start`. If it fails, the network is dropped. O(n + m), and the cost of [`Net::turn`].
 pub fn settle_alone(alloc: Global, net: Net, dest: u32) -> Result<Settled, CrewFault>
     ensures settled { IfOk result (λ settled. IsSettlement net.nodes dest net.links settled) }
     ensures range { IfErr result (λ fault. (fault ≡ Range) ↔ (net.nodes ≤ dest)) }
@@ -96,21 +98,22 @@ pub fn settle_alone(alloc: Global, net: Net, dest: u32) -> Result<Settled, CrewF
     Ok(finished(net, dest, turns, 0))
 }
 
-/// The settled counts of a network, which stays as it is: where a node can turn at all, by the crew on a copy of the network,
-/// and what they leave by [`finish_turns`](fr_core::finish_turns). Whatever the plan, the gate and the schedule, they are the
-/// counts of [`settle`]. They are made in `turns`, a table in which no node has turned yet, so that who settles a network again and again
-/// can use one table for all rounds.
+/// The settled counts of a network, which does not change. If a node can turn, the crew turns a copy of the network,
+/// and [`finish_turns`](fr_core::finish_turns) what it leaves. The counts are those of [`settle`], whatever the plan,
+/// the gate and the schedule. They are written to `turns`, a table in which no node has turned yet, so a caller that
+/// settles networks again and again can use one table for all rounds.
 ///
-/// For a caller that knows where sinks can be, as after an edit of a settled network: all that stand in `from`, where it is
-/// given, are nodes, and each sink but the destination is among them; some may stand there twice. Where a few turns settle the
-/// network, or none at all, they are made on the thread that calls, by [`finish_soon`](fr_core::finish_soon): that costs a look at
-/// each of these nodes and the turns, and no thread is started. Else they are the workers' first candidates, in place of all nodes,
-/// each dealt to the worker whose number is its place in `from` modulo the number of workers; and each worker makes at most as many
-/// calls as there are nodes, since with more of them it would take longer to turn what is left than to search.
+/// `from` is for a caller that knows where sinks can be, for example after an edit of a settled network. It must
+/// contain only nodes, and each sink except the destination; a node may occur twice. If a few turns settle the network,
+/// or none, the calling thread makes them by [`finish_soon`](fr_core::finish_soon). This costs a look at each of these
+/// nodes and the turns, and no thread is started. Otherwise these nodes are the workers' first candidates instead of
+/// all nodes, each dealt to the worker whose number is its place in `from` modulo the number of workers. Each worker
+/// then makes at most as many calls as there are nodes, because more calls would take longer than a search.
 ///
-/// `Range` where the destination is no node, which is tested first. That is the only fault with the budget 0, and where no node can
-/// turn; else `Memory` may come, and `Start` as by `settle`. It costs what [`settled_counts_alone`] does with the budget 0, and where
-/// a few turns settle the network; else a copy of it, and what [`settle`] does.
+/// Fails with `Range` if the destination is not a node, which is tested first. With the budget 0, or if no node can
+/// turn, this is the only fault. Otherwise it fails with `Memory` if an allocation is refused, and with `Start` as
+/// `settle` does. With the budget 0, or if a few turns settle the network, the cost is that of
+/// [`settled_counts_alone`]; otherwise that of a copy of the network and of [`settle`].
 pub fn settled_counts<R: Threads + Wait + Sync, G: Gate + Sync>(
     crew: &Crew<'_, R, G>,
     net: &Net,
@@ -129,7 +132,7 @@ pub fn settled_counts<R: Threads + Wait + Sync, G: Gate + Sync>(
         return settled_counts_alone(net, dest, from, turns);
     }
     test_node(net, dest)?;
-    // By the law a settled count is at most the number of nodes.
+    // By this law, a settled count is at most the number of nodes.
     net.network_law();
     if turn_few(net, dest, from, &mut turns) {
         return Ok(turns);
@@ -139,11 +142,12 @@ pub fn settled_counts<R: Threads + Wait + Sync, G: Gate + Sync>(
     Ok(finished_counts(net, dest, turns, None))
 }
 
-/// The settled counts of a network, which stays as it is, on the thread that calls: by [`finish_turns`](fr_core::finish_turns) alone, or
-/// where `from` is given, by [`finish_from`](fr_core::finish_from). They are those of [`settled_counts`], and made in `turns` as there;
-/// `from` has to hold what it has to hold there. It starts no thread, waits for nobody, and takes no memory.
+/// Does the same on the calling thread, by [`finish_turns`](fr_core::finish_turns), or by
+/// [`finish_from`](fr_core::finish_from) if `from` is given. The counts are those of [`settled_counts`], and are
+/// written to `turns` in the same way; `from` must satisfy the same conditions. It starts no thread, does not wait, and
+/// does not allocate.
 ///
-/// The only fault is `Range`, where the destination is no node. `O(n + m)`, and with `from` as `finish_from`.
+/// Fails only with `Range`, if the destination is not a node. O(n + m), and with `from` the cost of `finish_from`.
 pub fn settled_counts_alone(
     net: &Net,
     dest: u32,
@@ -158,7 +162,7 @@ pub fn settled_counts_alone(
     Ok(finished_counts(net, dest, turns, from))
 }
 
-/// Whether the destination is a node; else `Range`.
+/// Tests that the destination is a node. Fails with `Range` if it is not.
 fn test_node(net: &Net, dest: u32) -> Result<(), CrewFault>
     ensures node { OnOk result (dest < net.now.nodes) }
     ensures range { IfErr result (λ fault. (fault ≡ Range) × (net.now.nodes ≤ dest)) }
@@ -169,8 +173,8 @@ fn test_node(net: &Net, dest: u32) -> Result<(), CrewFault>
     Ok(())
 }
 
-/// The table with which every settlement begins: no node has turned. `Range` where the destination is no node, or else
-/// `Memory`.
+/// The table with which every settlement begins: no node has turned. Fails with `Range` if the destination is not a
+/// node, which is tested first, and with `Memory` if an allocation is refused.
 fn none_yet(alloc: Global, net: &Net, dest: u32) -> Result<Turns, CrewFault>
     ensures none { IfOk result (λ turns. (dest < net.now.nodes) × (turns ≡ replicate net.now.nodes 0)) }
     ensures range { IfErr result (λ fault. (fault ≡ Range) ↔ (net.now.nodes ≤ dest)) }
@@ -181,8 +185,8 @@ fn none_yet(alloc: Global, net: &Net, dest: u32) -> Result<Turns, CrewFault>
     Ok(Turns::none(alloc, net.nodes())?)
 }
 
-/// Turns nodes where a few turns settle the network: none at all, or few from nodes of `from`, where these are given. Whether it is
-/// settled now.
+/// Turns nodes if a few turns settle the network: none at all, or few from the nodes of `from`, if these are given.
+/// Returns whether the network is settled.
 fn turn_few(net: &Net, dest: u32, from: Option<&[u32]>, turns: &mut Turns) -> bool
     requires node { dest < net.now.nodes }
     requires begin { CanBegin net.now dest from turns.old }
@@ -197,7 +201,7 @@ fn turn_few(net: &Net, dest: u32, from: Option<&[u32]>, turns: &mut Turns) -> bo
     }
 }
 
-/// Settles a network by a crew, and what that leaves on the thread that calls. The table has a count for each node.
+/// Settles a network by a crew, and what that leaves on the calling thread. The table has a count for each node.
 fn settled_by<R: Threads + Wait, G: Gate + Sync>(
     crew: &Crew<'_, R, G>,
     net: Net,
@@ -221,8 +225,8 @@ fn settled_by<R: Threads + Wait, G: Gate + Sync>(
     Ok(finished(net, dest, turns, by_workers))
 }
 
-/// The counts that a crew leaves on a copy of a network. Where it is known which nodes can turn, each worker makes no more calls than
-/// there are nodes: more would take longer than to search.
+/// The counts that a crew leaves on a copy of a network. If it is known which nodes can turn, each worker makes at most
+/// as many calls as there are nodes: more would take longer than a search.
 fn counts_by<R: Threads + Wait, G: Gate + Sync>(
     crew: &Crew<'_, R, G>,
     net: &Net,
@@ -249,8 +253,8 @@ fn counts_by<R: Threads + Wait, G: Gate + Sync>(
     Ok(closed.counts)
 }
 
-/// Opens a round, lets a crew turn its nodes, and closes it. Its workers try the nodes of `from` first, where it is
-/// given, and else all. The network that it gives back has its first links.
+/// Opens a round, lets a crew turn its nodes, and closes it. Its workers first try the nodes of `from`, or all nodes if
+/// there is no `from`. The network is returned with its first links.
 fn turned_by<R: Threads + Wait, G: Gate + Sync>(
     crew: &Crew<'_, R, G>,
     net: Net,
@@ -271,7 +275,7 @@ fn turned_by<R: Threads + Wait, G: Gate + Sync>(
     Ok(round.close(workers))
 }
 
-/// How many turns the workers made together, each told with its number.
+/// How many turns the workers made together. The list has a number and a count for each worker.
 fn sum_of_turns(turned: &[(u32, u64)]) -> u64
     requires { sum_by (λ (p : ℕ × ℕ). p.1) turned.now < 2 ^ 64 }
     ensures { result ≡ sum_by (λ (p : ℕ × ℕ). p.1) turned.now }
@@ -279,7 +283,7 @@ fn sum_of_turns(turned: &[(u32, u64)]) -> u64
     turned.iter().map(|(_, turns)| turns).sum()
 }
 
-/// Finishes on one thread what is left to turn of a network, and turns its links. It takes no memory.
+/// Finishes on one thread what is left to turn of a network, and turns its links. It does not allocate.
 fn finished(mut net: Net, dest: u32, mut turns: Turns, by_workers: u64) -> Settled
     requires node { dest < net.nodes }
     requires lawful { AreLawful net.nodes dest net.links turns }
@@ -298,8 +302,8 @@ fn finished(mut net: Net, dest: u32, mut turns: Turns, by_workers: u64) -> Settl
     }
 }
 
-/// Finishes on one thread what is left to turn, from nodes of `from`, where these are given. The links stay as they are. It takes
-/// no memory.
+/// Finishes on one thread what is left to turn, beginning with the nodes of `from`, if these are given. It does not
+/// change the links, and does not allocate.
 fn finished_counts(net: &Net, dest: u32, mut turns: Turns, from: Option<&[u32]>) -> Turns
     requires node { dest < net.now.nodes }
     requires lawful { AreLawful net.now.nodes dest net.now.links turns }

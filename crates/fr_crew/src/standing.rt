@@ -1,4 +1,4 @@
-//! Which nodes stand in the deques of a crew, so that none stands there twice.
+//! Which nodes are in the deques of a crew, so that none is there twice.
 
 ghost use Rattle.std.specs.Prelude.{◌≡◌, ◌<◌, IfOk, vec_len};
 
@@ -8,7 +8,7 @@ use std::alloc::{AllocError, Global};
 use std::marker::PhantomData;
 use std::sync::atomic::{AtomicBool, Ordering};
 
-/// A flag for each node, which all workers share: whether the node stands in a deque. No proof rests on what the flags say.
+/// A flag for each node, shared by all workers: whether the node is in a deque. No proof depends on the flags.
 #[derive(Drop)]
 pub(crate) struct Standing<J: Naming> {
     flags: Vec<AtomicBool>,
@@ -17,7 +17,7 @@ pub(crate) struct Standing<J: Naming> {
 }
 
 impl<J: Naming> Standing<J> {
-    /// No node stands in a deque yet.
+    /// No node is in a deque yet.
     pub fn none(alloc: Global, round: &Round) -> Result<Standing<J>, AllocError>
         requires { round.now.setup ≡ J.setup }
     {
@@ -32,21 +32,21 @@ impl<J: Naming> Standing<J> {
         })
     }
 
-    /// Whether a node stands in a deque.
+    /// Whether a node is in a deque.
     pub fn has(&self, x: u32) -> bool
         requires { x < J.setup.nodes }
     {
         self.flags[x as usize].load(Ordering::SeqCst)
     }
 
-    /// Notes that a node comes to stand in a deque, and says whether it stood in none.
+    /// Notes that a node enters a deque. Returns whether it was in none.
     pub fn enters(&self, x: u32) -> bool
         requires { x < J.setup.nodes }
     {
         !self.flags[x as usize].swap(true, Ordering::SeqCst)
     }
 
-    /// Notes that a node stands in no deque any more.
+    /// Notes that a node is in no deque any more.
     pub fn leaves(&self, x: u32)
         requires { x < J.setup.nodes }
     {

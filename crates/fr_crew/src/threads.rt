@@ -1,4 +1,4 @@
-//! Workers in threads of their own. Nothing here waits but the joining of the threads.
+//! Workers in threads of their own. Only the joining of the threads waits.
 
 ghost use Rattle.std.specs.Prelude.{◌≡◌, ◌≢◌, ◌<◌, ◌≤◌, IfOk, IfErr, IfSome, vec_len, vec_capacity};
 ghost use Rattle.std.specs.List.{AllByRecursion as Each};
@@ -32,7 +32,7 @@ struct Job<J: Naming> {
     ghost some_stealer: { 0 < vec_len stealers },
 }
 
-/// A thread gives back the worker that it was given.
+/// A promise of a thread: it returns the worker that it was given.
 #[derive(Drop)]
 struct GivesBack(Snapshot<Worker>);
 
@@ -44,7 +44,7 @@ impl Promise<Worker> for GivesBack {
 
 type Thread = PromisedHandle<Worker, GivesBack>;
 
-/// The room that is taken before the first thread is started.
+/// The memory that is allocated before the first thread is started.
 #[derive(Drop)]
 struct Rooms {
     back: Vec<Worker>,
@@ -57,7 +57,7 @@ struct Started {
     all: bool,
 }
 
-/// The next candidate of a worker: of its own, or else of another worker.
+/// The next candidate of a worker: one of its own, or one stolen from another worker.
 fn next_candidate<J: Naming>(job: &Job<J>, deque: &mut Deque<J>) -> Option<u32>
     ensures { IfSome result (IsCandidate J.setup) }
 {
@@ -67,7 +67,7 @@ fn next_candidate<J: Naming>(job: &Job<J>, deque: &mut Deque<J>) -> Option<u32>
     }
 }
 
-/// A worker's call of this number, on a candidate, and what it makes candidates by that.
+/// Makes a worker's call with this number on a candidate, and puts the candidates that follow from the reply.
 fn try_candidate<J: Naming, G: Gate>(
     job: &Job<J>,
     gate: &G,
@@ -88,23 +88,24 @@ fn try_candidate<J: Naming, G: Gate>(
     match reply {
         Ok(Reply::Turned { .. }) => deque.put_neighbours(&job.standing, &job.round, x),
         Ok(Reply::Moved { .. }) => deque.put(&job.standing, x),
-        // Whoever turns the neighbour that held it makes it a candidate again.
+        // The worker that turns the neighbour that held the node will make the node a candidate again.
         Ok(Reply::Held { .. }) | Ok(Reply::Cut) => {}
         // No candidate is refused.
         Err(_) => unreachable!(),
-        // That is a look's reply.
+        // Only a look has this reply.
         Ok(Reply::Sink) => unreachable!(),
     }
 }
 
-/// What one worker does: it takes candidates and tries to turn them, until it finds none or its budget is spent.
+/// The work of one worker: it takes candidates and tries to turn them, until it finds none or its budget is spent.
 fn work<J: Naming, G: Gate>(job: &Job<J>, gate: &G, mut member: Member<J>) -> Worker
     requires named { job.now.round.setup ≡ J.setup }
     requires own { IsOwn job.now.round member.worker }
     ensures { IsSameWorker member.worker result }
 {
     for made in 0..job.budget {
-        // It stands in no deque before the call, so that a turn of a neighbour in the meantime makes it a candidate again.
+        // The candidate is in no deque before the call. So if a neighbour turns during the call, the node becomes a
+        // candidate again.
         let Some(x) = next_candidate(job, &mut member.deque) else {
             break;
         };
@@ -113,7 +114,7 @@ fn work<J: Naming, G: Gate>(job: &Job<J>, gate: &G, mut member: Member<J>) -> Wo
     member.worker
 }
 
-/// Starts a thread for each member. It stops at the first that cannot be started.
+/// Starts a thread for each member. It stops at the first thread that cannot be started.
 fn start_each<'s, 'e, J: Naming + Send + Sync, G: Gate + Sync>(
     scope: &'s Scope<'s, &'e ()>,
     job: &'e Job<J>,
@@ -152,7 +153,7 @@ fn join_each<R: Threads>(rt: &R, threads: Vec<Thread>, mut workers: Vec<Worker>)
     workers
 }
 
-/// Room for so many workers that come back, and for their threads.
+/// Memory for so many workers that come back, and for their threads.
 fn make_room(alloc: Global, members: usize) -> Result<Rooms, AllocError>
     ensures back { IfOk result (λ rooms. (vec_len rooms.back ≡ 0) × (members ≤ vec_capacity rooms.back)) }
     ensures threads { IfOk result (λ rooms. (vec_len rooms.threads ≡ 0) × (members ≤ vec_capacity rooms.threads)) }
@@ -163,9 +164,9 @@ fn make_room(alloc: Global, members: usize) -> Result<Rooms, AllocError>
     })
 }
 
-/// The whole life of the threads. The room for all of them is taken before the first is started. The last member works on the thread that
-/// called, which would only wait for the others. Where a thread cannot be started, those that were started are joined, and the last
-/// member does nothing.
+/// Starts the threads, works, and joins the threads. All memory is allocated before the first thread is started. The
+/// last member works on the calling thread, which would otherwise only wait for the others. If a thread cannot be
+/// started, those that were started are joined, and the last member does nothing.
 fn run_each<'s, 'e, J: Naming + Send + Sync, R: Threads, G: Gate + Sync>(
     scope: &'s Scope<'s, &'e ()>,
     crew: &'e Crew<'e, R, G>,
@@ -194,7 +195,7 @@ fn run_each<'s, 'e, J: Naming + Send + Sync, R: Threads, G: Gate + Sync>(
     Ok(back)
 }
 
-/// Starts the threads in a scope, which ends when all of them have.
+/// Starts the threads in a scope, which ends when all of them have ended.
 fn run_threads<J: Naming + Send + Sync, R: Threads + Wait, G: Gate + Sync>(
     crew: &Crew<'_, R, G>,
     job: &Job<J>,
@@ -220,10 +221,10 @@ fn run_threads<J: Naming + Send + Sync, R: Threads + Wait, G: Gate + Sync>(
     )
 }
 
-/// Lets all workers work at once, each in a thread of its own but for the last, which works on this one, and gives them back
-/// in their order, with their round. At first they are dealt the nodes of `from`, where it is given, and else all. Their deques
-/// have room for all that are dealt before the first thread is started. Where a thread cannot be started, those that were started
-/// are joined first, and the last worker does nothing.
+/// Lets all workers work at the same time, each in a thread of its own, except the last one, which uses the calling
+/// thread. Returns them in their order, with their round. At first they are dealt the nodes of `from`, or all nodes if
+/// there is no `from`. Their deques have room for all dealt nodes before the first thread is started. If a thread
+/// cannot be started, those that were started are joined first, and the last worker does nothing.
 pub(crate) fn run_crew<J: Naming + Send + Sync, R: Threads + Wait, G: Gate + Sync>(
     crew: &Crew<'_, R, G>,
     round: Round,

@@ -1,4 +1,4 @@
-//! The candidates of a crew of one, which are shared with nobody.
+//! The candidates of a crew of one, which are not shared.
 
 ghost use Rattle.std.specs.Prelude.{◌≡◌, All, IfSome, vec_len};
 ghost use Rattle.fr_crew.specs.Candidates.{IsCandidate};
@@ -9,11 +9,12 @@ use std::alloc::{AllocError, Global};
 use std::collections::VecDeque;
 use std::marker::PhantomData;
 
-/// A queue of candidates from which nobody steals: it gives first what was put first, and none of its steps is an atomic one.
+/// A queue of candidates from which no other worker steals. The first candidate put is the first one taken, and no step
+/// is atomic.
 #[derive(Drop)]
 pub(crate) struct Unshared<J: Naming> {
     queue: VecDeque<u32>,
-    // Whether each node stands there, so that none stands there twice.
+    // Whether each node is in the queue, so that none is there twice.
     stands: Vec<bool>,
     of: PhantomData<J>,
     ghost candidates: { All (IsCandidate J.setup) queue.items },
@@ -33,7 +34,7 @@ impl<J: Naming> Unshared<J> {
         })
     }
 
-    /// Puts a candidate at the end, unless it stands there.
+    /// Puts a candidate at the end, unless it is in the queue.
     #[inline(always)]
     pub fn put(&mut self, x: u32)
         requires { IsCandidate J.setup x }
@@ -43,7 +44,7 @@ impl<J: Naming> Unshared<J> {
         }
     }
 
-    /// The candidate that was put first.
+    /// Takes the first candidate.
     #[inline(always)]
     pub fn take(&mut self) -> Option<u32>
         ensures { IfSome result (IsCandidate J.setup) }

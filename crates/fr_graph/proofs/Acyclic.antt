@@ -1,4 +1,4 @@
--- No closed walk stands among the links that counts give: along a link of them the counts never rise.
+-- The links that counts give contain no cycle: along such a link the counts never rise.
 use Rattle.std.proofs.Common.{List, [], ap, arith, inl, inr, slice_index, ℕ, ◌∷◌, ◌≤◌}
 use Rattle.fr_graph.proofs.Giving.{ComesFrom, Points-links_at_from}
 use Rattle.fr_graph.specs.Counts.{links_at}
@@ -8,7 +8,7 @@ step_falls : (first : List (ℕ × ℕ)) (c : List ℕ) (u v : ℕ) → ComesFro
 step_falls first c u v (inl h) = omega (arith, h.1)
 step_falls first c u v (inr h) = omega (arith, h.1)
 
--- where no link rises, no path does
+-- if no link rises, no path rises
 pub path_falls : (links : List (ℕ × ℕ)) (heights : List ℕ)
     → ((u v : ℕ) → Points links u v → slice_index heights v ≤ slice_index heights u) → (u : ℕ) (vs : List ℕ)
     → IsPath links u vs → slice_index heights (end_of u vs) ≤ slice_index heights u
@@ -19,7 +19,7 @@ step_level : (first : List (ℕ × ℕ)) (c : List ℕ) (u v : ℕ) → ComesFro
 step_level first c u v (inl h) l = h.0
 step_level first c u v (inr h) l = absurd (omega (arith, h.1))
 
--- a path that comes back to its first count is one of the first links
+-- a path that comes back to its first count consists of first links
 path_level : (first : List (ℕ × ℕ)) (c : List ℕ) (u : ℕ) (vs : List ℕ) → IsPath (links_at first c) u vs
     → slice_index c u ≤ slice_index c (end_of u vs) → IsPath first u vs
 path_level first c u [] h l = tt

@@ -1,4 +1,4 @@
--- The links of a network with one added.
+-- The links of a network with one added link.
 use Rattle.std.proofs.Common.{List, [], ap, arith, count_by, get_or, inl, inr, length, refl, subst, sym, true, ℕ, ⊎_elim, ◌++◌, ◌+◌, ◌<◌, ◌∙◌, ◌∷◌}
 use Rattle.std.proofs.Common.{◌≡◌, ◌≢◌, ◌≤◌, ◌⊎◌}
 use Rattle.std.proofs.lemmas.Bool.{cases_Bool, cases_lt}
@@ -18,7 +18,7 @@ use Rattle.fr_graph.specs.Order.{AreInOrder, in_order, with_in_order}
 abbrev pub added : List (ℕ × ℕ) → ℕ → ℕ → List (ℕ × ℕ)
 added links u v = links ++ (u, v) ∷ []
 
--- a link put at its place among links in order
+-- a link inserted at its place among links in order
 pub added_in_order : (links : List (ℕ × ℕ)) (u v : ℕ) → AreInOrder links → with_in_order (u, v) links ≡ in_order (added links u v)
 added_in_order links u v order =
     same_order (with_in_order (u, v) links) (in_order (added links u v)) (insert_order (u, v) links order) (in_order_order (added links u v))
@@ -77,7 +77,8 @@ single_added links u v single free k d l =
     let link = get_or (added links u v) k d in
     omega (arith, added_once links u v link.0 link.1 single free, one_passes (is_between link.0 link.1) (added links u v) k d l (is_between_itself link))
 
--- a walk along the links with one more is one along them, or comes to its tail and goes on from its head
+-- a walk along the links with the added one is a walk along the others, or it leads to the tail of the added link and
+-- continues from its head
 pub path_joins : (links : List (ℕ × ℕ)) (a : ℕ) (vs : List ℕ) (b c : ℕ) → IsPath links a vs → end_of a vs ≡ b → HasPath links b c → HasPath links a c
 path_joins links a [] b c path e rest = subst (λ (y : ℕ). HasPath links y c) (sym e) rest
 path_joins links a (w ∷ ws) b c path e rest = let r = path_joins links w ws b c path.1 e rest in (w ∷ r.0, ((path.0, r.1.0), r.1.1))
@@ -102,7 +103,7 @@ path_splits links u v a (w ∷ ws) path =
           ]
     ]
 
--- where a closed walk follows the links with one more, a path leads from the head of that one to its tail
+-- if the links with the added one contain a cycle, a path leads from the head of the added link to its tail
 pub closed_back : (links : List (ℕ × ℕ)) (u v a : ℕ) (vs : List ℕ) → IsAcyclic links → IsClosedWalk (added links u v) a vs → HasPath links v u
 closed_back links u v a [] acyclic h = absurd h
 closed_back links u v a (w ∷ ws) acyclic h =
@@ -111,7 +112,7 @@ closed_back links u v a (w ∷ ws) acyclic h =
       | inr new ↦ path_joins links v new.1.0 a u new.1.1.0 (new.1.1.1 ∙ h.1) new.0
     ]
 
--- no fault stands
+-- the links have no fault
 pub faultless_added : (n : ℕ) (links : List (ℕ × ℕ)) (u v : ℕ) → IsFaultless n links
     → CanPut (record { nodes = n; links = links }) u v → IsFaultless n (added links u v)
 faultless_added n links u v clear can = record {
@@ -125,7 +126,7 @@ faultless_added n links u v clear can = record {
   };
 }
 
--- a node that is out of range as an end of the added link is so among all links
+-- a node of the added link that is out of range is out of range among all links
 pub out_of_range_added : (n : ℕ) (links : List (ℕ × ℕ)) (u v x : ℕ) → IsOutOfRange n ((u, v) ∷ []) x → IsOutOfRange n (added links u v) x
 out_of_range_added n links u v x (inl none) = inl none
 out_of_range_added n links u v x (inr out) =

@@ -1,4 +1,4 @@
--- The rows of a network with one link added.
+-- The rows of a network with one added link.
 use Rattle.std.proofs.Common.{Bool, Contains, List, None, Option, Some, [], ap, arith, cond, drop, eq-eqb, eqb, false, get_or, inl, inr, length}
 use Rattle.std.proofs.Common.{ne_eqb, option_to_list, refl, suc, sym, take, true, zero, ℕ, ◌++◌, ◌+◌, ◌<◌, ◌∙◌, ◌∷◌, ◌≡◌, ◌≢◌, ◌≤◌, ◌⊎◌}
 use Rattle.std.specs.Prelude.{nat_le}
@@ -16,12 +16,12 @@ use Rattle.fr_graph.specs.Rows.{row, row_entry}
 use Rattle.fr_graph.specs.declared.first.First.{First}
 use Rattle.fr_graph.specs.declared.first.First.TheVariants.{Inward, Outward}
 
--- the entries with one put before the first that has no lesser neighbour
+-- the entries with one inserted before the first entry that has no lower neighbour
 abbrev pub with_entry : ℕ × First → List (ℕ × First) → List (ℕ × First)
 with_entry new [] = new ∷ []
 with_entry new (entry ∷ rest) = cond (nat_le new.0 entry.0) (new ∷ (entry ∷ rest)) (entry ∷ with_entry new rest)
 
--- the entries of x where the link from u to v is added
+-- the entries of x after the link from u to v is added
 abbrev pub added_row : ℕ → ℕ → ℕ → List (ℕ × First) → List (ℕ × First)
 added_row u v x entries = cond (eqb x u) (with_entry (v, Outward) entries) (cond (eqb x v) (with_entry (u, Inward) entries) entries)
 
@@ -47,12 +47,12 @@ length-with_entry : (e : ℕ × First) (es : List (ℕ × First)) → length (wi
 length-with_entry e [] = refl
 length-with_entry e (f ∷ fs) = length-with_entry_by (nat_le e.0 f.0) e f fs (length-with_entry e fs)
 
--- an entry above all goes to the end
+-- an entry greater than all others goes to the end
 put_last : (e : ℕ × First) (es : List (ℕ × First)) → ((f : ℕ × First) → Contains es f → f.0 < e.0) → with_entry e es ≡ es ++ e ∷ []
 put_last e [] above = refl
 put_last e (f ∷ fs) above = rw (lt-leb e.0 f.0 (above f (Contains-head f fs)), put_last e fs (λ g h. above g (Contains-tail g f fs h))) refl
 
--- an entry below what follows stays among what stands before
+-- an entry lower than what follows is inserted in the part before
 put_before_by : (b : Bool) (e f : ℕ × First) (fs more : List (ℕ × First))
     → with_entry e (fs ++ more) ≡ with_entry e fs ++ more
     → cond b (e ∷ (f ∷ (fs ++ more))) (f ∷ with_entry e (fs ++ more)) ≡ cond b (e ∷ (f ∷ fs)) (f ∷ with_entry e fs) ++ more
@@ -67,7 +67,7 @@ put_first : (e : ℕ × First) (o : Option (ℕ × First)) → ((f : ℕ × Firs
 put_first e None below = refl
 put_first e (Some f) below = rw (le-leb e.0 f.0 (below f refl)) refl
 
--- the entries that the added link leaves alone
+-- the entries that the added link does not change
 entry_stays : (links : List (ℕ × ℕ)) (u v x w : ℕ) → ¬ ((x ≡ u) × (w ≡ v)) → ¬ ((w ≡ u) × (x ≡ v)) → row_entry (added links u v) x w ≡ row_entry links x w
 entry_stays links u v x w out back =
     row_entry_same (added links u v) links x w
@@ -89,7 +89,7 @@ row_stays_by (suc w) links u v x out back =
       entry_stays links u v x w (out w (omega arith)) (back w (omega arith)),
     ) refl
 
--- the row of an end gains the other end
+-- the row of one end gains the other end
 row_gains : (k : ℕ) (links : List (ℕ × ℕ)) (u v x other : ℕ) (f : First) → other < k → row_entry links x other ≡ None
     → row_entry (added links u v) x other ≡ Some (other, f)
     → ((w : ℕ) → w ≢ other → row_entry (added links u v) x w ≡ row_entry links x w) → row k (added links u v) x ≡ with_entry (other, f) (row k links x)
@@ -112,7 +112,7 @@ row_gains (suc w) links u v x other f lt none some same =
     row_alike zero links u v x same = refl
     row_alike (suc w) links u v x same = rw (row_alike w links u v x (λ z l. same z (omega arith)), same w (omega arith)) refl
 
--- the row of a node once the link from u to v is added
+-- the row of a node after the link from u to v is added
 pub row_added : (n : ℕ) (links : List (ℕ × ℕ)) (u v x : ℕ) → u < n → v < n → u ≢ v → ¬ Joins links u v
     → row n (added links u v) x ≡ added_row u v x (row n links x)
 row_added n links u v x a b apart free =
@@ -142,7 +142,7 @@ row_added n links u v x a b apart free =
     no_back links u v apart free (inl h) = free (inr h)
     no_back links u v apart free (inr e) = apart (ap (λ (l : ℕ × ℕ). l.0) e)
 
--- with the link each of its ends has an entry more
+-- with the added link, each of its ends has one more entry
 pub ends_more : (n : ℕ) (links : List (ℕ × ℕ)) (u v : ℕ) → AreUnjoined n links u v
     → (length (row n (added links u v) u) ≡ length (row n links u) + 1) × (length (row n (added links u v) v) ≡ length (row n links v) + 1)
 ends_more n links u v free = (

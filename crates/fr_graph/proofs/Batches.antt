@@ -1,4 +1,5 @@
--- Edits made one after the other: one list of edits makes one network, or has one first edit that is refused.
+-- Edits made one after the other: a list of edits makes exactly one network, or has exactly one first edit that is
+-- refused.
 use Rattle.std.proofs.Common.{List, [], arith, get_or, inl, inr, length, refl, subst, suc, sym, take, zero, ℕ, ◌++◌, ◌<◌, ◌∙◌, ◌∷◌, ◌≡◌, ◌≤◌}
 use Rattle.fr_graph.proofs.Joining.{join_fault_place, join_not_refused, joined_one}
 use Rattle.fr_graph.proofs.Refusing.{fault_place, first_fault_place, no_first_fault}
@@ -13,14 +14,14 @@ use Rattle.fr_graph.specs.declared.fault.NetFault.TheVariants.{Cycle, Memory, No
 use Rattle.fr_graph.specs.declared.edit.Edit.{Edit}
 use Rattle.fr_graph.specs.declared.edit.Edit.TheVariants.{Add, Cut, Join}
 
--- one edit more
+-- one more edit
 pub made_next : (net : Network) (edits : List Edit) (k : ℕ) (mid next : Network) (d : Edit) → k < length edits
     → AreMade net (take k edits) mid → IsMade mid (get_or edits k d) next → AreMade net (take (suc k) edits) next
 made_next net [] k mid next d l made h = absurd (omega (arith, l))
 made_next net (e ∷ es) zero mid next d l made h = (next, (subst (λ (m : Network). IsMade m e next) made h, refl))
 made_next net (e ∷ es) (suc k) mid next d l made h = (made.0, (made.1.0, made_next made.0 es k mid next d (omega (arith, l)) made.1.1 h))
 
--- an edit makes but one network
+-- an edit makes only one network
 made_one : (net : Network) (e : Edit) (a b : Network) → IsMade net e a → IsMade net e b → a ≡ b
 made_one net (Cut u v) a b h g = h.1.is ∙ sym g.1.is
 made_one net (Add u v) a b h g = h.is ∙ sym g.is
@@ -30,7 +31,7 @@ pub all_made_one : (net : Network) (edits : List Edit) (a b : Network) → AreMa
 all_made_one net [] a b h g = h ∙ sym g
 all_made_one net (e ∷ es) a b h g = all_made_one g.0 es a b (subst (λ (m : Network). AreMade m es a) (made_one net e h.0 g.0 h.1.0 g.1.0) h.1.1) g.1.1
 
--- why a link cannot be cut: it is not there
+-- why a link cannot be cut: there is none
 pub cut_fault_is : (links : List (ℕ × ℕ)) (u v : ℕ) (f : NetFault) → IsCutFault links u v f → (f ≡ NoLink) × ¬ Joins links u v
 cut_fault_is links u v TooMany h = absurd h
 cut_fault_is links u v (Range x) h = absurd h
@@ -40,7 +41,7 @@ cut_fault_is links u v (Cycle walk) h = absurd h
 cut_fault_is links u v NoLink h = (refl, h)
 cut_fault_is links u v Memory h = absurd h
 
--- an edit that is made is not refused, and the faults of one that is refused are of one kind
+-- an edit that is made is not refused, and the faults of a refused edit are of one kind
 not_refused : (net : Network) (e : Edit) (f : NetFault) (after : Network) → IsEditFault net e f → ¬ IsMade net e after
 not_refused net (Cut u v) f after refused made = (cut_fault_is net.links u v f refused).1 made.0
 not_refused net (Add u v) f after refused made = no_first_fault net.nodes (net.links ++ (u, v) ∷ []) f made.faultless refused
@@ -56,7 +57,7 @@ edit_fault_place net (Join u v) f g hf hg = join_fault_place net.nodes net.links
 at_first : (net mid : Network) (e : Edit) (f : NetFault) → mid ≡ net → IsEditFault mid e f → IsEditFault net e f
 at_first net mid e f same h = subst (λ (m : Network). IsEditFault m e f) same h
 
--- where one edit is refused the edits are not all made
+-- if one edit is refused, the edits are not all made
 refused_not_made : (net : Network) (edits : List Edit) (i : ℕ) (mid : Network) (f : NetFault) (after : Network)
     → i < length edits → AreMade net (take i edits) mid → ((d : Edit) → IsEditFault mid (get_or edits i d) f) → ¬ AreMade net edits after
 refused_not_made net [] i mid f after l made refused all = omega (arith, l)

@@ -1,4 +1,4 @@
--- Tests put together.
+-- Combined tests.
 use Rattle.std.proofs.Common.{Bool, false, inl, inr, refl, true, ◌&&◌, ◌||◌, ◌≡◌, ◌⊎◌}
 
 pub and_false : (a b : Bool) → (a && b) ≡ false → a ≡ true → b ≡ false
@@ -21,7 +21,7 @@ or_comm true false = refl
 or_comm false true = refl
 or_comm false false = refl
 
--- a link counts alike either way round
+-- a link counts equally in both directions
 and_comm : (a b : Bool) → (a && b) ≡ (b && a)
 and_comm true true = refl
 and_comm true false = refl

@@ -1,4 +1,4 @@
--- From the sorted halves of links to the network that they make, or to the fault that stands.
+-- From the sorted half-links to the network, or to the fault of the links.
 use Rattle.std.proofs.Common.{Bool, IsPermutation, List, [], ap, arith, count_by, eqb, eqb-true, false, get_or, inl, inr, map, refl, suc, sym, true}
 use Rattle.std.proofs.Common.{ℕ, ◌&&◌, ◌+◌, ◌<◌, ◌||◌, ◌∙◌, ◌∷◌, ◌≡◌, ◌≤◌}
 use Rattle.std.proofs.lemmas.Bool.{and_parts}
@@ -66,7 +66,7 @@ count_same listed halves u v both bar =
 no_self_sorted : (listed sorted : List (ℕ × ℕ)) → IsPermutation listed sorted → HasNoSelfLink listed → HasNoSelfLink sorted
 no_self_sorted listed sorted same bar = All-permutation (λ (l : ℕ × ℕ). ¬ (l.0 ≡ l.1)) listed sorted same bar
 
--- what the halves in order say of the listed links
+-- what the sorted half-links show about the listed links
 pub twice_stands : (listed : List (ℕ × ℕ)) (halves : List HalfLink) (u v : ℕ) → IsPermutation (halves_of listed) halves
     → HasNoSelfLink listed → 2 ≤ count_by (is_at u v) halves → 2 ≤ count_by (is_between u v) listed
 twice_stands listed halves u v both bar h = omega (arith, count_same listed halves u v both bar, h)
@@ -111,7 +111,7 @@ net_sorted n listed sorted same a net = record {
   acyclic = a;
 }
 
--- links in range and no self link among them have no fault where their halves rise and no closed walk follows them
+-- links in range without a self link have no fault if their half-links increase and the links contain no cycle
 pub faultless_listed : (n : ℕ) (listed : List (ℕ × ℕ)) (halves : List HalfLink) → IsWithinLimits n listed
     → IsInRange n listed → HasNoSelfLink listed → IsPermutation (halves_of listed) halves → AreHalvesRising halves → IsAcyclic listed → IsFaultless n listed
 faultless_listed n listed halves limits range bar both rising a = record {
@@ -143,6 +143,6 @@ rows_shown n listed halves starts of x lt =
     (omega (arith, b.0, f), omega (arith, b.1, g)))
     of.same of.rising of.start_each
 
--- another order of the links of a network is a network
+-- the links of a network in another order are those of a network
 pub permuted_net : (n : ℕ) (a b : List (ℕ × ℕ)) → IsPermutation a b → IsNet n a → IsNet n b
 permuted_net n a b same net = net_sorted n a b same (acyclic_listed b a (IsPermutation-sym a b same) net.acyclic) net

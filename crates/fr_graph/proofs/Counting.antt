@@ -30,7 +30,7 @@ two_pass {X} p (x ∷ xs) (suc i) (suc j) d lt l e f =
     let weight : X → ℕ = λ y. cond (p y) 1 0 in
     omega (arith, sum_by-cons weight x xs, two_pass p xs i j d (omega arith) (omega arith) e f)
 
--- if none passes, or no two do
+-- if no element passes, or no two do
 pub none_pass : {X : Type 0} (p : X → Bool) (xs : List X) → ((j : ℕ) (d : X) → j < length xs → ¬ (p (get_or xs j d) ≡ true)) → count_by p xs ≡ 0
 none_pass p [] bar = refl
 none_pass {X} p (x ∷ xs) bar =
@@ -64,7 +64,7 @@ count_agrees p q (x ∷ xs) same =
 pub cases_le_one : (n : ℕ) → (n ≤ 1) ⊎ (2 ≤ n)
 cases_le_one n = elim (cases_lt 1 n) [ inl l ↦ inr (omega arith) | inr g ↦ inl g ]
 
--- what a function gives of the elements passes as often as they pass by it
+-- as many values of `filter_map` pass a test as there are elements whose value passes it
 pub passes : {Y : Type 0} → (Y → Bool) → Option Y → Bool
 passes p None = false
 passes p (Some y) = p y
@@ -80,7 +80,7 @@ count-filter_map {X} p f (x ∷ xs) =
     let weight : X → ℕ = λ y. weigh (passes p (f y)) in
     omega (arith, count-cons_option p (f x) (filter_map f xs), sum_by-cons weight x xs, count-filter_map p f xs)
 
--- two tests that agree below a + n count alike
+-- two tests that agree below a + n count equally
 pub count-range_agree : (p q : ℕ → Bool) (a n : ℕ) → ((x : ℕ) → x < a + n → p x ≡ q x) → count_by p (range_with_len a n) ≡ count_by q (range_with_len a n)
 count-range_agree p q a zero same = refl
 count-range_agree p q a (suc n) same =
@@ -104,7 +104,7 @@ count-range_next p a (suc n) k is =
     let f : ℕ → ℕ = λ x. cond (p x) 1 0 in
     omega (arith, sum_by-cons f a (range_with_len (a + 1) (suc n)), sum_by-cons f a (range_with_len (a + 1) n), count-range_next p (a + 1) n k (omega arith))
 
--- how many of the numbers from 0 on pass a test, once one more is tried
+-- how many of the numbers from 0 on pass a test, with one more number
 pub count-range_more : (p : ℕ → Bool) (n : ℕ) → count_by p (range_with_len 0 (n + 1)) ≡ count_by p (range_with_len 0 n) + cond (p n) 1 0
 count-range_more p n = rw add-one (count-range_next p 0 n n (zero-add n))
 

@@ -1,4 +1,4 @@
--- The links and rows of a network with one link cut.
+-- The links and rows of a network after one link is cut.
 use Rattle.std.proofs.Common.{Bool, Contains, List, [], arith, cond, false, get_or, ne_eqb, option_to_list, refl, suc, true, zero, ℕ, ◌+◌, ◌∙◌, ◌∷◌, ◌≡◌, ◌≢◌}
 use Rattle.std.specs.Prelude.{not}
 use Rattle.std.specs.List.{filter}
@@ -18,11 +18,11 @@ use Rattle.fr_graph.specs.Rows.{row, row_entry}
 use Rattle.fr_graph.specs.declared.first.First.{First}
 use Rattle.fr_graph.proofs.Lists.{into_filter, filter_passes, filter-option, filter_kept}
 
--- whether an entry of x stays where the link between u and v is cut
+-- whether an entry of x is kept if the link between u and v is cut
 abbrev pub stays : ℕ → ℕ → ℕ → ℕ × First → Bool
 stays u v x entry = not (is_between u v (x, entry.0))
 
--- links in order are sorted, and a part of them is
+-- links in order are sorted, and so is a part of them
 pub sorted_from_order : (links : List (ℕ × ℕ)) → AreInOrder links → IsSorted IsNotAfter links
 sorted_from_order [] order = tt
 sorted_from_order (l ∷ ls) order = (λ x h. least_first l ls x order h, sorted_from_order ls (order_tail l ls order))
@@ -64,7 +64,7 @@ entry_cut_by false links u v x w e =
       filter-option true (stays u v x) (row_entry links x w) (λ entry is. let node = row_entry_node links x w entry is in rw (node, e) refl),
     ) refl
 
--- the row of a node once the link between u and v is cut
+-- the row of a node after the link between u and v is cut
 pub row_cut : (n : ℕ) (links : List (ℕ × ℕ)) (u v x : ℕ) → row n (without u v links) x ≡ filter (stays u v x) (row n links x)
 row_cut zero links u v x = refl
 row_cut (suc w) links u v x =
@@ -74,7 +74,7 @@ row_cut (suc w) links u v x =
       filter-append (stays u v x) (row w links x) (option_to_list (row_entry links x w)),
     ) refl
 
--- the row of a node that is no end of the link stays
+-- the row of a node that is not an end of the link is unchanged
 not_between : (u v x w : ℕ) → x ≢ u → x ≢ v → is_between u v (x, w) ≡ false
 not_between u v x w a b = rw (ne_eqb x u a, ne_eqb x v b) refl
 

@@ -1,4 +1,4 @@
--- The steps of the search for a closed walk keep its state.
+-- The steps of the search for a cycle keep its state.
 use Rattle.std.proofs.Common.{Bool, List, [], add-one, add-zero, add_assoc, ap, arith, cond, drop, get_or, inl, inr, length, length-drop, refl, set}
 use Rattle.std.proofs.Common.{subst, sym, take, ℕ, ◌++◌, ◌+◌, ◌<◌, ◌∙◌, ◌∷◌, ◌≡◌, ◌≢◌, ◌≤◌, ◌⊎◌}
 use Rattle.std.proofs.lemmas.Bool.{cases_eq, cases_lt}
@@ -21,7 +21,7 @@ mark_set marks x y m l =
     elim (cases_eq y x) as (λ _. ((y ≡ x) × (mark_of (set marks x m) y ≡ m)) ⊎ ((y ≢ x) × (mark_of (set marks x m) y ≡ mark_of marks y)))
     [ inl e ↦ inl (e, rw e (get_or-set_same marks x m Fresh l)) | inr ne ↦ inr (ne, get_or-set_other marks x y m Fresh ne) ]
 
--- seen nodes stay seen: where nothing changes, through two changes, and where x gets a mark
+-- met nodes stay met: if nothing changes, through two changes, and if x gets a mark
 pub kept_same : (marks : List Mark) → KeepsSeen marks marks
 kept_same marks = record { seen = λ x was. was; one_each = refl }
 
@@ -71,13 +71,13 @@ opened n links marks path x s below fresh leads =
       done_safe = λ u vs done. s.done_safe u vs (was_done u done);
     }
 
--- where links from nodes with P lead to nodes with P, a path from one of these ends at one
+-- if links from nodes with P lead to nodes with P, a path from such a node ends at one
 pub path_keeps : (links : List (ℕ × ℕ)) (P : ℕ → Type 0) → ((u v : ℕ) → P u → Points links u v → P v)
     → (u : ℕ) (vs : List ℕ) → P u → IsPath links u vs → P (end_of u vs)
 path_keeps links P closed u [] here path = here
 path_keeps links P closed u (v ∷ vs) here path = path_keeps links P closed v vs (closed u v here path.0) path.1
 
--- no closed walk leaves a node that is not done and leads to done nodes only
+-- no cycle leaves a node that is not done and whose links lead to done nodes only
 no_closed_walk : (links : List (ℕ × ℕ)) (marks : List Mark)
     → ((u v : ℕ) → mark_of marks u ≡ Done → Points links u v → mark_of marks v ≡ Done) → (x : ℕ) (vs : List ℕ)
     → ¬ (mark_of marks x ≡ Done) → LeadsToDone links marks x → ¬ IsClosedWalk links x vs
@@ -132,7 +132,7 @@ left n links marks path x last s full top leads =
       ];
     }
 
--- how many marks pass a test once x has another mark
+-- how many marks pass a test after x gets another mark
 pub count_by-set : (p : Mark → Bool) (marks : List Mark) (x : ℕ) (m : Mark) → x < length marks
     → count_by p (set marks x m) + count_by p (mark_of marks x ∷ []) ≡ count_by p marks + count_by p (m ∷ [])
 count_by-set p marks x m l =
@@ -161,7 +161,7 @@ pub end_from_last : (u : ℕ) (vs : List ℕ) → end_of u vs ≡ get_or (u ∷ 
 end_from_last u [] = refl
 end_from_last u (v ∷ vs) = end_from_last v vs
 
--- a list that begins and ends at one node, and whose steps follow the links
+-- a list that begins and ends at the same node, and whose steps follow the links
 cycle_from_steps : (links : List (ℕ × ℕ)) (walk : List ℕ) (last : ℕ) → last + 1 ≡ length walk → 0 < last
     → get_or walk last 0 ≡ get_or walk 0 0 → ((k : ℕ) → k + 1 < length walk → Points links (get_or walk k 0) (get_or walk (k + 1) 0)) → IsCycle links walk
 cycle_from_steps links [] last len some same steps = omega arith
@@ -170,7 +170,7 @@ cycle_from_steps links (u ∷ (v ∷ vs)) last len some same steps =
     let l : last ≡ length (v ∷ vs) = omega arith in
     (path_from_steps links u (v ∷ vs) steps, end_from_last u (v ∷ vs) ∙ ap (λ (k : ℕ). get_or (u ∷ (v ∷ vs)) k 0) (sym l) ∙ same)
 
--- the path from a node of it that its last node leads to, and that node again
+-- the path from one of its nodes to which the last node leads, and that node again
 pub closes : (links : List (ℕ × ℕ)) (path walk : List ℕ) (last k x : ℕ)
     → ((k : ℕ) → k + 1 < length path → Points links (get_or path k 0) (get_or path (k + 1) 0)) → last + 1 ≡ length path
     → Points links (get_or path last 0) x → k < length path → get_or path k 0 ≡ x → walk ≡ drop k path ++ x ∷ [] → IsCycle links walk

@@ -1,4 +1,4 @@
--- The rows of a network with a link cut or added, in a table.
+-- The rows of a network in a table, after a link is cut or added.
 use Rattle.std.proofs.Common.{Contains, List, ap, arith, eq-eqb, false, get_or, inl, inr, length, map, ne_eqb, refl, subst, sym, ℕ, ◌<◌, ◌∙◌, ◌≡◌, ◌≢◌}
 use Rattle.std.specs.Prelude.{not}
 use Rattle.std.specs.List.{insert, remove}
@@ -57,7 +57,7 @@ pub joined_apart : (n : ℕ) (links : List (ℕ × ℕ)) (u v : ℕ) → IsNet n
 joined_apart n links u v net (inl (k, l, e)) = subst (λ (p : ℕ × ℕ). p.0 ≢ p.1) e (net.no_self k (u, v) l)
 joined_apart n links u v net (inr (k, l, e)) = let t : v ≢ u = subst (λ (p : ℕ × ℕ). p.0 ≢ p.1) e (net.no_self k (v, u) l) in λ s. t (sym s)
 
--- the row of an end names the other end, and stays where the other's is written anew
+-- the row of one end names the other end, and is unchanged while the other end's row is written
 pub end_listed : (n : ℕ) (links : List (ℕ × ℕ)) (x w : ℕ) → IsNet n links → Joins links x w → Contains (map (λ (e : ℕ × First). e.0) (row n links x)) w
 end_listed n links x w net (inl p) = neighbour_listed (row n links x) w Outward (row_of_out n links x w net p)
 end_listed n links x w net (inr p) = neighbour_listed (row n links x) w Inward (row_of_in n links x w net p)
@@ -75,7 +75,7 @@ pub length_beside : (n : ℕ) (links : List (ℕ × ℕ)) (table one : Table) (u
     → AreRows n links table → one ≡ with_row table u entries → length one.rows ≡ n
 length_beside n links table one u entries rows once = ap (λ (t : Table). length t.rows) once ∙ length-rows table u entries ∙ rows.one_each
 
--- the row of each end without the entry of the other
+-- the row of each end, without the entry of the other end
 pub rows_cut : (net : Network) (u v j k : ℕ) (table one two : Table) → ShowsLink net u v table
     → IsPlaceIn (row_of table u) v j → one ≡ with_row table u (remove (row_of table u) j)
     → IsPlaceIn (row_of one v) u k → two ≡ with_row one v (remove (row_of one v) k) → AreRows net.nodes (without u v net.links) two
@@ -121,7 +121,7 @@ put_head n links u v j nodes place =
     ∙ cond-false _ _ _ (ne_eqb v u (λ e. nodes.apart (sym e))) ∙ cond-true _ _ _ (eq-eqb v v refl)
     ∙ put_in_row (u, Inward) (row n links v) j place.inside place.before (λ d l. place.stops j d (omega arith) l)
 
--- the row of each end with an entry of the other
+-- the row of each end, with an entry of the other end
 pub rows_added : (net : Network) (u v j k : ℕ) (table one two : Table) → ShowsNoLink net u v table
     → IsPlaceIn (row_of table u) v j → one ≡ with_row table u (insert (row_of table u) j (v, Outward))
     → IsPlaceIn (row_of one v) u k → two ≡ with_row one v (insert (row_of one v) k (u, Inward)) → AreRows net.nodes (added net.links u v) two

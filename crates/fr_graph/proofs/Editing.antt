@@ -1,4 +1,4 @@
--- Links with one cut are those of a network again.
+-- The links of a network without one of them are those of a network.
 use Rattle.std.proofs.Common.{Bool, Contains, List, [], arith, cond, count_by, false, get_or, inl, inr, subst, true, ℕ, ◌<◌, ◌∷◌, ◌≡◌, ◌≤◌}
 use Rattle.std.specs.Prelude.{not}
 use Rattle.std.specs.List.{filter}
@@ -11,7 +11,7 @@ use Rattle.fr_graph.specs.Edits.{without}
 use Rattle.fr_graph.specs.Faults.{IsFaultless}
 use Rattle.fr_graph.specs.Links.{IsNet, is_between}
 
--- a link that a test keeps was there, and as often
+-- a link that a test keeps was there, and equally often
 from_filter_by : (b : Bool) (p : ℕ × ℕ → Bool) (l : ℕ × ℕ) (ls : List (ℕ × ℕ)) (x : ℕ × ℕ)
     → (Contains (filter p ls) x → Contains ls x) → Contains (cond b (l ∷ filter p ls) (filter p ls)) x → Contains (l ∷ ls) x
 from_filter_by true p l ls x rest h =

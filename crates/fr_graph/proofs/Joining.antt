@@ -1,4 +1,4 @@
--- Two nodes that are joined by a link, which points the way that closes no closed walk.
+-- Two nodes are joined by a link, in a direction that closes no cycle.
 use Rattle.std.proofs.Common.{All, Bool, List, [], ap, arith, cond, count_by, false, get_or, inl, inr, length, refl, subst, sym, true, ℕ, ⊎_elim}
 use Rattle.std.proofs.Common.{◌++◌, ◌<◌, ◌∙◌, ◌∷◌, ◌≡◌, ◌≢◌}
 use Rattle.std.specs.Prelude.{not}
@@ -25,7 +25,7 @@ use Rattle.fr_graph.specs.Order.{is_not_after, with_in_order}
 use Rattle.fr_graph.specs.declared.fault.NetFault.{NetFault}
 use Rattle.fr_graph.specs.declared.fault.NetFault.TheVariants.{Cycle, Memory, NoLink, Range, SelfLink, TooMany, Twice}
 
--- a link closes a walk exactly where a path leads from its head to its tail
+-- a link closes a cycle exactly if a path leads from its head to its tail
 pub path_walks : (links : List (ℕ × ℕ)) (u v : ℕ) (vs : List ℕ) → IsPath links v vs → end_of v vs ≡ u → IsClosedWalk (added links u v) u (v ∷ vs)
 path_walks links u v vs path ends =
     ((Contains-push links (u, v), path_carries links (added links u v) (λ x y p. Contains-append_left links ((u, v) ∷ []) (x, y) p) v vs path), ends)
@@ -36,7 +36,7 @@ path_closes links u v path acyclic = acyclic u (v ∷ path.0) (path_walks links 
 pub no_path_free : (links : List (ℕ × ℕ)) (u v : ℕ) → IsAcyclic links → ¬ HasPath links v u → IsAcyclic (added links u v)
 no_path_free links u v acyclic none a vs walk = none (closed_back links u v a vs acyclic walk)
 
--- two nodes that no link joins, the other way round
+-- two nodes that no link joins, in the other order
 pub unjoined_turned : (n : ℕ) (links : List (ℕ × ℕ)) (u v : ℕ) → AreUnjoined n links u v → AreUnjoined n links v u
 unjoined_turned n links u v free = record {
   tail = free.head;
@@ -45,7 +45,7 @@ unjoined_turned n links u v free = record {
   free = λ h. free.free (⊎_elim (λ p. inr p) (λ p. inl p) h);
 }
 
--- a path there and one back would make a closed walk
+-- a path to a node and one back are a cycle
 no_return : (links : List (ℕ × ℕ)) (u v : ℕ) → IsAcyclic links → u ≢ v → HasPath links u v → ¬ HasPath links v u
 no_return links u v acyclic apart ([], there) back = apart there.1
 no_return links u v acyclic apart (w ∷ ws, there) back =
@@ -57,7 +57,7 @@ one_way_free links u v acyclic apart closes a vs h =
     let there : HasPath links u v = closed_back links v u a vs acyclic h in
     closes (λ b ws g. no_return links u v acyclic apart there (closed_back links u v b ws acyclic g))
 
--- what is tested before closed walks does not depend on which way the link points
+-- the tests before the test for cycles do not depend on the direction of the link
 all_turned : (P : ℕ × ℕ → Type 0) (links : List (ℕ × ℕ)) (l m : ℕ × ℕ) → (P l → P m) → All P (links ++ l ∷ []) → All P (links ++ m ∷ [])
 all_turned P links l m turn all =
     All-push P links m
@@ -92,7 +92,7 @@ single_turned links u v single k d lt =
       one_passes (is_between link.0 link.1) (added links v u) k d lt (is_between_itself link),
     )
 
--- the other way round no fault stands
+-- in the other direction there is no fault
 pub faultless_turned : (n : ℕ) (links : List (ℕ × ℕ)) (u v : ℕ) → IsAcyclic links → IsWithinLimits n (added links u v)
     → IsInRange n (added links u v) → HasNoSelfLink (added links u v) → AreSingle (added links u v)
     → ¬ IsAcyclic (added links u v) → IsFaultless n (added links v u)
@@ -109,7 +109,7 @@ faultless_turned n links u v acyclic limits range bar single closes =
       };
     }
 
--- the link can be refused for the closed walk alone
+-- the link can be refused only for a cycle
 pub cycle_fault : (n : ℕ) (links : List (ℕ × ℕ)) (u v : ℕ) (walk : Vec ℕ Global) → IsFaultless n links
     → length links < most_links → AreUnjoined n links u v → IsCycle (added links u v) walk.items → IsFirstFault n (added links u v) (Cycle walk)
 cycle_fault n links u v walk clear few free cycle = (
@@ -120,7 +120,7 @@ cycle_fault n links u v walk clear few free cycle = (
   cycle,
 )
 
--- a join is refused for the first fault of the links with u>v
+-- a join is refused for the first fault of the links with the link from u to v
 pub as_first : (n : ℕ) (links : List (ℕ × ℕ)) (u v : ℕ) (f : NetFault) → IsJoinFault n links u v f → IsFirstFault n (added links u v) f
 as_first n links u v TooMany h = h
 as_first n links u v (Range x) h = h
@@ -134,14 +134,14 @@ pub join_fault_place : (n : ℕ) (links : List (ℕ × ℕ)) (u v : ℕ) (f g : 
     → IsJoinFault n links u v g → fault_place f ≡ fault_place g
 join_fault_place n links u v f g hf hg = first_fault_place n (added links u v) f g (as_first n links u v f hf) (as_first n links u v g hg)
 
--- the two ways of a join exclude each other
+-- the two directions of a join exclude each other
 pub joined_one : (n : ℕ) (links : List (ℕ × ℕ)) (u v : ℕ) (a b : Network) → IsJoined n links u v a → IsJoined n links u v b → a ≡ b
 joined_one n links u v a b (inl h) (inl g) = h.is ∙ sym g.is
 joined_one n links u v a b (inl h) (inr g) = absurd (g.0 h.faultless.is_net.acyclic)
 joined_one n links u v a b (inr h) (inl g) = absurd (h.0 g.faultless.is_net.acyclic)
 joined_one n links u v a b (inr h) (inr g) = h.1.is ∙ sym g.1.is
 
--- links without a fault the one way round have but a closed walk the other way round
+-- links without a fault in one direction have no fault but a cycle in the other
 no_fault_turned : (n : ℕ) (links : List (ℕ × ℕ)) (u v : ℕ) (f : NetFault) → IsFaultless n (added links v u) → ¬ IsJoinFault n links u v f
 no_fault_turned n links u v TooMany clear h = not_too_large n (added links u v) (limits_turned n links v u clear.limits) h
 no_fault_turned n links u v (Range x) clear h = range_stands n (added links u v) x clear.some (below_turned n links v u clear.is_net.in_range) h.1
@@ -155,7 +155,7 @@ pub join_not_refused : (n : ℕ) (links : List (ℕ × ℕ)) (u v : ℕ) (f : Ne
 join_not_refused n links u v f net h (inl made) = no_first_fault n (added links u v) f made.faultless (as_first n links u v f h)
 join_not_refused n links u v f net h (inr made) = no_fault_turned n links u v f made.1.faultless h
 
--- a link put among links in order, and taken out again
+-- a link inserted among links in order, and removed again
 not_among : (links : List (ℕ × ℕ)) (u v : ℕ) → ¬ Joins links u v → (k : ℕ) (d : ℕ × ℕ) → k < length links → is_between u v (get_or links k d) ≡ false
 not_among links u v free k d lt =
     elim (cases_Bool (is_between u v (get_or links k d))) [

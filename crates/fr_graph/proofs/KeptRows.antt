@@ -1,4 +1,4 @@
--- The rows of a table, one of which is written anew.
+-- The rows of a table, one of which is written.
 use Rattle.std.proofs.Common.{List, [], ap, count_by, inl, inr, length, ℕ, ◌<◌, ◌∙◌, ◌≡◌, ◌≢◌}
 use Rattle.std.proofs.lemmas.Bool.{cases_eq}
 use Rattle.std.proofs.lemmas.List.{get_or-set_other, get_or-set_same, length-set}
@@ -20,7 +20,7 @@ row_of_with_row_beside table x y entries apart = get_or-set_other table.rows x y
 pub length-rows : (table : Table) (x : ℕ) (entries : List (ℕ × First)) → length (with_row table x entries).rows ≡ length table.rows
 length-rows table x entries = length-set table.rows x entries
 
--- the rows are those that are wanted once the one that is not yet is written
+-- the rows are right once the last one is written
 pub rows_with_row : (n k : ℕ) (wanted : ℕ → List (ℕ × First)) (table : Table) → k < length table.rows
     → ((y : ℕ) → y < n → y ≢ k → row_of table y ≡ wanted y) → (y : ℕ) → y < n → row_of (with_row table k (wanted k)) y ≡ wanted y
 rows_with_row n k wanted table inside others y less =
@@ -29,7 +29,7 @@ rows_with_row n k wanted table inside others y less =
       | inr ne ↦ row_of_with_row_beside table k y (wanted k) ne ∙ others y less ne
     ]
 
--- the empty rows are those of the nodes that have no neighbour
+-- the empty rows are those of the nodes without a neighbour
 pub alone_counted : (n : ℕ) (links : List (ℕ × ℕ)) (table : Table) → AreRows n links table → count_by has_none table.rows ≡ alone_count n links
 alone_counted n links table rows =
     ap (count_by has_none) (fill_by_all (row n links) table.rows n [] rows.one_each rows.shown)

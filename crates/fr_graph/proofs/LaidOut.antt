@@ -1,4 +1,4 @@
--- Rows laid one behind the other, each with room behind it.
+-- Rows laid out one after the other, each with room after it.
 use Rattle.std.proofs.Common.{Bool, IsTrue, List, [], ap, arith, cond, count_by, get_or, inl, inr, length, length-append, map, refl, set, sym, take}
 use Rattle.std.proofs.Common.{ℕ, ◌++◌, ◌+◌, ◌<◌, ◌∙◌, ◌∷◌, ◌≡◌, ◌≤◌}
 use Rattle.std.specs.List.{range_with_len}
@@ -15,11 +15,11 @@ use Rattle.fr_graph.specs.declared.row_table.Place.{Place}
 use Rattle.fr_graph.specs.declared.row_table.RowTable.TheInside.{Inside}
 use Rattle.fr_graph.specs.declared.first.First.{First}
 
--- where a row that is laid behind the others starts
+-- where a row starts that is laid out after the others
 abbrev pub start_behind : Inside → ℕ
 start_behind t = start_of t (rows_in t)
 
--- the fields once a row is laid behind the others, with this room
+-- the fields after a row with this room is laid out after the others
 pub record IsBehind (t u : Inside) (row rest : List (ℕ × First)) (room : ℕ) : Type 0 where
   pub within : length row + length rest ≡ room
   pub places : u.places.items ≡ set t.places.items (rows_in t)
@@ -92,7 +92,7 @@ module _ (t u : Inside) (row rest : List (ℕ × First)) (room : ℕ) (is : IsTa
       rw (start_stays (rows_in t) (omega arith), end_more, to.entries)
       (part_behind t.entries.items row rest (start_behind t) (is.inside (rows_in t)))
 
-  -- the rows that the fields show are those before and the one laid behind them
+  -- the rows in the fields are those before, and the new one
   pub rows_behind : (table_of u).rows ≡ (table_of t).rows ++ row ∷ []
   rows_behind =
       let n = rows_in t in
@@ -101,7 +101,7 @@ module _ (t u : Inside) (row rest : List (ℕ × First)) (room : ℕ) (is : IsTa
       ∙ ap (λ rows. rows ++ row_between u n ∷ []) (alike_below (row_between u) (row_between t) n row_stays)
       ∙ ap (λ r. (table_of t).rows ++ r ∷ []) row_behind
 
-  -- and so are the rooms
+  -- the same holds for their room
   pub rooms_behind : (table_of u).rooms ≡ (table_of t).rooms ++ room ∷ []
   rooms_behind =
       let n = rows_in t in
@@ -113,7 +113,7 @@ module _ (t u : Inside) (row rest : List (ℕ × First)) (room : ℕ) (is : IsTa
       (λ x lt. rw (start_stays (x + 1) (omega arith), start_stays x (omega arith)) refl))
       ∙ ap (λ r. (table_of t).rooms ++ r ∷ []) last
 
-  -- and the fields are those of a table again
+  -- the fields are those of a table again
   pub table_behind : IsTable u
   table_behind =
       let n = rows_in t in
@@ -147,7 +147,8 @@ module _ (t u : Inside) (row rest : List (ℕ × First)) (room : ℕ) (is : IsTa
             ∙ sym (ap (count_by has_none) rows_behind ∙ sum_by-append (λ r. cond (has_none r) 1 0) (table_of t).rows (row ∷ []));
       }
 
--- the rows below x are laid out in another table, with room for more and, if room is kept, with no less than they had
+-- the rows below x are laid out in another table, each with room for more, and with `keeps_room` with no less room than
+-- before
 pub record AreLaidOut (before : Table) (keeps_room : Bool) (x : ℕ) (after : Table) : Type 0 where
   pub rows : after.rows ≡ take x before.rows
   pub one_each : length after.rooms ≡ x
@@ -174,7 +175,7 @@ one_more_laid_out before keeps_room x after next room to lt rows rooms wide no_l
       ];
     }
 
--- once all are, the rows are the same, each has room for more, and none has less
+-- after all are laid out, the rows are the same, each has room for more, and none has less
 pub same_rows : (before : Table) (keeps_room : Bool) (after : Table) → AreLaidOut before keeps_room (length before.rows) after → after.rows ≡ before.rows
 same_rows before keeps_room after to = to.rows ∙ take_all (length before.rows) before.rows (omega arith)
 

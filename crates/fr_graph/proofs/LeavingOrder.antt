@@ -73,7 +73,7 @@ nothing_met n rows search fresh path order each below =
       order = rw (fresh, order) (unmet_order links n);
     }
 
--- a node that is opened is not left
+-- a node that is opened has not been left
 pub opened_order : (links : List (ℕ × ℕ)) (marks : List Mark) (order : List ℕ) (x : ℕ) → IsOrder links marks order
     → x < length marks → mark_of marks x ≢ Done → IsOrder links (set marks x Open) order
 opened_order links marks order x o l not_done = record {
@@ -84,7 +84,7 @@ opened_order links marks order x o l not_done = record {
   heads = o.heads;
 }
 
--- a node is left once its links lead to nodes that are left already
+-- a node is left after its links lead only to nodes that have been left
 pub left_order : (n : ℕ) (links : List (ℕ × ℕ)) (marks : List Mark) (path order : List ℕ) (x : ℕ)
     → IsCycleSearch n links marks path → IsOrder links marks order → x < length marks → mark_of marks x ≢ Done
     → LeadsToDone links marks x → IsOrder links (set marks x Done) (order ++ x ∷ [])
@@ -112,7 +112,7 @@ left_order n links marks path order x s o l not_done leads =
       ];
     }
 
--- what stands once the search has met each node
+-- what holds after the search has met each node
 all_left : (n : ℕ) (links : List (ℕ × ℕ)) (marks : List Mark) (order : List ℕ) → ((u v : ℕ) → Points links u v → u < n)
     → IsCycleSearch n links marks [] → IsOrder links marks order → ((x : ℕ) → x < n → mark_of marks x ≢ Fresh) → IsAcyclic links × HasHeadsFirst n links order
 all_left n links marks order tails s o met =

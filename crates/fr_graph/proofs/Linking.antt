@@ -1,4 +1,4 @@
--- Which nodes a link joins, and walks along some links that are walks along others.
+-- Which nodes a link joins, and when walks along some links are walks along others.
 use Rattle.std.proofs.Common.{List, [], ap, arith, count_by, eq-eqb, eqb, eqb-true, get_or, inl, inr, length, refl, subst, suc, sym, true, ℕ, ◌&&◌}
 use Rattle.std.proofs.Common.{◌<◌, ◌∙◌, ◌∷◌, ◌≡◌, ◌≤◌, ◌⊎◌}
 use Rattle.std.proofs.Math.Bool.{or-true}
@@ -9,7 +9,7 @@ use Rattle.fr_graph.proofs.Booleans.{flip, or_both, or_comm}
 use Rattle.fr_graph.proofs.Counting.{cases_le_one, count_agrees, two_pass, weigh}
 use Rattle.fr_graph.specs.Links.{AreSingle, HasNoSelfLink, IsClosedWalk, IsNet, IsPath, Joins, Points, is_between}
 
--- a link joins nodes of the network
+-- a link joins nodes that are in the network
 pub link_below : (n : ℕ) (links : List (ℕ × ℕ)) (u v : ℕ) → IsNet n links → Points links u v → (u < n) × (v < n)
 link_below n links u v net p =
     let b = net.in_range p.0 (u, v) p.1 in
@@ -68,11 +68,11 @@ not_twice links u v single =
           omega (arith, single some.0 (u, v) some.1, same)
     ]
 
--- the links of a network do not join two nodes both ways
+-- the links of a network do not join two nodes in both directions
 pub record IsOneWay (links : List (ℕ × ℕ)) : Type 0 where
   pub no_return : (u v : ℕ) → Points links u v → ¬ Points links v u
 
--- no two nodes are linked both ways
+-- no two nodes are linked in both directions
 pub one_way : (links : List (ℕ × ℕ)) → HasNoSelfLink links → AreSingle links → IsOneWay links
 one_way links bar single = record {
   no_return = λ u v p q.
@@ -92,7 +92,7 @@ one_way links bar single = record {
       ];
 }
 
--- closed walks along the same links
+-- cycles along the same links
 pub path_carries : (a b : List (ℕ × ℕ)) → ((u v : ℕ) → Points a u v → Points b u v) → (u : ℕ) (vs : List ℕ) → IsPath a u vs → IsPath b u vs
 path_carries a b to u [] p = tt
 path_carries a b to u (v ∷ vs) p = (to u v p.0, path_carries a b to v vs p.1)

@@ -1,4 +1,4 @@
--- What lists come to that are filtered, mapped, cut and put together, whatever stands in them.
+-- Lists of any elements that are filtered, mapped, cut and joined.
 use Rattle.std.proofs.Common.{Bool, List, [], ap, arith, cond, drop, get_or, inl, inr, length, length-drop, refl, set, subst, sym, take, ℕ, ◌++◌, ◌+◌}
 use Rattle.std.proofs.Common.{◌<◌, ◌∙◌, ◌∷◌, ◌≡◌, ◌≢◌, ◌≤◌, ◌⊎◌, length-append, suc, zero, Contains, None, Option, Some, false, map, option_map}
 use Rattle.std.proofs.Common.{option_to_list, true, ⊎_elim, slice_range, ◌-◌}
@@ -16,7 +16,7 @@ use Rattle.std.proofs.Math.Seq.{get_or-append_seam, take-append-add}
 use Rattle.std.proofs.lemmas.List.FromFn.{get_or-map-range_with_len, length-map-range_with_len}
 use Rattle.std.proofs.lemmas.Slice.{between_is}
 
--- an element of a list with one more: one of the list, or the new one
+-- an element of a list with one more: an element of the list, or the new one
 pub push_cases : (xs : List ℕ) (x k : ℕ) → k < length (xs ++ x ∷ [])
     → ((k < length xs) × (get_or (xs ++ x ∷ []) k 0 ≡ get_or xs k 0)) ⊎ ((k ≡ length xs) × (get_or (xs ++ x ∷ []) k 0 ≡ x))
 push_cases xs x k h =
@@ -26,7 +26,7 @@ push_cases xs x k h =
       | inr g ↦ let q : length xs ≡ k = omega (arith, e) in inr (sym q, get_or_push xs x 0 k q)
     ]
 
--- a part written anew keeps how long the list is
+-- writing a part keeps the length of the list
 pub length_put : {X : Type 0} (a k : ℕ) (xs ys : List X) → a + k ≤ length xs → length ys ≡ k → length (put_mid a k xs ys) ≡ length xs
 length_put a k xs ys inside long =
     omega (
@@ -65,7 +65,7 @@ pub filter_passes : (p : ℕ × ℕ → Bool) (xs : List (ℕ × ℕ)) (x : ℕ 
 filter_passes p [] x h = absurd (omega (arith, h.1))
 filter_passes p (y ∷ ys) x h = filter_passes_by (p y) p y ys x refl (filter_passes p ys x) h
 
--- a test of an entry that is there
+-- a test of an entry that is in the list
 filter_option_by : {X : Type 0} (b : Bool) (p : X → Bool) (x : X) → p x ≡ b → filter p (x ∷ []) ≡ cond b (x ∷ []) []
 filter_option_by b p x e = rw e refl
 
@@ -79,7 +79,7 @@ pub filter_kept : {X : Type 0} (t : X → Bool) (xs : List X) → ((i : ℕ) (d 
 filter_kept t [] kept = refl
 filter_kept t (x ∷ xs) kept = rw (kept 0 x (omega arith), filter_kept t xs (λ i d l. kept (suc i) d (omega (arith, l)))) refl
 
--- a test that all elements pass but one
+-- a test that all elements but one pass
 pub filter_one : {X : Type 0} (t : X → Bool) (xs : List X) (k : ℕ) (d : X) → k < length xs → t (get_or xs k d) ≡ false
     → ((i : ℕ) (e : X) → i < length xs → i ≢ k → t (get_or xs i e) ≡ true) → filter t xs ≡ remove xs k
 filter_one t [] k d l out kept = absurd (omega (arith, l))
@@ -91,7 +91,7 @@ filter_one t (x ∷ xs) (suc k) d l out kept =
           (λ i e m ne. kept (suc i) e (omega (arith, m)) (λ z. ne (omega (arith, z)))),
     ) refl
 
--- a link by either of its names
+-- a link, by either of its names
 pub filter_alike : {X : Type 0} (p q : X → Bool) (xs : List X) → ((x : X) → p x ≡ q x) → filter p xs ≡ filter q xs
 filter_alike p q [] same = refl
 filter_alike p q (x ∷ xs) same = rw (same x, filter_alike p q xs same) refl
@@ -115,7 +115,7 @@ set_is_map f (x ∷ xs) (suc k) y d l is kept =
           (λ i e m ne. kept (suc i) e (omega (arith, m)) (λ q. ne (omega (arith, q)))),
     ) refl
 
--- one more node that is not there yet leaves each once
+-- a list without repetitions, with one more node that is not in it, has no repetitions
 pub once_more : (nodes : List ℕ) (y : ℕ) → ((i j : ℕ) → i < j → j < length nodes → ¬ (get_or nodes i 0 ≡ get_or nodes j 0))
     → ¬ Contains nodes y → (i j : ℕ) → i < j → j < length (nodes ++ y ∷ []) → ¬ (get_or (nodes ++ y ∷ []) i 0 ≡ get_or (nodes ++ y ∷ []) j 0)
 once_more nodes y once new i j lt l same =
@@ -130,7 +130,7 @@ once_more nodes y once new i j lt l same =
           new (subst (Contains nodes) (sym low ∙ same ∙ high) (Contains-get_or nodes i 0 inside))
     ]
 
--- entries written over one by one, one more of them
+-- entries written one by one, with one more
 pub shifted_more : {X : Type 0} (xs ys : List X) (i : ℕ) (d : X) → i < length xs → i < length ys
     → set (take i ys ++ drop i xs) i (get_or ys i d) ≡ take (i + 1) ys ++ drop (i + 1) xs
 shifted_more xs ys i d lx ly =
@@ -146,7 +146,7 @@ shifted_rest xs ys i k d l le =
     let there : i + (k - i) ≡ k = omega arith in
     get_or-append_right (take i ys) (drop i xs) i k d (length-take-le i ys l) le ∙ get_or-drop i xs (k - i) d ∙ ap (λ m. get_or xs m d) there
 
--- a list by its places says the same of functions that agree at each
+-- a list made from its places is the same for functions that agree at each place
 pub alike_below : {X : Type 0} (f g : ℕ → X) (n : ℕ) → ((x : ℕ) → x < n → f x ≡ g x) → map f (range_with_len 0 n) ≡ map g (range_with_len 0 n)
 alike_below f g n same =
     same_lists (map f (range_with_len 0 n)) (map g (range_with_len 0 n)) (length-map-range_with_len f 0 n ∙ sym (length-map-range_with_len g 0 n))
@@ -154,7 +154,7 @@ alike_below f g n same =
     let lt : k < n = omega (arith, l, length-map-range_with_len f 0 n) in
     get_or-map-range_with_len f 0 n k k d lt (omega arith) ∙ same k lt ∙ sym (get_or-map-range_with_len g 0 n k k d lt (omega arith)))
 
--- a part of a list whose end was written over
+-- a part of a list whose end was written
 range_written : {X : Type 0} (xs ys : List X) (s p e : ℕ) → s + p ≤ length xs → s + p ≤ e → e ≤ s + p + length ys
     → slice_range (put_mid (s + p) (length ys) xs ys) s e ≡ take p (drop s xs) ++ take (e - (s + p)) ys
 range_written xs ys s p e inside low high =
@@ -173,7 +173,7 @@ range_rest xs s p e low =
     let wide : e - s ≡ p + (e - (s + p)) = omega (arith, low) in
     ap (λ k. drop p (take k (drop s xs))) wide ∙ drop-take p (e - (s + p)) (drop s xs) ∙ ap (take (e - (s + p))) (drop-drop p s xs)
 
--- an entry put into a part that has room behind it
+-- an entry inserted into a part that has room after it
 pub range_inserted : {X : Type 0} (xs ys : List X) (s p e : ℕ) (x : X) → s + p ≤ e → e < length xs
     → length ys ≡ e + 1 - (s + p) → ys ≡ take (e + 1 - (s + p)) (x ∷ slice_range xs (s + p) (e + 1))
     → slice_range (put_mid (s + p) (length ys) xs ys) s (e + 1) ≡ insert (slice_range xs s e) p x
@@ -187,7 +187,7 @@ range_inserted xs ys s p e x low inside long is =
     ∙ sym (ap (λ zs. zs ++ x ∷ drop p (slice_range xs s e)) (take-take p (e - s) (drop s xs) (omega (arith, low)))
     ∙ ap (λ zs. take p (drop s xs) ++ x ∷ zs) (range_rest xs s p e low))
 
--- an entry taken out of a part
+-- an entry removed from a part
 pub range_removed : {X : Type 0} (xs ys : List X) (s p e : ℕ) → s + p < e → e ≤ length xs → length ys ≡ e - (s + p)
     → take (e - (s + p) - 1) ys ≡ drop 1 (slice_range xs (s + p) e)
     → slice_range (put_mid (s + p) (length ys) xs ys) s (e - 1) ≡ remove (slice_range xs s e) p
@@ -208,14 +208,14 @@ pub option_short : {X : Type 0} (o : Option X) → length (option_to_list o) ≤
 option_short None = omega arith
 option_short (Some x) = omega arith
 
--- what stands below a place stays where what follows is laid anew
+-- what is before a place is unchanged if what follows is laid out again
 pub part_before : {X : Type 0} (xs rest : List X) (s a b : ℕ) → b ≤ s → s ≤ length xs → slice_range (take s xs ++ rest) a b ≡ slice_range xs a b
 part_before xs rest s a b low high =
     between_is (take s xs ++ rest) a b
     ∙ ap (drop a) (take-append-le b (take s xs) rest (omega (arith, length-take-le s xs high, low)) ∙ take-take b s xs low)
     ∙ sym (between_is xs a b)
 
--- and what is laid there stands from there on
+-- what is laid out there begins at that place
 pub part_behind : {X : Type 0} (xs row rest : List X) (s : ℕ) → s ≤ length xs → slice_range (take s xs ++ (row ++ rest)) s (s + length row) ≡ row
 part_behind xs row rest s high =
     ap (take (s + length row - s)) (drop_at (take s xs) (row ++ rest) s (length-take-le s xs high)) ∙ take_at row rest (s + length row - s) (omega arith)

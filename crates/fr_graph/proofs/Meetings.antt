@@ -1,4 +1,4 @@
--- Where the sides of a search meet, their trails make a way, which a link back closes.
+-- If the sides of a search meet, their trails make a path, which a link back closes to a cycle.
 use Rattle.std.proofs.Common.{List, [], append_assoc, arith, get_or, inl, inr, length, refl, reverse, suc, zero, ℕ, ◌++◌, ◌<◌, ◌∙◌, ◌∷◌, ◌≡◌}
 use Rattle.std.proofs.lemmas.Bool.{cases_eq}
 use Rattle.std.proofs.lemmas.List.{get_or_default, reverse-append}
@@ -10,7 +10,7 @@ use Rattle.fr_graph.specs.declared.path_search.Meeting.{Meeting}
 use Rattle.fr_graph.specs.declared.first.First.{First}
 use Rattle.fr_graph.specs.declared.first.First.TheVariants.{Inward, Outward}
 
--- a trail goes on by one node more
+-- a trail is extended by one node
 pub trail_on : (f : First) (links : List (ℕ × ℕ)) (x : ℕ) (ws : List ℕ) (w : ℕ) → IsTrail f links x ws
     → LeadsOn f links w (end_of x ws) → IsTrail f links x (ws ++ w ∷ []) × (end_of x (ws ++ w ∷ []) ≡ w)
 trail_on f links x [] w trail step = ((step, tt), refl)
@@ -58,7 +58,7 @@ trail_ahead links x (w ∷ ws) on trail path =
     (append_assoc (reverse (w ∷ ws)) (x ∷ []) on) in
     (before.0, (turned ∙ before.1.0, before.1.1))
 
--- the trails of both sides make a way
+-- the trails of both sides make a path
 pub way_of_trails : (links : List (ℕ × ℕ)) (from to tail head : ℕ) (back on : List ℕ) → IsTrail Outward links tail back
     → end_of tail back ≡ from → IsTrail Inward links head on → end_of head on ≡ to → Points links tail head
     → (rest : List ℕ) × ((reverse (tail ∷ back) ++ head ∷ on ≡ from ∷ rest) × (IsPath links from rest × (end_of from rest ≡ to)))
@@ -81,7 +81,7 @@ meeting_leads links from to meeting is =
     ∙ is.from_start) here.1.0 (here.1.1 ∙ is.to_start) is.points in
     (way.0, way.1.1)
 
--- a walk of the end of the way and of both trails is closed by a link back
+-- a walk of the end of the path and of both trails is closed by a link back
 pub trails_close : (links : List (ℕ × ℕ)) (from to tail head : ℕ) (back on walk : List ℕ) → IsTrail Outward links tail back
     → end_of tail back ≡ from → IsTrail Inward links head on → end_of head on ≡ to → Points links tail head
     → walk ≡ reverse ((tail ∷ back) ++ to ∷ []) ++ head ∷ on → IsCycle (added links to from) walk

@@ -1,4 +1,4 @@
--- Which nodes the sides of a search have met: no two the same, and more from step to step.
+-- Which nodes the sides of a search have met: no two are the same, and there are more from step to step.
 use Rattle.std.proofs.Common.{List, [], arith, inl, inr, length, refl, set, sym, ℕ, ◌+◌, ◌<◌, ◌∙◌, ◌∷◌, ◌≡◌, ◌≢◌, ◌⊎◌}
 use Rattle.std.proofs.lemmas.Bool.{cases_eq}
 use Rattle.std.proofs.lemmas.List.{get_or_append_left, get_or-set_other, get_or-set_same, length-set, length_push}
@@ -12,7 +12,7 @@ use Rattle.fr_graph.specs.declared.path_search.Side.{Side}
 use Rattle.fr_graph.specs.declared.first.First.{First}
 use Rattle.fr_graph.specs.declared.first.First.TheVariants.{Inward, Outward}
 
--- what one side has met, no other has
+-- what one side has met, the other has not
 pub never_apart : (f : First) → met_by f ≢ Never
 never_apart Outward e = cc
 never_apart Inward e = cc
@@ -62,7 +62,7 @@ none_more m = record {
   counted = rw m.same_nodes refl;
 }
 
--- a side whose edge came nearer, or stayed
+-- a side whose edge came nearer, or is unchanged
 pub with_edge_nearer : {side : Side} {f : First} {edge : ℕ} → side.first ≡ f
     → ((height : ℕ) → IsPast f side.edge height → IsPast f edge height) → HasMovedEdge side (record side { edge = edge })
 with_edge_nearer first_is nearer = record {
@@ -74,7 +74,7 @@ with_edge_nearer first_is nearer = record {
   same_read = refl;
 }
 
--- a side that met nothing, and whose edge stayed
+-- a side that met nothing, and whose edge is unchanged
 pub same_more : (side : Side) (met : List Met) → HasMetMore side side met met
 same_more side met = none_more {before = side} {after = side} {met = met} record {
   same_first = refl;
@@ -85,7 +85,7 @@ same_more side met = none_more {before = side} {after = side} {met = met} record
   same_read = refl;
 }
 
--- a side that met more nodes still did so, whichever edges are put in place of theirs, as long as they come nearer
+-- a side that met more nodes still did so if nearer edges are put in place of its edges
 pub more_by_edges : {before after : Side} {f : First} {old new : List Met} {edge nearer_edge : ℕ} → before.first ≡ f
     → ((height : ℕ) → IsPast f edge height → IsPast f nearer_edge height) → HasMetMore before after old new
     → HasMetMore (record before { edge = edge }) (record after { edge = nearer_edge }) old new
@@ -133,7 +133,7 @@ pub other_was : (f : First) {before after : Side} {old new : List Met} (x : ℕ)
     → HasMetMore before after old new → HasMet (opposite f) new x → HasMet (opposite f) old x
 other_was f x first_is more h = elim (more.met x) [ inl e ↦ sym e ∙ h | inr w ↦ absurd (sides_apart f (sym (rw first_is at w.1) ∙ h)) ]
 
--- the side has read a row more, and its edge may have come nearer
+-- the side has read one more row, and its edge may have come nearer
 pub more_read : {before after : Side} {old new : List Met} {edge read : ℕ}
     → ((height : ℕ) → IsPast before.first after.edge height → IsPast before.first edge height)
     → HasMetMore before after old new → HasMetMore before (record after { edge = edge; read = read }) old new

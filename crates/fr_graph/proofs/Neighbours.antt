@@ -1,4 +1,4 @@
--- What the row of a node says of the links.
+-- What the row of a node says about the links.
 use Rattle.std.proofs.Common.{Bool, Contains, List, None, Option, Some, [], ap, arith, cond, eq-eqb, eqb, eqb-true, false, get_or, inl, inr, length}
 use Rattle.std.proofs.Common.{map, option_to_list, refl, subst, suc, sym, true, zero, ℕ, ⊎_elim, ◌&&◌, ◌++◌, ◌+◌, ◌<◌, ◌∙◌, ◌∷◌, ◌≡◌, ◌≤◌, ◌⊎◌}
 use Rattle.std.proofs.lemmas.Bool.{and_parts, cases_Bool, cases_lt}
@@ -14,7 +14,7 @@ use Rattle.fr_graph.specs.declared.first.First.{First}
 use Rattle.fr_graph.specs.declared.first.First.TheVariants.{Inward, Outward}
 use Rattle.fr_graph.proofs.Lists.{in_option, option_short}
 
--- the neighbours of a row rise
+-- the neighbours in a row increase
 abbrev pub Rises : List (ℕ × First) → Type 0
 Rises xs = (i j : ℕ) (d : ℕ × First) → i < j → j < length xs → (get_or xs i d).0 < (get_or xs j d).0
 
@@ -24,7 +24,7 @@ rises_tail x xs r i j d lt l = r (suc i) (suc j) d (omega arith) (omega arith)
 pub rises_head : (x : ℕ × First) (xs : List (ℕ × First)) (e : ℕ × First) → Rises (x ∷ xs) → Contains xs e → x.0 < e.0
 rises_head x xs e r h = let t = r 0 (suc h.0) e (omega arith) (omega (arith, h.1)) in rw h.2 at t
 
--- two rising lists of the same entries are equal
+-- two increasing lists of the same entries are equal
 pub rising_same : (xs ys : List (ℕ × First)) → Rises xs → Rises ys → ((e : ℕ × First) → Contains xs e → Contains ys e)
     → ((e : ℕ × First) → Contains ys e → Contains xs e) → xs ≡ ys
 rising_same [] [] r s to from = refl
@@ -54,7 +54,7 @@ rising_same (x ∷ xs) (y ∷ ys) r s to from =
 both_true : (u v : ℕ) → ((eqb u u) && (eqb v v)) ≡ true
 both_true u v = rw (eq-eqb u u refl, eq-eqb v v refl) refl
 
--- the test whether a link has_link from u to v
+-- the test whether a link leads from u to v
 pub has_link_true : (links : List (ℕ × ℕ)) (u v : ℕ) → Points links u v → has_link links u v ≡ true
 has_link_true links u v h = list_any_at (λ (l : ℕ × ℕ). (eqb l.0 u) && (eqb l.1 v)) links h.0 (u, v) h.1 (rw h.2 (both_true u v))
 
@@ -67,7 +67,7 @@ Points-has_link links u v e =
     let t = and_parts _ _ h.4 in
     link_found links h.0 h.1 u v h.2 h.3 (eqb-true _ _ t.0) (eqb-true _ _ t.1)
 
--- w as a neighbour: what the entry says
+-- w as a neighbour: what its entry says
 pub row_entry_known : (a b : Bool) (w : ℕ) (e : ℕ × First)
     → cond a (Some (w, Outward)) (cond b (Some (w, Inward)) None) ≡ Some e → ((a ≡ true) × (e ≡ (w, Outward))) ⊎ ((a ≡ false) × (b ≡ true) × (e ≡ (w, Inward)))
 row_entry_known true b w e q = inl (refl, cc)
@@ -163,7 +163,7 @@ in_of_row n links x w h =
       | inr b ↦ Points-has_link links w x b.1
     ]
 
--- a node with a neighbour has a link, and a node with none has no link
+-- a node with a neighbour has a link, and a node without a neighbour has none
 pub row_linked : (n : ℕ) (links : List (ℕ × ℕ)) (x : ℕ) → 0 < length (row n links x) → (w : ℕ) × Joins links x w
 row_linked n links x some =
     let e = get_or (row n links x) 0 (0, Outward) in
@@ -177,7 +177,7 @@ pub row_alone : (n : ℕ) (links : List (ℕ × ℕ)) (x : ℕ) → IsNet n link
 row_alone n links x net none w (inl h) = omega (arith, none, (row_of_out n links x w net h).1)
 row_alone n links x net none w (inr h) = omega (arith, none, (row_of_in n links x w net h).1)
 
--- so the neighbours of a row stand in rising order, none twice
+-- so the neighbours in a row increase, and none is there twice
 pub neighbours_rise : (n : ℕ) (links : List (ℕ × ℕ)) (x : ℕ) → IsStrictlyIncreasing (map (λ (e : ℕ × First). e.0) (row n links x))
 neighbours_rise n links x k l =
     let xs = row n links x in
@@ -187,7 +187,7 @@ neighbours_rise n links x k l =
     rw (get_or-map node xs k d 0 (omega (arith, l, long)), get_or-map node xs (k + 1) d 0 (omega (arith, l, long)))
     (row_rises n links x k (k + 1) d (omega arith) (omega (arith, l, long)))
 
--- the node of an entry of a row, whose link has this direction
+-- the node of an entry whose link has this direction
 pub entry_is : (e : ℕ × First) (f : First) → e.1 ≡ f → e ≡ (e.0, f)
 entry_is (w, g) f e = cc
 

@@ -1,4 +1,4 @@
--- A list of links in rising order is determined by how often it has each link.
+-- A list of links in order is determined by how often it has each link.
 use Rattle.std.proofs.Common.{Bool, Contains, IsPermutation, List, [], add-one, ap, arith, cond, count_by, eq-eqb, eqb, eqb-true, false, get_or, inl}
 use Rattle.std.proofs.Common.{inr, leb, ltb, refl, subst, suc, sym, true, zero, ℕ, ◌&&◌, ◌+◌, ◌∙◌, ◌∷◌, ◌≡◌, ◌≤◌}
 use Rattle.std.proofs.lemmas.Bool.{and_parts, cases_Bool, cases_eq, leb-false, leb-true, ltb-false, ltb-true, or_cases, or_parts}
@@ -33,7 +33,7 @@ up_both (a, b) (c, d) h g = let e : a ≡ c = first_same h g in let f : b ≡ d 
 shift_at : (q : ℕ × ℕ) (qs : List (ℕ × ℕ)) (k : ℕ) (d : ℕ × ℕ) → get_or (q ∷ qs) (k + 1) d ≡ get_or qs k d
 shift_at q qs k d = rw add-one refl
 
--- the first link of a list in order is up to each other
+-- the first link of a list in order is not after any other link
 pub order_tail : (q : ℕ × ℕ) (qs : List (ℕ × ℕ)) → AreInOrder (q ∷ qs) → AreInOrder qs
 order_tail q qs order k d l = let t = order (k + 1) d (omega arith) in rw (← shift_at q qs k d, ← shift_at q qs (k + 1) d) t
 
@@ -83,7 +83,7 @@ contains_counted (y ∷ ys) x l =
       | inr e ↦ let z : weigh (is_pair x.0 x.1 y) ≡ 0 = rw e refl in Contains-tail x y ys (contains_counted ys x (omega (arith, times-cons y ys x, z)))
     ]
 
--- two lists in order with the same links, as often, are equal
+-- two lists in order that have the same links equally often are equal
 pub same_order : (xs ys : List (ℕ × ℕ)) → AreInOrder xs → AreInOrder ys → ((x : ℕ × ℕ) → times xs x ≡ times ys x) → xs ≡ ys
 same_order [] [] a b same = refl
 same_order [] (y ∷ ys) a b same = absurd (omega (arith, same y, times_some y ys))
@@ -163,13 +163,13 @@ pub times-in_order : (links : List (ℕ × ℕ)) (x : ℕ × ℕ) → times (in_
 times-in_order [] x = refl
 times-in_order (l ∷ ls) x = times-insert l (in_order ls) x ∙ ap (λ (n : ℕ). weigh (is_pair x.0 x.1 l) + n) (times-in_order ls x) ∙ sym (times-cons l ls x)
 
--- a list in order with the listed links is theirs in order
+-- a list in order that has the listed links is their list in order
 pub order_of_listed : (listed sorted : List (ℕ × ℕ)) → IsPermutation listed sorted → AreInOrder sorted → sorted ≡ in_order listed
 order_of_listed listed sorted same order =
     same_order sorted (in_order listed) order (in_order_order listed)
     (λ x. let weight : ℕ × ℕ → ℕ = λ l. weigh (is_pair x.0 x.1 l) in sum_by-IsPermutation weight listed sorted same ∙ sym (times-in_order listed x))
 
--- a link of the list stands in the list in order, and the other way
+-- a link is in the list exactly if it is in the list in order
 pub one_counted : (xs : List (ℕ × ℕ)) (x : ℕ × ℕ) → Contains xs x → 1 ≤ times xs x
 one_counted [] x h = absurd (omega (arith, h.1))
 one_counted (y ∷ ys) x h =
@@ -184,7 +184,7 @@ into_order links x h = contains_counted (in_order links) x (omega (arith, times-
 pub out_of_order : (links : List (ℕ × ℕ)) (x : ℕ × ℕ) → Contains (in_order links) x → Contains links x
 out_of_order links x h = contains_counted links x (omega (arith, times-in_order links x, one_counted (in_order links) x h))
 
--- the same links in order are those links in another order
+-- the same links in order are a permutation of those links
 with_in_order_permutes_by : (b : Bool) (p q : ℕ × ℕ) (qs : List (ℕ × ℕ)) → IsPermutation (p ∷ qs) (with_in_order p qs)
     → IsPermutation (p ∷ (q ∷ qs)) (cond b (p ∷ (q ∷ qs)) (q ∷ with_in_order p qs))
 with_in_order_permutes_by true p q qs rest = IsPermutation-refl (p ∷ (q ∷ qs))

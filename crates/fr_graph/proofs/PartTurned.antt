@@ -1,4 +1,4 @@
--- The steps by which the rows of a network turn where they stand.
+-- The steps with which the rows of a network turn in place.
 use Rattle.std.proofs.Common.{All, Bool, Contains, List, ap, arith, cond, eq-eqb, eqb, false, get_or, inl, inr, length, ltb, map, ne_eqb, refl, set}
 use Rattle.std.proofs.Common.{suc, sym, true, zero, ℕ, ◌&&◌, ◌+◌, ◌<◌, ◌||◌, ◌∙◌, ◌≡◌, ◌≢◌, ◌≤◌}
 use Rattle.std.proofs.lemmas.Bool.{cases_Bool, cases_eq, cases_lt, cond-false, cond-true}
@@ -31,7 +31,7 @@ rows_done net counts done y = map (entry_done done counts y) (row net.nodes net.
 abbrev IsAlike : Network → List ℕ → (ℕ → ℕ → Bool) → (ℕ → ℕ → Bool) → ℕ → Type 0
 IsAlike net counts done later y = (e : ℕ × First) → Contains (row net.nodes net.links y) e → entry_done done counts y e ≡ entry_done later counts y e
 
--- no entry is written where it is the same whether it is done with or not
+-- no entry is written if it is the same done and not done
 pub none_written : (net : Network) (counts : List ℕ) (done later : ℕ → ℕ → Bool) (table : Table)
     → ArePartTurned net counts done table → ((y : ℕ) → y < net.nodes → IsAlike net counts done later y) → ArePartTurned net counts later table
 none_written net counts done later table at same = record {
@@ -52,7 +52,7 @@ one_written net counts done later k table at lt same = record {
       (λ y l ne. at.shown y l ∙ map_alike (entry_done done counts y) (entry_done later counts y) (row net.nodes net.links y) (same y l ne));
 }
 
--- tests that agree on an entry, and entries that stay as they are
+-- tests that agree on an entry, and entries that do not change
 tests_agree : (counts : List ℕ) (done later : ℕ → ℕ → Bool) (y : ℕ) (e : ℕ × First) → done y e.0 ≡ later y e.0
     → entry_done done counts y e ≡ entry_done later counts y e
 tests_agree counts done later y e same = ap (λ (b : Bool). cond b (turned_entry counts y e) e) same
@@ -72,7 +72,7 @@ entry_done_node counts done y e =
       | inr f ↦ rw f refl
     ]
 
--- the nodes that stand before this place in a list
+-- the nodes before this place in a list
 abbrev pub stands_before : List ℕ → ℕ → ℕ → Bool
 stands_before nodes zero = λ y. false
 stands_before nodes (suc i) = seen_too (get_or nodes i 0) (stands_before nodes i)
@@ -91,7 +91,7 @@ stands_somewhere nodes (suc i) j y l here = elim (cases_eq y (get_or nodes i 0))
       rw (ne_eqb y (get_or nodes i 0) apart) (stands_somewhere nodes i j y (omega (arith, l, other)) here)
 ]
 
--- before the first node of the list, and behind the last
+-- before the first node of the list, and after the last
 pub none_seen : (net : Network) (counts : List ℕ) (table : Table) → ArePartTurned net counts none_done table
     → ArePartTurned net counts (is_done counts (λ y. false)) table
 none_seen net counts table at =
@@ -99,7 +99,7 @@ none_seen net counts table at =
     (λ y l e h. tests_agree counts none_done (is_done counts (λ y. false)) y e
     (elim (cases_Bool (eqb (get_or counts y 0) 0)) [ inl t ↦ rw t refl | inr f ↦ rw f refl ]))
 
--- nodes that have not turned have nothing to do
+-- nodes that have not turned have nothing to handle
 pub all_seen : (net : Network) (counts : List ℕ) (seen : ℕ → Bool) (table : Table)
     → ((y : ℕ) → 0 < get_or counts y 0 → seen y ≡ true) → ArePartTurned net counts (is_done counts seen) table → ArePartTurned net counts all_done table
 all_seen net counts seen table each at =
@@ -116,7 +116,7 @@ all_seen net counts seen table each at =
       | inr some ↦ agree (cond-false _ _ _ (ne_eqb _ _ some) ∙ each y (omega (arith, some)))
     ])
 
--- while x sees to its entries in the rows of others: those of neighbours below the bound are done with
+-- while x handles its entries in the rows of others: those of neighbours below the bound are done
 abbrev pub is_halfway : List ℕ → (ℕ → Bool) → ℕ → ℕ → ℕ → ℕ → Bool
 is_halfway counts seen x bound y w = cond (eqb (get_or counts y 0) 0) ((eqb w x && ltb y bound) || seen w) (seen_too x seen y)
 
@@ -144,7 +144,7 @@ pub neighbour_back : (net : Network) (x : ℕ) (e : ℕ × First) → IsNet net.
 neighbour_back net x (w, Outward) is_net h = row_of_in net.nodes net.links w x is_net (out_of_row net.nodes net.links x w h)
 neighbour_back net x (w, Inward) is_net h = row_of_out net.nodes net.links w x is_net (in_of_row net.nodes net.links x w h)
 
--- a neighbour of x is below the bound or not as its place tells
+-- a neighbour of x is below the bound exactly if its place is
 neighbour_from : (net : Network) (x y : ℕ) (e : ℕ × First) (bound j : ℕ) → IsNet net.nodes net.links
     → IsPlaceIn (row net.nodes net.links x) bound j → Contains (row net.nodes net.links y) e → e.0 ≡ x → (k : ℕ)
     × (k < length (row net.nodes net.links x)) × ((get_or (row net.nodes net.links x) k (y, opposite e.1)).0 ≡ y)
@@ -182,7 +182,7 @@ bounds_alike net counts seen x bound j w is_net at inside here y other e h =
       | inr some ↦ agree (grind (arith, nat_tests))
     ]
 
--- the next neighbour has turned, and sees to its own row
+-- the next neighbour has turned, and handles its own row
 pub neighbour_passed : (net : Network) (counts : List ℕ) (seen : ℕ → Bool) (x bound j w : ℕ) (table : Table)
     → IsPlaceIn (row net.nodes net.links x) bound j → j < length (row net.nodes net.links x)
     → ((d : ℕ × First) → (get_or (row net.nodes net.links x) j d).0 ≡ w) → get_or counts w 0 ≢ 0
@@ -220,7 +220,7 @@ neighbour_turned net counts seen x bound j w table unseen turned at inside here 
     (one_written net counts done later w table part below
     (λ y l ne. bounds_alike net counts seen x bound j w part.is_net at inside here y (λ q. absurd (ne q))))
 
--- the place after a neighbour
+-- the place after a neighbour's place
 pub place_after : (net : Network) (x bound j w : ℕ) → IsPlaceIn (row net.nodes net.links x) bound j
     → j < length (row net.nodes net.links x) → ((d : ℕ × First) → (get_or (row net.nodes net.links x) j d).0 ≡ w)
     → IsPlaceIn (row net.nodes net.links x) (w + 1) (j + 1)
@@ -233,7 +233,7 @@ place_after net x bound j w at inside here = record {
   stops = λ k d from l. omega (arith, row_rises net.nodes net.links x j k d (omega arith) l, here d);
 }
 
--- x has seen to all its entries
+-- x has handled all its entries
 pub node_done : (net : Network) (counts : List ℕ) (seen : ℕ → Bool) (x bound : ℕ) (table : Table)
     → IsPlaceIn (row net.nodes net.links x) bound (length (row net.nodes net.links x))
     → ArePartTurned net counts (is_halfway counts seen x bound) table → ArePartTurned net counts (is_done counts (seen_too x seen)) table
@@ -269,7 +269,7 @@ rows_end net counts table kept part = record {
   shown = λ y l. part.shown y l ∙ sym (row_turned net.nodes net.links counts y kept part.is_net);
 }
 
--- the neighbours of a row as it turns, and the entry of one of them reversed
+-- the neighbours in a row that is turning, and the entry of one of them reversed
 pub nodes_done : (net : Network) (counts : List ℕ) (done : ℕ → ℕ → Bool) (y : ℕ)
     → map (λ (e : ℕ × First). e.0) (rows_done net counts done y) ≡ map (λ (e : ℕ × First). e.0) (row net.nodes net.links y)
 nodes_done net counts done y =
@@ -287,7 +287,7 @@ rises_from es rising i j d lt l =
 entry_is : (e : ℕ × First) (w : ℕ) → e.0 ≡ w → e ≡ (w, e.1)
 entry_is (v, f) w e = cc
 
--- a neighbour stands in the row with a direction
+-- a neighbour is in the row with a direction
 pub neighbour_in : (es : List (ℕ × First)) (w : ℕ) → Contains (map (λ (e : ℕ × First). e.0) es) w → (f : First) × Contains es (w, f)
 neighbour_in es w h =
     let node : ℕ × First → ℕ = λ e. e.0 in
@@ -314,7 +314,7 @@ entry_reversed es w k f d y rises inside here is =
     ] in
     cond-false _ _ _ (ne_eqb _ _ apart))
 
--- the state while x sees to its entries in the rows of others, as far as this place in its row
+-- the state while x handles its entries in the rows of others, up to this place in its row
 pub record IsHalfTurned (net : Network) (counts : List ℕ) (seen : ℕ → Bool) (x place : ℕ) (table : Table) : Type 0 where
   pub bound : ℕ
   pub at : IsPlaceIn (row net.nodes net.links x) bound place
@@ -329,7 +329,7 @@ pub record IsNext (net : Network) (counts : List ℕ) (seen : ℕ → Bool) (x p
   pub below : w < net.nodes
   pub rows : ArePartTurned net counts (is_halfway counts seen x bound) table
 
--- a row is as long while it turns
+-- a row keeps its length while it turns
 pub length_shown : (net : Network) (counts : List ℕ) (done : ℕ → ℕ → Bool) (y : ℕ) (table : Table)
     → ArePartTurned net counts done table → y < net.nodes → length (row_of table y) ≡ length (row net.nodes net.links y)
 length_shown net counts done y table part lt = ap length (part.shown y lt) ∙ length-map (row net.nodes net.links y) (entry_done done counts y)
@@ -378,7 +378,7 @@ half_ends net counts seen x place table half past =
     let all : place ≡ length (row net.nodes net.links x) = omega (arith, half.at.inside, past) in
     node_done net counts seen x half.bound table (rw all at half.at) half.rows
 
--- the neighbours of a row that rows show, as it turns, are nodes
+-- the neighbours in a row that is turning are nodes
 pub shown_below : (net : Network) (counts : List ℕ) (done : ℕ → ℕ → Bool) (y : ℕ) → All (λ (e : ℕ × First). e.0 < net.nodes) (rows_done net counts done y)
 shown_below net counts done y k d l =
     let entries = row net.nodes net.links y in

@@ -1,4 +1,4 @@
--- A link taken out of a list, and the place of a neighbour in a row.
+-- A link removed from a list, and the place of a neighbour in a row.
 use Rattle.std.proofs.Common.{Bool, Contains, List, ap, arith, eqb, get_or, inl, inr, length, refl, sym, true, ℕ, ◌&&◌, ◌<◌, ◌∙◌, ◌≡◌, ◌≢◌, ◌≤◌, ◌⊎◌}
 use Rattle.std.specs.Prelude.{not}
 use Rattle.std.specs.List.{remove}
@@ -32,7 +32,7 @@ cut_is_remove links u v k single l is =
       | inr none ↦ ap not none
     ])
 
--- a neighbour in a row stands at its place
+-- a neighbour in a row is at its place
 pub neighbour_at : (es : List (ℕ × First)) (v k : ℕ) (f : First) → Rises es → Contains es (v, f) → ((i : ℕ) (d : ℕ × First) → i < k → (get_or es i d).0 < v)
     → ((i : ℕ) (d : ℕ × First) → k ≤ i → i < length es → v ≤ (get_or es i d).0) → (k < length es) × (get_or es k (v, f) ≡ (v, f))
 neighbour_at es v k f rises (i, l, e) before stops =
@@ -53,7 +53,7 @@ rises_by es rises i j d le l =
       | inr ge ↦ let e : i ≡ j = omega arith in rw e (omega arith)
     ]
 
--- where the row has no neighbour v at its place, no link joins its node with v
+-- if the row does not have neighbour v at its place, no link joins its node with v
 pub not_joined : (n : ℕ) (links : List (ℕ × ℕ)) (u v k : ℕ) → IsNet n links → ((i : ℕ) (d : ℕ × First) → i < k → (get_or (row n links u) i d).0 < v)
     → ((i : ℕ) (d : ℕ × First) → k ≤ i → i < length (row n links u) → v ≤ (get_or (row n links u) i d).0)
     → ((d : ℕ × First) → k < length (row n links u) → (get_or (row n links u) k d).0 ≢ v) → ¬ Joins links u v

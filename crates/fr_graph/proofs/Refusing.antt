@@ -1,4 +1,4 @@
--- Links without a fault are refused for memory alone.
+-- Links without a fault are refused only for missing memory.
 use Rattle.std.proofs.Common.{◌≢◌, Contains, List, [], ap, arith, inl, inr, refl, sym, ℕ, ◌<◌, ◌∙◌, ◌∷◌, ◌≡◌}
 use Rattle.fr_graph.proofs.Linking.{not_twice}
 use Rattle.std.proofs.Common.{subst}
@@ -9,7 +9,7 @@ use Rattle.fr_graph.specs.Links.{AreBelow, AreSingle, HasNoSelfLink, IsAcyclic, 
 use Rattle.fr_graph.specs.declared.fault.NetFault.{NetFault}
 use Rattle.fr_graph.specs.declared.fault.NetFault.TheVariants.{Cycle, Memory, NoLink, Range, SelfLink, TooMany, Twice}
 
--- links without a fault are refused for memory alone
+-- links without a fault are refused only for missing memory
 pub no_self_link : (links : List (ℕ × ℕ)) (u : ℕ) → HasNoSelfLink links → ¬ Contains links (u, u)
 no_self_link links u clear h =
     clear h.0 (u, u) h.1 (ap (λ (l : ℕ × ℕ). l.0) h.2 ∙ sym (ap (λ (l : ℕ × ℕ). l.1) h.2))
@@ -51,7 +51,7 @@ fault_place (Cycle walk) = 4
 fault_place NoLink = 5
 fault_place Memory = 6
 
--- what a later fault says of the tests before it
+-- what a later fault implies about the tests before it
 limits_passed : (n : ℕ) (links : List (ℕ × ℕ)) (g : NetFault) → 0 < fault_place g → IsFirstFault n links g → IsWithinLimits n links
 limits_passed n links TooMany l h = absurd (omega arith)
 limits_passed n links (Range x) l h = h.0
@@ -114,6 +114,6 @@ first_fault_place n links f g hf hg =
       ]
     ]
 
--- links without a fault have no first one
+-- links without a fault have no first fault
 pub no_first_fault : (n : ℕ) (links : List (ℕ × ℕ)) (f : NetFault) → IsFaultless n links → ¬ IsFirstFault n links f
 no_first_fault n links f clear h = subst (IsFirstFault n links) (only_memory n links f clear (λ _. h)) h

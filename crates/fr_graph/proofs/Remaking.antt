@@ -19,7 +19,7 @@ use Rattle.fr_graph.specs.Tables.{KeepsRooms, Table, row_of}
 use Rattle.fr_graph.specs.declared.graph.Graph.{Graph}
 use Rattle.fr_graph.specs.declared.first.First.{First}
 
--- rows depend on which links there are alone
+-- rows depend only on the set of links
 same_test : (a b : List (ℕ × ℕ)) (u v : ℕ) → (Points a u v → Points b u v) → (Points b u v → Points a u v) → has_link a u v ≡ has_link b u v
 same_test a b u v to from =
     elim (cases_Bool (has_link a u v)) [
@@ -50,7 +50,7 @@ in_order_faultless n listed clear =
 pub in_order_row : (n : ℕ) (listed : List (ℕ × ℕ)) (x : ℕ) → row n listed x ≡ row n (in_order listed) x
 in_order_row n listed x = row_same n listed (in_order listed) x (λ u v. into_order listed (u, v)) (λ u v. out_of_order listed (u, v))
 
--- rows show their links in order
+-- rows contain their links in order
 rows_alike : {X : Type 0} (k : ℕ) (some other : ℕ → List X) → ((x : ℕ) → x < k → some x ≡ other x) → rows_below k some ≡ rows_below k other
 rows_alike zero some other same = refl
 rows_alike (suc k) some other same = rw (rows_alike k some other (λ x l. same x (omega arith)), same k (omega arith)) refl
@@ -59,11 +59,11 @@ pub links_shown : (n : ℕ) (listed : List (ℕ × ℕ)) (table : Table) → IsN
 links_shown n listed table net rows =
     rows_alike n (λ x. out_links x (row_of table x)) (out_rows n listed) (λ x less. ap (out_links x) (rows.shown x less)) ∙ links_of_rows n listed net
 
--- heights along which links fall do for fewer links
+-- heights along which links fall are heights for fewer links
 pub fewer_fall : (links fewer : List (ℕ × ℕ)) (heights : Levels) → ((u v : ℕ) → Points fewer u v → Points links u v) → Fit links heights → Fit fewer heights
 fewer_fall links fewer heights among fit known u v stands = fit known u v (among u v stands)
 
--- so a graph of the rows of links without a fault, counted, and of heights along which they fall, shows their network
+-- so a graph with the rows of links without a fault, their number, and heights along which they fall, has their network
 pub graph_of : (g : Graph) (listed : List (ℕ × ℕ)) → IsFaultless g.nodes listed → g.link_count ≡ length listed
     → AreRows g.nodes listed g.rows → length g.heights.heights ≡ g.nodes → Fit listed g.heights → IsGraph g
 graph_of g listed clear count rows height_each fit =
@@ -96,7 +96,7 @@ pub network_of_rows : (n : ℕ) (listed : List (ℕ × ℕ)) (table : Table) →
     → IsNetworkOf n listed (with_links n (links_in n table))
 network_of_rows n listed table clear rows = made_of n listed (links_in n table) clear (links_shown n listed table clear.is_net rows)
 
--- a graph of the same rows, whatever their room
+-- a graph with the same rows and any room
 pub graph_of_rows : (g : Graph) (table : Table) → table.rows ≡ g.rows.rows → IsGraph g → IsGraph (record g { rows = table })
 graph_of_rows g table same graph =
     let of_rows : (rows : List (List (ℕ × First))) → Graph = λ rows. record g { rows = record { rows = rows; rooms = table.rooms } } in
@@ -120,7 +120,7 @@ same_of_rows g table same kept graph = record {
   rooms = kept;
 }
 
--- the same graph of other heights along which its links fall
+-- the same graph with other heights along which its links fall
 pub same_of_heights : (g : Graph) (heights : Levels) → length heights.heights ≡ g.nodes → Fit (shown g).links heights
     → IsGraph g → IsSame g (record g { heights = heights })
 same_of_heights g heights height_each fit graph = record {
@@ -136,7 +136,7 @@ same_of_heights g heights height_each fit graph = record {
   rooms = λ x. omega arith;
 }
 
--- the network stays the same over two changes where it does over each
+-- the network is unchanged over two changes if it is over each of them
 pub same_through : (before mid after : Graph) → IsSame before mid → IsSame mid after → IsSame before after
 same_through before mid after first next = record {
   graph = next.graph;
@@ -144,7 +144,7 @@ same_through before mid after first next = record {
   rooms = λ x. omega (arith, first.rooms x, next.rooms x);
 }
 
--- the rows of a graph show its network
+-- the rows of a graph contain its network
 pub net_shown : (g : Graph) → IsGraph g → net_in g.rows ≡ shown g
 net_shown g is = let at : ℕ → Network = λ n. record { nodes = n; links = links_in n g.rows } in ap at is.rows.one_each
 

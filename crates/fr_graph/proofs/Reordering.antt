@@ -1,4 +1,4 @@
--- Another order of the first links gives the same links in rising order.
+-- The first links in another order give the same links in order.
 use Rattle.std.proofs.Common.{◌≡◌, ℕ, List, Bool, IsPermutation, arith}
 use Rattle.std.proofs.lemmas.List.Sorted.{sum_by-IsPermutation}
 use Rattle.fr_graph.specs.Counts.{link_at, links_at}

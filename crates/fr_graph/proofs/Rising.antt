@@ -1,4 +1,4 @@
--- The links of a network, put in order, rise.
+-- The links of a network, put in order, increase.
 use Rattle.std.proofs.Common.{Contains, List, [], arith, inl, inr, refl, subst, suc, sym, zero, ℕ, ◌+◌, ◌∷◌, ◌≡◌, ◌≤◌}
 use Rattle.std.proofs.lemmas.Bool.{cases_lt}
 use Rattle.fr_graph.proofs.Counting.{weigh}
@@ -16,14 +16,14 @@ before_or_same {p} {q} (inr e) other =
       | inr le ↦ absurd (other (up_both p q (inr e) (inr (sym e.0, le))))
     ]
 
--- a link that stands once is not the next one as well
+-- a link that occurs once is not the next one as well
 not_next : (p q : ℕ × ℕ) (qs : List (ℕ × ℕ)) → times (p ∷ (q ∷ qs)) p ≤ 1 → ¬ (p ≡ q)
 not_next p q qs once same =
     let one : weigh (is_pair p.0 p.1 p) ≡ 1 = rw (itself p) refl in
     let more = one_counted (q ∷ qs) p (subst (λ (x : ℕ × ℕ). Contains (q ∷ qs) x) (sym same) (Contains-head q qs)) in
     omega (arith, once, times-cons p (q ∷ qs) p, one, more)
 
--- links in order rise where each stands once
+-- links in order increase if each one occurs once
 rising_once_each : (links : List (ℕ × ℕ)) → AreInOrder links → ((x : ℕ × ℕ) → times links x ≤ 1) → AreRising links
 rising_once_each [] order once k d l = absurd (omega arith)
 rising_once_each (p ∷ []) order once k d l = absurd (omega arith)

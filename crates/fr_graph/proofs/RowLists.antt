@@ -28,7 +28,7 @@ pub rows_go_on : {X : Type 0} (k x n : ℕ) (rows : ℕ → List X) → x + k �
 rows_go_on zero x n rows e = append-nil (rows_below x rows) ∙ ap (λ m. rows_below m rows) (let same : x ≡ n = omega (arith, e) in same)
 rows_go_on (suc k) x n rows e = sym (append_assoc (rows_below x rows) (rows x) (rows_from k (suc x) rows)) ∙ rows_go_on k (suc x) n rows (omega (arith, e))
 
--- an element of the rows stands in one of them
+-- an element of the rows is in one of them
 pub from_rows : {X : Type 0} (k : ℕ) (rows : ℕ → List X) (y : X) → Contains (rows_below k rows) y → (x : ℕ) × (x < k) × Contains (rows x) y
 from_rows zero rows y h = absurd (Contains-none y h)
 from_rows (suc k) rows y h =
@@ -45,7 +45,7 @@ into_rows (suc k) x rows y lt h =
       | inr ge ↦ let e : x ≡ k = omega arith in Contains-append_right (rows_below k rows) (rows k) y (subst (λ (z : ℕ). Contains (rows z) y) e h)
     ]
 
--- rows that are sorted, each before the next, are sorted together
+-- rows that are sorted, where each comes before the next, are sorted together
 pub sorted_rows : {X : Type 0} (R : X → X → Type 0) (rows : ℕ → List X) → ((x : ℕ) → IsSorted R (rows x))
     → ((x z : ℕ) (a b : X) → x < z → Contains (rows x) a → Contains (rows z) b → R a b) → (k : ℕ) → IsSorted R (rows_below k rows)
 sorted_rows R rows each across zero = tt

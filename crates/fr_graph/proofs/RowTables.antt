@@ -1,4 +1,4 @@
--- Rows that stand in one list, each between its start and its end, and one of which changes where it stands.
+-- Rows in one list, each between its start and its end. One of them changes in place.
 use Rattle.std.proofs.Common.{Bool, List, [], ap, arith, count_by, drop, eq-eqb, eqb, false, get_or, inl, inr, length, map, ne_eqb, refl, set}
 use Rattle.std.proofs.Common.{slice_range, subst, suc, sym, take, true, zero, ℕ, ◌+◌, ◌-◌, ◌<◌, ◌∙◌, ◌∷◌, ◌≡◌, ◌≢◌, ◌≤◌}
 use Rattle.std.proofs.lemmas.Bool.{cases_eq, cases_lt}
@@ -54,7 +54,7 @@ row_shown t x lt = get_or-map-range_with_len (row_between t) 0 (rows_in t) x x [
 pub room_shown : (t : Inside) (x : ℕ) → x < rows_in t → room_of (table_of t) x ≡ room_between t x
 room_shown t x lt = get_or-map-range_with_len (room_between t) 0 (rows_in t) x x 0 lt (omega arith)
 
--- the place of a row that the table has
+-- the place of a row in the table
 pub record IsRowAt (t : Inside) (table : Table) (x : ℕ) : Type 0 where
   pub has : x < rows_in t
   pub next : x + 1 < length t.places.items
@@ -83,11 +83,12 @@ row_at t table x is view lt =
       room = ap (λ (v : Table). room_of v x) (sym view) ∙ room_shown t x has;
     }
 
--- behind a row come only later ones
+-- only later rows are after a row
 pub starts_rise : (t : Inside) → IsTable t → (x y : ℕ) → x ≤ y → y ≤ rows_in t → start_of t x ≤ start_of t y
 starts_rise t is = starts_up (start_of t) (rows_in t) (λ y l. omega (arith, is.low y l, is.high y l))
 
--- fields of which only those of the row of x were written: from the place `at` on this part, which stays in the room of x, and its end
+-- fields in which only those of the row of x were written: this part from the place `at` on, which stays in the room of
+-- x, and the end of the row
 pub record IsWritten (t after : Inside) (x at end : ℕ) (part : List (ℕ × First)) : Type 0 where
   pub places : after.places.items ≡ set t.places.items x (record { start = start_of t x; end = end })
   pub entries : after.entries.items ≡ put_mid at (length part) t.entries.items part
@@ -168,11 +169,11 @@ module _ (t after : Inside) (x at end : ℕ) (part : List (ℕ × First)) (is : 
       alike_below (room_between after) (room_between t) (rows_in after)
       (λ y l. rw (start_stays (y + 1), start_stays y) refl) ∙ ap (λ n. map (room_between t) (range_with_len 0 n)) as_many
 
-  -- the view has the new row in the place of the old one
+  -- the view has the new row in place of the old one
   pub table_written : (row : List (ℕ × First)) → row_between after x ≡ row → table_of after ≡ with_row (table_of t) x row
   table_written row here = let rows = rows_written row here in let rooms = rooms_stay in λ i. record { rows = rows i; rooms = rooms i }
 
-  -- what was kept still is
+  -- what held before still holds
   pub table_kept : (row : List (ℕ × First)) → row_between after x ≡ row
       → after.empty + weigh (has_none (row_between t x)) ≡ t.empty + weigh (has_none row) → IsTable after
   table_kept row here count =
@@ -195,7 +196,7 @@ module _ (t after : Inside) (x at end : ℕ) (part : List (ℕ × First)) (is : 
         counted = omega (arith, count, is.counted, old, new, changed);
       }
 
--- what a call that writes a part of the entries leaves
+-- what a call leaves that writes a part of the entries
 pub part_put : {X : Type 0} (v : Vec X) (now part : List X) (at k : ℕ) → now ≡ v.items → length part ≡ k
     → at + k ≤ length v.items → (with_items v (put_mid at k now part)).items ≡ put_mid at (length part) v.items part
 part_put v now part at k is long inside =
@@ -203,7 +204,7 @@ part_put v now part at k is long inside =
     ∙ ap (λ n. put_mid at n v.items part) (sym long) in
     with_items_is v (put_mid at k now part) (ap length same ∙ length_put at (length part) v.items part (omega (arith, inside, long)) refl ∙ sym v.ok.0) ∙ same
 
--- a row that has no entries is one whose end is where it starts
+-- a row without entries ends where it starts
 pub none_is : (es : List (ℕ × First)) → has_none es ≡ eqb (length es) 0
 none_is [] = refl
 none_is (e ∷ es) = sym (ne_eqb (length (e ∷ es)) 0 (λ q. omega (arith, q)))
@@ -217,14 +218,14 @@ none_where es start end long = none_is es ∙ elim (cases_eq start end) [
   | inr ne ↦ ne_eqb (length es) 0 (λ q. ne (omega (arith, q, long))) ∙ sym (ne_eqb start end ne)
 ]
 
--- an empty row is among those counted
+-- an empty row is counted
 pub none_counted : (t : Inside) (x : ℕ) → IsTable t → x < rows_in t → weigh (has_none (row_between t x)) ≤ t.empty
 none_counted t x is lt =
     let weight : List (ℕ × First) → ℕ = λ es. weigh (has_none es) in
     let here : weight (row_of (table_of t) x) ≡ weight (row_between t x) = ap weight (row_shown t x lt) in
     omega (arith, get_or-le-sum_by weight (table_of t).rows x [] (omega (arith, lt, length_rows t)), here, is.counted)
 
--- the fields with another row for x show the table with it
+-- with another row for x, the fields are those of the table with this row
 pub record ShowsRowWritten (after : Inside) (table : Table) (x : ℕ) (row : List (ℕ × First)) : Type 0 where
   pub is : IsTable after
   pub shown : table_of after ≡ with_row table x row
@@ -239,7 +240,7 @@ row_shows t after table x at end part row is view lt w here count =
       shown = table_written t after x at end part is has w row here ∙ ap (λ v. with_row v x row) view;
     }
 
--- an entry was put into the row of x
+-- an entry was inserted in the row of x
 pub entry_inserted : (t after : Inside) (table : Table) (x p : ℕ) (entry : ℕ × First) (part : List (ℕ × First)) → IsTable t
     → table_of t ≡ table → x < length table.rows → p ≤ length (row_of table x) → HasRoomIn table x
     → length part ≡ end_of t x + 1 - (start_of t x + p)
@@ -272,7 +273,7 @@ entry_inserted t after table x p entry part is view lt inside room long is_part 
     ap weigh (none_is (insert row p entry) ∙ ne_eqb (length (insert row p entry)) 0 (λ q. omega (arith, q, more))) in
     row_shows t after table x (s + p) (e + 1) part (insert row p entry) is view lt w here (omega (arith, before, now, count))
 
--- an entry was taken out of the row of x
+-- an entry was removed from the row of x
 pub entry_removed : (t after : Inside) (table : Table) (x p e : ℕ) (part : List (ℕ × First)) → IsTable t
     → table_of t ≡ table → x < length table.rows → p < length (row_of table x) → e + 1 ≡ end_of t x
     → length part ≡ e + 1 - (start_of t x + p) → take (e + 1 - (start_of t x + p) - 1) part ≡ drop 1 (slice_range t.entries.items (start_of t x + p) (e + 1))
@@ -308,11 +309,11 @@ entry_removed t after table x p e part is view lt inside last long is_part place
     ap weigh (none_where (remove row p) s e (omega (arith, length-remove row p inside, at.long, at.low, last, low))) in
     row_shows t after table x (s + p) e part (remove row p) is view lt w here (omega (arith, before, now, count))
 
--- no more rows are empty than there are
+-- no more rows are empty than there are rows
 pub none_few : (t : Inside) → IsTable t → t.empty ≤ rows_in t
 none_few t is = omega (arith, is.counted, count_by-le-length has_none (table_of t).rows, length_rows t)
 
--- the entries of the row of x were written over
+-- the entries of the row of x were written
 pub row_rewritten : (t after : Inside) (table : Table) (x : ℕ) (part : List (ℕ × First)) → IsTable t → table_of t ≡ table
     → x < length table.rows → length part ≡ length (row_of table x)
     → after.places.items ≡ t.places.items → after.entries.items ≡ put_mid (start_of t x) (length part) t.entries.items part
@@ -334,7 +335,7 @@ row_rewritten t after table x part is view lt long places entries count =
     let same : weigh (has_none (row_between t x)) ≡ weigh (has_none part) = ap weigh (none_by_length (row_between t x) part (ap length at.is_row ∙ sym long)) in
     row_shows t after table x s e part part is view lt w here (omega (arith, same, count))
 
--- the part of the entries at a place that was read is the row of x
+-- the part of the entries that was read is the row of x
 pub record IsPart (t : Inside) (table : Table) (x i j : ℕ) (entries : List (ℕ × First)) : Type 0 where
   pub start : i ≡ start_of t x
   pub end : j ≡ end_of t x
@@ -365,7 +366,7 @@ part_at t table x place entries is view lt read same =
       long = omega (arith, at.long, start, end);
     }
 
--- and once it is written over by as many entries, the row of x is these
+-- after it is written with as many entries, they are the row of x
 pub part_rewritten : (t : Inside) (table : Table) (x i j : ℕ) (entries new : List (ℕ × First)) → IsTable t
     → table_of t ≡ table → x < length table.rows → IsPart t table x i j entries → entries ≡ t.entries.items → length new ≡ length (row_of table x)
     → ShowsRowWritten (record { places = t.places; entries = with_items t.entries (put_mid i (j - i) entries new); empty = t.empty }) table x new
@@ -380,7 +381,7 @@ part_rewritten t table x i j entries new is view lt part same long =
     (omega (arith, part.low, part.high, ap length same)) ∙ ap (λ k. put_mid k (length new) t.entries.items new) part.start)
     refl
 
--- as many elements made of numbers pass as numbers do
+-- as many elements made from numbers pass as numbers do
 count-map-range : {X : Type 0} (p : X → Bool) (q : ℕ → Bool) (f : ℕ → X) (n : ℕ) → ((x : ℕ) → x < n → p (f x) ≡ q x)
     → count_by p (map f (range_with_len 0 n)) ≡ count_by q (range_with_len 0 n)
 count-map-range p q f zero same = refl
@@ -409,7 +410,7 @@ module _ (t : Inside) (starts : List ℕ) (packed : ArePacked starts t.entries.i
   end_is : (x : ℕ) → x < length starts → end_of t x ≡ get_or starts (x + 1) 0
   end_is x l = ap (λ (p : Place). p.end) (place_is x l)
 
-  -- starts of rows that stand one behind the other make a table
+  -- starts of rows that follow each other without gaps make a table
   pub packed_row : (x : ℕ) → x + 1 < length starts → row_of (table_of t) x ≡ slice_range t.entries.items (get_or starts x 0) (get_or starts (x + 1) 0)
   packed_row x l = row_shown t x (omega (arith, l, packed_one_each)) ∙ rw (start_is x, end_is x (omega (arith, l))) refl
 

@@ -1,4 +1,4 @@
--- The steps of the depth-first search keep its state, with how far the rows of the nodes on its path were read.
+-- The steps of the depth-first search keep its state, with how far the rows of the path have been read.
 use Rattle.std.proofs.Common.{All, List, [], ap, arith, get_or, inl, inr, length, refl, set, subst, sym, take, ℕ, ◌++◌, ◌+◌, ◌∷◌, ◌<◌, ◌∙◌, ◌≡◌, ◌≤◌}
 use Rattle.std.proofs.lemmas.Bool.{cases_eq, cases_lt}
 use Rattle.std.proofs.lemmas.List.{get_or-map, get_or-set_other, get_or-set_same, get_or-take, length-map, length-set, length-take-le, map-append, take-map}
@@ -17,7 +17,7 @@ use Rattle.fr_graph.specs.declared.cycle.Step.{Step}
 use Rattle.fr_graph.specs.declared.first.First.{First}
 use Rattle.fr_graph.specs.declared.first.First.TheVariants.{Outward}
 
--- how far rows were read, as more nodes are done
+-- how far rows have been read, after more nodes are done
 pub reads_stay : (rows : Table) (old new : List Mark) (path : List Step)
     → ((x : ℕ) → mark_of old x ≡ Done → mark_of new x ≡ Done) → All (HasRead rows old) path → All (HasRead rows new) path
 reads_stay rows old new path stays read k d l = record {
@@ -25,7 +25,7 @@ reads_stay rows old new path stays read k d l = record {
   passed = λ j e lt out. stays _ ((read k d l).passed j e lt out);
 }
 
--- and as the row of the last node is read on
+-- the same after more of the row of the last node is read
 pub reads_on : (rows : Table) (marks : List Mark) (path : List Step) (last next : ℕ) (top : Step) → last + 1 ≡ length path
     → top ≡ get_or path last top → All (HasRead rows marks) path → next ≤ length (row_of rows top.node)
     → ((k : ℕ) (d : ℕ × First) → top.next ≤ k → k < next → IsPassed marks (get_or (row_of rows top.node) k d))
@@ -41,7 +41,7 @@ reads_on rows marks path last next top full is read inside passes k d l =
       | inr ne ↦ rw (get_or-set_other path last k moved d ne) (read k d (omega (arith, l, length-set path last moved)))
     ]
 
--- the path has the same nodes then
+-- the path then has the same nodes
 pub same_nodes : (path : List Step) (last next : ℕ) (top : Step) → top ≡ get_or path last top
     → nodes_of (set path last (record { node = top.node; next = next })) ≡ nodes_of path
 same_nodes path last next top is = map-set_same (λ (s : Step). s.node) path last (record { node = top.node; next = next }) top (ap (λ (s : Step). s.node) is)
@@ -49,7 +49,7 @@ same_nodes path last next top is = map-set_same (λ (s : Step). s.node) path las
 pub nodes_counted : (some other : List Step) → nodes_of some ≡ nodes_of other → length some ≡ length other
 nodes_counted some other same = omega (arith, ap length same, length-map some (λ (s : Step). s.node), length-map other (λ (s : Step). s.node))
 
--- the last node of the path, and its links, once its row was read to its end
+-- the last node of the path and its links, after its row was read to the end
 pub top_is : (path : List Step) (last : ℕ) (top : Step) → last + 1 ≡ length path → top ≡ get_or path last top → get_or (nodes_of path) last 0 ≡ top.node
 top_is path last top full is = get_or-map (λ (s : Step). s.node) path last top 0 (omega (arith, full)) ∙ ap (λ (s : Step). s.node) (sym is)
 
@@ -66,7 +66,7 @@ read_through rows marks top next read passes all v points =
     let there : IsPassed marks (v, Outward) = subst (IsPassed marks) entry done in
     there refl
 
--- the search goes on to a node that was not met
+-- the search goes on to a node that has not been met
 pub search_opens : (rows : Table) (search after : Search) (x : ℕ) → IsSearch rows search → x < length search.marks.items
     → mark_of search.marks.items x ≡ Fresh → LeadsTo (net_in rows).links (nodes_of search.path.items) x
     → after.marks.items ≡ set search.marks.items x Open
@@ -87,7 +87,7 @@ search_opens rows search after x s below fresh leads marks path order =
       order = rw (marks, order) (opened_order _ old _ x s.order below (λ e. cc (fresh, e)));
     }
 
--- and back from one whose links lead to done nodes
+-- the search goes back from a node whose links lead to done nodes
 pub search_leaves : (rows : Table) (search after : Search) (x last : ℕ) → IsSearch rows search
     → last + 1 ≡ length search.path.items → x ≡ get_or (nodes_of search.path.items) last 0 → x < length search.marks.items
     → LeadsToDone (net_in rows).links search.marks.items x

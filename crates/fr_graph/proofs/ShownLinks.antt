@@ -1,4 +1,4 @@
--- The links that the rows of a table show.
+-- The links in the rows of a table.
 use Rattle.std.proofs.Common.{Contains, List, [], ap, arith, get_or, inl, inr, length, refl, subst, sym, ℕ, ◌<◌, ◌≡◌}
 use Rattle.std.proofs.lemmas.Bool.{cases_lt}
 use Rattle.std.proofs.lemmas.List.{get_or_past}
@@ -17,7 +17,7 @@ use Rattle.fr_graph.specs.Tables.{Table, row_of}
 use Rattle.fr_graph.specs.declared.first.First.{First}
 use Rattle.fr_graph.specs.declared.first.First.TheVariants.{Outward}
 
--- a link stands in the row of its tail
+-- a link is in the row of its tail
 pub row_of_shown : (n : ℕ) (table : Table) (x w : ℕ) → Points (links_in n table) x w → (x < n) × Contains (row_of table x) (w, Outward)
 row_of_shown n table x w points =
     let row = from_rows n (λ y. out_links y (row_of table y)) (x, w) points in
@@ -37,7 +37,7 @@ pub shown_of_row : (n : ℕ) (table : Table) (x w : ℕ) → x < n → Contains 
 shown_of_row n table x w lt stands = into_rows n x (λ y. out_links y (row_of table y)) (x, w) lt
     (filter_map-Contains (λ (e : ℕ × First). link_to x e.0 e.1) (row_of table x) (w, Outward) (x, w) stands refl)
 
--- the rows of links show these
+-- the rows of links contain these links
 pub shows_same : (n : ℕ) (links : List (ℕ × ℕ)) (table : Table) → AreBelow n links → AreRows n links table → HaveSameLinks links (links_in n table)
 shows_same n links table below rows u v = (
   λ points.
@@ -59,7 +59,7 @@ heads_of n links table below rows first = record {
   heads = λ i j li lj points. first.heads i j li lj ((same_shown n links table below rows _ _).0 points);
 }
 
--- and the neighbours in them are nodes
+-- the neighbours in the rows are nodes
 pub entries_below : (n : ℕ) (links : List (ℕ × ℕ)) (table : Table) → AreRows n links table → AreEntriesBelow n table
 entries_below n links table rows x k d l = elim (cases_lt x n) [
   | inl lt ↦ rw (rows.shown x lt) (row_holds n links x (get_or (row n links x) k d) (Contains-get_or (row n links x) k d (rw (rows.shown x lt) at l))).0

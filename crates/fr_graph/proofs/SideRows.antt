@@ -1,4 +1,5 @@
--- The row that a side reads: which way its links lead, which entries the side has passed, and its state once the row is read.
+-- The row that a side reads: the direction of its links, which entries the side has passed, and its state after the row
+-- is read.
 use Rattle.std.proofs.Common.{Contains, List, arith, get_or, inl, inr, length, refl, slice_index, subst, ℕ, ◌+◌, ◌<◌, ◌∙◌, ◌≡◌}
 use Rattle.std.proofs.lemmas.Bool.{cases_lt}
 use Rattle.std.proofs.lemmas.List.{get_or_default}
@@ -15,7 +16,7 @@ use Rattle.fr_graph.specs.declared.first.First.{First}
 use Rattle.fr_graph.specs.declared.first.First.TheVariants.{Inward, Outward}
 use Rattle.fr_graph.proofs.MetNodes.{settled_stays}
 
--- the links that the row of a node shows in one direction
+-- the links in the row of a node that have one direction
 leads_by_row : (f : First) (n : ℕ) (links : List (ℕ × ℕ)) (x w : ℕ) → Contains (row n links x) (w, f) → LeadsOn f links x w
 leads_by_row Outward n links x w h = out_of_row n links x w h
 leads_by_row Inward n links x w h = in_of_row n links x w h
@@ -24,7 +25,7 @@ row_of_leads : (f : First) (n : ℕ) (links : List (ℕ × ℕ)) (x w : ℕ) →
 row_of_leads Outward n links x w net h = row_of_out n links x w net h
 row_of_leads Inward n links x w net h = row_of_in n links x w net h
 
--- links fall, so heights tell which way the link to a neighbour points
+-- links fall, so heights show in which direction the link to a neighbour points
 pub leads_lies : (f : First) (heights : List ℕ) (links : List (ℕ × ℕ)) (x w : ℕ) → AreFalling heights links
     → LeadsOn f links x w → LiesOn f (slice_index heights x) (slice_index heights w)
 leads_lies Outward heights links x w falling step = falling x w step

@@ -1,4 +1,5 @@
--- A side of a search from both ends keeps its state as it begins, meets a node, leaves one aside, and as the other side goes on.
+-- A side of a search from both ends keeps its state when it begins, meets a node, skips one, and when the other side
+-- continues.
 use Rattle.std.proofs.Common.{Contains, List, [], ap, arith, get_or, inl, inr, length, refl, set, slice_index, subst, sym, ℕ, ◌++◌, ◌+◌, ◌<◌, ◌∙◌}
 use Rattle.std.proofs.Common.{◌∷◌, ◌≡◌, ◌≤◌, ◌⊎◌}
 use Rattle.std.proofs.lemmas.Bool.{cases_lt}
@@ -16,7 +17,7 @@ use Rattle.fr_graph.specs.declared.path_search.Side.{Side}
 use Rattle.fr_graph.specs.declared.first.First.{First}
 use Rattle.fr_graph.proofs.MetNodes.{never_apart, met_set, one_more, none_more, same_more, met_stays, settled_stays, other_was}
 
--- one node more to which a side came from one of its nodes
+-- one more node to which a side came from one of its nodes
 came_on : (f : First) (links : List (ℕ × ℕ)) (nodes origins : List ℕ) (x place : ℕ) → HasOrigins f links nodes origins
     → place < length nodes → LeadsOn f links (get_or nodes place 0) x → HasOrigins f links (nodes ++ x ∷ []) (origins ++ place ∷ [])
 came_on f links nodes origins x place came inside step =
@@ -41,7 +42,7 @@ came_on f links nodes origins x place came inside step =
       ];
     }
 
--- a side that has met its start alone
+-- a side that has met only its start
 pub side_begins : (net : Network) (heights : List ℕ) (f : First) (start limit : ℕ) (met : List Met) (side : Side)
     → length met ≡ net.nodes → HasMet f met start → ((x : ℕ) → HasMet f met x → x ≡ start) → never_count met + 1 ≤ net.nodes
     → ¬ IsBeyond f limit (slice_index heights start) → HasBegun f start limit net.nodes side → IsSide net heights f start limit met side
@@ -69,7 +70,7 @@ side_begins net heights f start limit met side long here alone few near b =
       };
     }
 
--- a side that has met one node more
+-- a side that has met one more node
 side_meets : {net : Network} {heights : List ℕ} {f : First} {start limit : ℕ} {old new : List Met} {before after : Side}
     {x : ℕ} → x < net.nodes → before.read < length before.nodes.items
     → LeadsOn f net.links (get_or before.nodes.items before.read 0) x → ¬ IsBeyond f limit (slice_index heights x)
@@ -111,7 +112,7 @@ side_meets {net} {heights} {f} {start} {limit} {old} {new} {before} {after} {x} 
       };
     }
 
--- a side that may have left one node more aside
+-- a side that may have skipped one more node
 pub side_moves : {net : Network} {heights : List ℕ} {f : First} {start limit : ℕ} {met : List Met} {before after : Side}
     → HasMovedEdge before after → IsSide net heights f start limit met before → IsSide net heights f start limit met after
 side_moves {net} {heights} {f} {start} {limit} {met} {before} {after} m s = record {
@@ -129,7 +130,7 @@ side_moves {net} {heights} {f} {start} {limit} {met} {before} {after} m s = reco
   room = record { nodes = rw m.same_nodes s.room.nodes; origins = rw m.same_origins s.room.origins };
 }
 
--- so it keeps its state, whether it meets a node within the limit now, or has met it before
+-- so it keeps its state, whether it meets a node within the limit now or has met it before
 pub side_goes_on : {net : Network} {heights : List ℕ} {f : First} {start limit : ℕ} {old new : List Met}
     {before after : Side} (x : ℕ) → x < net.nodes → before.read < length before.nodes.items
     → LeadsOn f net.links (get_or before.nodes.items before.read 0) x → ¬ IsBeyond f limit (slice_index heights x)
@@ -138,7 +139,7 @@ pub side_goes_on : {net : Network} {heights : List ℕ} {f : First} {start limit
 side_goes_on {old = old} {before = before} x below unread step near (inl m) s = rw (m.0, m.1) (s, same_more before old, refl, refl)
 side_goes_on x below unread step near (inr m) s = (side_meets below unread step near m s, one_more (omega (arith, s.one_each)) m, m.same_read, m.same_edge)
 
--- the other side as a side meets more
+-- the other side, after a side meets more nodes
 pub other_stays : {net : Network} {heights : List ℕ} {start limit : ℕ} {old new : List Met} {before after other : Side}
     (f : First) → before.first ≡ f → HasMetMore before after old new → IsSide net heights (opposite f) start limit old other
     → IsSide net heights (opposite f) start limit new other
@@ -171,7 +172,7 @@ pub listed_met : {net : Network} {heights : List ℕ} {f : First} {start limit :
     → IsSide net heights f start limit met side → Contains side.nodes.items x → HasMet f met x
 listed_met {net} {heights} {f} {start} {limit} {met} {side} x s h = All-contains (HasMet f met) side.nodes.items x s.all_met h
 
--- the nodes of a side lie within the limit, and below the number of nodes
+-- the nodes of a side are within the limit, and below the number of nodes
 pub near_met : {net : Network} {heights : List ℕ} {f : First} {start limit : ℕ} {met : List Met} {side : Side} (x : ℕ)
     → IsSide net heights f start limit met side → HasMet f met x → ¬ IsBeyond f limit (slice_index heights x)
 near_met {net} {heights} {f} {start} {limit} {met} {side} x s h =
@@ -185,7 +186,7 @@ met_below {net} {heights} {f} {start} {limit} {met} {side} x s h =
       | inr g ↦ absurd (never_apart f (sym h ∙ get_or_past met x Never (omega (arith, s.one_each))))
     ]
 
--- a side as it says itself where it goes
+-- a side, described by its own fields
 pub own_side : {net : Network} {heights : List ℕ} {f : First} {start limit : ℕ} {met : List Met} {side : Side}
     → IsSide net heights f start limit met side → IsSide net heights side.first (start_of side) side.limit met side
 own_side {net} {heights} {f} {start} {limit} {met} {side} is =

@@ -1,4 +1,4 @@
--- The links that counts give are those of a network again.
+-- The links that counts give are those of a network.
 use Rattle.std.proofs.Common.{All, List, Some, [], ap, arith, count_by, eq-eqb, eqb, eqb-true, false, get_or, inl, inr, length, refl, sym, ℕ, ◌+◌}
 use Rattle.std.proofs.Common.{◌<◌, ◌∷◌, ◌≡◌, ◌⊎◌}
 use Rattle.std.proofs.lemmas.Bool.{cases_Bool}
@@ -70,7 +70,7 @@ net_turned n links counts all net = record {
   acyclic = links_at_acyclic links counts net.acyclic;
 }
 
--- and so a network can be made of them
+-- so a network can be made of them
 pub turned_faultless : (n : ℕ) (links : List (ℕ × ℕ)) (counts : List ℕ) → All (IsKept counts) links → IsFaultless n links
     → IsFaultless n (links_at links counts)
 turned_faultless n links counts all f = record {

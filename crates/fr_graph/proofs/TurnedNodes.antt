@@ -1,4 +1,4 @@
--- The list of the nodes that have turned, as it is made and as turns are added.
+-- The list of the nodes that have turned: how it is made, and how turns are added.
 use Rattle.std.proofs.Common.{All, Contains, List, [], ap, arith, eq-eqb, eqb, get_or, get_or-set_other, get_or-set_same, inl, inr, length}
 use Rattle.std.proofs.Common.{length-set, map, ne_eqb, refl, replicate, set, subst, suc, sum, sum_by, sym, ℕ, ◌++◌, ◌*◌, ◌+◌, ◌<◌, ◌∙◌, ◌∷◌, ◌≡◌, ◌≤◌}
 use Rattle.std.proofs.Common.{◌↔◌}
@@ -21,11 +21,11 @@ turned_inside counts y turned = elim (cases_lt y (length counts)) [
   | inr past ↦ absurd (omega (arith, turned, get_or_past counts y 0 past))
 ]
 
--- a list has those nodes below x that have turned
+-- a list has exactly the nodes below x that have turned
 abbrev pub AreListed : List ℕ → ℕ → List ℕ → Type 0
 AreListed counts x list = (z : ℕ) → Contains list z ↔ ((z < x) × (0 < get_or counts z 0))
 
--- and those below the next node, which has turned or has not
+-- the same for those below the next node, which has turned or not
 pub one_listed : (counts : List ℕ) (x : ℕ) (list : List ℕ) → 0 < get_or counts x 0 → AreListed counts x list → AreListed counts (x + 1) (list ++ x ∷ [])
 one_listed counts x list turned listed z = (
   λ stands. elim (Contains-push_cases list x z stands) [
@@ -63,12 +63,12 @@ each_set counts after nodes count listed same set =
       | inr some ↦ set.these x ((listed.each x).1 (omega (arith, some))) ∙ sym (here ∙ cond-false _ _ _ (ne_eqb _ _ some))
     ])
 
--- none has turned once their counts are set to 0
+-- no node has turned after their counts are set to 0
 pub all_cleared : (counts : List ℕ) → map (set_to 0) counts ≡ replicate (length counts) 0
 all_cleared [] = refl
 all_cleared (count ∷ counts) = elim (cases_Bool (eqb count 0)) [ inl t ↦ rw (t, all_cleared counts) refl | inr f ↦ rw (f, all_cleared counts) refl ]
 
--- the same nodes have turned once their counts are set to one that is not 0
+-- the same nodes have turned after their counts are set to a number other than 0
 pub still_turned : (counts nodes : List ℕ) (count : ℕ) → 0 < count → AreTurned counts nodes → AreTurned (map (set_to count) counts) nodes
 still_turned counts nodes count some listed = record {
   once = listed.once;
@@ -88,7 +88,7 @@ still_turned counts nodes count some listed = record {
   );
 }
 
--- the sum over a list depends on its elements alone
+-- the sum over a list depends only on its elements
 sum_by-alike : (f g : ℕ → ℕ) (xs : List ℕ) → ((x : ℕ) → Contains xs x → f x ≡ g x) → sum_by f xs ≡ sum_by g xs
 sum_by-alike f g [] same = refl
 sum_by-alike f g (x ∷ xs) same =
@@ -96,7 +96,7 @@ sum_by-alike f g (x ∷ xs) same =
     ∙ ap (λ (n : ℕ). g x + n) (sym (sum_by-alike f g xs (λ y h. same y (Contains-tail y x xs h))))
     ∙ ap (λ (n : ℕ). n + sum_by f xs) (sym (same x (Contains-head x xs))))
 
--- the turns of the nodes that have turned are all there are
+-- the turns of the nodes that have turned are all turns
 pub sum_listed : (nodes counts : List ℕ) → AreTurned counts nodes → sum_by (λ x. get_or counts x 0) nodes ≡ sum counts
 sum_listed [] counts listed =
     let zeros : counts ≡ replicate (length counts) 0 = each_set counts counts [] 0 listed refl (record {
@@ -130,7 +130,7 @@ sum_listed (x ∷ nodes) counts listed =
     let all : sum rest + get_or counts x 0 ≡ sum counts + 0 = sum_by-set (λ (count : ℕ). count) counts x 0 0 (turned_inside counts x turned) in
     omega (arith, sum_by-cons (λ y. get_or counts y 0) x nodes, others, sum_listed nodes rest fewer, all)
 
--- no node has turned where all counts are 0
+-- no node has turned if all counts are 0
 pub none_turned : (n : ℕ) → AreTurned (replicate n 0) []
 none_turned n = record {
   once = λ i j lt l same. absurd (omega (arith, l));
@@ -147,7 +147,7 @@ none_turned n = record {
 pub turned_below : (counts nodes : List ℕ) → AreTurned counts nodes → All (λ (x : ℕ). x < length counts) nodes
 turned_below counts nodes listed k d l = let z = get_or nodes k d in turned_inside counts z ((listed.each z).0 (Contains-get_or nodes k d l))
 
--- a list of them has no more places than there are counts
+-- a list of these nodes is no longer than the counts
 pub no_more : (counts nodes : List ℕ) → AreTurned counts nodes → length nodes ≤ length counts
 no_more counts nodes listed =
     length-le_from_distinct_below nodes (length counts)
@@ -158,7 +158,7 @@ no_more counts nodes listed =
     ((listed.each q).0 (Contains-from_any {eq = eqb}
     (λ x y same. elim (cases_eq x y) [ inl it ↦ it | inr apart ↦ absurd (false≢true (sym (ne_eqb x y apart) ∙ same)) ]) q nodes found)))
 
--- a node that has not turned yet makes a turn
+-- a node that has not turned yet turns
 pub first_turn : (counts nodes : List ℕ) (x count : ℕ) → AreTurned counts nodes → x < length counts → get_or counts x 0 ≡ 0
     → 0 < count → AreTurned (set counts x count) (nodes ++ x ∷ [])
 first_turn counts nodes x count listed inside none some =
@@ -178,7 +178,7 @@ first_turn counts nodes x count listed inside none some =
       ];
     }
 
--- a node that has turned makes another turn
+-- a node that has turned turns again
 pub further_turn : (counts nodes : List ℕ) (x count : ℕ) → AreTurned counts nodes → x < length counts
     → 0 < get_or counts x 0 → 0 < count → AreTurned (set counts x count) nodes
 further_turn counts nodes x count listed inside turned some =
@@ -193,13 +193,13 @@ further_turn counts nodes x count listed inside turned some =
       ];
     }
 
--- there is a place left for it
+-- there is room left for it
 pub place_left : (counts nodes : List ℕ) (x : ℕ) → AreTurned counts nodes → x < length counts → get_or counts x 0 ≡ 0 → length nodes < length counts
 place_left counts nodes x listed inside none =
     let few = no_more (set counts x 1) (nodes ++ x ∷ []) (first_turn counts nodes x 1 listed inside none (omega arith)) in
     omega (arith, few, length_push nodes x, length-set counts x 1)
 
--- how often one of them turned at most is so for all nodes
+-- the most turns of one of these nodes are the most turns of all nodes
 pub most_of_all : (counts nodes : List ℕ) (most : ℕ) → AreTurned counts nodes
     → ((x : ℕ) → Contains nodes x → get_or counts x 0 ≤ most) → (x : ℕ) → get_or counts x 0 ≤ most
 most_of_all counts nodes most listed bound x = elim (cases_eq (get_or counts x 0) 0) [

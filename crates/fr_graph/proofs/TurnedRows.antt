@@ -1,4 +1,4 @@
--- The rows of links as counts turn them, and the links that rows show.
+-- The rows of links as counts turn them, and the links in the rows.
 use Rattle.std.proofs.Common.{Bool, Contains, List, None, Some, [], All, ap, arith, count_by, eq-eqb, eqb, false, get_or, inl, inr, map, ne_eqb}
 use Rattle.std.proofs.Common.{option_map, option_to_list, refl, subst, suc, sym, true, zero, ℕ, ⊎_elim, ◌&&◌, ◌+◌, ◌<◌, ◌||◌, ◌∙◌, ◌∷◌, ◌≡◌, ◌≤◌, ◌⊎◌}
 use Rattle.std.proofs.lemmas.Bool.{cases_Bool, cases_lt, cond-false, cond-true}
@@ -101,12 +101,12 @@ row_turned_by n (suc w) links c x kept net after =
       map-option_to_list (turned_entry c x) (row_entry links x w),
     ) refl
 
--- the row of a node once links have turned
+-- the row of a node after links have turned
 pub row_turned : (n : ℕ) (links : List (ℕ × ℕ)) (c : List ℕ) (x : ℕ) → All (IsKept c) links → IsNet n links
     → row n (links_at links c) x ≡ map (turned_entry c x) (row n links x)
 row_turned n links c x kept net = row_turned_by n n links c x kept net (net_turned n links c kept net)
 
--- links in strictly rising order stand once each
+-- links in strictly increasing order occur once each
 rising_once : (links : List (ℕ × ℕ)) (x : ℕ × ℕ) → IsSorted IsBefore links → times links x ≤ 1
 rising_once [] x s = omega arith
 rising_once (l ∷ ls) x s =
@@ -124,7 +124,7 @@ rising_once (l ∷ ls) x s =
 pub rising_in_order : (links : List (ℕ × ℕ)) → IsSorted IsBefore links → AreInOrder links
 rising_in_order links s k d l = not_after (sorted_at IsBefore links s k (k + 1) d (omega arith) l)
 
--- the links of a network stand once each
+-- the links of a network occur once each
 weigh_or : (a b : Bool) → weigh a ≤ weigh (a || b)
 weigh_or true b = omega arith
 weigh_or false true = omega arith
@@ -150,19 +150,19 @@ same_times a b x one two to from =
       | inr some ↦ omega (arith, one, two, some, one_counted b x (to (contains_counted a x some)))
     ]
 
--- links in strictly rising order are those of a network with the same links, in order
+-- links in strictly increasing order are, in order, those of a network with the same links
 pub rising_links : (rising links : List (ℕ × ℕ)) → IsSorted IsBefore rising → AreSingle links
     → ((x : ℕ × ℕ) → Contains rising x → Contains links x) → ((x : ℕ × ℕ) → Contains links x → Contains rising x) → rising ≡ in_order links
 rising_links rising links s single to from =
     same_order rising (in_order links) (rising_in_order rising s) (in_order_order links)
     (λ x. same_times rising links x (rising_once rising x s) (single_once links x single) (to x) (from x) ∙ sym (times-in_order links x))
 
--- the links that a row shows
+-- the links in a row
 pub link_shown : (x : ℕ) (e : ℕ × First) (l : ℕ × ℕ) → link_to x e.0 e.1 ≡ Some l → (l ≡ (x, e.0)) × (e ≡ (e.0, Outward))
 link_shown x (w, Outward) l q = (cc, refl)
 link_shown x (w, Inward) l q = cc
 
--- one entry more
+-- one more entry
 abbrev pub out_rows : ℕ → List (ℕ × ℕ) → ℕ → List (ℕ × ℕ)
 out_rows n links x = out_links x (row n links x)
 

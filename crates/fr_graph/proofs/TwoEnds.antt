@@ -1,4 +1,5 @@
--- The steps of the search for a way from both ends keep its state, and where a side has nothing left to read, they show that none leads.
+-- The steps of the search for a path from both ends keep its state. If a side has nothing left to read, there is no
+-- path.
 use Rattle.std.proofs.Common.{Contains, List, [], ap, arith, get_or, inl, inr, length, replicate, set, slice_index, sym, ℕ, ◌+◌, ◌<◌, ◌∙◌, ◌∷◌, ◌≡◌}
 use Rattle.std.proofs.Common.{◌≢◌, ◌≤◌, ◌⊎◌}
 use Rattle.std.proofs.lemmas.Bool.{cases_lt}
@@ -22,7 +23,7 @@ use Rattle.fr_graph.specs.declared.first.First.TheVariants.{Inward, Outward}
 use Rattle.fr_graph.proofs.MetNodes.{sides_apart, met_set, fewer_never}
 use Rattle.fr_graph.proofs.Sides.{side_begins, start_met, listed_met, near_met, met_below}
 
--- where links lead from nodes with P to nodes with P only, but for heads below the limit, so do paths that end no lower
+-- if links from nodes with P lead only to nodes with P, except to heads below the limit, so do paths that end no lower
 path_ahead : (heights : List ℕ) (links : List (ℕ × ℕ)) (limit : ℕ) (P : ℕ → Type 0) → AreFalling heights links
     → ((u v : ℕ) → P u → Points links u v → P v ⊎ (slice_index heights v < limit)) → (u : ℕ) (vs : List ℕ)
     → IsPath links u vs → limit ≤ slice_index heights (end_of u vs) → P u → P (end_of u vs)
@@ -33,7 +34,7 @@ path_ahead heights links limit P falling on u (v ∷ vs) path high here =
       | inr low ↦ absurd (omega (arith, path_falls links heights (λ x y p. omega (arith, falling x y p)) v vs path.1))
     ]
 
--- and so backward, but for tails above the limit, along paths that begin no higher
+-- the same backward, except from tails above the limit, along paths that begin no higher
 path_behind : (heights : List ℕ) (links : List (ℕ × ℕ)) (limit : ℕ) (P : ℕ → Type 0) → AreFalling heights links
     → ((u v : ℕ) → P v → Points links u v → P u ⊎ (limit < slice_index heights u)) → (u : ℕ) (vs : List ℕ)
     → IsPath links u vs → slice_index heights u ≤ limit → P (end_of u vs) → P u
@@ -42,18 +43,18 @@ path_behind heights links limit P falling on u (v ∷ vs) path low there =
     elim (on u v (path_behind heights links limit P falling on v vs path.1 (omega (arith, falling u v path.0)) there)
     path.0) [ inl here ↦ here | inr high ↦ absurd (omega arith) ]
 
--- a side has not met the start of the other
+-- a side has not met the start of the other side
 start_unmet : {net : Network} {heights : List ℕ} {f : First} {a b low high : ℕ} {met : List Met} {side other : Side}
     → IsSide net heights f a low met side → IsSide net heights (opposite f) b high met other → ¬ HasMet f met b
 start_unmet {net} {heights} {f} s o h = sides_apart f (sym h ∙ start_met o)
 
--- a side leads on from one of its nodes to one of the other
+-- a side leads on from one of its nodes to a node of the other side
 pub meet_along : (f : First) (links : List (ℕ × ℕ)) (met : List Met) (x w : ℕ) → HasMet f met x → HasMet (opposite f) met w
     → LeadsOn f links x w → MeetAlong links met (link_by f x w)
 meet_along Outward links met x w own other step = record { tail = own; head = other; points = step }
 meet_along Inward links met x w own other step = record { tail = other; head = own; points = step }
 
--- so both sides tell where they met
+-- so both sides show where they met
 pub sides_meet : {net : Network} {heights : List ℕ} {from to low high : ℕ} {met : List Met} (meeting : Meeting)
     → IsSide net heights Outward from low met meeting.ahead → IsSide net heights Inward to high met meeting.behind
     → MeetAlong net.links met meeting.link → IsMeeting net.links from to meeting
@@ -67,7 +68,7 @@ sides_meet meeting ahead behind along = record {
   points = along.points;
 }
 
--- where a side has read all rows of its nodes, links lead on to nodes that it has met or that lie past its edge
+-- if a side has read the rows of all its nodes, links lead on only to nodes that it has met, or that lie past its edge
 side_closed : {net : Network} {heights : List ℕ} {f : First} {start limit : ℕ} {met : List Met} {side : Side} (x w : ℕ)
     → IsSide net heights f start limit met side → length side.nodes.items ≤ side.read → HasMet f met x
     → LeadsOn f net.links x w → HasMet f met w ⊎ (IsBeyond f limit (slice_index heights w) × IsPast f side.edge (slice_index heights w))
@@ -79,7 +80,7 @@ side_closed {net} {heights} {f} {start} {limit} {met} {side} x w s all h step =
       | inr aside ↦ inr (rw (s.first_is, s.limit_is) at aside.beyond, rw s.first_is at aside.past)
     ]
 
--- the links with one back fall outside and within a side that has met one of its ends alone
+-- the links with a link back fall outside and within a side that has met only one of the two ends
 points_added : (links : List (ℕ × ℕ)) (a b u v : ℕ) → Points (added links a b) u v → Points links u v ⊎ ((u ≡ a) × (v ≡ b))
 points_added links a b u v p =
     elim (Contains-push_cases links (a, b) (u, v) p) [ inl old ↦ inl old | inr e ↦ inr (ap (λ (l : ℕ × ℕ). l.0) (sym e), ap (λ (l : ℕ × ℕ). l.1) (sym e)) ]
@@ -88,7 +89,7 @@ old_falls : (heights : List ℕ) (links : List (ℕ × ℕ)) (a b u v : ℕ) →
     → Points (added links a b) u v → ¬ ((u ≡ a) × (v ≡ b)) → slice_index heights v < slice_index heights u
 old_falls heights links a b u v falling p old = elim (points_added links a b u v p) [ inl step ↦ falling u v step | inr new ↦ absurd (old new) ]
 
--- so it is decided whether links lead from the one node to the other, once a side has read all rows of its nodes
+-- so once a side has read the rows of all its nodes, it is decided whether a path leads from the one node to the other
 pub ended_ahead : {net : Network} {heights : List ℕ} {from to : ℕ} {met : List Met} {ahead behind : Side}
     → AreFalling heights net.links → IsSide net heights Outward from (slice_index heights to) met ahead
     → IsSide net heights Inward to (slice_index heights from) met behind → length ahead.nodes.items ≤ ahead.read
@@ -145,7 +146,7 @@ ended_behind {net} {heights} {from} {to} {met} {ahead} {behind} falling o s all 
     } in
     rw (s.first_is, s.limit_is) (none, (λ k d l. met_below _ s (s.all_met k d l), fit))
 
--- both sides as they begin
+-- both sides when they begin
 none_met : (n x : ℕ) → met_of (replicate n Never) x ≡ Never
 none_met n x =
     elim (cases_lt x n) [

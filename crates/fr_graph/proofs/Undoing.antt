@@ -1,4 +1,4 @@
--- What edits did is undone: a link that was taken out is put back at its place, and one that was put in is taken out.
+-- What edits did is undone: a removed link is added again at its place, and an added link is removed.
 use Rattle.std.proofs.Common.{IsPermutation, List, [], ap, arith, get_or, length, refl, subst, sym, ℕ, ⊎_elim, ◌++◌, ◌+◌, ◌<◌, ◌∙◌, ◌∷◌, ◌≡◌, ◌≤◌}
 use Rattle.std.proofs.lemmas.List.{append-nil, length_push}
 use Rattle.std.proofs.lemmas.List.Elements.{All-contains, Contains-push}
@@ -26,7 +26,7 @@ use Rattle.fr_graph.specs.declared.graph.Done.{Done}
 use Rattle.fr_graph.specs.declared.graph.Done.TheVariants.{Put, Taken}
 use Rattle.fr_graph.specs.declared.graph.Graph.{Graph}
 
--- a link taken out and put back
+-- a link is removed and added again
 back_permutes : (links : List (ℕ × ℕ)) (tail head : ℕ) → AreSingle links → Points links tail head
     → IsPermutation (added (without tail head links) tail head) links
 back_permutes links tail head single stands =
@@ -85,7 +85,7 @@ taken_back net tail head after back done made =
     (permuted net tail head after done) done.sorted in
     made.is ∙ ap (λ (n : ℕ). with_links n (in_order (added after.links tail head))) nodes ∙ ap (with_links net.nodes) (sym links)
 
--- a link put in and taken out
+-- a link is added and removed
 pub put_stands : (net : Network) (tail head : ℕ) (after : Network) → IsDone net (Put tail head) after → Points after.links tail head
 put_stands net tail head after done =
     subst (λ (m : Network). Points m.links tail head) (sym done.step.1.is)
@@ -104,7 +104,7 @@ put_back net tail head after back done made =
     ∙ ap (λ (ls : List (ℕ × ℕ)). with_links net.nodes (in_order ls)) gone
     ∙ ap (with_links net.nodes) (sym (order_of_listed net.links net.links (IsPermutation-refl net.links) done.sorted))
 
--- one step more, and the last one
+-- one more step, and the last one
 pub more_done : (g : Graph) (net : Network) (done : List Done) (mid : Network) (last : Done) (after : Network)
     → AreDone g net done mid → HasRoomFor g mid → IsDone mid last after → AreDone g net (done ++ last ∷ []) after
 more_done g net [] mid last after steps room h =
@@ -120,12 +120,12 @@ last_done g net (d ∷ ds) last after steps =
     let rest = last_done g steps.1.0 ds last after steps.1.1.1 in
     (rest.0, ((steps.0, (steps.1.0, (steps.1.1.0, rest.1.0))), rest.1.1))
 
--- no step changes nothing
+-- no step means no change
 pub no_steps : (g : Graph) (net : Network) (done : List Done) (after : Network) → length done ≡ 0 → AreDone g net done after → after ≡ net
 no_steps g net [] after none steps = steps
 no_steps g net (d ∷ ds) after none steps = absurd (omega (arith, none))
 
--- what has room keeps it where no row has less
+-- what fits still fits if no row has less room
 pub still_room : (before after : Graph) (net : Network) → KeepsRooms before.rows after.rows → HasRoomFor before net → HasRoomFor after net
 still_room before after net kept room = λ x less. omega (arith, room x less, kept x)
 
@@ -139,7 +139,7 @@ still_done before after net (d ∷ ds) end kept steps =
 pub own_room : (g : Graph) → IsGraph g → ((x : ℕ) → length (row_of g.rows x) ≤ room_of g.rows x) → HasRoomFor g (shown g)
 own_room g graph room = λ x less. omega (arith, room x, ap length (graph.rows.shown x less))
 
--- a row as it was before its link was taken out
+-- a row before its link was removed
 row_before : (net : Network) (tail head : ℕ) (after : Network) (x : ℕ) → IsDone net (Taken tail head) after
     → row net.nodes net.links x ≡ row after.nodes (added after.links tail head) x
 row_before net tail head after x done =
@@ -148,7 +148,7 @@ row_before net tail head after x done =
     ap (λ (ls : List (ℕ × ℕ)). row net.nodes ls x) (order_of_listed more net.links (permuted net tail head after done) done.sorted)
     ∙ sym (in_order_row net.nodes more x) ∙ ap (λ (n : ℕ). row n more x) (sym nodes)
 
--- where there is room for the network with a link, there is room to put it back
+-- if there is room for the network with a link, there is room to add the link again
 pub taken_room : (net : Network) (tail head : ℕ) (g : Graph) → IsGraph g → IsDone net (Taken tail head) (shown g) → HasRoomFor g net → HaveRoom g.rows tail head
 taken_room net tail head g graph done room =
     let after = shown g in
@@ -172,11 +172,11 @@ taken_room net tail head g graph done room =
       );
     }
 
--- the same rooms are no less
+-- the same room is no less room
 pub rooms_kept : (before after : Graph) → after.rows.rooms ≡ before.rows.rooms → KeepsRooms before.rows after.rows
 rooms_kept before after is = λ x. let same = ap (λ (rooms : List ℕ). get_or rooms x 0) is in omega (arith, same)
 
--- a link was put in, once room was made for it
+-- a link was added, after room was made for it
 pub record IsPut (before after : Graph) (tail head : ℕ) : Type 0 where
   pub by : IsDone (shown before) (Put tail head) (shown after)
   pub made : IsNetworkOf before.nodes (added (shown before).links tail head) (shown after)

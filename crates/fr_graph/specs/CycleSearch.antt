@@ -1,4 +1,4 @@
--- The state of the depth-first search for a closed walk. For `find_cycle` alone.
+-- The state of the depth-first search for a cycle. For proofs only.
 use Rattle.std.specs.Prelude.{◌≡◌, ◌≢◌, ℕ, ◌<◌, ◌≤◌, ◌+◌, ◌-◌, ◌*◌, List, [], length, map, slice_index, slice_index_or, vec_len, Option, Bool, true, false, count_by, IfSome}
 use Rattle.std.specs.List.{All, Contains}
 use Rattle.fr_graph.specs.Heights.{HasHeadsFirst}
@@ -21,7 +21,8 @@ mark_of marks x = slice_index_or marks x Fresh
 abbrev pub nodes_of : List Step → List ℕ
 nodes_of path = map (λ (step : Step). step.node) path
 
--- the path follows links and has the open nodes, each once; done nodes lead to done nodes only, and no closed walk leaves a done node
+-- the path follows links and consists of the open nodes, each once; links from done nodes lead to done nodes, and no
+-- cycle leaves a done node
 pub record IsCycleSearch (n : ℕ) (links : List (ℕ × ℕ)) (marks : List Mark) (path : List ℕ) : Type 0 where
   pub marks_length : length marks ≡ n
   pub path_below : (k : ℕ) → k < length path → slice_index path k < n
@@ -32,15 +33,15 @@ pub record IsCycleSearch (n : ℕ) (links : List (ℕ × ℕ)) (marks : List Mar
   pub done_closed : (u v : ℕ) → mark_of marks u ≡ Done → Points links u v → mark_of marks v ≡ Done
   pub done_safe : (u : ℕ) (vs : List ℕ) → mark_of marks u ≡ Done → ¬ IsClosedWalk links u vs
 
--- if the link of the entry leads to its neighbour, that is done
+-- if the link of the entry leads to the neighbour, the neighbour is done
 abbrev pub IsPassed : List Mark → ℕ × First → Type 0
 IsPassed marks entry = entry.1 ≡ Outward → mark_of marks entry.0 ≡ Done
 
--- the link of the entry leads to its neighbour, which is not done
+-- the link of the entry leads to the neighbour, and the neighbour is not done
 abbrev pub LeadsToOther : List Mark → ℕ × First → Type 0
 LeadsToOther marks entry = (entry.1 ≡ Outward) × (mark_of marks entry.0 ≢ Done)
 
--- the links of the row of the step before its next place lead to done nodes
+-- the links before the next place in the row of this step lead to done nodes
 pub record HasRead (rows : Table) (marks : List Mark) (step : Step) : Type 0 where
   pub inside : step.next ≤ length (row_of rows step.node)
   pub passed : (k : ℕ) (d : ℕ × First) → k < step.next → IsPassed marks (slice_index_or (row_of rows step.node) k d)
@@ -54,19 +55,20 @@ is_done Fresh = false
 is_done Open = false
 is_done Done = true
 
--- the done nodes, each once, in an order in which the head of each link stands before its tail
+-- the done nodes, each once, with the head of each link before its tail
 pub record IsOrder (links : List (ℕ × ℕ)) (marks : List Mark) (order : List ℕ) : Type 0 where
   pub counted : length order ≡ count_by is_done marks
   pub listed : All (λ (x : ℕ). mark_of marks x ≡ Done) order
   pub all : (x : ℕ) → mark_of marks x ≡ Done → Contains order x
   pub heads : (i j : ℕ) → i < length order → j < length order → Points links (slice_index order i) (slice_index order j) → j < i
 
--- what the search of n nodes has found: a closed walk, or else an order
+-- what the search of n nodes finds: a cycle or an order
 abbrev pub IsFound : ℕ → List (ℕ × ℕ) → Found → Type 0
 IsFound n links (Walk walk) = IsCycle links walk.items
 IsFound n links (Order order) = IsAcyclic links × HasHeadsFirst n links order.items
 
--- the search of the links in these rows at any moment: its path, how far the rows of its nodes were read, and the nodes that it has left
+-- the search at any moment: its marks, its path, how far it has read the rows of the path, and the order of the done
+-- nodes
 pub record IsSearch (rows : Table) (search : Search) : Type 0 where
   pub one_each : length rows.rows ≡ length search.marks.items
   pub below : AreEntriesBelow (length search.marks.items) rows
@@ -79,7 +81,7 @@ pub record IsAtRest (rows : Table) (state : Search) : Type 0 where
   pub search : IsSearch rows state
   pub empty : state.path.items ≡ []
 
--- seen nodes stay seen, and there is a mark for each node
+-- nodes that were met stay met, and there is a mark for each node
 pub record KeepsSeen (old new : List Mark) : Type 0 where
   pub seen : (x : ℕ) → mark_of old x ≢ Fresh → mark_of new x ≢ Fresh
   pub one_each : length new ≡ length old
@@ -101,7 +103,7 @@ fresh_count marks = count_by is_fresh marks
 abbrev pub LeadsToDone : List (ℕ × ℕ) → List Mark → ℕ → Type 0
 LeadsToDone links marks x = (v : ℕ) → Points links x v → mark_of marks v ≡ Done
 
--- how far the search is from its end: it falls with each step
+-- how far the search is from its end: this number falls with each step
 abbrev pub left_count : Search → ℕ
 left_count search = 2 * fresh_count search.marks.items + length search.path.items
 
@@ -110,7 +112,8 @@ pub record LeadsBack (links : List (ℕ × ℕ)) (path : List ℕ) (x : ℕ) : T
   pub on_path : Contains path x
   pub leads : LeadsTo links path x
 
--- the search went on from one state to another. The node is one of its path to which the last node leads back, if it has found one
+-- the search went on from one state to another. If `node` is given, it is on the path, and the last node of the path
+-- leads back to it
 pub record GoesOn (rows : Table) (before after : Search) (node : Option ℕ) : Type 0 where
   pub search : IsSearch rows after
   pub kept : KeepsSeen before.marks.items after.marks.items
@@ -123,13 +126,13 @@ pub record HasOpened (x : ℕ) (before after : Search) : Type 0 where
   pub kept : KeepsSeen before.marks.items after.marks.items
   pub fewer : left_count after < left_count before
 
--- the search has taken the last node, x, off its path
+-- the search has removed its last node, x, from the path
 pub record HasLeft (x : ℕ) (before after : Search) : Type 0 where
   pub search : (rows : Table) → IsSearch rows before → LeadsToDone (net_in rows).links before.marks.items x → IsSearch rows after
   pub kept : KeepsSeen before.marks.items after.marks.items
   pub fewer : left_count after < left_count before
 
--- nothing has changed but how far the rows of the nodes on the path are read
+-- nothing has changed except how far the rows of the path are read
 pub record ReadsOn (before after : Search) : Type 0 where
   pub marks : after.marks ≡ before.marks
   pub path : nodes_of after.path.items ≡ nodes_of before.path.items

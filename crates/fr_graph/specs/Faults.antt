@@ -1,4 +1,4 @@
--- Which fault a list of links has, in the order in which the faults are tested.
+-- Which fault a list of links has first, in the order in which the faults are tested. This project's own.
 use Rattle.std.specs.Prelude.{◌≡◌, ℕ, ◌<◌, ◌≤◌, ◌⊎◌, List, length}
 use Rattle.std.specs.List.{Contains, Any, count_by}
 use Rattle.std.specs.List.Sorted.{IsPermutation}
@@ -8,7 +8,7 @@ use Rattle.fr_graph.specs.Network.{Network, net_of}
 use Rattle.fr_graph.specs.declared.fault.NetFault.{NetFault}
 use Rattle.fr_graph.specs.declared.fault.NetFault.TheVariants.{TooMany, Range, SelfLink, Twice, Cycle, NoLink, Memory}
 
--- there are more nodes or more links than the limits admit
+-- there are more nodes or more links than the limits allow
 abbrev pub IsTooLarge : ℕ → List (ℕ × ℕ) → Type 0
 IsTooLarge n links = (most_nodes < n) ⊎ (most_links < length links)
 
@@ -17,12 +17,11 @@ pub record IsInRange (n : ℕ) (links : List (ℕ × ℕ)) : Type 0 where
   pub some : 0 < n
   pub below : AreBelow n links
 
--- x is no node of the network: 0 where there is no node, or else a link's end
+-- x is 0 and there are no nodes, or x is an end of a link and not a node
 abbrev pub IsOutOfRange : ℕ → List (ℕ × ℕ) → ℕ → Type 0
 IsOutOfRange n links x = ((n ≡ 0) × (x ≡ 0)) ⊎ ((0 < n) × (n ≤ x) × Any (λ (l : ℕ × ℕ). (l.0 ≡ x) ⊎ (l.1 ≡ x)) links)
 
--- the fault stands, with what it names, and none that is tested before it does; that there is no link to cut and want of
--- memory are no faults of links
+-- the links have this fault, and none that is tested before it. `NoLink` and `Memory` are not faults of links
 abbrev pub IsFirstFault : ℕ → List (ℕ × ℕ) → NetFault → Type 0
 IsFirstFault n links TooMany = IsTooLarge n links
 IsFirstFault n links (Range x) = IsWithinLimits n links × IsOutOfRange n links x
@@ -32,13 +31,13 @@ IsFirstFault n links (Cycle walk) = IsWithinLimits n links × IsInRange n links 
 IsFirstFault n links NoLink = ⊥
 IsFirstFault n links Memory = ⊥
 
--- none of the faults stands
+-- the links have none of the faults
 pub record IsFaultless (n : ℕ) (links : List (ℕ × ℕ)) : Type 0 where
   pub limits : IsWithinLimits n links
   pub some : 0 < n
   pub is_net : IsNet n links
 
--- the network has these links, in rising order, and none of the faults stands
+-- the network of these links, which have none of the faults, in order
 pub record IsNetworkOf (n : ℕ) (listed : List (ℕ × ℕ)) (net : Network) : Type 0 where
   pub is : net ≡ net_of n listed
   pub same_links : IsPermutation listed net.links

@@ -1,4 +1,4 @@
--- What a `Graph` keeps, which networks its rows have room for, and what edits that were made are undone by.
+-- What a `Graph` keeps, which networks its rows have room for, and how edits are undone. For proofs only.
 use Rattle.std.specs.Prelude.{◌≡◌, ℕ, ◌<◌, ◌≤◌, ◌++◌, List, [], ◌∷◌, length}
 use Rattle.fr_graph.specs.Batches.{IsMade}
 use Rattle.fr_graph.specs.Edits.{without}
@@ -17,11 +17,12 @@ use Rattle.fr_graph.specs.declared.graph.Done.TheVariants.{Taken, Put}
 use Rattle.fr_graph.specs.declared.graph.Graph.{Graph}
 use Rattle.fr_graph.specs.declared.edit.Edit.{Edit}
 
--- the network that a graph shows: the links are those of its rows
+-- the network of a graph: its links are those of its rows
 abbrev pub shown : Graph → Network
 shown g = record { nodes = g.nodes; links = links_in g.nodes g.rows }
 
--- the links are in order, without a fault, and counted, the rows are those of the nodes, and the links fall along the heights, where these are known
+-- the links have no fault, are in order and counted, the rows are those of the nodes, and the links fall if the heights
+-- are known
 pub record IsGraph (g : Graph) : Type 0 where
   pub faultless : IsFaultless g.nodes (shown g).links
   pub sorted : AreInOrder (shown g).links
@@ -30,43 +31,43 @@ pub record IsGraph (g : Graph) : Type 0 where
   pub height_each : length g.heights.heights ≡ g.nodes
   pub fit : Fit (shown g).links g.heights
 
--- each row of the network has room in the graph
+-- the graph has room for each row of the network
 abbrev pub HasRoomFor : Graph → Network → Type 0
 HasRoomFor g net = (x : ℕ) → x < net.nodes → length (row net.nodes net.links x) ≤ room_of g.rows x
 
--- a link from u to v can be put into the network
+-- a link from u to v can be added to the network
 pub record CanPut (net : Network) (u v : ℕ) : Type 0 where
   pub few : length net.links < most_links
   pub unjoined : AreUnjoined net.nodes net.links u v
   pub acyclic : IsAcyclic (net.links ++ (u, v) ∷ [])
 
--- a link was taken out or put in
+-- what one edit did: a link was removed or added
 abbrev pub IsStep : Network → Done → Network → Type 0
 IsStep net (Taken tail head) after = Points net.links tail head × IsNetworkOf net.nodes (without tail head net.links) after
 IsStep net (Put tail head) after = AreUnjoined net.nodes net.links tail head × IsNetworkOf net.nodes (net.links ++ (tail, head) ∷ []) after
 
--- so it was, in a network whose links are in order and without a fault
+-- the same, in a network whose links have no fault and are in order
 pub record IsDone (net : Network) (done : Done) (after : Network) : Type 0 where
   pub faultless : IsFaultless net.nodes net.links
   pub sorted : AreInOrder net.links
   pub step : IsStep net done after
 
--- one after the other, and the graph has room for each network before a step
+-- the same for several edits, one after the other, and the graph has room for the network before each of them
 abbrev pub AreDone : Graph → Network → List Done → Network → Type 0
 AreDone g net [] after = after ≡ net
 AreDone g net (done ∷ rest) after = HasRoomFor g net × ((next : Network) × (IsDone net done next × AreDone g next rest after))
 
--- these steps led from the first network to the graph, which has room for all of them to be undone
+-- these edits led from the first network to that of the graph, and all of them can be undone
 abbrev pub CanUndo : Network → List Done → Graph → Type 0
 CanUndo first done g = AreDone g first done (shown g)
 
--- the same network, with no less room
+-- the same network, and no row has less room
 pub record IsSame (before after : Graph) : Type 0 where
   pub graph : IsGraph after
   pub same : shown after ≡ shown before
   pub rooms : KeepsRooms before.rows after.rows
 
--- the edit made the one graph into the other by this step, which can be undone
+-- the edit made `after` of `before`, and `done` says how to undo it
 pub record IsEdited (before : Graph) (edit : Edit) (after : Graph) (done : Done) : Type 0 where
   pub graph : IsGraph after
   pub made : IsMade (shown before) edit (shown after)

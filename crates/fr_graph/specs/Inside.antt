@@ -1,4 +1,4 @@
--- What a `Net` keeps.
+-- The value of a `Net` in contracts. For proofs only.
 use Rattle.fr_graph.specs.Graph.{IsGraph, shown}
 use Rattle.fr_graph.specs.Network.{Network}
 use Rattle.fr_graph.specs.declared.network.Net.TheInside.{Inside}

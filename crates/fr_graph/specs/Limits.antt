@@ -1,4 +1,4 @@
--- How large a network may be.
+-- How large a network and a batch of edits may be. This project's own.
 use Rattle.std.specs.Prelude.{ℕ, ◌≤◌, List, length}
 
 abbrev pub most_nodes : ℕ
@@ -10,7 +10,7 @@ most_links = 32768
 abbrev pub most_edits : ℕ
 most_edits = 1024
 
--- there are no more nodes and links than the limits admit
+-- the numbers of nodes and links are within the limits
 pub record IsWithinLimits (n : ℕ) (links : List (ℕ × ℕ)) : Type 0 where
   pub nodes_few : n ≤ most_nodes
   pub links_few : length links ≤ most_links

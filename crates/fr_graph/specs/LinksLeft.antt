@@ -1,4 +1,4 @@
--- What a reader of a network's links has left. For the making of `Links` alone.
+-- What a reader of a network's links has left to read. For proofs only.
 use Rattle.std.specs.Prelude.{◌≡◌, ℕ, zero, suc, ◌<◌, ◌≤◌, ◌-◌, ◌^◌, ◌++◌, List, [], length}
 use Rattle.fr_graph.specs.RowLists.{out_links}
 use Rattle.fr_graph.specs.Tables.{row_of}
@@ -9,13 +9,13 @@ abbrev pub rows_from : {X : Type 0} → ℕ → ℕ → (ℕ → List X) → Lis
 rows_from zero x rows = []
 rows_from (suc k) x rows = rows x ++ rows_from k (suc x) rows
 
--- the links of what is left of one row, and then those of the rows behind it
+-- the links in the rest of the current row, and then those of the rows after it
 abbrev pub links_left : Inside → List (ℕ × ℕ)
 links_left s =
     out_links (s.next - 1) s.row.now
     ++ rows_from (length s.rows.now.rows - s.next) s.next (λ x. out_links x (row_of s.rows.now x))
 
--- the links that are left are counted, and no row is left of no node
+-- the number of links left is right; before the first row, nothing of a row is left
 pub record IsReading (s : Inside) : Type 0 where
   pub begun : s.next ≡ 0 → s.row.now ≡ []
   pub inside : s.next ≤ length s.rows.now.rows

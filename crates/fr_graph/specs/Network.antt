@@ -1,4 +1,5 @@
--- A network as contracts see it: how many nodes, and the links in rising order.
+-- The value of a network in contracts: the number of its nodes, and its links in order. The definition is this
+-- project's own.
 use Rattle.std.specs.Prelude.{ℕ, List}
 use Rattle.fr_graph.specs.Order.{in_order}
 
@@ -6,6 +7,6 @@ pub record Network : Type 0 where
   pub nodes : ℕ
   pub links : List (ℕ × ℕ)
 
--- the network with these links, in whatever order they are listed
+-- the network with these links, listed in any order
 abbrev pub net_of : ℕ → List (ℕ × ℕ) → Network
 net_of n listed = record { nodes = n; links = in_order listed }

@@ -1,4 +1,4 @@
--- The state of the search for a way between two nodes from both ends, and what its sides tell where they meet. For `path_search` alone.
+-- The state of the search for a path, from both ends. For proofs only.
 use Rattle.std.specs.Prelude.{◌≡◌, ℕ, ◌<◌, ◌≤◌, ◌+◌, ◌-◌, ◌++◌, ◌⊎◌, Bool, true, false, List, [], ◌∷◌, length, slice_index, slice_index_or, slice_set, vec_capacity, Option, Some, None, count_by}
 use Rattle.std.specs.List.{All, Contains}
 use Rattle.fr_graph.specs.Heights.{AreFalling, FitBetween}
@@ -15,41 +15,42 @@ use Rattle.fr_graph.specs.declared.path_search.PathAnswer.TheVariants.{Leads, En
 use Rattle.fr_graph.specs.declared.first.First.{First}
 use Rattle.fr_graph.specs.declared.first.First.TheVariants.{Outward, Inward}
 
--- a link leads on from x to w for the side that goes this way: along the link, or against it
+-- a link leads on from x to w: along the link for one side of the search, against it for the other
 abbrev pub LeadsOn : First → List (ℕ × ℕ) → ℕ → ℕ → Type 0
 LeadsOn Outward links x w = Points links x w
 LeadsOn Inward links x w = Points links w x
 
--- so the one height lies on from the other, since links fall: below it for the side that goes along them, and above it for the other
+-- in the same sense, a height lies on from another one: below it for the side that goes along the links, above it for
+-- the other
 abbrev pub LiesOn : First → ℕ → ℕ → Type 0
 LiesOn Outward own height = height < own
 LiesOn Inward own height = own < height
 
--- the link by which it leads on from x to w
+-- the link that leads on from x to w
 abbrev pub link_by : First → ℕ → ℕ → ℕ × ℕ
 link_by Outward x w = (x, w)
 link_by Inward x w = (w, x)
 
--- from x by these nodes, each of which the side came from
+-- a trail back from x by these nodes: the side came to each node from the next one
 abbrev pub IsTrail : First → List (ℕ × ℕ) → ℕ → List ℕ → Type 0
 IsTrail first links x [] = Unit {0}
 IsTrail first links x (w ∷ ws) = LeadsOn first links w x × IsTrail first links w ws
 
--- such a trail from x to the start stands behind the nodes before
+-- `after` is `before` with such a trail from x to the start appended
 pub record AddsTrail (first : First) (links : List (ℕ × ℕ)) (x start : ℕ) (before after : List ℕ) : Type 0 where
   pub rest : List ℕ
   pub behind : after ≡ before ++ x ∷ rest
   pub trail : IsTrail first links x rest
   pub ends : end_of x rest ≡ start
 
--- the side came to each of its nodes but the first from one before it, whose place is kept
+-- the side came to each of its nodes, except the first, from an earlier one, whose place it keeps
 pub record HasOrigins (first : First) (links : List (ℕ × ℕ)) (nodes origins : List ℕ) : Type 0 where
   pub begun : 0 < length nodes
   pub one_each : length origins ≡ length nodes
   pub earlier : (k : ℕ) → 0 < k → k < length nodes → slice_index origins k < k
   pub leads : (k : ℕ) → 0 < k → k < length nodes → LeadsOn first links (slice_index nodes (slice_index origins k)) (slice_index nodes k)
 
--- what stands at the nodes that the side which goes this way has met
+-- the mark of the nodes that the side going this way has met
 abbrev pub met_by : First → Met
 met_by Outward = Forward
 met_by Inward = Backward
@@ -58,7 +59,7 @@ met_by Inward = Backward
 abbrev pub met_of : List Met → ℕ → Met
 met_of met x = slice_index_or met x Never
 
--- the side that goes this way has met x
+-- the side going this way has met x
 abbrev pub HasMet : First → List Met → ℕ → Type 0
 HasMet first met x = met_of met x ≡ met_by first
 
@@ -80,32 +81,32 @@ pub record HasRoom (side : Side) (met : List Met) : Type 0 where
   pub nodes : length side.nodes.items + never_count met ≤ vec_capacity side.nodes
   pub origins : length side.origins.items + never_count met ≤ vec_capacity side.origins
 
--- the height lies beyond the limit: below it for the side that goes along the links, which fall, and above it for the other
+-- the height lies beyond the limit: below it for the side that goes along the links, above it for the other
 abbrev pub IsBeyond : First → ℕ → ℕ → Type 0
 IsBeyond Outward limit height = height < limit
 IsBeyond Inward limit height = limit < height
 
--- the height lies at the edge, or farther away
+-- the height is at the edge or farther away
 abbrev pub IsPast : First → ℕ → ℕ → Type 0
 IsPast Outward edge height = height ≤ edge
 IsPast Inward edge height = edge ≤ height
 
--- the side leaves nodes of this height aside
+-- the side skips nodes of this height
 pub record IsLeftAside (side : Side) (height : ℕ) : Type 0 where
   pub beyond : IsBeyond side.first side.limit height
   pub past : IsPast side.first side.edge height
 
--- the rows show a network, and its links fall along the heights, of which there is one for each node
+-- the rows are those of a network, there is one height for each node, and all links fall
 pub record AreFallingRows (rows : Table) (heights : List ℕ) : Type 0 where
   pub shown : ShowsNet rows
   pub one_each : length heights ≡ length rows.rows
   pub falling : AreFalling heights (net_in rows).links
 
--- the side has met x, of this height, or left it aside
+-- the side has met x, which has this height, or has skipped it
 abbrev pub IsMetOrAside : First → Side → List Met → ℕ → ℕ → Type 0
 IsMetOrAside first side met x height = HasMet first met x ⊎ IsLeftAside side height
 
--- the side as it was, but that its edge may have come nearer
+-- the side is unchanged, except that its edge may have come nearer
 pub record HasMovedEdge (before after : Side) : Type 0 where
   pub same_first : after.first ≡ before.first
   pub same_limit : after.limit ≡ before.limit
@@ -114,7 +115,7 @@ pub record HasMovedEdge (before after : Side) : Type 0 where
   pub same_origins : after.origins ≡ before.origins
   pub same_read : after.read ≡ before.read
 
--- the side goes this way from the start, which alone it has met, up to the limit, and has room for so many nodes
+-- the side has met only its start. It goes this way, up to the limit, and has room for so many nodes
 pub record HasBegun (first : First) (start limit nodes : ℕ) (side : Side) : Type 0 where
   pub first_is : side.first ≡ first
   pub limit_is : side.limit ≡ limit
@@ -124,8 +125,9 @@ pub record HasBegun (first : First) (start limit nodes : ℕ) (side : Side) : Ty
   pub room : nodes ≤ vec_capacity side.nodes
   pub origin_room : nodes ≤ vec_capacity side.origins
 
--- the side goes this way from the start up to the limit. Its nodes are those that it has met, none beyond the limit; it came to each from
--- one before it; and the rows of the first of them, so many as were read, lead on to nodes that it has met or left aside
+-- The side goes this way from the start, up to the limit. Its nodes are those that it has met, and none is beyond the
+-- limit. It came to each of them from an earlier one. The links of the rows that it has read lead on only to nodes that
+-- it has met or skipped.
 pub record IsSide (net : Network) (heights : List ℕ) (first : First) (start limit : ℕ) (met : List Met) (side : Side) : Type 0 where
   pub one_each : length met ≡ net.nodes
   pub first_is : side.first ≡ first
@@ -139,13 +141,13 @@ pub record IsSide (net : Network) (heights : List ℕ) (first : First) (start li
   pub leads_on : (k w : ℕ) → k < side.read → LeadsOn first net.links (slice_index side.nodes.items k) w → IsMetOrAside first side met w (slice_index heights w)
   pub room : HasRoom side met
 
--- the side has met or left aside the neighbour of each entry of the row before this place whose link leaves in its direction
+-- the side has met or skipped each neighbour before this place of the row to which a link leads on
 abbrev pub HasPassed : List ℕ → First → Side → List Met → List (ℕ × First) → ℕ → Type 0
 HasPassed heights first side met entries place =
     (k : ℕ) (d : ℕ × First) → k < place → (slice_index_or entries k d).1 ≡ first
     → IsMetOrAside first side met (slice_index_or entries k d).0 (slice_index heights (slice_index_or entries k d).0)
 
--- the side met x, which no side had met, in the row that it reads
+-- the side has met x, which no side had met before, in the row that it reads
 pub record MeetsNew (before after : Side) (met_before met_after : List Met) (x : ℕ) : Type 0 where
   pub fresh : met_of met_before x ≡ Never
   pub met : met_after ≡ slice_set met_before x (met_by before.first)
@@ -158,7 +160,7 @@ pub record MeetsNew (before after : Side) (met_before met_after : List Met) (x :
   pub same_room : vec_capacity after.nodes ≡ vec_capacity before.nodes
   pub same_origin_room : vec_capacity after.origins ≡ vec_capacity before.origins
 
--- the side met nodes that no side had met, or none
+-- the side has met any number of nodes that no side had met before
 pub record HasMetMore (before after : Side) (met_before met_after : List Met) : Type 0 where
   pub same_first : after.first ≡ before.first
   pub same_limit : after.limit ≡ before.limit
@@ -169,11 +171,11 @@ pub record HasMetMore (before after : Side) (met_before met_after : List Met) : 
   pub one_each : length met_after ≡ length met_before
   pub counted : length after.nodes.items + never_count met_after ≡ length before.nodes.items + never_count met_before
 
--- how many nodes the side has met and not read
+-- how many nodes the side has met whose rows it has not read
 abbrev pub unread_count : Side → ℕ
 unread_count side = length side.nodes.items - side.read
 
--- between which heights the nodes of a side can stand that has nothing left to read, by its limit and its edge
+-- the heights between which the nodes of a finished side can be put, from its limit and its edge
 abbrev pub low_of : First → ℕ → ℕ → ℕ
 low_of Outward limit edge = edge
 low_of Inward limit edge = limit
@@ -185,18 +187,19 @@ high_of Inward limit edge = edge
 abbrev pub answer_of_ended : Side → PathAnswer
 answer_of_ended side = Ends side.nodes (low_of side.first side.limit side.edge) (high_of side.first side.limit side.edge)
 
--- the sides have met the two ends of this link
+-- the two sides have met the ends of this link
 pub record MeetAlong (links : List (ℕ × ℕ)) (met : List Met) (link : ℕ × ℕ) : Type 0 where
   pub tail : HasMet Outward met link.0
   pub head : HasMet Inward met link.1
   pub points : Points links link.0 link.1
 
--- what a side returns that reads a row: such a link, or none once the row is read to its end
+-- what a side returns after it has read a row: a link where the sides meet, or `None` if it has read the row to its end
 abbrev pub IsReadAnswer : List (ℕ × ℕ) → List Met → Side → Side → Option (ℕ × ℕ) → Type 0
 IsReadAnswer links met before after (Some link) = MeetAlong links met link
 IsReadAnswer links met before after None = after.read ≡ before.read + 1
 
--- the side ahead came from the one node to the tail of a link, and the side behind against the links from the other to its head
+-- the side ahead came from `from` to the tail of the link, and the side behind came from `to`, against the links, to
+-- its head
 pub record IsMeeting (links : List (ℕ × ℕ)) (from to : ℕ) (meeting : Meeting) : Type 0 where
   pub ahead : HasOrigins Outward links meeting.ahead.nodes.items meeting.ahead.origins.items
   pub behind : HasOrigins Inward links meeting.behind.nodes.items meeting.behind.origins.items
@@ -206,8 +209,8 @@ pub record IsMeeting (links : List (ℕ × ℕ)) (from to : ℕ) (meeting : Meet
   pub head : Contains meeting.behind.nodes.items meeting.link.1
   pub points : Points links meeting.link.0 meeting.link.1
 
--- whether the links lead from the one node to the other; where they do not, nodes that make all links fall, and a link back too, once they
--- stand between two heights
+-- a meeting of the sides, if a path leads from `from` to `to`. If none does, nodes and two heights: once the nodes are
+-- put between the heights, all links fall, and a link back would fall too
 abbrev pub IsPathAnswer : Network → List ℕ → ℕ → ℕ → PathAnswer → Type 0
 IsPathAnswer net heights from to (Leads meeting) = IsMeeting net.links from to meeting
 IsPathAnswer net heights from to (Ends nodes low high) =

@@ -1,4 +1,4 @@
--- Rows of neighbours, one for each node, that have room to grow where they stand.
+-- Rows of neighbours, one for each node, with room to grow in place. For proofs only.
 use Rattle.std.specs.Prelude.{◌≡◌, ℕ, ◌<◌, ◌≤◌, ◌+◌, ◌-◌, Bool, true, false, List, [], ◌∷◌, length, map, slice_index, slice_index_or, slice_range, slice_set, count_by}
 use Rattle.std.specs.List.{range_with_len}
 use Rattle.fr_graph.specs.declared.row_table.Place.{Place}
@@ -18,7 +18,7 @@ row_of table x = slice_index_or table.rows x []
 abbrev pub room_of : Table → ℕ → ℕ
 room_of table x = slice_index table.rooms x
 
--- the row of x has room for one entry more
+-- the row of x has room for one more entry
 abbrev pub HasRoomIn : Table → ℕ → Type 0
 HasRoomIn table x = length (row_of table x) < room_of table x
 
@@ -31,7 +31,7 @@ pub record HaveRoom (table : Table) (u v : ℕ) : Type 0 where
 abbrev pub KeepsRooms : Table → Table → Type 0
 KeepsRooms before after = (x : ℕ) → room_of before x ≤ room_of after x
 
--- the table with this row for x
+-- the table with this row in place of the row of x
 abbrev pub with_row : Table → ℕ → List (ℕ × First) → Table
 with_row table x entries = record { rows = slice_set table.rows x entries; rooms = table.rooms }
 
@@ -39,13 +39,14 @@ abbrev pub has_none : List (ℕ × First) → Bool
 has_none [] = true
 has_none (entry ∷ rest) = false
 
--- the starts of rows that stand one behind the other, with no room between them: they never fall, and the last is where the last row ends
+-- the starts of rows that follow each other without gaps. They never decrease, and the last one is where the last row
+-- ends
 pub record ArePacked (starts : List ℕ) (entries : List (ℕ × First)) : Type 0 where
   pub some : 0 < length starts
   pub rise : (x : ℕ) → x + 1 < length starts → slice_index starts x ≤ slice_index starts (x + 1)
   pub inside : (x : ℕ) → slice_index starts x ≤ length entries
 
--- the place of a row between two of these starts
+-- the place of a row between two neighbouring starts
 abbrev pub place_between : List ℕ → ℕ → Place
 place_between starts x = record { start = slice_index starts x; end = slice_index starts (x + 1) }
 
@@ -59,7 +60,7 @@ start_at places x = (slice_index_or places x (record { start = 0; end = 0 })).st
 abbrev pub end_at : List Place → ℕ → ℕ
 end_at places x = (slice_index_or places x (record { start = 0; end = 0 })).end
 
--- the same in a table, where behind the places of the rows stands one more
+-- the same in a table, which has one more place after those of its rows
 abbrev pub start_of : Inside → ℕ → ℕ
 start_of t x = start_at t.places.items x
 
@@ -69,22 +70,22 @@ end_of t x = end_at t.places.items x
 abbrev pub rows_in : Inside → ℕ
 rows_in t = length t.places.items - 1
 
--- the part of the entries that is the row of x
+-- the entries that are the row of x
 abbrev pub row_between : Inside → ℕ → List (ℕ × First)
 row_between t x = slice_range t.entries.items (start_of t x) (end_of t x)
 
--- from where the row of x starts to where the next one does
+-- the room from the start of the row of x to the start of the next one
 abbrev pub room_between : Inside → ℕ → ℕ
 room_between t x = start_of t (x + 1) - start_of t x
 
--- what the fields of a `RowTable` show
+-- the value of a `RowTable` in contracts
 abbrev pub table_of : Inside → Table
 table_of t = record {
   rows = map (row_between t) (range_with_len 0 (rows_in t));
   rooms = map (room_between t) (range_with_len 0 (rows_in t));
 }
 
--- each row ends before the next one starts, and the number of empty rows is kept
+-- each row ends before the next one starts, and the number of empty rows is right
 pub record IsTable (t : Inside) : Type 0 where
   pub some : 0 < length t.places.items
   pub low : (x : ℕ) → x < rows_in t → start_of t x ≤ end_of t x

@@ -1,10 +1,10 @@
-//! Tests of a list of links that need no order.
+//! Tests of a list of links that do not depend on their order.
 
 ghost use Rattle.std.specs.Prelude.{◌≡◌, ℕ, IfSome, IfNone, Contains};
 ghost use Rattle.fr_graph.specs.Links.{HasNoSelfLink};
 ghost use Rattle.fr_graph.specs.Faults.{IsInRange, IsOutOfRange};
 
-/// A number that is no node: 0 where there is no node, or else a link's end.
+/// An end of a link that is not a node, or 0 if there is no node. `None` if all ends are nodes.
 pub(crate) fn first_outside(nodes: u32, links: &[(u32, u32)]) -> Option<u32>
     ensures found { IfSome result (IsOutOfRange nodes links.now) }
     ensures none { IfNone result (IsInRange nodes links.now) }

@@ -1,6 +1,6 @@
-//! The search for a closed walk along the links. It goes depth first and keeps its path as a stack, so it reads each
-//! entry of a row once, and a link back to the path closes a walk. If no link does, the search leaves the head of each
-//! link before its tail.
+//! The search for a cycle. It is a depth-first search that keeps its path as a stack and reads each entry of a row
+//! once. A link back to a node of the path closes a cycle. If no link does, the search leaves the head of each link
+//! before its tail.
 
 ghost use Rattle.std.specs.Prelude.{◌≡◌, ◌≢◌, ℕ, ◌<◌, ◌≤◌, ◌++◌, [], ◌∷◌, length, drop, vec_len, slice_index, slice_index_or, All, IfOk, IfSome, IfNone, OnOk, IsTrue, Contains, ◌-◌};
 ghost use Rattle.fr_graph.specs.Heights.{HasHeadsFirst};
@@ -13,7 +13,7 @@ use crate::first::First;
 use crate::row_table::RowTable;
 use std::alloc::{AllocError, Global};
 
-/// The state of a node: not met, on the path, or done. No closed walk leads from a done node.
+/// The state of a node: not met, on the path, or done. No cycle leads from a done node.
 #[derive(Drop, Clone, Copy)]
 enum Mark {
     Fresh,
@@ -21,23 +21,23 @@ enum Mark {
     Done,
 }
 
-/// What the search has found.
+/// The result of the search.
 #[derive(Drop)]
 pub(crate) enum Found {
-    /// A closed walk: its nodes, the first again at the end.
+    /// A cycle: its nodes, with the first one again at the end.
     Walk(Vec<u32>),
-    /// There is no closed walk. The order has all nodes, and the head of each link before its tail.
+    /// There is no cycle. The order lists all nodes, and the head of each link before its tail.
     Order(Vec<u32>),
 }
 
-/// A node of the path, and the next place of its row: the links before it lead to done nodes.
+/// A node of the path, and the next place to read in its row. The links before that place lead to done nodes.
 #[derive(Drop, Clone, Copy)]
 struct Step {
     node: u32,
     next: usize,
 }
 
-/// The first place of the row, from `from` on, whose link leads to a node that is not done, or the end of the row.
+/// The first place of the row, from `from` on, whose link leads to a node that is not done, or the length of the row.
 fn first_not_done(row: &[(u16, First)], marks: &[Mark], from: usize) -> usize
     requires below { All (λ (e : ℕ × First). e.0 < length marks.now) row.now }
     requires from { from ≤ length row.now }
@@ -57,7 +57,7 @@ fn first_not_done(row: &[(u16, First)], marks: &[Mark], from: usize) -> usize
     row.len()
 }
 
-/// The place of a node on the path.
+/// The place of a node on the path. The node must be on it.
 fn place_on(path: &[Step], node: u32) -> usize
     requires { Contains (nodes_of path.now) node }
     ensures inside { result < length path.now }
@@ -70,7 +70,7 @@ fn place_on(path: &[Step], node: u32) -> usize
     at
 }
 
-/// The walk that a link from the last node of `path` back to `node` closes.
+/// The cycle that a link from the last node of `path` back to `node` closes.
 fn closed_at(alloc: Global, path: &[Step], node: u32) -> Result<Vec<u32>, AllocError>
     requires { Contains (nodes_of path.now) node }
     ensures { IfOk result (λ walk. (k : ℕ) × (k < length path.now) × (slice_index (nodes_of path.now) k ≡ node)
@@ -128,7 +128,7 @@ impl Search {
         Ok(())
     }
 
-    /// Reads on in the row of the last node of the path, and returns the head of its next link to a node that is not
+    /// Continues to read the row of the last node of the path. Returns the head of its next link to a node that is not
     /// done, if there is one.
     fn next_head(&mut self, rows: &RowTable) -> Option<u32>
         requires search { IsSearch rows.now self.old }
@@ -150,7 +150,7 @@ impl Search {
         Some(head as u32)
     }
 
-    /// Takes the last node, `top`, off the path. All its links have to lead to done nodes.
+    /// Removes the last node, `top`, from the path. All its links must lead to done nodes.
     fn leave(&mut self, top: u32) -> Result<(), AllocError>
         requires full { 0 < vec_len self.old.path }
         requires top { top ≡ top_of self.old }
@@ -163,8 +163,8 @@ impl Search {
         Ok(())
     }
 
-    /// Takes a step from the last node of the path: on to a node that was not met, or back if there is none. If a link
-    /// leads back to a node of the path, it returns that node and takes no step.
+    /// Takes a step from the last node of the path: on to a node that has not been met, or back if there is none. If a
+    /// link leads back to a node of the path, it takes no step and returns that node.
     fn step(&mut self, rows: &RowTable) -> Result<Option<u32>, AllocError>
         requires search { IsSearch rows.now self.old }
         requires full { 0 < vec_len self.old.path }
@@ -183,7 +183,7 @@ impl Search {
         Ok(None)
     }
 
-    /// Goes on until the path is empty, or a link leads back to a node of the path: then it returns that node.
+    /// Takes steps until the path is empty. If a link leads back to a node of the path, it stops and returns that node.
     fn go_on(&mut self, rows: &RowTable) -> Result<Option<u32>, AllocError>
         requires { IsSearch rows.now self.old }
         ensures on { IfOk result (GoesOn rows.now self.old self.new) }
@@ -197,8 +197,8 @@ impl Search {
         Ok(None)
     }
 
-    /// Searches from `root`, unless the search has met it. If a link leads back to a node of the path, it returns that
-    /// node.
+    /// Searches from `root`, unless the search has met it already. If a link leads back to a node of the path, it
+    /// returns that node.
     fn visit(&mut self, rows: &RowTable, root: u32) -> Result<Option<u32>, AllocError>
         requires rest { IsAtRest rows.now self.old }
         requires root { root < length self.old.marks.items }
@@ -231,7 +231,8 @@ impl Search {
     }
 }
 
-/// Finds a closed walk along the links that these rows show, or an order of the nodes in which all links lead back.
+/// Finds a cycle of the links that these rows show, or an order of the nodes that lists the head of each link before
+/// its tail.
 pub(crate) fn find_cycle(alloc: Global, nodes: u32, rows: &RowTable) -> Result<Found, AllocError>
     requires one_each { length rows.now.rows ≡ nodes }
     requires below { AreEntriesBelow nodes rows.now }

@@ -1,9 +1,9 @@
-//! One change to the links of a network: what lines ask for, and networks make.
+//! Edits: changes of one link of a network, which request lines ask for.
 
 /// One change to the links of a network.
 #[derive(Clone, Copy, Debug, PartialEq, Eq)]
 pub enum Edit {
-    /// Take out the link between two nodes, whichever way it points.
+    /// Remove the link between two nodes, whichever way it points.
     Cut {
         /// One end of the link.
         u: u32,
@@ -17,11 +17,11 @@ pub enum Edit {
         /// Its head.
         v: u32,
     },
-    /// Join two nodes by a link: from `u` to `v`, or from `v` to `u` where the other would close a closed walk.
+    /// Join two nodes by a link: from `u` to `v`, or from `v` to `u` if the first would close a cycle.
     Join {
-        /// The tail of the link, unless a closed walk would follow it.
+        /// The tail of the link, unless that would close a cycle.
         u: u32,
-        /// Its head then.
+        /// The head of the link then.
         v: u32,
     },
 }

@@ -1,4 +1,4 @@
-//! The rows of a network with one link taken out or put in, each where it stands.
+//! The rows of a network with one link removed or added, changed in place.
 
 ghost use Rattle.std.specs.Prelude.{◌≡◌, ℕ, ◌<◌, ◌≤◌, ◌++◌, [], ◌∷◌, length, map, insert, remove, Contains};
 ghost use Rattle.std.specs.List.Sorted.{IsStrictlyIncreasing};
@@ -13,7 +13,7 @@ use crate::first::First;
 use crate::row::place_in_row;
 use crate::row_table::RowTable;
 
-/// Takes the entry of `w` out of the row of `x`, which has one.
+/// Removes the entry of `w` from the row of `x`. There must be one.
 fn cut_entry(rows: &mut RowTable, x: u32, w: u32)
     requires row { x < length rows.old.rows }
     requires rising { IsStrictlyIncreasing (map (λ (e : ℕ × First). e.0) (row_of rows.old x)) }
@@ -25,7 +25,7 @@ fn cut_entry(rows: &mut RowTable, x: u32, w: u32)
     rows.remove(x, place);
 }
 
-/// Takes the entries of the link between two nodes, whichever way it points, out of the rows of both.
+/// Removes the link between two nodes, whichever way it points, from the rows of both.
 pub(crate) fn cut_from_rows(rows: &mut RowTable, u: u32, v: u32)
     requires { (net : Network) × ShowsLink net u v rows.old }
     ensures rows { (net : Network) → ShowsLink net u v rows.old → AreRows net.nodes (without u v net.links) rows.new }
@@ -35,7 +35,7 @@ pub(crate) fn cut_from_rows(rows: &mut RowTable, u: u32, v: u32)
     cut_entry(rows, v, u);
 }
 
-/// Puts an entry for `w` into the row of `x`, which has room for it, at its place.
+/// Inserts an entry for `w` at its place in the row of `x`, which must have room for it.
 fn put_entry(rows: &mut RowTable, x: u32, w: u32, first: First)
     requires row { x < length rows.old.rows }
     requires rising { IsStrictlyIncreasing (map (λ (e : ℕ × First). e.0) (row_of rows.old x)) }
@@ -48,8 +48,7 @@ fn put_entry(rows: &mut RowTable, x: u32, w: u32, first: First)
     rows.insert(x, place, (w as u16, first));
 }
 
-/// Puts the entries of a link into the rows of both its ends, which no link has joined yet and which have room for
-/// them.
+/// Inserts a link in the rows of both its ends. No link may join them yet, and both rows must have room.
 pub(crate) fn put_in_rows(rows: &mut RowTable, tail: u32, head: u32)
     requires shown { (net : Network) × ShowsNoLink net tail head rows.old }
     requires few { length rows.old.rows ≤ most_nodes }

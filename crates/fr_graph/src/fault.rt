@@ -1,4 +1,4 @@
-//! Why links make no network.
+//! Why links are not those of a network, and why edits are refused.
 
 ghost use Rattle.std.specs.Prelude.{◌≡◌};
 ghost use Rattle.fr_graph.specs.declared.fault.NetFault.TheVariants.{Memory};
@@ -7,14 +7,14 @@ use std::alloc::{AllocError, AllocFailed};
 use std::fmt;
 use thiserror::Error;
 
-/// Why links make no network, with the evidence, or why a network cannot be edited. The variants stand in the order in
-/// which the faults are tested.
+/// Why links are not those of a network, with the evidence, or why an edit is refused. The variants are listed in the
+/// order in which the faults are tested.
 #[derive(Debug, Drop, Error, PartialEq, Eq)]
 pub enum NetFault {
-    /// There are more nodes or links than the limits admit.
+    /// There are more nodes or links than the limits allow.
     #[error("too many nodes or links")]
     TooMany,
-    /// A link's end that is no node; 0 where there is no node at all.
+    /// An end of a link that is not a node; 0 if there are no nodes.
     #[error("node {0} is out of range")]
     Range(u32),
     /// A node with a link to itself.
@@ -23,10 +23,10 @@ pub enum NetFault {
     /// Two nodes that more than one link joins, in either direction.
     #[error(fmt = tell_twice)]
     Twice(u32, u32),
-    /// The nodes of a closed walk along the links, the first again at the end.
+    /// The nodes of a cycle, with the first one again at the end.
     #[error(fmt = tell_cycle)]
     Cycle(Vec<u32>),
-    /// No link joins the two nodes. Only a cut answers it, and it answers no other but `Memory`.
+    /// No link joins the two nodes. Only a cut fails with this, and a cut fails with no other fault but `Memory`.
     #[error("no link joins the two nodes")]
     NoLink,
     /// An allocation was refused.
@@ -34,33 +34,33 @@ pub enum NetFault {
     Memory,
 }
 
-/// Tells which two nodes more than one link joins.
+/// Writes which two nodes more than one link joins.
 fn tell_twice<W: fmt::Write>(u: &u32, v: &u32, f: &mut fmt::Formatter<W>) -> fmt::Result {
     write!(f, "more than one link joins nodes {u} and {v}")
 }
 
-/// Tells how long a closed walk is.
+/// Writes how long a cycle is.
 fn tell_cycle<W: fmt::Write>(nodes: &Vec<u32>, f: &mut fmt::Formatter<W>) -> fmt::Result {
     let steps = nodes.len().saturating_sub(1);
     write!(f, "the links close a walk of {steps} steps")
 }
 
-/// The first edit of a batch that is refused, and why. Where the fault is `Memory`, `at` says nothing.
+/// The first edit of a batch that is refused, and why. If the fault is `Memory`, `at` has no meaning.
 #[derive(Debug, Drop, Error, PartialEq, Eq)]
 #[error("edit {at} is refused: {fault}")]
 pub struct EditFault {
-    /// Its place among the edits, counted from 0; where there are too many edits, how many there may be.
+    /// The place of the edit, counted from 0. If there are too many edits, the limit.
     pub at: usize,
     /// Why it is refused.
     pub fault: NetFault,
 }
 
-/// Why a network is not edited: an edit is refused, or what was to come of the edits has a fault of its own.
+/// Why a network is not edited: an edit is refused, or the caller's function fails on the edited network.
 #[derive(Debug, Drop)]
 pub enum NotEdited<E> {
     /// The first edit that is refused, and why.
     Refused(EditFault),
-    /// The fault that was answered of the network that the edits make.
+    /// What the caller's function failed with on the edited network.
     Fault(E),
 }
 
@@ -75,7 +75,7 @@ impl From<AllocError> for EditFault {
     }
 }
 
-// By hand, since clauses say which fault a `?` gives.
+// Written by hand, because clauses say which fault a `?` returns.
 impl From<AllocError> for NetFault {
     ghost from_gives = { λ _ fault. fault ≡ Memory };
 

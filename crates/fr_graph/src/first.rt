@@ -1,9 +1,9 @@
-//! Where a link of a network points, as seen from one of its ends.
+//! The direction of a link, seen from one of its ends.
 
 ghost use Rattle.std.specs.Prelude.{◌≡◌};
 ghost use Rattle.fr_graph.specs.RowLists.{opposite};
 
-/// The direction of a network's link as seen from the node `x` at one of its ends, before any turn.
+/// The direction of a link of the network, seen from the node `x` at one of its ends, before any turn.
 #[derive(Debug, Drop, Clone, Copy, PartialEq, Eq)]
 pub enum First {
     /// The link points from `x` to the neighbour.
@@ -13,7 +13,7 @@ pub enum First {
 }
 
 impl First {
-    /// The direction as seen from the other end of the link. `O(1)`.
+    /// The direction seen from the other end of the link. O(1).
     pub fn opposite(self) -> First
         ensures { result ≡ opposite self }
     {

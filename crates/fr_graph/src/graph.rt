@@ -1,4 +1,4 @@
-//! What a network keeps, changed where it stands: a link is taken out or put in, and that is undone.
+//! The state of a network, changed in place: a link is removed or added, and the change can be undone.
 
 ghost use Rattle.std.specs.Prelude.{◌≡◌, ◌≢◌, ◌<◌, ◌≤◌, ◌++◌, [], ◌∷◌, ◌⊎◌, length, true, ◌↔◌, IfOk, IfErr, IfSome, IfNone, IsTrue, OnOk, OnErr};
 ghost use Rattle.fr_graph.specs.Links.{HasPath, Joins, Points};
@@ -28,7 +28,8 @@ use crate::row::place_in_row;
 use crate::row_table::RowTable;
 use std::alloc::{AllocError, Global};
 
-/// The rows of a network's nodes, which show its links, and heights along which these fall.
+/// The rows of a network, which hold its links, and heights of its nodes. If the heights are known, each link leads
+/// from a higher node to a lower one: it falls.
 #[derive(Debug, Drop)]
 pub(crate) struct Graph {
     pub(crate) nodes: u32,
@@ -40,14 +41,14 @@ pub(crate) struct Graph {
 /// What an edit did to the links.
 #[derive(Drop, Clone, Copy)]
 pub(crate) enum Done {
-    /// The link was taken out.
+    /// The link was removed.
     Taken {
         /// Its tail.
         tail: u32,
         /// Its head.
         head: u32,
     },
-    /// The link was put in.
+    /// The link was added.
     Put {
         /// Its tail.
         tail: u32,
@@ -57,7 +58,7 @@ pub(crate) enum Done {
 }
 
 impl Graph {
-    /// The neighbours of node `x` in rising order, each with the direction of its link as seen from `x`.
+    /// The neighbours of node `x` in increasing order, each with the direction of its link seen from `x`.
     pub(crate) fn row(&self, x: u32) -> &[(u16, First)]
         requires graph { IsGraph self.now }
         requires node { x < self.now.nodes }
@@ -87,7 +88,7 @@ impl Graph {
         }
     }
 
-    /// Whether a link can join `u` and `v`, be it one way or the other: Ok, or the fault that both have.
+    /// Tests whether a link can join `u` and `v`, in either direction. Returns the fault if neither can.
     fn test_join(&self, u: u32, v: u32) -> Result<(), NetFault>
         requires { IsGraph self.now }
         ensures few { OnOk result (length (shown self.now).links < most_links) }
@@ -109,7 +110,7 @@ impl Graph {
         Ok(())
     }
 
-    /// A copy, with as much room.
+    /// A copy with the same room in its rows.
     pub(crate) fn copied(&self, alloc: Global) -> Result<Graph, AllocError>
         requires { IsGraph self.now }
         ensures { IfOk result (λ copy. copy ≡ self.now) }
@@ -122,7 +123,7 @@ impl Graph {
         })
     }
 
-    /// Takes out the link from `tail` to `head`.
+    /// Removes the link from `tail` to `head`. There must be one.
     fn take_out(&mut self, tail: u32, head: u32)
         requires graph { IsGraph self.old }
         requires stands { Points (shown self.old).links tail head }
@@ -134,7 +135,7 @@ impl Graph {
         self.link_count -= 1;
     }
 
-    /// Takes room for a link between `u` and `v`, which are nodes.
+    /// Makes room for a link between the nodes `u` and `v` in their rows.
     fn make_room(&mut self, alloc: Global, u: u32, v: u32) -> Result<(), AllocError>
         requires graph { IsGraph self.old }
         requires u { u < self.old.nodes }
@@ -146,7 +147,7 @@ impl Graph {
         self.rows.make_room(alloc, v)
     }
 
-    /// Puts in a link from `tail` to `head`. Both rows need to have room for it.
+    /// Adds a link from `tail` to `head`. Both rows must have room for it.
     fn put(&mut self, tail: u32, head: u32)
         requires graph { IsGraph self.old }
         requires link { CanPut (shown self.old) tail head }
@@ -160,7 +161,7 @@ impl Graph {
         self.heights.note_link(tail, head);
     }
 
-    /// Makes the heights anew, unless they are known.
+    /// Computes the heights again, unless they are known.
     fn renew_heights(&mut self, alloc: Global) -> Result<(), AllocError>
         requires graph { IsGraph self.old }
         ensures same { IsSame self.old self.new }
@@ -176,9 +177,9 @@ impl Graph {
         Ok(())
     }
 
-    /// What shows that links lead from `v` to `u`, if they do. Mostly the heights tell that they do not. If it takes a
-    /// search to find that out, the search moves nodes, so that a link from `u` to `v` falls, if there is room between
-    /// the heights.
+    /// Returns where the two searches met if links lead from `v` to `u`. Most often the heights already show that they
+    /// do not. If it takes a search to find that out, the nodes that were met get new heights, so that a link from `u`
+    /// to `v` falls, if there is room between the heights.
     fn path_back(&mut self, alloc: Global, u: u32, v: u32) -> Result<Option<Meeting>, AllocError>
         requires graph { IsGraph self.old }
         requires nodes { AreUnjoined self.old.nodes (shown self.old).links u v }
@@ -209,7 +210,7 @@ impl Graph {
         Ok(self.path_back(alloc, u, v)?.is_some())
     }
 
-    /// Takes out the link between `u` and `v`, whichever way it points.
+    /// Removes the link between `u` and `v`, whichever way it points.
     fn cut(&mut self, u: u32, v: u32) -> Result<Done, NetFault>
         requires graph { IsGraph self.old }
         ensures ok { IfOk result (IsEdited self.old (Cut u v) self.new) }
@@ -224,7 +225,7 @@ impl Graph {
         Ok(Done::Taken { tail, head })
     }
 
-    /// Puts in the link from `u` to `v`.
+    /// Adds the link from `u` to `v`.
     fn add(&mut self, alloc: Global, u: u32, v: u32) -> Result<Done, NetFault>
         requires { IsGraph self.old }
         ensures ok { IfOk result (IsEdited self.old (Add u v) self.new) }
@@ -241,7 +242,7 @@ impl Graph {
         Ok(Done::Put { tail: u, head: v })
     }
 
-    /// Joins `u` and `v`: by a link from `u` to `v`, or from `v` to `u` where a closed walk would follow the other.
+    /// Joins `u` and `v` by a link from `u` to `v`, or from `v` to `u` if the first would close a cycle.
     fn join(&mut self, alloc: Global, u: u32, v: u32) -> Result<Done, NetFault>
         requires { IsGraph self.old }
         ensures ok { IfOk result (IsEdited self.old (Join u v) self.new) }
@@ -260,7 +261,7 @@ impl Graph {
         Ok(Done::Put { tail, head })
     }
 
-    /// Makes an edit. Where it is refused, or no room could be had, the network is as it was.
+    /// Makes an edit. If it is refused or an allocation fails, the network is unchanged.
     pub(crate) fn edit(&mut self, alloc: Global, edit: Edit) -> Result<Done, NetFault>
         requires { IsGraph self.old }
         ensures ok { IfOk result (IsEdited self.old edit self.new) }
@@ -274,7 +275,7 @@ impl Graph {
         }
     }
 
-    /// Undoes what an edit did: it takes no memory.
+    /// Undoes what an edit did. It does not allocate.
     fn undo(&mut self, done: Done)
         requires graph { IsGraph self.old }
         requires done { (net : Network) × IsDone net done (shown self.old) × HasRoomFor self.old net }
@@ -288,7 +289,7 @@ impl Graph {
         }
     }
 
-    /// Undoes what edits did, the last one first: it takes no memory.
+    /// Undoes what edits did, the last one first. It does not allocate.
     pub(crate) fn undo_all(&mut self, mut done: Vec<Done>)
         requires graph { IsGraph self.old }
         requires done { (first : Network) × CanUndo first done.items self.old }
@@ -300,8 +301,8 @@ impl Graph {
         }
     }
 
-    /// Makes these edits, each on the links that those before it left, and answers what they did. Where one is
-    /// refused, or no room could be had, all are undone.
+    /// Makes the edits in order, and returns what they did. If one is refused or an allocation fails, all of them are
+    /// undone.
     pub(crate) fn edit_all(&mut self, alloc: Global, edits: &[Edit]) -> Result<Vec<Done>, EditFault>
         requires graph { IsGraph self.old }
         requires few { length edits.now ≤ most_edits }

@@ -1,12 +1,15 @@
 //! Networks for link reversal: nodes, and directed links that contain no cycle.
 //!
-//! [`Net::new`] makes a [`Net`], or names the first fault of the links. Layers above read a network by `nodes`,
-//! `links`, `degree`, `neighbour` and `row`. They make one network from another by `copied`, `with_cut`, `with_link`,
-//! `with_join`, `with_edits` and `turned_by`, and change one in place by `edit_if` and `turn`; `turn` takes [`Turns`],
-//! a table of how often each node has turned. The law [`rows_law`](laws::rows_law) says what the rows of a network
-//! show, and [`join_law`](laws::join_law) which way a link can point.
+//! [`Net::new`] makes a [`Net`], or reports the first fault of the links. To read a network, there are `nodes`,
+//! `links`, `degree`, `neighbour` and `row`. To make another network from it, there are `copied`, `with_cut`,
+//! `with_link`, `with_join`, `with_edits` and `turned_by`. `edit_if` and `turn` change a network in place; `turn` takes
+//! [`Turns`], a table of how often each node has turned. The law [`rows_law`](laws::rows_law) says what the rows of a
+//! network contain, and [`join_law`](laws::join_law) in which direction a link can be added.
 //!
-//! Costs are told for n nodes, m links, and d links at a node, as read off the code.
+//! Full reversal is the method of E. Gafni and D. Bertsekas ("Distributed Algorithms for Generating Loop-Free Routes in
+//! Networks with Frequently Changing Topology", 1981).
+//!
+//! Costs are for n nodes, m links, and d links at a node. They are read off the code, not proved.
 #![tactic(auto)]
 
 mod checks;

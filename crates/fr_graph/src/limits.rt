@@ -1,10 +1,10 @@
-//! How large a network may be. `specs/Limits.antt` has the same numbers, for contracts.
+//! How large a network may be. `specs/Limits.antt` has the same numbers for contracts.
 
-/// The most nodes of a network.
+/// The greatest number of nodes of a network.
 pub const MAX_NODES: u32 = 4096;
 
-/// The most links of a network.
+/// The greatest number of links of a network.
 pub const MAX_LINKS: usize = 32768;
 
-/// The most edits of a batch.
+/// The greatest number of edits of a batch.
 pub const MAX_EDITS: usize = 1024;

@@ -1,4 +1,4 @@
-//! The links of a network, read off its rows one after the other.
+//! The links of a network, read from its rows one after the other.
 
 ghost use Rattle.std.specs.Prelude.{◌≡◌, ℕ, ◌<◌, ◌^◌, ◌∷◌, [], length, IfSome, IfNone};
 ghost use Rattle.std.specs.Iterator.{YieldsFirst, item_count};
@@ -10,13 +10,13 @@ use crate::row_table::RowTable;
 use std::iter::FusedIterator;
 use std::marker::Model;
 
-/// The links of a network that are left to read, in rising order of tail, then head: what
-/// [`Net::links`](crate::Net::links) answers. It takes no memory. `len` is `O(1)`, and all calls of `next` together
-/// are `O(n + m)`. Contracts see the list of the links that are left.
+/// The links of a network that are left to read, by tail and then by head, as [`Net::links`](crate::Net::links) returns
+/// them. It does not allocate. `len` takes O(1), and all calls of `next` together O(n + m). The value in contracts is
+/// the list of the links that are left.
 #[derive(Debug, Drop)]
 pub struct Links<'a> {
     rows: &'a RowTable,
-    // What is left of the row before `next`, and the row that is read after it.
+    // The part of the row of `next - 1` that is left, and the node whose row is read after it.
     row: &'a [(u16, First)],
     next: u32,
     left: usize,
@@ -34,7 +34,7 @@ impl<'a> Model for Links<'a> {
     ghost invariant = { IsReading };
 }
 
-/// The head of the first link of a row that points away from its node, and the entries behind it.
+/// The head of the first link of a row that points away from its node, and the entries after it.
 fn first_outward(row: &[(u16, First)]) -> Option<(u32, &[(u16, First)])>
     ensures some { IfSome result (λ found. (x : ℕ) → out_links x row.now ≡ (x, found.0) ∷ out_links x found.1.now) }
     ensures none { IfNone result ((x : ℕ) → out_links x row.now ≡ []) }
@@ -49,7 +49,7 @@ fn first_outward(row: &[(u16, First)]) -> Option<(u32, &[(u16, First)])>
 }
 
 impl<'a> Links<'a> {
-    /// The links that these rows show, of which there are so many.
+    /// The links that these rows contain; `count` is how many they are.
     pub(crate) fn of_rows(rows: &'a RowTable, count: usize) -> Links<'a>
         requires few { length rows.now.rows < 2 ^ 32 }
         requires counted { count ≡ length (links_in (length rows.now.rows) rows.now) }

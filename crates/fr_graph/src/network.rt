@@ -1,4 +1,4 @@
-//! A network: how it is made of links, read by nodes and rows, and made into another by edits and by counts.
+//! A network: how it is made from links, read by nodes and rows, and changed by edits and by counts.
 
 ghost use Rattle.std.specs.Prelude.{◌≡◌, ◌≢◌, ℕ, ◌<◌, ◌≤◌, ◌+◌, ◌++◌, List, [], ◌∷◌, length, slice_get, slice_index, Some, Ok, IfOk, IfErr, IfSome, IfNone, MatchOption, OnOk, OnErr, All, ◌⊎◌};
 ghost use Rattle.std.specs.List.{HoldsAt};
@@ -35,8 +35,8 @@ use crate::turns::Turns;
 use std::alloc::{AllocError, Global};
 use std::marker::Model;
 
-/// Whether nodes and links are within the limits, and each link joins two nodes, which are not the same: Ok, or the
-/// first fault that stands.
+/// Tests that nodes and links are within the limits, and that each link joins two different nodes. Returns the first
+/// fault if not.
 fn test_ends(nodes: u32, links: &[(u32, u32)]) -> Result<(), NetFault>
     ensures limits { OnOk result (IsWithinLimits nodes links.now) }
     ensures range { OnOk result (IsInRange nodes links.now) }
@@ -55,7 +55,7 @@ fn test_ends(nodes: u32, links: &[(u32, u32)]) -> Result<(), NetFault>
     Ok(())
 }
 
-/// The rows of links, of their halves, with where those of each node start.
+/// The rows of links. `halves` are their sorted half-links, and `starts` is where those of each node start.
 fn rows_of(alloc: Global, halves: &[HalfLink], starts: Vec<usize>) -> Result<RowTable, AllocError>
     requires { (nodes : ℕ) × (links : List (ℕ × ℕ)) × AreHalvesOf nodes links halves.now starts.items }
     ensures { IfOk result (λ rows. (nodes : ℕ) (links : List (ℕ × ℕ))
@@ -64,8 +64,7 @@ fn rows_of(alloc: Global, halves: &[HalfLink], starts: Vec<usize>) -> Result<Row
     RowTable::packed(alloc, starts, entries_of(alloc, halves)?)
 }
 
-/// The graph of the rows of so many links, which have no fault, and of an order of the nodes along which they lead
-/// back.
+/// The graph of the rows of links that have no fault. `order` lists the head of each link before its tail.
 fn graph_of(
     alloc: Global,
     nodes: u32,
@@ -90,7 +89,7 @@ fn graph_of(
     })
 }
 
-/// Whether these are no more edits than there may be.
+/// Tests that there are no more edits than the limit.
 fn test_few(edits: &[Edit]) -> Result<(), EditFault>
     ensures few { OnOk result (length edits.now ≤ most_edits) }
     ensures refused { IfErr result (λ refused. (most_edits < length edits.now) × (refused.at ≡ most_edits)
@@ -105,8 +104,8 @@ fn test_few(edits: &[Edit]) -> Result<(), EditFault>
     Ok(())
 }
 
-/// A network: nodes, and links among which no closed walk stands. Contracts see the number of nodes and the links in
-/// rising order of tail, then head.
+/// A network: nodes, and links that contain no cycle. The value in contracts is the number of nodes, and the links
+/// ordered by tail and then by head.
 #[derive(Debug, Drop)]
 pub struct Net {
     graph: Graph,
@@ -125,9 +124,14 @@ impl Model for Net {
 }
 
 impl Net {
-    /// The network with nodes 0 to `nodes - 1` and these links, each from its tail to its head, in whatever order they
-    /// are listed; or the first fault that stands, with its evidence, tested over the whole list in the order of [`NetFault`]: `TooMany`,
-    /// `Range`, `SelfLink`, `Twice` or `Cycle`. `Memory` where no room could be had. Time and memory are `O(n + m)`.
+    /// Makes the network with the nodes 0 to `nodes - 1` and these links, each from its tail to its head. The links can
+    /// be listed in any order.
+    ///
+    /// Fails with the first fault, with its evidence. Each fault is tested over the whole list before the next one, in
+    /// the order of [`NetFault`]: `TooMany`, `Range`, `SelfLink`, `Twice`, `Cycle`. Fails with `Memory` if an
+    /// allocation is refused.
+    ///
+    /// O(n + m) time and memory.
     pub fn new(alloc: Global, nodes: u32, links: &[(u32, u32)]) -> Result<Net, NetFault>
         ensures ok { IfOk result (IsNetworkOf nodes links.now) }
         ensures refused { IfErr result (λ fault. fault ≢ Memory → IsFirstFault nodes links.now fault) }
@@ -146,7 +150,7 @@ impl Net {
         }
     }
 
-    /// How many nodes there are, 1 or more. `O(1)`.
+    /// The number of nodes, at least 1. O(1).
     pub fn nodes(&self) -> u32
         ensures value { result ≡ self.now.nodes }
         ensures faultless { IsFaultless self.now.nodes self.now.links }
@@ -154,46 +158,46 @@ impl Net {
         self.graph.nodes
     }
 
-    /// The law of a network: none of the faults of [`NetFault`] stands among its links. It does nothing; a function
-    /// whose proof needs the law calls it.
+    /// The law of a network: its links have none of the faults of [`NetFault`]. The function does nothing; call it
+    /// where a proof needs the law.
     pub fn network_law(&self)
         ensures { IsFaultless self.now.nodes self.now.links }
     {
-        // A field has to be read, since only then the proof sees the invariant.
+        // A field has to be read, because only then the proof can use the invariant.
         let _nodes = self.graph.nodes;
     }
 
-    /// How many links there are. `O(1)`.
+    /// The number of links. O(1).
     pub fn link_count(&self) -> usize
         ensures { result ≡ length self.now.links }
     {
         self.graph.link_count
     }
 
-    /// The links in rising order of tail, then head, none twice: a view over the rows, which takes no memory. Who
-    /// needs a list collects it. `O(1)`, and `O(n + m)` to read them all.
+    /// The links, by tail and then by head, none twice: a view of the rows, which does not allocate. Collect it if you
+    /// need a list. O(1), and O(n + m) to read them all.
     pub fn links(&self) -> Links<'_>
         ensures { result ≡ self.now.links }
     {
         Links::of_rows(&self.graph.rows, self.graph.link_count)
     }
 
-    /// The law of the order of a network's links: each is before the next one, by tail, then head. It does nothing, as
-    /// [`network_law`](Net::network_law).
+    /// The law of the order of a network's links: they increase by tail, and with equal tails by head. The function
+    /// does nothing, like [`network_law`](Net::network_law).
     pub fn order_law(&self)
         ensures { AreRising self.now.links }
     {
         let _nodes = self.graph.nodes;
     }
 
-    /// How many nodes no link joins with another. `O(1)`.
+    /// The number of nodes without a link. O(1).
     pub fn alone(&self) -> u32
         ensures { result ≡ alone_count self.now.nodes self.now.links }
     {
         self.graph.rows.empty_rows() as u32
     }
 
-    /// How many neighbours node `x` has, which has to be a node. `O(1)`.
+    /// The number of neighbours of node `x`, which must be in the network. O(1).
     pub fn degree(&self, x: u32) -> u32
         requires { x < self.now.nodes }
         ensures { result ≡ length (row self.now.nodes self.now.links x) }
@@ -201,8 +205,8 @@ impl Net {
         self.graph.row(x).len() as u32
     }
 
-    /// The neighbour at place `j` of the row of node `x`, counted from 0 in rising order of the neighbours, and the
-    /// direction of its link as seen from `x`. There has to be such a node and such a place. `O(1)`.
+    /// The neighbour at place `j` of the row of node `x`, and the direction of its link seen from `x`. Places count
+    /// from 0, in increasing order of the neighbours. The node and the place must exist. O(1).
     pub fn neighbour(&self, x: u32, j: u32) -> (u32, First)
         requires node { x < self.now.nodes }
         requires place { j < length (row self.now.nodes self.now.links x) }
@@ -213,9 +217,9 @@ impl Net {
         (neighbour as u32, first)
     }
 
-    /// All neighbours of node `x` in rising order, each with the direction of its link as seen from `x`: what
-    /// `neighbour` answers for each place, for a loop over a whole row. It has to be a node. Here nodes stand as `u16`, as they are
-    /// kept, since there are few, so that rows take half the room; `as u32` makes them what other calls take. `O(1)`.
+    /// All neighbours of node `x` in increasing order, each with the direction of its link seen from `x`, for a loop
+    /// over a whole row. The node must be in the network. The neighbours are `u16`, as the rows keep them, which halves
+    /// their memory; other calls take them `as u32`. O(1).
     pub fn row(&self, x: u32) -> &[(u16, First)]
         requires { x < self.now.nodes }
         ensures { result.now ≡ row self.now.nodes self.now.links x }
@@ -223,7 +227,7 @@ impl Net {
         self.graph.row(x)
     }
 
-    /// A copy. `AllocError` where no room could be had. Time and memory are `O(n + m)`.
+    /// A copy. Fails with `AllocError` if an allocation is refused. O(n + m) time and memory.
     pub fn copied(&self, alloc: Global) -> Result<Net, AllocError>
         ensures { IfOk result (λ net. net ≡ self.now) }
     {
@@ -241,9 +245,9 @@ impl Net {
         Ok(Net { graph })
     }
 
-    /// The network without the link between `u` and `v`, whichever way it points. `NoLink` exactly where there is none, as
-    /// where one of them is no node or both are the same; `Memory` where no room could be had. Time and memory are
-    /// `O(n + m)`, since the network is copied.
+    /// The network without the link between `u` and `v`, whichever way it points. Fails with `NoLink` if no link joins
+    /// them (also if one is not a node, or both are the same), and with `Memory` if an allocation is refused. O(n + m)
+    /// time and memory, because it copies the network.
     pub fn with_cut(&self, alloc: Global, u: u32, v: u32) -> Result<Net, NetFault>
         ensures joined { OnOk result (Joins self.now.links u v) }
         ensures ok { IfOk result (IsNetworkOf self.now.nodes (without u v self.now.links)) }
@@ -252,9 +256,9 @@ impl Net {
         self.with_edit(alloc, Edit::Cut { u, v })
     }
 
-    /// The network with the link from `u` to `v` as well; or the first fault that then stands, in the order of
-    /// [`NetFault`], where a closed walk follows the links with the new one among them. `Memory` where no room could
-    /// be had. `O(n + m)` for the copy, and what [`edit_if`](Net::edit_if) costs.
+    /// The network with the added link from `u` to `v`. Fails with the first fault of the links with the new one, in
+    /// the order of [`NetFault`]: `Cycle` has a cycle through the new link. Fails with `Memory` if an allocation is
+    /// refused. O(n + m) for the copy, and the cost of [`edit_if`](Net::edit_if).
     pub fn with_link(&self, alloc: Global, u: u32, v: u32) -> Result<Net, NetFault>
         ensures ok { IfOk result (IsNetworkOf self.now.nodes (self.now.links ++ (u, v) ∷ [])) }
         ensures refused { IfErr result (λ fault. fault ≢ Memory
@@ -263,10 +267,9 @@ impl Net {
         self.with_edit(alloc, Edit::Add { u, v })
     }
 
-    /// The network with `u` and `v` joined: by a link from `u` to `v`, or from `v` to `u` where a closed walk would
-    /// follow the other; the law [`join_law`](crate::laws::join_law) says that then none follows this one. It is
-    /// refused as by `with_link`, but never for a `Cycle`. `O(n + m)` for the copy, and what [`edit_if`](Net::edit_if)
-    /// costs.
+    /// The network with an added link between `u` and `v`: from `u` to `v`, or from `v` to `u` if the first would close
+    /// a cycle. By the law [`join_law`](crate::laws::join_law) the second closes none then. Fails as `with_link` does,
+    /// but never with `Cycle`. O(n + m) for the copy, and the cost of [`edit_if`](Net::edit_if).
     pub fn with_join(&self, alloc: Global, u: u32, v: u32) -> Result<Net, NetFault>
         ensures ok { IfOk result (IsJoined self.now.nodes self.now.links u v) }
         ensures refused { IfErr result (λ fault. fault ≢ Memory
@@ -275,10 +278,10 @@ impl Net {
         self.with_edit(alloc, Edit::Join { u, v })
     }
 
-    /// The network after these edits, each made on the links that those before it left; or the first edit that is
-    /// refused, with the fault that `with_cut`, `with_link` or `with_join` names. More than [`MAX_EDITS`] are
-    /// `TooMany` at `MAX_EDITS`, and none is tried. `Memory` where no room could be had, at any edit. `O(n + m)` for
-    /// one copy, and what [`edit_if`](Net::edit_if) costs.
+    /// The network after these edits, made in order. If one is refused, this fails with the first refused edit and the
+    /// fault that `with_cut`, `with_link` or `with_join` has. More than [`MAX_EDITS`] edits fail with `TooMany` at
+    /// `MAX_EDITS`, and none is tried. Fails with `Memory` if an allocation is refused. O(n + m) for one copy, and the
+    /// cost of [`edit_if`](Net::edit_if).
     pub fn with_edits(&self, alloc: Global, edits: &[Edit]) -> Result<Net, EditFault>
         ensures few { OnOk result (length edits.now ≤ most_edits) }
         ensures ok { IfOk result (AreMade self.now edits.now) }
@@ -290,13 +293,15 @@ impl Net {
         Ok(Net { graph })
     }
 
-    /// Makes these edits where the network stands, each on the links that those before it left, if `accept` then
-    /// answers Ok of the network that they make, and answers what it answers. What `accept` requires has to hold of
-    /// that network. `Refused` where an edit is refused, as by `with_edits`, or no room could be had, and `Fault` with
-    /// the fault that `accept` answers: then the edits are undone, and the network is as it was. `O(d)` an edit; an
-    /// added link or join is mostly a look at two heights, else a search between them with tables of `O(n)`; `O(n +
-    /// m)` where heights that are not known are made anew, or where a row is full, so that all are laid out anew, with
-    /// room to grow.
+    /// Makes these edits in place and in order, if `accept` succeeds on the edited network, and returns what `accept`
+    /// returns. What `accept` requires must hold of the edited network.
+    ///
+    /// Fails with `Refused` if an edit is refused, as by `with_edits`, or an allocation is refused, and with `Fault` if
+    /// `accept` fails. Then the network is unchanged.
+    ///
+    /// O(d) for each edit. An added link or a join compares two heights; if these do not decide, it searches between
+    /// them, with tables of O(n). O(n + m) if heights have to be computed again, or if a row is full, so that all rows
+    /// are laid out again with more room.
     pub fn edit_if<T, E, F: FnOnce(&Net) -> Result<T, E>>(
         &mut self,
         alloc: Global,
@@ -326,10 +331,10 @@ impl Net {
         }
     }
 
-    /// The network of the links that the counts give, one count for each node: a link stays where its head has turned
-    /// as often as its tail, and is reversed where its head has turned once more; the counts have to leave no other
-    /// case. The only fault is `Memory`, where no room could be had. `O(n + m)` for the copy, and what
-    /// [`turn`](Net::turn) costs.
+    /// The network of the links that the counts give, one count for each node. A link keeps its direction if its ends
+    /// have turned equally often, and is reversed if its head has turned once more. The counts must leave no other
+    /// case. Fails only with `Memory`, if an allocation is refused. O(n + m) for the copy, and the cost of
+    /// [`turn`](Net::turn).
     pub fn turned_by(&self, alloc: Global, counts: &[u64]) -> Result<Net, NetFault>
         requires one_each { length counts.now ≡ self.now.nodes }
         requires kept { All (IsKept counts.now) self.now.links }
@@ -343,9 +348,9 @@ impl Net {
         Ok(net)
     }
 
-    /// Turns the links as these turns say, as `turned_by`, but where the network stands: it takes no memory and has no
-    /// fault. Only the rows of nodes that turned are touched, with the entries of these in the rows of others. `O(k d
-    /// log d + k log k)` for k nodes that have turned.
+    /// Turns the links as these turns say, in place. What `turned_by` requires of counts must hold of the turns. It
+    /// cannot fail and does not allocate. It changes only the rows of nodes that turned, and their entries in the rows
+    /// of others. O(k d log d + k log k) for k nodes that have turned.
     pub fn turn(&mut self, turns: &Turns)
         requires one_each { length turns.now ≡ self.old.nodes }
         requires kept { All (IsKept turns.now) self.old.links }

@@ -1,8 +1,8 @@
-//! Whether links lead from one node to another. The search starts at both ends: one side goes along the links, the
-//! other against them. Each step reads a row, mostly of the side with fewer nodes left to read. All links fall, so a
-//! side leaves aside the nodes beyond the height of the other end. The search ends when the sides meet, or when one of
-//! them has nothing left to read: it reads few rows if few nodes lie between the ends on either side. Each side
-//! records where it came from, so the way can be told once the sides meet.
+//! The search for a path from one node to another. It starts at both ends: one side goes along the links, the other
+//! against them. Each step reads one row, most often on the side with fewer rows left to read. All links fall, so a
+//! side skips nodes beyond the height of the other end. The search ends when the sides meet, or when one side has
+//! nothing left to read. So it reads few rows if few nodes lie between the ends on either side. Each side records where
+//! it came from, so that the path can be listed once the sides meet.
 
 ghost use Rattle.std.specs.Prelude.{◌≡◌, ◌≢◌, ℕ, List, ◌<◌, ◌≤◌, ◌+◌, ◌++◌, [], ◌∷◌, ◌⊎◌, ◌↔◌, length, slice_index, vec_capacity, Contains, IfOk, IfNone, IfSome, IsTrue, OnOk};
 ghost use Rattle.fr_graph.specs.Heights.{AreFalling};
@@ -25,7 +25,7 @@ enum Met {
 }
 
 impl Met {
-    /// What stands at the nodes that the side which goes this way has met.
+    /// The mark of the nodes that the side going this way has met.
     fn by(first: First) -> Met
         ensures { result ≡ met_by first }
     {
@@ -39,41 +39,41 @@ impl Met {
 /// Whether links lead from one node to another.
 #[derive(Drop)]
 pub(crate) enum PathAnswer {
-    /// They do: the sides of the search have met.
+    /// Yes: the sides of the search have met.
     Leads(Meeting),
-    /// They do not. All links fall, and a link back too, once these nodes have heights between the two.
+    /// No. Once these nodes have heights between the two, all links fall, and a link back would fall too.
     Ends {
-        /// All nodes of the side of the search that had nothing left to read.
+        /// All nodes that the finished side of the search has met.
         nodes: Vec<u32>,
         /// The lower one of the heights.
         low: u64,
-        /// The higher one.
+        /// The higher one of the heights.
         high: u64,
     },
 }
 
-/// A side with fewer nodes left to read may have read so many times as many rows as the other. So the search reads few
-/// rows whenever one side is soon done.
+/// The side with fewer rows left to read may have read this many times as many rows as the other side. So the search
+/// reads few rows whenever one side is soon done.
 const LEAD: usize = 4;
 
-/// One side of the search: it goes along the links that leave a node in one direction.
+/// One side of the search. It follows the links that leave a node in one direction.
 #[derive(Drop)]
 struct Side {
     first: First,
-    // The height of the node that it seeks, beyond which it leaves nodes aside.
+    // The height of the node that it looks for. It skips nodes beyond this height.
     limit: u64,
-    // The height of the nearest node that it has left aside. At first it lies beyond all nodes.
+    // The height of the nearest node that it has skipped. At first it lies beyond all nodes.
     edge: u64,
-    // The nodes that it has met, in the order in which it met them.
+    // The nodes that it has met, in this order.
     nodes: Vec<u32>,
-    // For each of them the place of the one in whose row it was met.
+    // For each of these nodes, the place of the node in whose row it was met.
     origins: Vec<usize>,
     // How many of their rows it has read.
     read: usize,
 }
 
 impl Side {
-    /// The side that goes this way from `start`, up to this height, with room for so many nodes.
+    /// The side that goes this way from `start` up to the height `limit`, with room for `nodes` nodes.
     fn begun(
         alloc: Global,
         first: First,
@@ -102,8 +102,8 @@ impl Side {
         })
     }
 
-    /// Whether the side goes on from a node of height `own` to a neighbour of this height. The link between them has
-    /// to lead that way, which the heights tell since all links fall, and the neighbour has to lie within the limit.
+    /// Whether the side goes on from a node of height `own` to a neighbour of this height. The link between them must
+    /// lead that way, which the heights show because all links fall, and the neighbour must be within the limit.
     fn goes_on(&self, own: u64, height: u64) -> bool
         ensures lies { IsTrue result → LiesOn self.now.first own height }
         ensures within { IsTrue result → ¬ IsBeyond self.now.first self.now.limit height }
@@ -116,7 +116,7 @@ impl Side {
         }
     }
 
-    /// The edge, or the height of a neighbour beyond the limit that is nearer.
+    /// The nearer of two heights: the edge, and the height of a neighbour if it lies beyond the limit.
     fn nearer(&self, edge: u64, height: u64) -> u64
         ensures past { IsBeyond self.now.first self.now.limit height → IsPast self.now.first result height }
         ensures nearer { (other : ℕ) → IsPast self.now.first edge other → IsPast self.now.first result other }
@@ -142,8 +142,8 @@ impl Side {
         self.nodes.len().saturating_sub(self.read)
     }
 
-    /// Whether this side reads the next row. The side with fewer nodes left to read does, since it is likely to be
-    /// done first, unless it has read far more rows.
+    /// Whether this side reads the next row. The side with fewer rows left to read does, because it is likely to be
+    /// done first, unless it has already read far more rows.
     fn goes_next(&self, other: &Side) -> bool {
         if self.unread() <= other.unread() {
             self.read / LEAD <= other.read
@@ -152,8 +152,8 @@ impl Side {
         }
     }
 
-    /// Meets a node within the limit, in the row that this side reads, unless a side has met it. Returns whether the
-    /// other side has.
+    /// Marks a node as met, unless a side has met it. The node is within the limit and in the row that this side reads.
+    /// Returns whether the other side has met it.
     fn meet(&mut self, node: u32, met: &mut [Met]) -> bool
         requires node { node < length met.old }
         requires room { HasRoom self.old met.old }
@@ -174,7 +174,7 @@ impl Side {
         }
     }
 
-    /// The answer when this side has nothing left to read: its nodes, and the heights between which they can be put.
+    /// The answer if this side has nothing left to read: its nodes, and the heights between which they can be put.
     fn ended(self) -> PathAnswer
         ensures { result ≡ answer_of_ended self }
     {
@@ -189,7 +189,7 @@ impl Side {
         }
     }
 
-    /// The link between a node of this side and a neighbour on the other side, to which it leads on.
+    /// The link that leads on from a node of this side to a neighbour on the other side, from its tail to its head.
     fn link_to(&self, node: u32, neighbour: u32) -> (u32, u32)
         ensures { result ≡ link_by self.now.first node neighbour }
     {
@@ -199,8 +199,8 @@ impl Side {
         }
     }
 
-    /// Reads the row of the next node, and returns the first link that leads on to a node of the other side, if there
-    /// is one.
+    /// Reads the row of the next node. Returns the first link that leads on to a node of the other side, if there is
+    /// one.
     fn read_next(
         &mut self,
         rows: &RowTable,
@@ -219,7 +219,7 @@ impl Side {
         let node = self.nodes[self.read];
         let own = heights.height(node);
         let row = rows.row(node);
-        // Most entries lead nowhere, so one test skips them. The edge is a local variable for the same reason: speed.
+        // Most entries lead nowhere, so one test skips them. The edge is a local variable for speed too.
         let mut edge = self.edge;
         for (neighbour, _) in row {
             let neighbour = *neighbour as u32;
@@ -234,7 +234,7 @@ impl Side {
         None
     }
 
-    /// The place of a node that it has met.
+    /// The place of a node that this side has met.
     fn place_of(&self, node: u32) -> usize
         requires { Contains self.now.nodes.items node }
         ensures inside { result < length self.now.nodes.items }
@@ -247,7 +247,7 @@ impl Side {
         place
     }
 
-    /// Appends the node at this place, and those from which the side came to it, back to the start.
+    /// Appends the node at this place, and the nodes on the way back from it to the start.
     fn push_trail(&self, nodes: &mut Vec<u32>, from: usize) -> Result<(), AllocError>
         requires origins { (first : First) × (links : List (ℕ × ℕ))
             × HasOrigins first links self.now.nodes.items self.now.origins.items }
@@ -266,17 +266,18 @@ impl Side {
     }
 }
 
-/// Where the sides of a search met. It shows that links lead from the one node to the other.
+/// Where the two sides of a search met, which shows that a path leads from one node to the other.
 #[derive(Drop)]
 pub(crate) struct Meeting {
     ahead: Side,
     behind: Side,
-    // A link from a node of the side ahead to one of the side behind.
+    // A link from a node of the side ahead to a node of the side behind.
     link: (u32, u32),
 }
 
 impl Meeting {
-    /// The closed walk that a link back would close, from the end of the way by it to the start, and along the way.
+    /// The cycle that a link back would close: by this link from the end of the path to its start, and then along the
+    /// path.
     pub(crate) fn closed_walk(&self, alloc: Global) -> Result<Vec<u32>, AllocError>
         requires { (links : List (ℕ × ℕ)) × (from : ℕ) × (to : ℕ) × IsMeeting links from to self.now }
         ensures { IfOk result (λ walk. (links : List (ℕ × ℕ)) (from to : ℕ) → IsMeeting links from to self.now
@@ -293,7 +294,7 @@ impl Meeting {
     }
 }
 
-/// Whether the links, which all fall, lead from `from` to `to`, which lies no higher.
+/// Whether a path leads from `from` to `to`. All links must fall, and `to` must not be higher than `from`.
 pub(crate) fn path_between(
     alloc: Global,
     rows: &RowTable,

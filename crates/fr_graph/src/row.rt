@@ -1,4 +1,4 @@
-//! What is done in one row: the place of a neighbour sought, its entries turned, or one of them reversed.
+//! Work in one row: finding the place of a neighbour, turning all entries, reversing one of them.
 
 ghost use Rattle.std.specs.Prelude.{◌≡◌, ℕ, ◌<◌, ◌≤◌, length, map, slice_index_or, All, Contains};
 ghost use Rattle.std.specs.List.Sorted.{IsNonDecreasingBy, IsStrictlyIncreasing};
@@ -7,7 +7,7 @@ ghost use Rattle.fr_graph.specs.TurnedRows.{reversed_at};
 
 use crate::first::First;
 
-/// The first place in the row, which is in rising order of the neighbour, whose neighbour is not below `w`.
+/// The first place in the row whose neighbour is not less than `w`. The row must be sorted by neighbour.
 pub(crate) fn place_in_row(row: &[(u16, First)], w: u32) -> usize
     requires { IsNonDecreasingBy (λ (e : ℕ × First). e.0) row.now }
     ensures inside { result ≤ length row.now }
@@ -17,7 +17,7 @@ pub(crate) fn place_in_row(row: &[(u16, First)], w: u32) -> usize
     row.partition_point(|entry| (entry.0 as u32) < w)
 }
 
-/// An entry of the row of `x`, with its link as the counts turn it.
+/// An entry of the row of `x`, turned as the counts say.
 fn turned_at(entry: (u16, First), x: u32, counts: &[u64]) -> (u16, First)
     requires node { x < length counts.now }
     requires neighbour { entry.0 < length counts.now }
@@ -42,7 +42,7 @@ pub(crate) fn turn_row(row: &mut [(u16, First)], x: u32, counts: &[u64])
     }
 }
 
-/// Reverses the entry of `w` in the row, which has one.
+/// Reverses the entry of `w` in the row. There must be one.
 pub(crate) fn reverse_entry(row: &mut [(u16, First)], w: u32)
     requires rising { IsStrictlyIncreasing (map (λ (e : ℕ × First). e.0) row.old) }
     requires stands { Contains (map (λ (e : ℕ × First). e.0) row.old) w }

@@ -1,5 +1,5 @@
-//! Rows of neighbours, one for each node, in one list, with room behind each row: a row grows and shrinks where it
-//! stands, and no other moves.
+//! Rows of neighbours, one for each node, in one list. There is room after each row, so a row grows and shrinks in
+//! place and no other row moves.
 
 ghost use Rattle.std.specs.Prelude.{◌≡◌, ℕ, ◌<◌, ◌≤◌, ◌+◌, ◌-◌, ◌==◌, ◌++◌, [], ◌∷◌, length, map, take, drop, replicate, slice_index, slice_range, insert, remove, count_by, IfOk, OnOk, OnErr, IsTrue, All, Contains};
 ghost use Rattle.std.specs.List.{range_with_len};
@@ -15,11 +15,11 @@ use crate::row::{reverse_entry, turn_row};
 use std::alloc::{AllocError, Global};
 use std::marker::Model;
 
-/// How many entries all rows together may have room for before what they do not need is given back: four times as many
-/// as a network has at most.
+/// If all rows together have room for more entries than this, unneeded room is given back. It is four times as many
+/// entries as a network can have.
 const MOST_ROOM: usize = 8 * MAX_LINKS;
 
-/// Where a row starts and where it ends. They stand beside each other, so that a row that is read costs one cache line
+/// Where a row starts and where it ends. The two are stored side by side, so that reading a row takes one cache line
 /// for both.
 #[derive(Debug, Drop, Clone, Copy)]
 struct Place {
@@ -27,12 +27,13 @@ struct Place {
     end: usize,
 }
 
-/// Rows of neighbours, one for each node. Contracts see the rows, and how many entries each has room for.
+/// Rows of neighbours, one for each node. The value in contracts is the rows, and how many entries each one has room
+/// for.
 #[derive(Debug, Drop)]
 pub(crate) struct RowTable {
-    // Each row stands in `entries` from where it starts up to where it ends, and its room goes on up to where the next
-    // one starts. Behind the places of the rows stands one more, where the room of the last row ends: its own end says
-    // nothing.
+    // Each row is in `entries`, from its start to its end, and its room extends to the start of the next row. After the
+    // places of the rows there is one more place, which starts where the room of the last row ends. Its end is not
+    // used.
     places: Vec<Place>,
     entries: Vec<(u16, First)>,
     // How many rows are empty.
@@ -51,7 +52,7 @@ impl Model for RowTable {
     ghost invariant = { IsTable };
 }
 
-/// The places of rows that stand one behind the other between these starts: each ends where the next one starts.
+/// The places of rows that follow each other without gaps: each row ends where the next one starts.
 fn places_between(alloc: Global, starts: &[usize]) -> Result<Vec<Place>, AllocError>
     ensures { IfOk result (λ places. places.items ≡ places_of starts.now) }
 {
@@ -66,7 +67,7 @@ fn places_between(alloc: Global, starts: &[usize]) -> Result<Vec<Place>, AllocEr
     Ok(places)
 }
 
-/// How many of the rows at these places are empty, where the last place is that of no row.
+/// How many of the rows at these places are empty. The last place is not that of a row.
 fn empty_between(places: &[Place]) -> usize
     requires { 0 < length places.now }
     ensures { result ≡ count_by (λ x. start_at places.now x == end_at places.now x) (range_with_len 0
@@ -80,7 +81,7 @@ fn empty_between(places: &[Place]) -> usize
     empty
 }
 
-/// Puts the entry first, and each other one place on: the last one is lost.
+/// Puts the entry first and moves each other entry one place on. The last entry is lost.
 fn shift_in(entries: &mut [(u16, First)], entry: (u16, First))
     requires { 0 < length entries.old }
     ensures { entries.new ≡ take (length entries.old) (entry ∷ entries.old) }
@@ -93,7 +94,7 @@ fn shift_in(entries: &mut [(u16, First)], entry: (u16, First))
     }
 }
 
-/// Puts each entry but the first one place back: the first one is lost, and the last one stands twice.
+/// Moves each entry but the first one place back. The first entry is lost, and the last place keeps its entry.
 fn shift_out(entries: &mut [(u16, First)])
     requires { 0 < length entries.old }
     ensures one_each { length entries.new ≡ length entries.old }
@@ -104,7 +105,7 @@ fn shift_out(entries: &mut [(u16, First)])
     }
 }
 
-/// Keeps the entries up to `start`, and lays the row behind them, with room up to `next`.
+/// Keeps the entries up to `start`, and puts the row after them, with room up to `next`.
 fn lay_behind(
     entries: &mut Vec<(u16, First)>,
     start: usize,
@@ -123,7 +124,7 @@ fn lay_behind(
 }
 
 impl RowTable {
-    /// No rows yet, but room for so many, and for so many entries in all of them together.
+    /// A table without rows, with memory for this many rows and for this many entries in all of them together.
     fn with_capacity(alloc: Global, rows: usize, entries: usize) -> Result<RowTable, AllocError>
         ensures { IfOk result (λ table. (table.rows ≡ []) × (table.rooms ≡ [])) }
     {
@@ -136,7 +137,7 @@ impl RowTable {
         })
     }
 
-    /// The table with a row behind the others, which has room for so many entries.
+    /// The table with one more row at the end, which has room for so many entries.
     fn with_row_behind(self, row: &[(u16, First)], room: usize) -> Result<RowTable, AllocError>
         requires { length row.now ≤ room }
         ensures rows { IfOk result (λ table. table.rows ≡ self.rows ++ row.now ∷ []) }
@@ -150,7 +151,7 @@ impl RowTable {
         let last = places.len() - 1;
         let start = places[last].start;
         let next = start.checked_add(room).ok_or(AllocError)?;
-        // Entries behind the room of the last row are of no row.
+        // Entries after the room of the last row belong to no row.
         lay_behind(&mut entries, start, next, row)?;
         places[last] = Place {
             start,
@@ -177,8 +178,8 @@ impl RowTable {
         &self.entries[place.start..place.end]
     }
 
-    /// How many entries the row at this place has room for once it is laid out anew: an eighth more than it has, and
-    /// six, for links come to short rows as to long ones; and, if room is kept, no fewer than it has room for.
+    /// For how many entries the row at this place has room after all rows are laid out again: an eighth more than it
+    /// has, and six more, because short rows gain links as often as long ones. With `keeps_room`, never fewer than now.
     fn room_anew(&self, x: usize, keeps_room: bool) -> usize
         requires { x < length self.now.rows }
         ensures room { length (row_of self.now x) < result }
@@ -190,7 +191,7 @@ impl RowTable {
         if keeps_room { wide.max(held) } else { wide }
     }
 
-    /// How many entries all rows together have room for once they are laid out anew.
+    /// For how many entries all rows together have room after they are laid out again.
     fn whole_room_anew(&self, keeps_room: bool) -> usize {
         let mut whole: usize = 0;
         for x in 0..self.len() {
@@ -199,8 +200,8 @@ impl RowTable {
         whole
     }
 
-    /// The same rows laid out anew, each with room to grow by an eighth and six more; and, if room is kept, with no
-    /// less than it has.
+    /// The same rows laid out again, each with room to grow by an eighth and six more. With `keeps_room`, no row has
+    /// less room than now.
     fn laid_out(&self, alloc: Global, keeps_room: bool) -> Result<RowTable, AllocError>
         ensures rows { IfOk result (λ table. table.rows ≡ self.now.rows) }
         ensures room { IfOk result (λ table. (x : ℕ) → x < length self.now.rows → HasRoomIn table x) }
@@ -214,7 +215,7 @@ impl RowTable {
         Ok(table)
     }
 
-    /// The table of rows that stand one behind the other between these starts, with no room for more.
+    /// The table of rows that follow each other without gaps and have no room for more.
     pub(crate) fn packed(
         alloc: Global,
         starts: Vec<usize>,
@@ -234,7 +235,7 @@ impl RowTable {
         })
     }
 
-    /// How many rows there are.
+    /// The number of rows.
     pub(crate) fn len(&self) -> usize
         ensures { result ≡ length self.now.rows }
     {
@@ -249,21 +250,21 @@ impl RowTable {
         self.row_at(x as usize)
     }
 
-    /// How many rows are empty. It takes the same time for each table.
+    /// The number of empty rows, in constant time.
     pub(crate) fn empty_rows(&self) -> usize
         ensures { result ≡ count_by has_none self.now.rows }
     {
         self.empty
     }
 
-    /// The law of room: no row has more entries than it has room for. It does nothing.
+    /// The law of room: no row has more entries than it has room for. The function does nothing.
     pub(crate) fn room_law(&self)
         ensures { (x : ℕ) → length (row_of self.now x) ≤ room_of self.now x }
     {
         let _empty = self.empty;
     }
 
-    /// A copy, with as much room in each row.
+    /// A copy, with the same room in each row.
     pub(crate) fn copied(&self, alloc: Global) -> Result<RowTable, AllocError>
         ensures { IfOk result (λ copy. copy ≡ self.now) }
     {
@@ -274,9 +275,8 @@ impl RowTable {
         })
     }
 
-    /// Takes room for one entry more in the row of `x`. Where it has none, all rows are laid out anew, each with room
-    /// to grow by an eighth and six more. No row has less room afterwards, so that edits made before can still be
-    /// undone.
+    /// Makes room for one more entry in the row of `x`. If the row is full, all rows are laid out again, each with room
+    /// to grow by an eighth and six more. No row has less room afterwards, so earlier edits can still be undone.
     pub(crate) fn make_room(&mut self, alloc: Global, x: u32) -> Result<(), AllocError>
         requires { x < length self.old.rows }
         ensures rows { self.new.rows ≡ self.old.rows }
@@ -290,8 +290,8 @@ impl RowTable {
         Ok(())
     }
 
-    /// Gives back room that rows no longer need, where all rows together have room for far more than a network has
-    /// entries.
+    /// Gives back room that rows do not need, if all rows together have room for far more entries than a network can
+    /// have.
     pub(crate) fn trim(&mut self, alloc: Global) -> Result<(), AllocError>
         ensures rows { self.new.rows ≡ self.old.rows }
     {
@@ -301,7 +301,7 @@ impl RowTable {
         Ok(())
     }
 
-    /// Puts an entry into the row of `x`, which has room for it, before the entry at this place.
+    /// Inserts an entry before this place in the row of `x`, which must have room for it.
     pub(crate) fn insert(&mut self, x: u32, place: usize, entry: (u16, First))
         requires row { x < length self.old.rows }
         requires place { place ≤ length (row_of self.old x) }
@@ -317,7 +317,7 @@ impl RowTable {
         self.empty -= usize::from(start == end);
     }
 
-    /// Takes the entry at this place out of the row of `x`.
+    /// Removes the entry at this place from the row of `x`.
     pub(crate) fn remove(&mut self, x: u32, place: usize)
         requires row { x < length self.old.rows }
         requires place { place < length (row_of self.old x) }
@@ -341,7 +341,7 @@ impl RowTable {
         turn_row(&mut self.entries[place.start..place.end], x, counts);
     }
 
-    /// Reverses the entry of `w` in the row of `x`, which has one.
+    /// Reverses the entry of `w` in the row of `x`. There must be one.
     pub(crate) fn reverse_entry(&mut self, x: u32, w: u32)
         requires row { x < length self.old.rows }
         requires rising { IsStrictlyIncreasing (map (λ (e : ℕ × First). e.0) (row_of self.old x)) }

@@ -1,4 +1,4 @@
-//! Rows as counts turn them, each where it stands.
+//! Rows turned by counts, in place.
 
 ghost use Rattle.std.specs.Prelude.{◌≡◌, ℕ, ◌<◌, Bool, false, length, slice_index};
 ghost use Rattle.fr_graph.specs.Network.{Network};
@@ -7,7 +7,8 @@ ghost use Rattle.fr_graph.specs.TurnedRows.{ArePartTurned, all_done, is_done, no
 use crate::row_table::RowTable;
 use crate::turns::Turns;
 
-/// Turns the row of `x`, which has turned, as the counts say, and its entries in the rows of neighbours that have not.
+/// Turns the row of `x`, which has turned, as the counts say, and the entries of `x` in the rows of neighbours that
+/// have not turned.
 fn turn_node(rows: &mut RowTable, x: u32, counts: &[u64])
     requires node { x < length counts.now }
     requires turned { 0 < slice_index counts.now x }
@@ -26,8 +27,8 @@ fn turn_node(rows: &mut RowTable, x: u32, counts: &[u64])
     }
 }
 
-/// Turns the rows as these turns say: only those of nodes that have turned are touched, and in the others their
-/// entries.
+/// Turns the rows as these turns say. It changes only the rows of nodes that have turned, and their entries in other
+/// rows.
 pub(crate) fn turn_rows(rows: &mut RowTable, turns: &Turns)
     requires rows { (net : Network) × ArePartTurned net turns.now none_done rows.old }
     ensures { (net : Network) → ArePartTurned net turns.now none_done rows.old

@@ -1,4 +1,4 @@
-//! The turns of a round: how often each node has turned, and which nodes have.
+//! The turns of a round: how often each node has turned, and which nodes have turned.
 
 ghost use Rattle.std.specs.Prelude.{◌≡◌, ℕ, ◌<◌, ◌≤◌, ◌+◌, ◌-◌, ◌^◌, length, map, min, replicate, slice_index, slice_set, sum, sum_by, vec_capacity, All, IfOk};
 ghost use Rattle.fr_graph.specs.Limits.{most_nodes};
@@ -7,12 +7,12 @@ ghost use Rattle.fr_graph.specs.Turns.{AreSet, AreTurned, set_to};
 use std::alloc::{AllocError, Global};
 use std::marker::Model;
 
-/// How often each node has turned, with a list of the nodes that have: what follows a few turns goes over these alone.
-/// Contracts see the counts, one for each node.
+/// How often each node has turned, with a list of the nodes that have. Work after a few turns goes over this list only.
+/// The value in contracts is the counts, one for each node.
 #[derive(Debug, Drop)]
 pub struct Turns {
     counts: Vec<u64>,
-    // There is a place for each node, so that a turn takes no memory.
+    // Its capacity is the number of nodes, so that a turn does not allocate.
     nodes: Vec<u32>,
 }
 
@@ -43,7 +43,7 @@ fn list_turned(nodes: &mut Vec<u32>, counts: &[u64])
     }
 }
 
-/// Makes this the count of each of these nodes.
+/// Sets the count of each of these nodes to `count`.
 fn set_counts(counts: &mut [u64], nodes: &[u32], count: u64)
     requires { All (λ (x : ℕ). x < length counts.old) nodes.now }
     ensures one_each { length counts.new ≡ length counts.old }
@@ -54,7 +54,7 @@ fn set_counts(counts: &mut [u64], nodes: &[u32], count: u64)
     }
 }
 
-/// The sum of the counts of these nodes, or the most that a `u64` holds.
+/// The sum of the counts of these nodes, at most `u64::MAX`.
 fn sum_of(counts: &[u64], nodes: &[u32]) -> u64
     requires { All (λ (x : ℕ). x < length counts.now) nodes.now }
     ensures { result ≡ min (sum_by (slice_index counts.now) nodes.now) (2 ^ 64 - 1) }
@@ -67,8 +67,8 @@ fn sum_of(counts: &[u64], nodes: &[u32]) -> u64
 }
 
 impl Turns {
-    /// No turns yet, of so many nodes, [`MAX_NODES`](crate::MAX_NODES) at most, with room for all there can be.
-    /// `AllocError` where no room could be had. `O(n)`.
+    /// No turns yet, for at most [`MAX_NODES`](crate::MAX_NODES) nodes, with memory for all turns that can come. Fails
+    /// with `AllocError` if an allocation is refused. O(n).
     pub fn none(alloc: Global, nodes: u32) -> Result<Turns, AllocError>
         requires { nodes ≤ most_nodes }
         ensures { IfOk result (λ turns. turns ≡ replicate nodes 0) }
@@ -79,8 +79,8 @@ impl Turns {
         })
     }
 
-    /// The turns that these counts tell, of [`MAX_NODES`](crate::MAX_NODES) nodes at most. `AllocError` where no room
-    /// could be had. `O(n)`.
+    /// The turns with these counts, of at most [`MAX_NODES`](crate::MAX_NODES) nodes. Fails with `AllocError` if an
+    /// allocation is refused. O(n).
     pub fn of(alloc: Global, counts: Vec<u64>) -> Result<Turns, AllocError>
         requires { length counts.items ≤ most_nodes }
         ensures { IfOk result (λ turns. turns ≡ counts.items) }
@@ -90,29 +90,29 @@ impl Turns {
         Ok(Turns { counts, nodes })
     }
 
-    /// How often each node has turned: one count for each node. `O(1)`.
+    /// How often each node has turned: one count for each node. O(1).
     pub fn counts(&self) -> &[u64]
         ensures { result.now ≡ self.now }
     {
         &self.counts
     }
 
-    /// The nodes that have turned, each once, in no order. `O(1)`.
+    /// The nodes that have turned, each once, in no particular order. O(1).
     pub fn nodes(&self) -> &[u32]
         ensures { AreTurned self.now result.now }
     {
         &self.nodes
     }
 
-    /// How many turns there are together, or the most that a `u64` holds. `O(k)` for k nodes that have turned.
+    /// The total number of turns, at most `u64::MAX`. O(k) for k nodes that have turned.
     pub fn total(&self) -> u64
         ensures { result ≡ min (sum self.now) (2 ^ 64 - 1) }
     {
         sum_of(&self.counts, &self.nodes)
     }
 
-    /// Adds a turn of node `x`, which has to be a node, with a count that is not the most that a `u64` holds. It takes
-    /// no memory. `O(1)`.
+    /// Adds a turn of node `x`, which must be in the table and have a count below `u64::MAX`. It does not allocate.
+    /// O(1).
     pub fn add(&mut self, x: u32)
         requires node { x < length self.old }
         requires fits { slice_index self.old x < 2 ^ 64 - 1 }
@@ -125,7 +125,7 @@ impl Turns {
         self.counts[x as usize] = count + 1;
     }
 
-    /// Makes them the turns that these counts tell, one count for each node. It takes no memory. `O(n)`.
+    /// Copies these counts, one for each node. It does not allocate. O(n).
     pub fn copy_from(&mut self, counts: &[u64])
         requires { length counts.now ≡ length self.old }
         ensures { self.new ≡ counts.now }
@@ -134,7 +134,7 @@ impl Turns {
         list_turned(&mut self.nodes, counts);
     }
 
-    /// Makes this the count of each node that has turned; it must not be 0. `O(k)` for k nodes that have turned.
+    /// Sets the count of each node that has turned to `count`, which must not be 0. O(k) for k nodes that have turned.
     pub fn set_each(&mut self, count: u64)
         requires { 0 < count }
         ensures { self.new ≡ map (set_to count) self.old }
@@ -142,7 +142,7 @@ impl Turns {
         set_counts(&mut self.counts, &self.nodes, count);
     }
 
-    /// Takes all turns back: each count is 0 then. `O(k)` for k nodes that had turned.
+    /// Sets all counts to 0. O(k) for k nodes that had turned.
     pub fn clear(&mut self)
         ensures { self.new ≡ replicate (length self.old) 0 }
     {
@@ -150,7 +150,7 @@ impl Turns {
         self.nodes.clear();
     }
 
-    /// The counts alone. `O(1)`.
+    /// Returns only the counts. O(1).
     pub fn into_counts(self) -> Vec<u64>
         ensures { result.items ≡ self }
     {

@@ -1,5 +1,5 @@
-//! A caller of each library, as its page `CALLING.md` shows it. They are proved by public contracts alone, and nothing calls
-//! them; `examples/check` compares the pages with these files.
+//! A caller of each library, as its page `CALLING.md` shows it. The callers are proved from public contracts only, and
+//! nothing calls them. `examples/check` compares the pages with these files.
 
 pub mod crews;
 pub mod histories;

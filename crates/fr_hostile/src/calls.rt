@@ -26,7 +26,7 @@ const CHAIN: [(u32, u32); 3] = [(0, 1), (1, 2), (2, 3)];
 /// The line of the chain.
 const NETWORK_LINE: &[u8] = br#"["net",4,0,[[0,1],[1,2],[2,3]]]"#;
 
-/// The edits that put a link of the chain in another place.
+/// The edits that move a link of the chain to another place.
 const MOVED_LINK: [Edit; 2] = [Edit::Cut { u: 1, v: 2 }, Edit::Add { u: 0, v: 3 }];
 
 /// A link from each of the nodes 0 to 3 to each of the nodes 4 to 7.
@@ -49,7 +49,7 @@ const LEFT_TO_RIGHT: [(u32, u32); 16] = [
     (3, 7),
 ];
 
-/// A call, or a few that belong together.
+/// One call, or a few that belong together.
 #[derive(Clone, Copy)]
 pub enum Call {
     Network,
@@ -108,7 +108,7 @@ pub const CALLS: [Call; 25] = [
     Call::Shared,
 ];
 
-/// Makes a call, and puts what it came to behind the answer.
+/// Makes a call, and appends its result to the answer.
 pub fn make<R: Threads + Wait + Sync + Alloc<A = Global> + Print + Eprint>(
     rt: &R,
     answer: &mut Answer,
@@ -150,7 +150,7 @@ fn make_on<R: Threads + Wait + Sync + Alloc<A = Global> + Print + Eprint>(
     }
 }
 
-/// Makes a call beside the chain, which stays as it is.
+/// Makes a call beside the chain, which does not change.
 fn make_beside<R: Threads + Wait + Sync + Alloc<A = Global> + Eprint>(
     rt: &R,
     answer: &mut Answer,
@@ -161,7 +161,7 @@ fn make_beside<R: Threads + Wait + Sync + Alloc<A = Global> + Eprint>(
         Call::Network => put_net(rt, answer, net),
         Call::CutNetwork => put_made(rt, answer, net.with_cut(rt.alloc(), 2, 1)),
         Call::LinkedNetwork => put_made(rt, answer, net.with_link(rt.alloc(), 0, 3)),
-        // A link from 3 to 0 would close a walk.
+        // A link from 3 to 0 would close a cycle.
         Call::JoinedNetwork => put_made(rt, answer, net.with_join(rt.alloc(), 3, 0)),
         Call::RefusedNetworks => refused_networks(rt, answer, net),
         Call::Played => played(rt, answer, net),
@@ -173,7 +173,7 @@ fn make_beside<R: Threads + Wait + Sync + Alloc<A = Global> + Eprint>(
     }
 }
 
-/// Puts a line behind the answer.
+/// Appends a line to the answer.
 fn put_line<R: Eprint, E: Display + Drop>(rt: &R, answer: &mut Answer, line: Result<String, E>) {
     if let Some(line) = answer.told(rt, line) {
         answer.say(&line);
@@ -184,12 +184,12 @@ fn put_counts<R: Alloc<A = Global> + Eprint>(rt: &R, answer: &mut Answer, counts
     put_line(rt, answer, counts_line(rt.alloc(), counts));
 }
 
-/// Puts the links of a network behind the answer.
+/// Appends the links of a network to the answer.
 fn put_net<R: Alloc<A = Global> + Eprint>(rt: &R, answer: &mut Answer, net: &Net) {
     put_line(rt, answer, links_line(rt.alloc(), net.links()));
 }
 
-/// The same of a network that was made.
+/// Does the same for a network that was just made.
 fn put_made<R: Alloc<A = Global> + Eprint>(
     rt: &R,
     answer: &mut Answer,
@@ -205,7 +205,7 @@ fn has_links(net: &Net, links: &[(u32, u32)]) -> bool {
     net.links().len() == links.len() && net.links().zip(links).all(|(shown, link)| shown == *link)
 }
 
-/// Writes to standard output what should not have come to pass.
+/// Writes to standard output what must not happen.
 fn say<R: Print>(rt: &R, text: &str) {
     let _ = rt.println(text);
 }
@@ -220,7 +220,7 @@ fn refused_networks<R: Alloc<A = Global> + Eprint>(rt: &R, answer: &mut Answer, 
     put_number(rt, answer, net.with_cut(alloc, 0, 3));
 }
 
-/// Puts the number of the fault of links that a call names behind the answer, or 0 if it names none.
+/// Appends the number of the fault of links with which a call fails, or 0 if it succeeds.
 fn put_number<R: Eprint>(rt: &R, answer: &mut Answer, outcome: Result<Net, NetFault>) {
     match outcome {
         Ok(_) => answer.say("0"),
@@ -228,7 +228,7 @@ fn put_number<R: Eprint>(rt: &R, answer: &mut Answer, outcome: Result<Net, NetFa
     }
 }
 
-/// Puts the number of a fault of links behind the answer. Want of memory has none.
+/// Appends the number of a fault of links. Missing memory has no number.
 fn put_fault<R: Eprint>(rt: &R, answer: &mut Answer, fault: NetFault) {
     let number = fault_number(&fault);
     if number == 0 {
@@ -246,7 +246,8 @@ fn edited_network<R: Alloc<A = Global> + Eprint>(rt: &R, answer: &mut Answer, ne
     }
 }
 
-/// The same where the network stands, with its text made before the edits stay. Where that finds no memory, it has to be as it was.
+/// The same in place, with its text made before the edits are kept. If that fails for want of memory, the network must
+/// be unchanged.
 fn edited_in_place<R: Alloc<A = Global> + Print + Eprint>(
     rt: &R,
     answer: &mut Answer,
@@ -269,7 +270,7 @@ fn links_of(alloc: Global, net: &Net) -> Result<String, AllocError> {
     links_line(alloc, net.links())
 }
 
-/// Tells why a network was not edited.
+/// Reports why a network was not edited.
 fn tell_not_edited<R: Eprint>(rt: &R, answer: &mut Answer, fault: NotEdited<AllocError>) {
     match fault {
         NotEdited::Refused(refused) => answer.lack(rt, refused.fault),
@@ -281,14 +282,15 @@ fn request<R: Alloc<A = Global> + Eprint>(rt: &R, answer: &mut Answer) {
     put_read_line(rt, answer, read_line(rt.alloc(), NETWORK_LINE));
 }
 
-/// Two lines by one reader, which has its table already when it reads the second. The first is not read by its bytes.
+/// Two lines by one reader, which already has its table when it reads the second one. The first one cannot be read by
+/// its bytes.
 fn lines_read<R: Alloc<A = Global> + Eprint>(rt: &R, answer: &mut Answer) {
     let mut reader = LineReader::new();
     put_read_line(rt, answer, reader.read(rt.alloc(), br#"["w\u0061lk", 3]"#));
     put_read_line(rt, answer, reader.read(rt.alloc(), NETWORK_LINE));
 }
 
-/// Puts the links of a request behind the answer.
+/// Appends the links of a request to the answer.
 fn put_links(answer: &mut Answer, links: &[(u32, u32)]) {
     answer.say("links");
     for (tail, head) in links {
@@ -296,7 +298,7 @@ fn put_links(answer: &mut Answer, links: &[(u32, u32)]) {
     }
 }
 
-/// Puts the node of a walk or the links of a network behind the answer.
+/// Appends the node of a walk or the links of a network to the answer.
 fn put_read_line<R: Alloc<A = Global> + Eprint>(
     rt: &R,
     answer: &mut Answer,
@@ -321,7 +323,8 @@ fn refused_line<R: Alloc<A = Global> + Eprint>(rt: &R, answer: &mut Answer) {
     }
 }
 
-/// Two workers turn the ends of the chain, step by step; the entries are checked, and the links that they give made.
+/// Two workers turn the ends of the chain, step by step. The entries are checked, and the links that they give are
+/// made.
 fn played<R: Alloc<A = Global> + Eprint>(rt: &R, answer: &mut Answer, net: &Net) {
     let schedule = [0, 1, 0, 1, 0, 1, 0, 1, 0, 1];
     if let Some(targets) = answer.told(rt, targets(rt.alloc())) {
@@ -332,7 +335,7 @@ fn played<R: Alloc<A = Global> + Eprint>(rt: &R, answer: &mut Answer, net: &Net)
     }
 }
 
-/// Puts the links that entries give behind the answer.
+/// Appends the links that entries give to the answer.
 fn put_played<R: Alloc<A = Global> + Eprint>(
     rt: &R,
     answer: &mut Answer,
@@ -354,7 +357,7 @@ fn machine<R: Alloc<A = Global> + Eprint>(rt: &R, answer: &mut Answer, net: &Net
     }
 }
 
-/// The ends of the chain that two workers are to turn, a node each.
+/// The targets of two workers: the ends of the chain, one node each.
 fn targets(alloc: Global) -> Result<Vec<Vec<Target>>, AllocError> {
     let mut targets = Vec::new(alloc);
     for x in [3, 2] {
@@ -363,7 +366,7 @@ fn targets(alloc: Global) -> Result<Vec<Vec<Target>>, AllocError> {
     Ok(targets)
 }
 
-/// A round that is opened and closed; where it is not opened, the network has to come back.
+/// A round that is opened and closed. If it is not opened, the network must be given back.
 fn opened<R: Alloc<A = Global> + Print + Eprint>(rt: &R, answer: &mut Answer, net: Net) {
     match Round::open(rt.alloc(), net, 0, 3) {
         Ok((round, workers)) => {
@@ -393,7 +396,7 @@ fn settled_alone<R: Alloc<A = Global> + Eprint>(rt: &R, answer: &mut Answer, net
     put_settled(rt, answer, settle_alone(rt.alloc(), net, 0));
 }
 
-/// Puts the counts of a settled network behind the answer.
+/// Appends the counts of a settled network to the answer.
 fn put_settled<R: Alloc<A = Global> + Eprint, E: Display + Drop>(
     rt: &R,
     answer: &mut Answer,
@@ -404,8 +407,8 @@ fn put_settled<R: Alloc<A = Global> + Eprint, E: Display + Drop>(
     }
 }
 
-/// A worker that turns a node on the right makes all on the left candidates, so its deque has to grow. A candidate that finds no
-/// memory is left to the finisher.
+/// A worker that turns a node on the right makes all nodes on the left candidates, so its deque has to grow. A
+/// candidate for which there is no memory is left to the finisher.
 fn settled_with_growth<R: Threads + Wait + Sync + Alloc<A = Global> + Eprint>(
     rt: &R,
     answer: &mut Answer,
@@ -419,7 +422,7 @@ fn settled_with_growth<R: Threads + Wait + Sync + Alloc<A = Global> + Eprint>(
     }
 }
 
-/// Puts how many turns settled a network, the counts and the links behind the answer.
+/// Appends how many turns settled a network, the counts and the links.
 fn put_settlement<R: Alloc<A = Global> + Eprint>(rt: &R, answer: &mut Answer, settled: &Settled) {
     answer.say("turned");
     answer.put(&settled.by_workers.saturating_add(settled.by_finisher));
@@ -427,7 +430,7 @@ fn put_settlement<R: Alloc<A = Global> + Eprint>(rt: &R, answer: &mut Answer, se
     put_net(rt, answer, &settled.net);
 }
 
-/// A router that changes and walks. Where a change finds no memory or no thread, the router has to be as it was.
+/// A router that changes and walks. If a change fails for want of memory or a thread, the router must be unchanged.
 fn routed<R: Threads + Wait + Sync + Alloc<A = Global> + Print + Eprint>(
     rt: &R,
     answer: &mut Answer,
@@ -458,7 +461,7 @@ fn change_and_walk<R: Threads + Wait + Sync + Alloc<A = Global> + Print + Eprint
     }
 }
 
-/// Says so if the router is not that of the chain once it leads home.
+/// Reports if the router is not that of the chain after it is settled.
 fn look_for_change<R: Alloc<A = Global> + Print + Eprint>(
     rt: &R,
     answer: &mut Answer,
@@ -470,13 +473,13 @@ fn look_for_change<R: Alloc<A = Global> + Print + Eprint>(
     }
 }
 
-/// Whether the router tells the turns by which the chain comes to lead home.
+/// Whether the router reports the turns that settle the chain.
 fn has_turned_home(router: &Router) -> bool {
     let Report { turned, cut } = router.report();
     turned == 6 && cut == 0 && router.dest() == 0 && matches!(router.counts(), [0, 1, 2, 3])
 }
 
-/// Puts the links of a router and the way from node 2 behind the answer.
+/// Appends the links of a router and the route from node 2 to the answer.
 fn put_walked<R: Alloc<A = Global> + Eprint>(rt: &R, answer: &mut Answer, router: &Router) {
     put_net(rt, answer, router.net());
     if router.net().nodes() == 4 {
@@ -517,7 +520,7 @@ fn counted_alone<R: Alloc<A = Global> + Eprint>(rt: &R, answer: &mut Answer, net
     }
 }
 
-/// Puts the counts of turns behind the answer.
+/// Appends the counts of turns to the answer.
 fn put_counted<R: Alloc<A = Global> + Eprint, E: Display + Drop>(
     rt: &R,
     answer: &mut Answer,
@@ -528,7 +531,7 @@ fn put_counted<R: Alloc<A = Global> + Eprint, E: Display + Drop>(
     }
 }
 
-/// A router on the calling thread alone. Where its change finds no memory, it has to be as it was.
+/// A router that uses only the calling thread. If its change fails for want of memory, it must be unchanged.
 fn routed_alone<R: Alloc<A = Global> + Print + Eprint>(rt: &R, answer: &mut Answer, net: Net) {
     if let Some(mut router) = answer.told(rt, Router::open_alone(rt.alloc(), net, 0)) {
         let changed = router.change_alone(rt.alloc(), Change::Cut { u: 2, v: 1 });
@@ -540,7 +543,7 @@ fn routed_alone<R: Alloc<A = Global> + Print + Eprint>(rt: &R, answer: &mut Answ
     }
 }
 
-/// The nodes that a cut reroutes. Where it finds no memory, the router has to be as it was.
+/// The nodes that a cut reroutes. If it fails for want of memory, the router must be unchanged.
 fn rerouted<R: Alloc<A = Global> + Print + Eprint>(rt: &R, answer: &mut Answer, net: Net) {
     if let Some(mut router) = answer.told(rt, Router::open_alone(rt.alloc(), net, 0)) {
         let all = router.changed_since(rt.alloc(), None);
@@ -565,7 +568,7 @@ fn reroute<R: Alloc<A = Global> + Print + Eprint>(
     }
 }
 
-/// A line and a request, answered on the calling thread alone.
+/// A line and a request, answered on the calling thread.
 fn answered_alone<R: Alloc<A = Global> + Eprint>(rt: &R, answer: &mut Answer) {
     let mut session = Session::new();
     let report = session.answer_line_alone(rt.alloc(), NETWORK_LINE);
@@ -576,7 +579,7 @@ fn answered_alone<R: Alloc<A = Global> + Eprint>(rt: &R, answer: &mut Answer) {
     put_line(rt, answer, session.answer_alone(rt.alloc(), &request));
 }
 
-/// A walk in an open round on a chain that leads home.
+/// A walk in an open round, on a settled chain.
 fn walked_live<R: Alloc<A = Global> + Eprint>(rt: &R, answer: &mut Answer) {
     let alloc = rt.alloc();
     let Some(net) = answer.told(rt, Net::new(alloc, 4, &[(1, 0), (2, 1), (3, 2)])) else {
@@ -595,7 +598,7 @@ fn walked_live<R: Alloc<A = Global> + Eprint>(rt: &R, answer: &mut Answer) {
     }
 }
 
-/// The order in which hops are pushed once node 1 sends on to 2, and the loop that stands if node 1 is first.
+/// The push order after node 1 sends on to 2, and the loop that is there if node 1 comes first.
 fn pushed<R: Alloc<A = Global> + Eprint>(rt: &R, answer: &mut Answer) {
     let old = [Hop::Here, Hop::To(0), Hop::To(1), Hop::To(0)];
     let new = [Hop::Here, Hop::To(2), Hop::To(3), Hop::To(0)];
@@ -608,7 +611,7 @@ fn pushed<R: Alloc<A = Global> + Eprint>(rt: &R, answer: &mut Answer) {
     }
 }
 
-/// A table that threads share, with three readers, of which each reads the hop of another node.
+/// A table that threads share, with three readers, each of which reads the hop of another node.
 fn shared<R: Alloc<A = Global> + Eprint>(rt: &R, answer: &mut Answer) {
     let Some((mut publisher, mut first)) = answer.told(rt, open(rt.alloc(), 4)) else {
         return;

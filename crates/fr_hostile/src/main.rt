@@ -1,7 +1,7 @@
-//! Makes each call that takes memory or threads, and writes what it came to on standard output. Where a call answers that
-//! memory or a thread was missing, that goes to standard error, and the call is made once more. So as long as only one
-//! allocation or one thread of the process is refused, standard output is the same, whichever it is: hostile/check refuses each in
-//! turn. What a call leaves behind after a fault is looked at as well.
+//! Makes each call that needs memory or threads, and writes its result to standard output. If a call fails because
+//! memory or a thread is missing, this is reported on standard error, and the call is made once more. So standard
+//! output is the same whenever only one allocation or one thread of the process is refused, whichever it is.
+//! hostile/check refuses each one in turn. The state after a failed call is checked as well.
 #![tactic(auto)]
 
 mod callers;
@@ -24,7 +24,7 @@ fn main(rt: HostRuntime) {
     tell_session(&rt);
 }
 
-/// Makes a call, once more if need be, and writes its answer.
+/// Makes a call, once more if it fails, and writes its answer.
 fn tell_call<R: Threads + Wait + Sync + Alloc<A = Global> + Print + Eprint>(rt: &R, call: Call) {
     for _ in 0..2 {
         let mut answer = Answer::new(rt.alloc());

@@ -1,5 +1,5 @@
-//! The lines of one session. Where one finds no memory or no thread, the session has to answer as before, and the line, asked
-//! again, has its answer.
+//! The lines of one session. If a line fails for want of memory or a thread, the session must answer as before, and the
+//! line must be answered when it is asked again.
 
 use crate::telling::told;
 use fr_crew::{OpenGate, Plan};
@@ -9,8 +9,8 @@ use std::alloc::Global;
 use std::sync::Wait;
 use std::thread::Threads;
 
-/// A chain that leads home is parted, and closed again from its other end; a batch moves a link, and then the destination moves.
-/// Two nodes are joined at last, by a link that cannot point from the first to the second.
+/// A settled chain is parted, and closed again from its other end. A batch moves a link, and then the destination
+/// moves. At last two nodes are joined by a link that cannot point from the first to the second.
 const LINES: [&str; 15] = [
     r#"["net",4,0,[[1,0],[2,1],[3,2]]]"#,
     r#"["links"]"#,
@@ -40,7 +40,7 @@ pub fn tell_session<R: Threads + Wait + Sync + Alloc<A = Global> + Print + Eprin
     }
 }
 
-/// Writes the answer to a line. Where memory or a thread was missing, the links have to be those from before.
+/// Writes the answer to a line. If memory or a thread was missing, the links must be unchanged.
 fn tell_line<R: Threads + Wait + Sync + Alloc<A = Global> + Print + Eprint>(
     rt: &R,
     session: &mut Session,
@@ -61,7 +61,7 @@ fn tell_line<R: Threads + Wait + Sync + Alloc<A = Global> + Print + Eprint>(
     };
 }
 
-/// The answer to a line that is not blank, or `None` where memory or a thread was missing, which is told.
+/// The answer to a line that is not blank. `None` if memory or a thread was missing, which is reported.
 fn answered<R: Threads + Wait + Sync + Alloc<A = Global> + Eprint>(
     rt: &R,
     session: &mut Session,
@@ -74,7 +74,7 @@ fn answered<R: Threads + Wait + Sync + Alloc<A = Global> + Eprint>(
     )?
 }
 
-/// What the session answers when it is asked for its links, once more if need be.
+/// The answer of the session to the question for its links, asked once more if it fails.
 fn links<R: Threads + Wait + Sync + Alloc<A = Global> + Eprint>(
     rt: &R,
     session: &mut Session,

@@ -1,11 +1,11 @@
-//! What is told of faults.
+//! Reporting faults.
 
 ghost use Rattle.std.specs.Prelude.{◌≡◌, Ok, IfSome};
 
 use std::alloc::Global;
 use std::fmt::{Debug, Display, Write};
 
-/// What a call gave; the fault is told, which has to be want of memory or of a thread.
+/// The result of a call. A fault, which must be missing memory or a missing thread, is reported.
 pub fn told<T: Drop, E: Display + Drop, R: Eprint>(rt: &R, outcome: Result<T, E>) -> Option<T>
     ensures { IfSome result (λ value. outcome ≡ Ok value) }
 {
@@ -18,12 +18,12 @@ pub fn told<T: Drop, E: Display + Drop, R: Eprint>(rt: &R, outcome: Result<T, E>
     }
 }
 
-/// Tells of a fault.
+/// Reports a fault.
 pub fn tell<E: Display + Drop, R: Eprint>(rt: &R, fault: E) {
     let _ = rt.eprintln(fault);
 }
 
-/// What calls came to, as text. It lacks something where memory or a thread was missing.
+/// The results of calls, as text. The text is incomplete if memory or a thread was missing.
 #[derive(Drop)]
 pub struct Answer {
     text: String,
@@ -31,7 +31,7 @@ pub struct Answer {
 }
 
 impl Answer {
-    /// No text yet.
+    /// An empty text.
     pub fn new(alloc: Global) -> Answer {
         Answer {
             text: String::new(alloc),
@@ -39,7 +39,7 @@ impl Answer {
         }
     }
 
-    /// The text, if it lacks nothing.
+    /// The text, if it is complete.
     pub fn whole(&self) -> Option<&str> {
         if self.is_whole {
             Some(self.text.as_str())
@@ -48,7 +48,7 @@ impl Answer {
         }
     }
 
-    /// What a call gave; the fault is told, and the answer then lacks something.
+    /// The result of a call. A fault is reported, and the answer is then incomplete.
     pub fn told<T: Drop, E: Display + Drop, R: Eprint>(
         &mut self,
         rt: &R,
@@ -63,13 +63,13 @@ impl Answer {
         value
     }
 
-    /// Tells of a fault, for which the answer lacks something.
+    /// Reports a fault, which makes the answer incomplete.
     pub fn lack<E: Display + Drop, R: Eprint>(&mut self, rt: &R, fault: E) {
         self.is_whole = false;
         tell(rt, fault);
     }
 
-    /// Puts words behind it, and a blank between.
+    /// Appends words and a blank.
     pub fn say(&mut self, words: &str) {
         let blank = if self.text.is_empty() { "" } else { " " };
         if self.text.push_str(blank).is_err() || self.text.push_str(words).is_err() {
@@ -77,7 +77,7 @@ impl Answer {
         }
     }
 
-    /// Puts a link behind it, and a blank between.
+    /// Appends a link and a blank.
     pub fn put_link(&mut self, tail: u32, head: u32) {
         self.say("");
         if write!(self.text, "{tail}>{head}").is_err() {
@@ -85,7 +85,7 @@ impl Answer {
         }
     }
 
-    /// Puts a value behind it as a programmer reads it, and a blank between.
+    /// Appends a value in its debug form and a blank.
     pub fn put<T: Debug>(&mut self, value: &T) {
         self.say("");
         if write!(self.text, "{value:?}").is_err() {

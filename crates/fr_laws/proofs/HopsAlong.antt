@@ -43,7 +43,7 @@ module _ (links : List (ℕ × ℕ)) (table : List Hop) (along : GoesAlong links
 
 pub round_never_loops : RoundNeverLoops
 round_never_loops b s table rule along =
-    let (history, behind) = one_history b s rule in
+    let behind = one_history b s rule in
     never_loops (links_at b.links s.words) table along behind.run.acyclic
 
 pub run_never_loops : RunNeverLoops

@@ -1,5 +1,7 @@
 mod HopsAlong  -- next hops along links without a cycle
 mod HopsRead  -- next hops that replies show
+mod InOrder  -- which call came first, as callers see it
+mod InTime  -- and as an observer of all steps sees it
 mod QuietEnds  -- what shows that no node can turn
 mod Gaps  -- lists of numbers without a gap
 mod Totals  -- how often all nodes turn together

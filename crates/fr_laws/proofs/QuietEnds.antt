@@ -265,6 +265,6 @@ each_at P (y ∷ xs) x each found = ⊎_elim
 
 pub worker_knows_quiet : WorkerKnowsQuiet
 worker_knows_quiet b s number h quiet below rule found q =
-    let (history, behind) = one_history b s rule in
-    let knows = each_at (KnowsPartOf history) (workers_of s.views) (number, h ++ quiet) behind.parts found in
-    quiet_round_is_settled b s history h quiet below rule behind knows.begins q
+    let behind = one_history b s rule in
+    let knows = each_at (KnowsPartOf rule.history) (workers_of s.views) (number, h ++ quiet) behind.parts found in
+    quiet_round_is_settled b s rule.history h quiet below rule behind knows.begins q

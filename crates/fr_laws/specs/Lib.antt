@@ -1,4 +1,5 @@
 pub mod Hops
+pub mod Linear
 pub mod Locality
 pub mod Quiet
 pub mod Work

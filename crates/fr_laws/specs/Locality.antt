@@ -1,7 +1,8 @@
--- Whom a change touches (full reversal: E. Gafni and D. Bertsekas, "Distributed Algorithms for Generating Loop-Free
--- Routes in Networks with Frequently Changing Topology", 1981). The laws say exactly which nodes turn in the round
--- after a change, where the links point then, and which nodes an added or a cut link leaves alone. They hold for every
--- state after a round, every change and every node. They say nothing of hops after a batch or a moved destination.
+-- Which nodes a change touches (full reversal: E. Gafni and D. Bertsekas, "Distributed Algorithms for Generating
+-- Loop-Free Routes in Networks with Frequently Changing Topology", 1981). The laws say exactly which nodes turn in the
+-- round after a change, where the links point then, and which nodes an added or a cut link does not touch. They hold
+-- for every state after a round, every change and every node. They say nothing about hops after a batch or a moved
+-- destination. The laws are this project's own.
 use Rattle.std.specs.Prelude.{◌≡◌, ◌≢◌, ℕ, ◌<◌, ◌≤◌, ◌⊎◌, ◌↔◌, List, [], ◌∷◌, ◌++◌, IsTrue, length, slice_index}
 use Rattle.fr_graph.specs.Batches.{AreMade}
 use Rattle.fr_graph.specs.Edits.{IsJoined as IsNetJoined, without}
@@ -20,7 +21,7 @@ use Rattle.fr_tables.specs.declared.hop.Hop.TheVariants.{CutOff, To}
 
 -- The round after a change
 
--- the change is accepted, and the round after it begins with these links, toward this destination
+-- the change is accepted, and the round after it begins with these links and this destination
 abbrev pub BeginsWith : State → Change → List (ℕ × ℕ) → ℕ → Type 0
 BeginsWith s (Cut u v) first d = Joins s.links u v × (first ≡ without u v s.links) × (d ≡ s.dest)
 BeginsWith s (Add u v) first d =
@@ -32,8 +33,8 @@ BeginsWith s (Batch edits) first d =
     × ((net : Network) × AreMade (net_at s) edits.items net × (first ≡ net.links)) × (d ≡ s.dest)
 BeginsWith s (Destination to) first d = (to < s.nodes) × (first ≡ s.links) × (d ≡ to)
 
--- the network of a state after a round changes. The round after the change begins with the links `first`, toward d, and
--- ends in the state `new`
+-- the network of a state after a round changes. The round after the change begins with the links `first` and the
+-- destination d, and ends in the state `new`
 pub record IsSettledAnew (s : State) (change : Change) (first : List (ℕ × ℕ)) (d : ℕ) (new : State) : Type 0 where
   pub settled : IsAfterRound s
   pub begins : BeginsWith s change first d
@@ -62,13 +63,13 @@ pub record AreLinksBetween (first : List (ℕ × ℕ)) (new : State) (x y : ℕ)
   -- if only x has turned, a link points from x to y exactly if one joined them before the round
   pub border : HasTurned new x → ¬ HasTurned new y → Joins first x y ↔ Points new.links x y
 
--- links between nodes that did not turn point as they did. A link between a node that turned and one that did not
+-- links between nodes that did not turn keep their direction. A link between a node that turned and one that did not
 -- points to the latter
 abbrev pub LinksStand : Type 0
 LinksStand = (s : State) (change : Change) (first : List (ℕ × ℕ)) (d : ℕ) (new : State) (x y : ℕ)
     → IsSettledAnew s change first d new → AreLinksBetween first new x y
 
--- Whom an added link leaves alone
+-- Which nodes an added link does not touch
 
 -- x sends on to the same node as before
 abbrev pub KeepsHop : State → State → ℕ → Type 0
@@ -90,7 +91,8 @@ pub record IsAfterAdd (s : State) (tail head : ℕ) (new : State) (x : ℕ) : Ty
   pub takes : TakesLink s tail head x → IsHop new x (To head)
   pub keeps : ¬ TakesLink s tail head x → KeepsHop s new x
 
--- so an added link turns no node that was joined with the destination, and changes the hop of none but its tail
+-- so an added link turns no node that was joined with the destination, and of these nodes it changes at most the hop of
+-- its tail
 abbrev pub AddSparesJoined : Type 0
 AddSparesJoined = (s : State) (u v : ℕ) (first : List (ℕ × ℕ)) (d : ℕ) (new : State) (x : ℕ)
     → IsSettledAnew s (Add u v) first d new → IsJoined s.links s.dest x → IsAfterAdd s u v new x
@@ -99,39 +101,39 @@ AddSparesJoined = (s : State) (u v : ℕ) (first : List (ℕ × ℕ)) (d : ℕ) 
 abbrev pub AreEnds : ℕ → ℕ → ℕ → ℕ → Type 0
 AreEnds u v tail head = ((tail ≡ u) × (head ≡ v)) ⊎ ((tail ≡ v) × (head ≡ u))
 
--- the same for a join, which adds a link one way or the other
+-- the same for a join, which adds a link in one of the two directions
 abbrev pub JoinSparesJoined : Type 0
 JoinSparesJoined = (s : State) (u v : ℕ) (first : List (ℕ × ℕ)) (d : ℕ) (new : State)
     → IsSettledAnew s (Join u v) first d new → (tail : ℕ) × (head : ℕ) × AreEnds u v tail head × Points first tail head
     × ((x : ℕ) → IsJoined s.links s.dest x → IsAfterAdd s tail head new x)
 
--- Whom a cut link leaves alone
+-- Which nodes a cut link does not touch
 
 -- x is the end of the link between u and v from which it points
 abbrev pub IsTail : List (ℕ × ℕ) → ℕ → ℕ → ℕ → Type 0
 IsTail links u v x = ((x ≡ u) × Points links u v) ⊎ ((x ≡ v) × Points links v u)
 
--- the path from x by these nodes goes over the link between u and v
+-- the path from x along these nodes uses the link between u and v
 abbrev pub GoesOver : ℕ → ℕ → ℕ → List ℕ → Type 0
 GoesOver u v x [] = ⊥
 GoesOver u v x (w ∷ ws) = IsTrue (is_between u v (x, w)) ⊎ GoesOver u v w ws
 
--- each path along the links from x to y goes over the link between u and v
+-- each path along the links from x to y uses the link between u and v
 abbrev pub EachGoesOver : List (ℕ × ℕ) → ℕ → ℕ → ℕ → ℕ → Type 0
 EachGoesOver links u v x y = (vs : List ℕ) → IsPath links x vs → end_of x vs ≡ y → GoesOver u v x vs
 
 -- what the cut of the link between u and v does to x, which was joined with the destination; `first` are the links that
 -- are left
 pub record IsAfterCut (s : State) (u v : ℕ) (first : List (ℕ × ℕ)) (new : State) (x : ℕ) : Type 0 where
-  -- x had a path to the destination,
+  -- x had a path to the destination
   pub had : HasPath s.links x s.dest
-  -- and turns exactly if it has a link left and each path that it had goes over the link that is cut
+  -- x turns exactly if it has a link left and each path that it had uses the cut link
   pub turns : HasTurned new x ↔ (¬ IsAlone first x × EachGoesOver s.links u v x s.dest)
-  -- if another link points from the tail, x does not turn. Then the tail sends on to the least such neighbour w, and
-  -- every other node keeps its hop
+  -- if another link points away from the tail, x does not turn. Then the tail sends on to the lowest such neighbour w,
+  -- and every other node keeps its hop
   pub detour : (tail w : ℕ) → IsTail s.links u v tail → IsNextHop first tail w
       → ¬ HasTurned new x × (x ≡ tail → IsHop new x (To w)) × (x ≢ tail → KeepsHop s new x)
-  -- if x had no path to the tail, it does not turn, and keeps its hop
+  -- if x had no path to the tail, it does not turn and keeps its hop
   pub apart : (tail : ℕ) → IsTail s.links u v tail → ¬ HasPath s.links x tail → ¬ HasTurned new x × KeepsHop s new x
 
 -- of the nodes that were joined with the destination, a cut touches only those with a path to the tail of the link. A

@@ -1,8 +1,8 @@
--- When a network is quiet. Full reversal ends when no node can turn (E. Gafni and D. Bertsekas, "Distributed
--- Algorithms for Generating Loop-Free Routes in Networks with Frequently Changing Topology", 1981), but a caller sees
--- only replies. These laws say which replies show the end, exactly: since the last turn, of whomever, every linked
--- node except the destination was held or cut. Then the counts are settled and no node turns any more; and wherever
--- counts are settled, such replies can be had.
+-- When a network is quiet. Full reversal ends when no node can turn (E. Gafni and D. Bertsekas, "Distributed Algorithms
+-- for Generating Loop-Free Routes in Networks with Frequently Changing Topology", 1981), but a caller sees only
+-- replies. These laws, which are this project's own, say exactly which replies show the end: since the last turn of any
+-- worker, every linked node except the destination was held or cut. Then the counts are settled, and no node turns any
+-- more. Conversely, if the counts are settled, such replies are possible.
 use Rattle.std.specs.Prelude.{◌≡◌, ℕ, ◌<◌, List, ◌++◌, Contains}
 use Rattle.atomic_table.specs.Table.{State}
 use Rattle.fr_graph.specs.Counts.{AreLawful}
@@ -42,7 +42,7 @@ pub record IsQuiet (d : ℕ) (first : List (ℕ × ℕ)) (entries : List Entry) 
 
 -- Runs
 
--- where a run from lawful counts ends with quiet entries, the counts at its end are the settled ones
+-- if a run from lawful counts ends with quiet entries, the counts at its end are the settled ones
 abbrev pub QuietIsSettled : Type 0
 QuietIsSettled = (n d : ℕ) (first : List (ℕ × ℕ)) (counts : List ℕ) (h quiet : List Entry) → IsNet n first → d < n
     → AreLawful n d first counts → IsRun n d (moment_of first counts) (h ++ quiet) → IsQuiet d first quiet
@@ -54,7 +54,7 @@ QuietIsForGood = (n d : ℕ) (first : List (ℕ × ℕ)) (counts : List ℕ) (h 
     → AreLawful n d first counts → IsRun n d (moment_of first counts) ((h ++ quiet) ++ more) → IsQuiet d first quiet
     → (turn_count more ≡ 0) × AreSettled n d first (after_all (moment_of first counts) ((h ++ quiet) ++ more)).counts
 
--- conversely, a run that ends at settled counts can be continued by quiet entries, so quiet asks for no more than
+-- conversely, a run that ends at settled counts can be continued by quiet entries, so being quiet requires no more than
 -- settled counts
 abbrev pub SettledCanBeQuiet : Type 0
 SettledCanBeQuiet = (n d : ℕ) (first : List (ℕ × ℕ)) (counts : List ℕ) (h : List Entry) → IsNet n first → d < n
@@ -64,8 +64,8 @@ SettledCanBeQuiet = (n d : ℕ) (first : List (ℕ × ℕ)) (counts : List ℕ) 
 
 -- Rounds
 
--- in each state that the rule of a round allows: if a history that stands behind the state contains quiet entries, at
--- its end or earlier, the words are the settled counts
+-- in each state that the rule of a round allows: if a history that explains the state contains quiet entries, at its
+-- end or earlier, the words are the settled counts
 abbrev pub QuietRoundIsSettled : Type 0
 QuietRoundIsSettled = (b : Setup) (s : State (Unit {0}) View) (history h quiet : List Entry) → b.dest < b.nodes
     → KeepsRule b s → StandsBehind b s history → StartsWith history (h ++ quiet) → IsQuiet b.dest b.links quiet

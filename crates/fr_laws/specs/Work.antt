@@ -12,11 +12,12 @@ use Rattle.fr_core.specs.Settled.{AreSettled}
 use Rattle.fr_core.specs.Walks.{IsJoined}
 use Rattle.fr_core.specs.declared.entry.Entry.{Entry}
 
--- a bad node, as the field calls it: it is joined with the destination d, but no path along the links leads to d
+-- a bad node, as it is called in the literature: it is joined with the destination d, but no path along the links leads
+-- to d
 abbrev pub IsBad : ℕ → List (ℕ × ℕ) → ℕ → Type 0
 IsBad d links x = IsJoined links d x × ¬ HasPath links x d
 
--- a stranded node: it has links, but nothing joins it with d
+-- a stranded node: it has links, but is not joined with d
 abbrev pub IsStranded : ℕ → List (ℕ × ℕ) → ℕ → Type 0
 IsStranded d links x = ¬ IsAlone links x × ¬ IsJoined links d x
 
@@ -31,7 +32,7 @@ pub record AreCounted (n d : ℕ) (links : List (ℕ × ℕ)) (b c : ℕ) : Type
   pub bad : IsNumberOf n (IsBad d links) b
   pub stranded : IsNumberOf n (IsStranded d links) c
 
--- a network of n nodes that are all joined with d, whichever way its links point
+-- a network of n nodes that are all joined with d, in whatever directions its links point
 pub record IsConnected (n d : ℕ) (links : List (ℕ × ℕ)) : Type 0 where
   pub is_net : IsNet n links
   pub dest : d < n

@@ -1,14 +1,14 @@
-//! Whom a change touches: each clause here is a law of `specs/Locality.antt`, proved. The function does nothing.
+//! Which nodes a change touches. Each clause is a law of `specs/Locality.antt`, proved. The function does nothing.
 
 ghost use Rattle.fr_laws.specs.Locality.{ChangeIsARound, WhoTurns, LinksStand};
 ghost use Rattle.fr_laws.specs.Locality.{AddSparesJoined, JoinSparesJoined, CutSparesOthers};
 
-/// Whom a change of a settled network touches. In the round after it, exactly the nodes turn that have a link and no
-/// path to the destination. Links between the other nodes stay as they are.
+/// Which nodes a change of a settled network touches. In the round after it, exactly the nodes turn that have a link
+/// and no path to the destination. Links between the other nodes are unchanged.
 ///
-/// An added link turns no node that was joined with the destination, and changes the hop of no other than its tail. Of
-/// the nodes that were joined with the destination, a cut turns exactly those that keep a link and whose every path
-/// went over the link that is cut. It turns none of them if another link points from the tail.
+/// An added link turns no node that was joined with the destination, and of these nodes it changes at most the hop of
+/// its tail. Of the nodes that were joined with the destination, a cut turns exactly those that keep a link and had no
+/// path that avoids the cut link. It turns none of them if another link points away from the tail.
 pub fn locality_law()
     ensures round { ChangeIsARound }
     ensures turns { WhoTurns }

@@ -31,7 +31,7 @@ use Rattle.fr_lines.proofs.LineValues.{value_of_text}
 
 -- ---- lists as their lexemes
 
--- the lexemes of items, each before a comma
+-- the lexemes of items, each followed by a comma
 abbrev pub each_before_comma : {X : Type 0} → (X → List Lexeme) → List X → List Lexeme
 each_before_comma of_one [] = []
 each_before_comma of_one (x ∷ xs) = of_one x ++ comma ∷ each_before_comma of_one xs
@@ -42,7 +42,7 @@ one_more_before_comma of_one [] x = refl
 one_more_before_comma of_one (y ∷ ys) x = append_assoc (of_one y) (comma ∷ each_before_comma of_one ys) _
     ∙ ap (λ ls. of_one y ++ comma ∷ ls) (one_more_before_comma of_one ys x)
 
--- a last item, and the bracket behind it
+-- a last item, and the bracket after it
 pub last_before_bracket : {X : Type 0} (of_one : X → List Lexeme) (xs : List X) (x : X)
     → each_before_comma of_one xs ++ (of_one x ++ token Token.end_array ∷ []) ≡ list_lexemes of_one (xs ++ x ∷ [])
 last_before_bracket of_one [] x = refl
@@ -50,7 +50,7 @@ last_before_bracket of_one (y ∷ []) x = append_assoc (of_one y) (comma ∷ [])
 last_before_bracket of_one (y ∷ z ∷ zs) x =
     append_assoc (of_one y) (comma ∷ each_before_comma of_one (z ∷ zs)) _ ∙ ap (λ ls. of_one y ++ comma ∷ ls) (last_before_bracket of_one (z ∷ zs) x)
 
--- a list that ends its line
+-- a list that is the last item of its line
 pub list_closes : {X : Type 0} (of_one : X → List Lexeme) (text mid behind : List ℕ) (xs : List X) (x : X)
     → Begins text (each_before_comma of_one xs) mid → Begins mid (of_one x) behind
     → Begins behind (token Token.end_array ∷ token Token.end_array ∷ []) [] → Begins text (list_lexemes of_one (xs ++ x ∷ []) ++ token Token.end_array ∷ []) []
@@ -67,7 +67,7 @@ pub Each-snoc : {X : Type 0} (P : X → Type 0) (xs : List X) (x : X) → Each P
 Each-snoc P [] x all one = (one, tt)
 Each-snoc P (y ∷ ys) x all one = (all.0, Each-snoc P ys x all.1 one)
 
--- ---- lists as JSON, of which brackets and commas have made a tree
+-- ---- lists as JSON, whose brackets and commas make a tree
 
 abbrev ends_json : ℕ × ℕ → json.Items
 ends_json ends = json.item (json.number (decimal ends.0)) (json.item (json.number (decimal ends.1)) json.no_items)
@@ -85,7 +85,7 @@ abbrev items_json : {X : Type 0} → (X → Json) → List X → json.Items
 items_json json_of [] = json.no_items
 items_json json_of (x ∷ xs) = json.item (json_of x) (items_json json_of xs)
 
--- one item begins wherever a value may, and has these tokens
+-- an item begins wherever a value may, and has these tokens
 abbrev IsPlaced : {X : Type 0} → (X → List Lexeme) → (X → Json) → Type 0
 IsPlaced {X} of_one json_of =
     (x : X) (place : Place) (more : List Lexeme) → may_begin place ≡ true
@@ -131,7 +131,7 @@ module _ {X : Type 0} (of_one : X → List Lexeme) (json_of : X → Json) (place
   list_tokens [] more = refl
   list_tokens (x ∷ xs) more = some_tokens x xs fresh more refl
 
-  -- behind the list the bracket of its line stands
+  -- after the list comes the bracket of its line
   closed_tokens : (text : List ℕ) (xs : List X) → Begins text (list_lexemes of_one xs ++ token Token.end_array ∷ []) []
       → tokens text ≡ items_tokens (items_json json_of xs) ++ Token.end_array ∷ []
   unfolding lex punctuate
@@ -151,7 +151,7 @@ edit_data edit = array (item (string (word_of edit)) (ends_data (edit_ends edit)
 abbrev number_data : ℕ → Data
 number_data n = number (unsigned n)
 
--- a small item is this data in JSON, and is read again from it
+-- a small item is this value of JSON, and is read from it again
 abbrev IsRead : {X : Type 0} → (X → Json) → (X → Data) → (X → Type 0) → (Data → Option X) → Type 0
 IsRead {X} json_of data_of P one = (x : X) → P x → (of_json (json_of x) ≡ Some (data_of x)) × (one (data_of x) ≡ Some x) × (depth (json_of x) ≤ 1)
 
@@ -189,7 +189,7 @@ reads_as line j d told utf8 shallow is =
     let whole : value 127 (tokens line) ≡ Some (j, []) = ap (value 127) (told ∙ sym (append-nil (json_tokens j))) ∙ value-json_tokens j 127 [] shallow in
     ap reading_of_value (value_of_text line utf8) ∙ ap (λ found. reading_of_value (value_alone found)) whole ∙ ap reading_of_value is
 
--- likewise where the value is an array that a word opens
+-- the same if the value is an array that begins with a word
 word_reads_as : (line word : List ℕ) (js : json.Items) (ds : Items)
     → tokens line ≡ Token.begin_array ∷ Token.string word ∷ items_tokens js → IsUtf8 line → items_depth js ≤ 126
     → of_items js ≡ Some ds → reading line ≡ ok_or (request_of_word word (item_list ds)) NotRequest
@@ -273,7 +273,7 @@ batch_reads rest items edits head closes small line opens =
     let listed : edits_in (array (items_of (map edit_data edits))) ≡ Some edits = rw (list_again (map edit_data edits)) all.1 in
     word_reads_as line (codes "batch") js ds told (both.1 (closes.1 IsUtf8-nil)) (omega (arith, all.2)) (rw all.0) ∙ rw listed
 
--- ---- lines of numbers alone, and an empty object
+-- ---- lines of only numbers, and an empty object
 
 pub number_is_none : (line : List ℕ) → IsNumber line → reading line ≡ Err NotRequest
 unfolding lex punctuate

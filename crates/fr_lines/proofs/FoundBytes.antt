@@ -5,7 +5,7 @@ use Rattle.std.specs.Prelude.{⊤}
 use Rattle.std.proofs.lemmas.Fmt.{decimal_step}
 use Rattle.std.proofs.lemmas.List.{drop_more}
 
--- these bytes stand from the place k on, as a pattern finds them
+-- these bytes follow from the place k on, as a pattern finds them
 abbrev pub StandFrom : ℕ → List ℕ → List ℕ → Type 0
 StandFrom k [] bytes = ⊤
 StandFrom k (b ∷ bs) bytes = (get_or bytes k 0 ≡ b) × StandFrom (k + 1) bs bytes
@@ -16,7 +16,7 @@ from_place k (b ∷ bs) bytes long h =
     let further : k + 1 + length bs ≡ k + length (b ∷ bs) = omega arith in
     drop_more bytes k 0 (omega arith) ∙ (λ i. h.0 i ∷ from_place (k + 1) bs bytes (omega arith) h.1 i) ∙ ap (λ j. b ∷ (bs ++ drop j bytes)) further
 
--- bytes are those at their front, and those that a pattern's `..` takes
+-- bytes are those at their front, and those of the pattern's `..`
 pub front_and_rest : (front bytes : List ℕ) → length front ≤ length bytes → StandFrom 0 front bytes
     → bytes ≡ front ++ take (length bytes - length front) (drop (length front) bytes)
 front_and_rest front bytes long h =
@@ -25,7 +25,7 @@ front_and_rest front bytes long h =
     let all = take_all (length bytes - n) (drop n bytes) (omega (arith, length-drop n bytes)) in
     from_place 0 front bytes (omega arith) h ∙ ap (λ k. front ++ drop k bytes) none ∙ ap (λ rest. front ++ rest) (sym all)
 
--- a number grows by the digit that stands behind those before
+-- a number grows by the next digit
 pub one_digit_more : (n digit m : ℕ) (behind : List ℕ) → m ≡ n * 10 + (digit - 48) → 0 < n → 48 ≤ digit → digit ≤ 57
     → m < 2 ^ 64 → decimal n ++ digit ∷ behind ≡ decimal m ++ behind
 one_digit_more n digit m behind is some low high small =

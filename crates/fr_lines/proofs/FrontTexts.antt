@@ -1,4 +1,4 @@
--- What stands at the front of a text, as the lexeme that it is there.
+-- The front of a text, as a lexeme.
 use Rattle.std.proofs.Common.{Bool, IsUtf8, List, Some, [], ap, append_assoc, decimal, eqb-true, false, get_or, inl, inr, refl, subst, sym, true, ℕ}
 use Rattle.std.proofs.Common.{◌++◌, ◌<◌, ◌==◌, ◌||◌, ◌∙◌, ◌∷◌, ◌≡◌, ◌^◌, if◌then◌else◌}
 use Rattle.std.proofs.lemmas.Bool.{or_cases}
@@ -28,7 +28,7 @@ space_is P b h p q r s =
     let at : (k : ℕ) → P k → (b == k) ≡ true → P b = λ k given e. subst P (sym (eqb-true b k e)) given in
     either _ _ (P b) h (λ h. either _ _ (P b) h (λ h. either _ _ (P b) h (at 32 p) (at 9 q)) (at 10 r)) (at 13 s)
 
--- likewise of each mark
+-- the same for each mark
 mark_is : (P : ℕ → Type 0) (b : ℕ) → is_operator b ≡ true → P 123 → P 125 → P 91 → P 93 → P 58 → P 44 → P b
 mark_is P b h p q r s t u =
     let at : (k : ℕ) → P k → (b == k) ≡ true → P b = λ k given e. subst P (sym (eqb-true b k e)) given in
@@ -39,7 +39,7 @@ mark_is P b h p q r s t u =
 one_byte : (b : ℕ) (bs : List ℕ) → are_ascii (b ∷ []) ≡ true → IsUtf8 bs → IsUtf8 (b ∷ bs)
 one_byte b bs ascii utf8 = IsUtf8-append (b ∷ []) bs (IsUtf8-are_ascii (b ∷ []) ascii) utf8
 
--- white space is no lexeme
+-- white space makes no lexeme
 space_passes : (text : List ℕ) → (lex between text ≡ lex between (unspaced text)) × (IsUtf8 (unspaced text) → IsUtf8 text)
 unfolding lex
 space_passes [] = (refl, λ utf8. utf8)
@@ -55,7 +55,7 @@ space_passes (b ∷ bs) = go (is_space b) refl (space_passes bs)
         )
     go false e more = (refl, λ utf8. utf8)
 
--- what is read of the front of a text, behind white space
+-- what is read at the front of a text after white space
 begins : (text front rest : List ℕ) (found : List Lexeme) → unspaced text ≡ front ++ rest → IsUtf8 front
     → lex between (front ++ rest) ≡ found ++ lex between rest → Begins text found rest
 begins text front rest found stands utf8 read =
@@ -67,7 +67,7 @@ pub begins_more : (text mid rest : List ℕ) (xs ys : List Lexeme) → Begins te
 begins_more text mid rest xs ys first next =
     (first.0 ∙ ap (λ ls. xs ++ ls) next.0 ∙ sym (append_assoc xs ys (lex between rest)), λ utf8. first.1 (next.1 utf8))
 
--- a mark is no white space
+-- a mark is not white space
 pub mark_stays : (mark : ℕ) (bs : List ℕ) → is_operator mark ≡ true → unspaced (mark ∷ bs) ≡ mark ∷ bs
 mark_stays mark bs is = mark_is (λ k. unspaced (k ∷ bs) ≡ k ∷ bs) mark is refl refl refl refl refl refl
 
@@ -79,7 +79,7 @@ mark_begins mark text rest is stands =
     begins text (mark ∷ []) rest (operator_lexeme mark ∷ []) stands (IsUtf8-are_ascii (mark ∷ []) ascii)
     (ap (λ c. lex_byte between c mark rest (λ next. lex next rest)) its)
 
--- an array that opens with a word that needs no escape
+-- an array that begins with a word without escapes
 pub opens_with : (letters text inside rest : List ℕ) → escape letters ≡ letters → are_ascii (34 ∷ (letters ++ 34 ∷ [])) ≡ true
     → Begins text (token Token.begin_array ∷ []) inside → unspaced inside ≡ (34 ∷ (letters ++ 34 ∷ [])) ++ rest
     → Begins text (opening letters) rest
@@ -117,7 +117,7 @@ number_begins n mark text between_them rest small is stands follows =
     (IsUtf8-from_ascii (decimal n) (IsAscii-decimal n small)) (lex-number (decimal n) between_them (IsNumber-decimal n small) ended))
     (mark_begins mark between_them rest is follows)
 
--- nothing but white space is left
+-- only white space is left
 pub over_begins : (text : List ℕ) → unspaced text ≡ [] → Begins text [] []
 over_begins text over = let passed = space_passes text in (passed.0 ∙ ap (lex between) over, λ utf8. passed.1 (subst IsUtf8 (sym over) utf8))
 
@@ -130,7 +130,7 @@ ends_at_end (b ∷ bs) over = go (is_space b) refl over
     go true e over = ap (λ s. is_operator b || s) e ∙ or_true (is_operator b)
     go false e over = absurd (cc)
 
--- a number, and then just white space
+-- a number, and then only white space
 pub number_ends : (n : ℕ) (text behind : List ℕ) → n < 2 ^ 64 → unspaced text ≡ decimal n ++ behind → unspaced behind ≡ []
     → Begins text (number_lexeme n ∷ []) []
 number_ends n text behind small is over =
@@ -139,7 +139,7 @@ number_ends n text behind small is over =
     (lex-number (decimal n) behind (IsNumber-decimal n small) (ends_at_end behind over)))
     (over_begins behind over)
 
--- the words of requests need no escape
+-- the words of requests have no escapes
 pub letters_plain : (word : Word) → escape (letters word) ≡ letters word
 unfolding escape_byte
 letters_plain word.Network = refl

@@ -18,7 +18,7 @@ list_again (d ∷ ds) = ap (λ rest. d ∷ rest) (list_again ds)
 pub items_viewed : (d : Data) (vs : List Value) → as_array d ≡ Some (items_view vs) → items_in d ≡ Some (map view vs)
 items_viewed d vs e = rw e (ap Some (list_again (map view vs)))
 
--- where no item is read yet, all are ahead
+-- if no item is read yet, all are ahead
 pub reading_begins : {X : Type 0} (one : Data → Option X) (vs : List Value) (read : List X) → read ≡ []
     → read_all one (map view vs) ≡ option_map (λ more. read ++ more) (read_all one (map view (drop 0 vs)))
 reading_begins {X} one vs read e = rw e (go (read_all one (map view vs)))
@@ -27,7 +27,7 @@ reading_begins {X} one vs read e = rw e (go (read_all one (map view vs)))
     go None = refl
     go (Some more) = refl
 
--- an item that is read goes behind those before it
+-- an item that is read is appended to those before it
 pub reading_goes_on : {X : Type 0} (one : Data → Option X) (vs : List Value) (i : ℕ) (v : Value) (read after : List X)
     → i < length vs → IsReadNext one read (view (get_or vs i v)) after
     → option_map (λ more. read ++ more) (read_all one (map view (drop i vs))) ≡ option_map (λ more. after ++ more) (read_all one (map view (drop (i + 1) vs)))
@@ -48,14 +48,14 @@ reading_stops one [] i v h e = absurd (omega arith)
 reading_stops one (x ∷ xs) zero v h e = rw e
 reading_stops one (x ∷ xs) (suc i) v h e = reading_stops one xs i v (omega arith) e
 
--- past the last item what was read so far is all
+-- after the last item, what was read so far is everything
 pub reading_ends : {X : Type 0} (one : Data → Option X) (vs : List Value) (i : ℕ) (read : List X) → length vs ≤ i
     → option_map (λ more. read ++ more) (read_all one (map view (drop i vs))) ≡ Some read
 reading_ends one [] i read h = rw drop-nil (ap Some (append-nil read))
 reading_ends one (x ∷ xs) zero read h = absurd (omega arith)
 reading_ends one (x ∷ xs) (suc i) read h = reading_ends one xs i read (omega arith)
 
--- the word and the items after it settle what an array is
+-- the word and the items after it determine the meaning of an array
 pub word_settles : {X : Type 0} (by_word : List ℕ → List Data → Option X) (d : Data) (vs : List Value) (first : Value)
     (word : List ℕ) → items_in d ≡ Some (map view vs) → 1 ≤ length vs → first ≡ get_or vs 0 first → as_str (view first) ≡ Some word
     → option_and_then (read_by_word by_word) (items_in d) ≡ by_word word (map view (take (length vs - 1) (drop 1 vs)))

@@ -12,5 +12,5 @@ pub mod FoundBytes
 pub mod FrontTexts
 -- a line that is read by its bytes
 pub mod ByteLines
--- what a ? hands on
+-- what a `?` returns
 pub mod HandedOn

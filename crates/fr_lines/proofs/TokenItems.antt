@@ -1,4 +1,4 @@
--- The items of an array, token by token, as values that are put one behind the other, and the members of an object.
+-- The items of an array, token by token, as a list of values, and the members of an object.
 use Rattle.std.proofs.Common.{List, None, Option, Some, [], ap, arith, length, option_and_then, option_map, refl, suc, zero, ℕ, ◌+◌, ◌++◌, ◌-◌, ◌<◌}
 use Rattle.std.proofs.Common.{◌∙◌, ◌∷◌, ◌≡◌, ◌≤◌}
 use Rattle.json.proofs.Grammar.{items_end, items_more, left, members_end, members_more, members_no_key, skip_value-shorter, value-begin_array}
@@ -28,7 +28,7 @@ pub read_first : {A B : Type 0} (f : A → Option B) (o : Option (A × List Toke
 read_first f None b rest e = absurd (cc)
 read_first f (Some p) b rest e = let both = paired p.1 rest (f p.0) b e in (p.0, ap (λ s. Some (p.0, s)) both.0, both.1)
 
--- a value takes tokens
+-- a value consumes tokens
 pub value_takes : (depth : ℕ) (ts rest : List Token) (d : Data) → converted of_json (value depth ts) ≡ Some (d, rest) → length rest < length ts
 value_takes depth ts rest d e = skip_value-shorter depth ts rest (ap left (read_first of_json (value depth ts) d rest e).1)
 
@@ -42,7 +42,7 @@ array_of_items : (o : Option (json.Items × List Token)) → converted of_json (
 array_of_items None = refl
 array_of_items (Some p) = outside array p.1 (of_items p.0)
 
--- behind the bracket that opens an array its items are read
+-- after the bracket that opens an array, its items are read
 pub value_of_array : (depth inside : ℕ) (ts behind : List Token) → depth ≡ inside + 1 → ts ≡ Token.begin_array ∷ behind
     → converted of_json (value depth ts) ≡ parse_map array (converted of_items (items (value inside) (length behind) behind))
 value_of_array depth inside ts behind one opens =
@@ -88,7 +88,7 @@ item_refused p (suc n) ts going e = ap (λ o. converted of_items (items_step p (
     go None e = refl
     go (Some q) e = refused_first q.0 (nothing_under of_json q e) (items p n q.1)
 
--- where the array ends there is no item
+-- at the end of the array there is no item
 pub no_item : (p : Parse json.Json) (most : ℕ) (ts rest : List Token) → length ts ≤ most → after_end_array ts ≡ Some rest
     → converted of_items (items p most ts) ≡ Some (no_items, rest)
 no_item p most ts rest enough e = ap (converted of_items) (items_end p most ts rest enough e)
@@ -121,7 +121,7 @@ object_of_members : (o : Option (json.Members × List Token))
 object_of_members None = refl
 object_of_members (Some p) = outside object p.1 (of_members p.0 no_members)
 
--- behind the brace that opens an object its members are read
+-- after the brace that opens an object, its members are read
 pub value_of_object : (depth inside : ℕ) (ts behind : List Token) → depth ≡ inside + 1 → ts ≡ Token.begin_object ∷ behind
     → converted of_json (value depth ts) ≡ parse_map object (converted (λ ms. of_members ms no_members) (members (value inside) (length behind) behind))
 value_of_object depth inside ts behind one opens =
@@ -130,7 +130,7 @@ value_of_object depth inside ts behind one opens =
     ∙ object_of_members (members (value (depth - 1)) (length behind) behind)
     ∙ ap (λ d. parse_map object (converted (λ ms. of_members ms no_members) (members (value d) (length behind) behind))) below
 
--- a token that opens nothing is a value by itself, or none
+-- a token that opens nothing is a value by itself, or not a value
 pub single_read : (depth : ℕ) (k : reader.Token) (ts behind : List Token) → (k ≡ reader.Token.BeginArray → ⊥)
     → (k ≡ reader.Token.BeginObject → ⊥) → ts ≡ token_of k ∷ behind
     → converted of_json (value depth ts) ≡ option_map (λ d. (d, behind)) (single_data (token_of k))
@@ -151,7 +151,7 @@ single_read depth k ts behind no_array no_object first = ap (converted of_json) 
     go of_array of_object reader.Token.Null no_array no_object = refl
     go of_array of_object reader.Token.Bad no_array no_object = refl
 
--- where nothing may nest, neither an array nor an object is a value
+-- if nothing may nest, neither an array nor an object is a value
 pub too_deep : (depth : ℕ) (behind : List Token) → depth ≡ 0 → (value depth (Token.begin_array ∷ behind) ≡ None)
     × (value depth (Token.begin_object ∷ behind) ≡ None)
 unfolding value
@@ -190,27 +190,27 @@ member_refused p found (suc n) key ts after named e = rw named (go (p after) e)
     go None e = refl
     go (Some q) e = refused_member key q.0 found (nothing_under of_json q e) (members p n q.1)
 
--- so does a token that is no key where one must be
+-- a token that is not a key refuses the members where a key must be
 pub key_refused : (p : Parse json.Json) (found : Members) (most : ℕ) (ts : List Token) → read_key ts ≡ None
     → converted (λ ms. of_members ms found) (members p most ts) ≡ None
 key_refused p found most ts e = ap (converted (λ ms. of_members ms found)) (members_no_key p most ts e)
 
--- where the object ends there is no member
+-- at the end of the object there is no member
 pub no_member : (p : Parse json.Json) (found : Members) (most : ℕ) (ts rest : List Token) → length ts ≤ most
     → read_key ts ≡ Some (None, rest) → converted (λ ms. of_members ms found) (members p most ts) ≡ Some (found, rest)
 no_member p found most ts rest enough e = ap (converted (λ ms. of_members ms found)) (members_end p most ts rest enough e)
 
--- a value behind which nothing stands is the value of the text
+-- a value after which nothing follows is the value of the text
 pub whole_value : (o : Option (json.Json × List Token)) (d : Data) → converted of_json o ≡ Some (d, []) → value_alone o ≡ Some d
 whole_value o d e = let found = read_first of_json o d [] e in ap value_alone found.1 ∙ found.2
 
--- a text with more behind its value has none
+-- a text with more after its value has no value
 pub more_behind : (o : Option (json.Json × List Token)) (d : Data) (rest : List Token)
     → converted of_json o ≡ Some (d, rest) → (rest ≡ [] → ⊥) → value_alone o ≡ None
 more_behind o d [] e more = absurd (more refl)
 more_behind o d (t ∷ rest) e more = ap value_alone (read_first of_json o d (t ∷ rest) e).1
 
--- nor has a text that begins with no value
+-- a text that does not begin with a value has no value
 pub no_value : (o : Option (json.Json × List Token)) → converted of_json o ≡ None → value_alone o ≡ None
 no_value None e = refl
 no_value (Some (j, [])) e = nothing_under of_json (j, []) e

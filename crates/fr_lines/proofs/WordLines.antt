@@ -1,4 +1,4 @@
--- The line whose tokens are a value, and the line whose tokens are an array of a word and other items.
+-- The line whose tokens are a value, and the line whose tokens are an array with a word and other items.
 use Rattle.std.proofs.Common.{Err, List, None, Some, [], ap, arith, length, map, ok_or, refl, ℕ, ◌-◌, ◌∙◌, ◌∷◌, ◌≡◌}
 use Rattle.json.proofs.Grammar.{value_is}
 use Rattle.json.specs.Json.{items, parse_map, value}
@@ -13,20 +13,20 @@ use Rattle.fr_lines.specs.declared.requests.LineFault.TheVariants.{NotJson, NotR
 use Rattle.fr_lines.proofs.Items.{list_again}
 use Rattle.fr_lines.proofs.TokenItems.{more_behind, no_value, one_item, value_of_array, whole_value}
 
--- the value settles what the tokens are
+-- the value determines the meaning of the tokens
 pub reading_of_whole : (ts : List Token) (d : Data) → converted of_json (value 127 ts) ≡ Some (d, []) → reading_of_tokens ts ≡ ok_or (request_of d) NotRequest
 reading_of_whole ts d e = rw (whole_value (value 127 ts) d e)
 
--- tokens with others behind their value are no JSON
+-- tokens with others after their value are not JSON
 pub reading_with_more : (ts : List Token) (d : Data) (rest : List Token) → converted of_json (value 127 ts) ≡ Some (d, rest)
     → (rest ≡ [] → ⊥) → reading_of_tokens ts ≡ Err NotJson
 reading_with_more ts d rest e more = rw (more_behind (value 127 ts) d rest e more)
 
--- tokens that begin with no value are no JSON
+-- tokens that do not begin with a value are not JSON
 pub reading_of_none : (ts : List Token) → converted of_json (value 127 ts) ≡ None → reading_of_tokens ts ≡ Err NotJson
 reading_of_none ts e = rw (no_value (value 127 ts) e)
 
--- the items behind its first word settle what an array is
+-- the items after its first word determine the meaning of an array
 pub array_of_word : (word : List ℕ) (behind : List Token)
     → converted of_json (value 127 (Token.begin_array ∷ Token.string word ∷ behind)) ≡ parse_map array
     (parse_map (item (string word)) (converted of_items (items (value 126) (length behind) behind)))

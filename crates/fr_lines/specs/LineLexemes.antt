@@ -1,4 +1,4 @@
--- The lines that are read by their bytes, as lexemes, whatever white space stands in them; for private clauses.
+-- The lines that are read by their bytes, as lexemes without white space. For proofs only.
 use Rattle.std.specs.Prelude.{ℕ, List, [], ◌∷◌, ◌++◌, ◌≡◌, ◌<◌, ◌^◌, if◌then◌else◌, Ok, codes, decimal, ⊤}
 use Rattle.std.specs.Str.{IsUtf8}
 use Rattle.json.specs.Lex.{Lexeme, token, comma, between, lex}
@@ -18,11 +18,11 @@ abbrev pub unspaced : List ℕ → List ℕ
 unspaced [] = []
 unspaced (b ∷ bs) = if is_space b then unspaced bs else b ∷ bs
 
--- a text begins with these lexemes, and the rest is behind them
+-- a text begins with these lexemes, and then `rest` follows
 abbrev pub Begins : List ℕ → List Lexeme → List ℕ → Type 0
 Begins text front rest = (lex between text ≡ front ++ lex between rest) × (IsUtf8 rest → IsUtf8 text)
 
--- the words of edits, and of requests
+-- the words of edits and of requests
 abbrev pub letters_of_edit : EditWord → List ℕ
 letters_of_edit edit_word.Cut = codes "cut"
 letters_of_edit edit_word.Add = codes "add"
@@ -38,11 +38,11 @@ letters (word.Ask Links) = codes "links"
 letters (word.Ask Counts) = codes "counts"
 letters (word.Ask Hops) = codes "hops"
 
--- an array that a word with no escape in it opens
+-- the start of an array whose first item is this word, written without escapes
 abbrev pub opening : List ℕ → List Lexeme
 opening letters = token Token.begin_array ∷ token (Token.string letters) ∷ []
 
--- each line that this word opens and that goes on with this text is the request
+-- each line that begins with this word and continues with this text is the request
 abbrev pub IsReadAs : List ℕ → List ℕ → PlainRequest → Type 0
 IsReadAs letters rest request = (line : List ℕ) → Begins line (opening letters) rest → reading line ≡ Ok request
 
@@ -50,7 +50,7 @@ IsReadAs letters rest request = (line : List ℕ) → Begins line (opening lette
 abbrev pub number_lexeme : ℕ → Lexeme
 number_lexeme n = token (Token.number (decimal n))
 
--- the two ends of a link, and the bracket behind them
+-- the two ends of a link, and the bracket after them
 abbrev pub ends_lexemes : ℕ × ℕ → List Lexeme
 ends_lexemes ends = number_lexeme ends.0 ∷ comma ∷ number_lexeme ends.1 ∷ token Token.end_array ∷ []
 
@@ -58,7 +58,7 @@ ends_lexemes ends = number_lexeme ends.0 ∷ comma ∷ number_lexeme ends.1 ∷ 
 abbrev pub link_lexemes : ℕ × ℕ → List Lexeme
 link_lexemes link = token Token.begin_array ∷ ends_lexemes link
 
--- what an edit begins with, and which nodes it names
+-- the word of an edit, and the nodes that it names
 abbrev pub word_of : Edit → List ℕ
 word_of (Cut u v) = codes "cut"
 word_of (Add u v) = codes "add"
@@ -73,7 +73,7 @@ edit_ends (Join u v) = (u, v)
 abbrev pub edit_lexemes : Edit → List Lexeme
 edit_lexemes edit = opening (word_of edit) ++ comma ∷ ends_lexemes (edit_ends edit)
 
--- the request for an edit alone
+-- the request of a single edit
 abbrev pub plain_edit : Edit → PlainRequest
 plain_edit (Cut u v) = cut_link u v
 plain_edit (Add u v) = add_link u v
@@ -94,7 +94,7 @@ abbrev pub Each : {X : Type 0} → (X → Type 0) → List X → Type 0
 Each P [] = ⊤
 Each P (x ∷ xs) = P x × Each P xs
 
--- the items of a list, commas between them, and the bracket behind them
+-- the items of a list, separated by commas, and the bracket after them
 abbrev pub list_lexemes : {X : Type 0} → (X → List Lexeme) → List X → List Lexeme
 list_lexemes of_one [] = token Token.end_array ∷ []
 list_lexemes of_one (x ∷ []) = of_one x ++ token Token.end_array ∷ []
@@ -108,6 +108,6 @@ number_lexemes n = number_lexeme n ∷ []
 abbrev pub IsNumber : List ℕ → Type 0
 IsNumber text = (n : ℕ) × IsSmall n × Begins text (number_lexemes n) []
 
--- a text is numbers, commas between them, and the bracket behind them
+-- a text is numbers, separated by commas, and the bracket after them
 abbrev pub AreNumbers : List ℕ → Type 0
 AreNumbers text = (ns : List ℕ) × Each IsSmall ns × Begins text (list_lexemes number_lexemes ns) []

@@ -1,15 +1,16 @@
--- Which line is which request. `serde_json` reads a line as one value; a request is an array of exactly these items, where
--- n, d, u, v and x are numbers, and every other value is no request:
---     ["net", n, d, [[u, v], ..]]    take the network of n nodes, with destination d and the links from u to v
---     ["cut", u, v]                  take out the link between u and v
+-- Which line is which request: the definition of docs/LINES.md. A line is one JSON value (RFC 8259) as `serde_json`
+-- reads it. A request is an array of exactly these items, where n, d, u, v and x are numbers. Every other value is not
+-- a request.
+--     ["net", n, d, [[u, v], ..]]    use the network of n nodes, with destination d and the links from u to v
+--     ["cut", u, v]                  remove the link between u and v
 --     ["add", u, v]                  add the link from u to v
---     ["join", u, v]                 add a link between u and v, whichever way it can point
---     ["batch", [EDIT, ..]]          make these edits, of which each is an array as for "cut", "add" or "join"
---     ["dest", d]                    take the destination d
---     ["walk", x]                    ask how one gets from x to the destination
---     ["links"]                      ask which links there are
+--     ["join", u, v]                 add a link between u and v, in a direction that closes no cycle
+--     ["batch", [EDIT, ..]]          make these edits in order, each an array as for "cut", "add" or "join"
+--     ["dest", d]                    use the destination d
+--     ["walk", x]                    ask for the route from x to the destination
+--     ["links"]                      ask for the links
 --     ["counts"]                     ask how often each node has turned
---     ["hops"]                       ask where each node sends on to
+--     ["hops"]                       ask for the next hop of each node
 use Rattle.std.specs.Prelude.{ℕ, ◌^◌, List, [], ◌∷◌, Option, Some, None, ok_or, option_map, option_and_then, Result, Err, nat_lt, if◌then◌else◌, codes}
 use Rattle.std.specs.Str.{bytes_eq, is_utf8}
 use Rattle.serde_json.specs.Data.{Data, Items, no_items, item}
@@ -35,7 +36,7 @@ pub data PlainRequest : Type 0 where
   walk_from : ℕ → PlainRequest
   ask : Question → PlainRequest
 
--- a request of the code, without the room that its `Vec` has
+-- a request of the code, without the capacity of its `Vec`
 abbrev pub plain : Request → PlainRequest
 plain (Network nodes dest links) = new_network nodes dest links.items
 plain (Cut u v) = cut_link u v
@@ -46,7 +47,7 @@ plain (Destination d) = move_dest d
 plain (Walk x) = walk_from x
 plain (Ask question) = ask question
 
--- the items, one after the other
+-- the items as a list
 abbrev pub item_list : Items → List Data
 item_list no_items = []
 item_list (item d ds) = d ∷ item_list ds
@@ -55,41 +56,41 @@ item_list (item d ds) = d ∷ item_list ds
 abbrev pub items_in : Data → Option (List Data)
 items_in d = option_map item_list (as_array d)
 
--- n, where it is at most 4,294,967,295
+-- n, if it is at most 4,294,967,295
 abbrev pub small_number : ℕ → Option ℕ
 small_number n = if nat_lt n (2 ^ 32) then Some n else None
 
--- a number: what `as_u64` gives, where that is at most 4,294,967,295; -1 and 1.0 are none
+-- a number: the value of `as_u64`, if it is at most 4,294,967,295. So -1 and 1.0 are not numbers here
 abbrev pub number_in : Data → Option ℕ
 number_in d = option_and_then small_number (option_and_then as_u64 (as_number d))
 
--- just one item, a number
+-- the number, if there is exactly one item and it is a number
 abbrev pub single_number : List Data → Option ℕ
 single_number [] = None
 single_number (d ∷ []) = number_in d
 single_number (d ∷ e ∷ rest) = None
 
--- just two items, both numbers
+-- the two numbers, if there are exactly two items and both are numbers
 abbrev pub number_pair : List Data → Option (ℕ × ℕ)
 number_pair [] = None
 number_pair (d ∷ []) = None
 number_pair (d ∷ e ∷ []) = option_and_then (λ u. option_map (λ v. (u, v)) (number_in e)) (number_in d)
 number_pair (d ∷ e ∷ f ∷ rest) = None
 
--- a link: an array of just its tail and its head
+-- a link: an array of exactly its tail and its head
 abbrev pub link_in : Data → Option (ℕ × ℕ)
 link_in d = option_and_then number_pair (items_in d)
 
--- what all items are, where each is one
+-- what each item is read as, if each can be read
 abbrev pub read_all : {X : Type 0} → (Data → Option X) → List Data → Option (List X)
 read_all read_one [] = Some []
 read_all read_one (d ∷ ds) = option_and_then (λ x. option_map (λ xs. x ∷ xs) (read_all read_one ds)) (read_one d)
 
--- links: an array of them
+-- links: an array of links
 abbrev pub links_in : Data → Option (List (ℕ × ℕ))
 links_in d = option_and_then (read_all link_in) (items_in d)
 
--- what items are, by the first of them, which is a word, and the items after it
+-- what items are read as, by the first one, which is a word, and the items after it
 abbrev pub read_by_word : {X : Type 0} → (List ℕ → List Data → Option X) → List Data → Option X
 read_by_word read_rest [] = None
 read_by_word read_rest (d ∷ rest) = option_and_then (λ word. read_rest word rest) (as_str d)
@@ -102,15 +103,15 @@ edit_of_word word rest =
     else (if bytes_eq word (codes "join") then option_map (λ pair. edit.Join pair.0 pair.1) (number_pair rest)
     else None))
 
--- an edit: an array of just its word and two nodes
+-- an edit: an array of exactly its word and two nodes
 abbrev pub edit_in : Data → Option Edit
 edit_in d = option_and_then (read_by_word edit_of_word) (items_in d)
 
--- edits: an array of them
+-- edits: an array of edits
 abbrev pub edits_in : Data → Option (List Edit)
 edits_in d = option_and_then (read_all edit_in) (items_in d)
 
--- the network of just three items: how many nodes, the destination, the links
+-- the network of exactly three items: the number of nodes, the destination, the links
 abbrev pub network_request : List Data → Option PlainRequest
 network_request [] = None
 network_request (n ∷ []) = None
@@ -120,21 +121,21 @@ network_request (n ∷ d ∷ ls ∷ []) =
     (links_in ls)) (number_in d)) (number_in n)
 network_request (n ∷ d ∷ ls ∷ x ∷ rest) = None
 
--- the request of two numbers, where just these are left
+-- the request of two numbers, if exactly these are left
 abbrev pub pair_request : (ℕ → ℕ → PlainRequest) → List Data → Option PlainRequest
 pair_request request rest = option_map (λ pair. request pair.0 pair.1) (number_pair rest)
 
--- the batch of edits, where just an array of these is left
+-- the batch of edits, if exactly an array of edits is left
 abbrev pub batch_request : List Data → Option PlainRequest
 batch_request [] = None
 batch_request (d ∷ []) = option_map make_edits (edits_in d)
 batch_request (d ∷ e ∷ rest) = None
 
--- the request of one number, where just this is left
+-- the request of one number, if exactly this is left
 abbrev pub node_request : (ℕ → PlainRequest) → List Data → Option PlainRequest
 node_request request rest = option_map request (single_number rest)
 
--- the question, where no item is left
+-- the question, if no item is left
 abbrev pub ask_request : Question → List Data → Option PlainRequest
 ask_request question [] = Some (ask question)
 ask_request question (d ∷ rest) = None
@@ -154,19 +155,19 @@ request_of_word word rest =
     else (if bytes_eq word (codes "hops") then ask_request Hops rest
     else None)))))))))
 
--- the request that a value is
+-- the request of a value
 abbrev pub request_of : Data → Option PlainRequest
 request_of d = option_and_then (read_by_word request_of_word) (items_in d)
 
--- the value that a line is: UTF-8, JSON, and nesting at most 127
+-- the value of a line: UTF-8, JSON, and nesting at most 127 deep
 abbrev pub value_of_line : List ℕ → Option Data
 value_of_line line = if is_utf8 line then read line else None
 
--- the request of a line's value, or why there is none
+-- the request of a line's value, or why it is not one
 abbrev pub reading_of_value : Option Data → Result PlainRequest LineFault
 reading_of_value None = Err NotJson
 reading_of_value (Some d) = ok_or (request_of d) NotRequest
 
--- the request that a line is, or why it is none
+-- the request of a line, or why it is not one
 abbrev pub reading : List ℕ → Result PlainRequest LineFault
 reading line = reading_of_value (value_of_line line)

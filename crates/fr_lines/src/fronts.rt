@@ -1,14 +1,14 @@
-//! What stands at the front of a text of JSON, by its bytes: white space, a mark, a number.
+//! The front of a JSON text, read by its bytes: white space, a mark, a number.
 
 ghost use Rattle.std.specs.Prelude.{◌≡◌, ◌<◌, ◌∷◌, ◌++◌, [], true, IfSome, decimal};
 ghost use Rattle.json.specs.Lex.{operator_lexeme};
 ghost use Rattle.json.specs.Word.{is_operator};
 ghost use Rattle.fr_lines.specs.LineLexemes.{unspaced, Begins, number_lexeme};
 
-/// A number above this is too large once a digit is behind it.
+/// A number greater than this is too large once another digit follows it.
 const TENTH: u64 = 429_496_729;
 
-/// What is behind white space, of which there is seldom any.
+/// The text after any white space at its front. Most lines have none.
 #[inline(always)]
 pub(crate) fn behind_space(text: &[u8]) -> &[u8]
     ensures { result.now ≡ unspaced text.now }
@@ -19,7 +19,7 @@ pub(crate) fn behind_space(text: &[u8]) -> &[u8]
     }
 }
 
-/// What is behind white space. It is kept out of the way of lines without any.
+/// The text after white space. It is not inlined, so that it does not slow down lines without white space.
 #[inline(never)]
 fn behind_some_space(text: &[u8]) -> &[u8]
     ensures { result.now ≡ unspaced text.now }
@@ -31,7 +31,7 @@ fn behind_some_space(text: &[u8]) -> &[u8]
     rest
 }
 
-/// What is behind this mark, where it stands next.
+/// The text after this mark, if the mark comes next.
 #[inline(always)]
 pub(crate) fn behind_mark(mark: u8, text: &[u8]) -> Option<&[u8]>
     requires { is_operator mark ≡ true }
@@ -44,7 +44,7 @@ pub(crate) fn behind_mark(mark: u8, text: &[u8]) -> Option<&[u8]>
     }
 }
 
-/// What is behind this mark, where it stands next, with white space before it.
+/// The text after this mark, if the mark comes next after white space.
 #[inline(always)]
 fn behind_spaced_mark(mark: u8, text: &[u8]) -> Option<&[u8]>
     ensures { IfSome result (λ behind. unspaced text.now ≡ mark ∷ behind.now) }
@@ -55,7 +55,7 @@ fn behind_spaced_mark(mark: u8, text: &[u8]) -> Option<&[u8]>
     }
 }
 
-/// Whether just white space is left.
+/// Whether only white space is left.
 #[inline(always)]
 pub(crate) fn is_over(text: &[u8]) -> bool
     ensures bytes { result ≡ true → unspaced text.now ≡ [] }
@@ -64,7 +64,7 @@ pub(crate) fn is_over(text: &[u8]) -> bool
     behind_space(text).is_empty()
 }
 
-/// Whether just this mark and white space are left.
+/// Whether only this mark and white space are left.
 pub(crate) fn ends_line(mark: u8, text: &[u8]) -> bool
     requires { is_operator mark ≡ true }
     ensures { result ≡ true → Begins text.now (operator_lexeme mark ∷ []) [] }
@@ -75,7 +75,7 @@ pub(crate) fn ends_line(mark: u8, text: &[u8]) -> bool
     }
 }
 
-/// The number that stands next, where this mark is behind it, and what is behind the mark.
+/// The number that comes next, and the text after the mark, if this mark follows the number.
 #[inline(always)]
 pub(crate) fn number_before(mark: u8, text: &[u8]) -> Option<(u32, &[u8])>
     requires { is_operator mark ≡ true }
@@ -86,7 +86,7 @@ pub(crate) fn number_before(mark: u8, text: &[u8]) -> Option<(u32, &[u8])>
     Some((n, behind))
 }
 
-/// The number at the front, and what is behind it.
+/// The number at the front, and the text after it.
 #[inline(always)]
 pub(crate) fn number(text: &[u8]) -> Option<(u32, &[u8])>
     ensures { IfSome result (λ next. text.now ≡ decimal next.0 ++ next.1.now) }
@@ -98,7 +98,7 @@ pub(crate) fn number(text: &[u8]) -> Option<(u32, &[u8])>
     }
 }
 
-/// The number whose first digits are those of `start`, and whose others stand next; and what is behind it.
+/// The number whose first digits are those of `start` and whose other digits come next, and the text after it.
 #[inline(always)]
 fn more_digits(start: u32, digits: &[u8]) -> Option<(u32, &[u8])>
     requires { 0 < start }

@@ -1,5 +1,5 @@
-//! The lines of JSON that ask for networks, and for changes to them: which line is which request. Of networks they
-//! know an [`Edit`] and pairs of numbers.
+//! The lines of JSON that ask for networks and for changes to them: which line is which request. From `fr_graph` this
+//! crate uses only [`Edit`]. JSON is that of RFC 8259; docs/LINES.md has the requests.
 //!
 //! [`Edit`]: fr_graph::Edit
 #![tactic(auto)]

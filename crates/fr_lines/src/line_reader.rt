@@ -1,4 +1,4 @@
-//! Reading line after line with the memory that the first one took.
+//! Reading many lines with the memory that was allocated once.
 
 ghost use Rattle.std.specs.Prelude.{◌≡◌, ◌≢◌, ◌∷◌, Ok, Err, IfOk, IfErr, IfSome};
 ghost use Rattle.json.specs.Lex.{tokens};
@@ -19,17 +19,17 @@ use std::alloc::Global;
 use std::fmt;
 use std::str::from_utf8;
 
-/// How deep arrays and objects may nest, as `serde_json` has it.
+/// How deep arrays and objects may nest: the limit of `serde_json`.
 const DEPTH: usize = 127;
 
-/// A reader of many lines. It reads most requests by their bytes. From the first line on that has a sign, a fraction,
-/// an exponent, an escape or an empty list, and from the first that is no request, it keeps the memory that reading
-/// takes: a table of 16 KB, and room for the longest line so far.
+/// A reader of many lines. It reads most requests by their bytes, without allocating. It allocates memory at the first
+/// line that is not a request, or that has a sign, a fraction, an exponent, an escape or an empty list: a table of 16
+/// KB, and room for the longest line so far. It keeps this memory for later lines.
 pub struct LineReader {
     scratch: Option<Box<Scratch>>,
 }
 
-// By hand, so that a crate above proves this call, and not once more how a table of tokens is given back.
+// Written by hand, so that crates above prove only this call, and not how a table of tokens is dropped.
 impl Drop for LineReader {
     fn drop(self) {
         let LineReader { scratch } = self;
@@ -38,13 +38,13 @@ impl Drop for LineReader {
 }
 
 impl LineReader {
-    /// A reader that has read no line yet, and holds no memory. `O(1)`.
+    /// A reader that has read no line yet and holds no memory. O(1).
     pub fn new() -> LineReader {
         LineReader { scratch: None }
     }
 
-    /// The request that a line is, as [`read_line`](crate::read_line) tells it, with the same faults; one other than
-    /// `Memory` is settled by the line alone. `O(b)` for a line of b bytes with no object.
+    /// Returns the request of a line. The result and the faults are those of [`read_line`](crate::read_line). The line
+    /// alone determines every fault except `Memory`. O(b) for a line of b bytes without objects.
     pub fn read(&mut self, alloc: Global, line: &[u8]) -> Result<Request, LineFault>
         ensures ok { IfOk result (λ request. reading line.now ≡ Ok (plain request)) }
         ensures refused { IfErr result (λ fault. fault ≢ Memory → reading line.now ≡ Err fault) }
@@ -59,8 +59,8 @@ impl LineReader {
         self.read_tokens(alloc, line)
     }
 
-    /// The request that a line is, by its tokens. It is kept out of the way of other lines, which pay for no locals
-    /// then.
+    /// The request of a line, read by tokens. It is not inlined, so that other lines do not pay for its local
+    /// variables.
     #[inline(never)]
     fn read_tokens(&mut self, alloc: Global, line: &[u8]) -> Result<Request, LineFault>
         ensures ok { IfOk result (λ request. reading line.now ≡ Ok (plain request)) }
@@ -85,7 +85,7 @@ impl fmt::Debug for LineReader {
     }
 }
 
-/// The table for a first line, on the heap. It is cleared here once, and not at each line.
+/// The table for the first line that needs one, on the heap. It is cleared here once, not for each line.
 #[inline(never)]
 fn new_scratch(alloc: Global) -> Result<Box<Scratch>, LineFault>
     ensures { IfErr result (λ fault. fault ≡ Memory) }
@@ -93,7 +93,7 @@ fn new_scratch(alloc: Global) -> Result<Box<Scratch>, LineFault>
     Ok(Box::new(alloc, Scratch::new(alloc))?)
 }
 
-/// Whether a line seems to be an array that a word opens. Only time hangs on it.
+/// Whether a line seems to be an array that begins with a word. The answer affects only the time.
 fn opens_with_word(line: &[u8]) -> bool {
     match behind_mark(b'[', line) {
         Some(items) => matches!(behind_space(items), [b'"', ..]),
@@ -101,8 +101,8 @@ fn opens_with_word(line: &[u8]) -> bool {
     }
 }
 
-/// The request that a text is. Where a word seems to open the text and none does, the text is begun again, and read as
-/// one value.
+/// The request of a text. If the text seems to begin with a word and does not, it is read again from the start, as one
+/// value.
 fn request_of_text(alloc: Global, text: &str, scratch: &mut Scratch) -> Result<Request, LineFault>
     ensures { Tells (reading_of_tokens (tokens text.now)) result }
 {
@@ -116,7 +116,7 @@ fn request_of_text(alloc: Global, text: &str, scratch: &mut Scratch) -> Result<R
     request_of_value(alloc, &mut reader)
 }
 
-/// The word that opens an array, and the bracket before it. Where there is none, some tokens are taken all the same.
+/// The word at the start of an array, after the opening bracket. It may consume some tokens even if it returns `None`.
 #[inline(always)]
 fn first_word<'a>(reader: &mut Reader<'a>) -> Option<&'a str>
     ensures { IfSome result (λ word. reader.old ≡ begin_array ∷ string word.now ∷ reader.new) }
@@ -130,7 +130,7 @@ fn first_word<'a>(reader: &mut Reader<'a>) -> Option<&'a str>
     Some(word)
 }
 
-/// The request of an array that this word opens, with no copy of the word; the items after it are next.
+/// The request of an array that begins with this word, which is not copied. The reader is at the items after the word.
 fn request_of_items(
     alloc: Global,
     word: &str,
@@ -145,7 +145,7 @@ fn request_of_items(
     request_by_word(alloc, word, &rest)
 }
 
-/// The request of the value that is next.
+/// The request of the next value.
 #[inline(never)]
 fn request_of_value(alloc: Global, reader: &mut Reader<'_>) -> Result<Request, LineFault>
     ensures { Tells (reading_of_tokens reader.old) result }

@@ -1,4 +1,4 @@
-//! The links of a network and the edits of a batch: as items, and by the bytes of a line.
+//! The links of a network and the edits of a batch, as values of JSON and by the bytes of a line.
 
 ghost use Rattle.std.specs.Prelude.{◌≡◌, ◌∷◌, ◌++◌, [], List, Option, IfOk, IfErr, IfSome, true};
 ghost use Rattle.serde_json.specs.Data.{Data};
@@ -17,7 +17,7 @@ use fr_graph::Edit;
 use serde_json::Value;
 use std::alloc::Global;
 
-/// What a list has as its items: links or edits.
+/// An item of a list: a link or an edit.
 pub(crate) trait Item: Drop {
     ghost lexemes: { Self → List Lexeme };
 
@@ -25,12 +25,12 @@ pub(crate) trait Item: Drop {
 
     ghost in_data: { Data → Option Self };
 
-    /// The item at the front, and what is behind it.
+    /// The item at the front, and the text after it.
     fn at_front(text: &[u8]) -> Option<(Self, &[u8])>
         ensures read { IfSome result (λ next. Begins text.now (lexemes next.0) next.1.now) }
         ensures small { IfSome result (λ next. IsSmall next.0) };
 
-    /// The item that a value of JSON is.
+    /// The item that a value of JSON describes.
     fn of_value(value: &Value) -> Option<Self>
         ensures { result ≡ in_data (view value.now) };
 }
@@ -72,7 +72,7 @@ impl Item for Edit {
     }
 }
 
-/// The items of a list, where only its bracket and that of the line are behind them.
+/// The items of a list, if only the bracket of the list and that of the line follow them.
 #[inline(never)]
 pub(crate) fn items_to_end<T: Item>(alloc: Global, text: &[u8]) -> Result<Option<Vec<T>>, LineFault>
     ensures ok { IfOk result (λ found. IfSome found (λ items.
@@ -93,7 +93,7 @@ pub(crate) fn items_to_end<T: Item>(alloc: Global, text: &[u8]) -> Result<Option
     }
 }
 
-/// Whether only the brackets of a list and of its line are left.
+/// Whether only the closing brackets of a list and of its line are left.
 fn ends_list(text: &[u8]) -> bool
     ensures { result ≡ true → Begins text.now (token end_array ∷ token end_array ∷ []) [] }
 {
@@ -103,7 +103,7 @@ fn ends_list(text: &[u8]) -> bool
     }
 }
 
-/// The edit that this word opens, and what is behind its bracket.
+/// The edit with this word, and the text after its bracket.
 #[inline(always)]
 pub(crate) fn edit_after(word: EditWord, rest: &[u8]) -> Option<(Edit, &[u8])>
     ensures word { IfSome result (λ next. word_of next.0 ≡ letters_of_edit word) }
@@ -127,7 +127,7 @@ fn edit_of(word: EditWord, u: u32, v: u32) -> Edit
     }
 }
 
-/// The two ends of a link, and what is behind the bracket that closes its array.
+/// The two ends of a link, and the text after the bracket that closes its array.
 #[inline(always)]
 fn ends(text: &[u8]) -> Option<((u32, u32), &[u8])>
     ensures read { IfSome result (λ next. Begins text.now (ends_lexemes next.0) next.1.now) }

@@ -1,4 +1,4 @@
-//! JSON that is no request, by the bytes of a line, which may have white space wherever JSON has it.
+//! JSON that is not a request, by the bytes of a line. White space is allowed wherever JSON allows it.
 
 ghost use Rattle.std.specs.Prelude.{◌≡◌, true, Err, IfSome};
 ghost use Rattle.fr_lines.specs.declared.requests.LineFault.TheVariants.{NotRequest};
@@ -7,8 +7,8 @@ ghost use Rattle.fr_lines.specs.Requests.{reading};
 
 use crate::fronts::{behind_mark, behind_space, ends_line, is_over, number, number_before};
 
-/// Whether a line is a number, an array of numbers or of nothing, or an object of nothing, its numbers written without
-/// signs, fractions and exponents: JSON, and no request. Of any other line it says nothing.
+/// Whether a line is a number, an array of numbers (or empty), or an empty object, where numbers have no sign, fraction
+/// or exponent. Such a line is JSON and not a request. For any other line the answer is `false`.
 #[inline(never)]
 pub(crate) fn is_no_request(line: &[u8]) -> bool
     ensures { result ≡ true → reading line.now ≡ Err NotRequest }
@@ -22,7 +22,7 @@ pub(crate) fn is_no_request(line: &[u8]) -> bool
     is_number(line)
 }
 
-/// Whether a line is just a number.
+/// Whether a line is exactly a number.
 fn is_number(line: &[u8]) -> bool
     ensures { result ≡ true → IsNumber line.now }
 {
@@ -32,7 +32,7 @@ fn is_number(line: &[u8]) -> bool
     }
 }
 
-/// Whether just numbers stand here, and the bracket that ends their array and the line.
+/// Whether this is numbers separated by commas, and then the bracket that ends their array and the line.
 fn are_numbers(items: &[u8]) -> bool
     ensures { result ≡ true → AreNumbers items.now }
 {

@@ -1,4 +1,4 @@
-//! Reading a line as a request. `specs/Requests.antt` says which line is which.
+//! Reading a line as a request. `specs/Requests.antt` defines which line is which request.
 
 ghost use Rattle.std.specs.Prelude.{◌≡◌, ◌≢◌, Ok, Err, Some, None, IfOk, IfErr, OnOk, map, ok_or, option_and_then, option_map};
 ghost use Rattle.serde_json.specs.View.{view};
@@ -12,9 +12,9 @@ use fr_graph::Edit;
 use serde_json::Value;
 use std::alloc::Global;
 
-/// The request that a line is, in JSON with white space wherever JSON has it; `NotJson` or `NotRequest` where it is
-/// none, as [`LineFault`] says, and `Memory` where no room could be had. A fault other than `Memory` is settled by the
-/// line alone. `O(b)` for a line of b bytes with no object.
+/// Returns the request of a line. White space is allowed wherever JSON allows it. Fails with `NotJson` or `NotRequest`
+/// if the line is not a request, as [`LineFault`] says, and with `Memory` if an allocation is refused. The line alone
+/// determines every fault except `Memory`. O(b) for a line of b bytes without objects.
 pub fn read_line(alloc: Global, line: &[u8]) -> Result<Request, LineFault>
     ensures ok { IfOk result (λ request. reading line.now ≡ Ok (plain request)) }
     ensures refused { IfErr result (λ fault. fault ≢ Memory → reading line.now ≡ Err fault) }
@@ -26,7 +26,7 @@ pub fn read_line(alloc: Global, line: &[u8]) -> Result<Request, LineFault>
     }
 }
 
-/// The request that a value of JSON is.
+/// The request of a value of JSON.
 pub(crate) fn request_in(alloc: Global, value: &Value) -> Result<Request, LineFault>
     ensures { Tells (ok_or (request_of (view value.now)) NotRequest) result }
 {
@@ -39,7 +39,7 @@ pub(crate) fn request_in(alloc: Global, value: &Value) -> Result<Request, LineFa
     request_by_word(alloc, word, rest)
 }
 
-/// The request of a word and the items after it: an arm for each word.
+/// The request of a word and the items after it, with an arm for each word.
 #[tactic(auto, unfolding(crate::specs::Requests::request_of_word))]
 pub(crate) fn request_by_word(
     alloc: Global,
@@ -63,7 +63,7 @@ pub(crate) fn request_by_word(
     }
 }
 
-/// A cut, where just the two ends of a link stand after its word.
+/// A cut, if exactly the two ends of a link follow its word.
 fn cut(rest: &[Value]) -> Result<Request, LineFault>
     ensures ok { IfOk result (λ request. pair_request cut_link (map view rest.now) ≡ Some (plain request)) }
     ensures refused { IfErr result (λ fault. ok_or (pair_request cut_link (map view rest.now)) NotRequest ≡ Err fault) }
@@ -72,7 +72,7 @@ fn cut(rest: &[Value]) -> Result<Request, LineFault>
     Ok(Request::Cut { u, v })
 }
 
-/// An added link, where just its tail and its head stand after the word.
+/// An added link, if exactly its tail and its head follow the word.
 fn add(rest: &[Value]) -> Result<Request, LineFault>
     ensures ok { IfOk result (λ request. pair_request add_link (map view rest.now) ≡ Some (plain request)) }
     ensures refused { IfErr result (λ fault. ok_or (pair_request add_link (map view rest.now)) NotRequest ≡ Err fault) }
@@ -81,7 +81,7 @@ fn add(rest: &[Value]) -> Result<Request, LineFault>
     Ok(Request::Add { u, v })
 }
 
-/// A join, where just the two nodes stand after its word.
+/// A join, if exactly the two nodes follow its word.
 fn join(rest: &[Value]) -> Result<Request, LineFault>
     ensures ok { IfOk result (λ request. pair_request join_nodes (map view rest.now) ≡ Some (plain request)) }
     ensures refused { IfErr result (λ fault. ok_or (pair_request join_nodes (map view rest.now)) NotRequest ≡ Err fault) }
@@ -90,7 +90,7 @@ fn join(rest: &[Value]) -> Result<Request, LineFault>
     Ok(Request::Join { u, v })
 }
 
-/// A walk, where just its first node stands after the word.
+/// A walk, if exactly its first node follows the word.
 fn walk(rest: &[Value]) -> Result<Request, LineFault>
     ensures ok { IfOk result (λ request. node_request walk_from (map view rest.now) ≡ Some (plain request)) }
     ensures refused { IfErr result (λ fault. ok_or (node_request walk_from (map view rest.now)) NotRequest ≡ Err fault) }
@@ -99,7 +99,7 @@ fn walk(rest: &[Value]) -> Result<Request, LineFault>
     Ok(Request::Walk { x })
 }
 
-/// A batch, where just an array of its edits stands after the word.
+/// A batch, if exactly an array of edits follows the word.
 fn batch(alloc: Global, rest: &[Value]) -> Result<Request, LineFault>
     ensures { Tells (ok_or (batch_request (map view rest.now)) NotRequest) result }
 {
@@ -110,7 +110,7 @@ fn batch(alloc: Global, rest: &[Value]) -> Result<Request, LineFault>
     Ok(Request::Batch { edits })
 }
 
-/// Another destination, where just its number stands after the word.
+/// Another destination, if exactly its number follows the word.
 fn destination(rest: &[Value]) -> Result<Request, LineFault>
     ensures ok { IfOk result (λ request. node_request move_dest (map view rest.now) ≡ Some (plain request)) }
     ensures refused { IfErr result (λ fault. ok_or (node_request move_dest (map view rest.now)) NotRequest ≡ Err fault) }
@@ -119,7 +119,7 @@ fn destination(rest: &[Value]) -> Result<Request, LineFault>
     Ok(Request::Destination { dest })
 }
 
-/// A question, where no item stands after its word.
+/// A question, if nothing follows its word.
 fn ask(question: Question, rest: &[Value]) -> Result<Request, LineFault>
     ensures ok { IfOk result (λ request. ask_request question (map view rest.now) ≡ Some (plain request)) }
     ensures refused { IfErr result (λ fault. ok_or (ask_request question (map view rest.now)) NotRequest ≡ Err fault) }
@@ -130,7 +130,7 @@ fn ask(question: Question, rest: &[Value]) -> Result<Request, LineFault>
     }
 }
 
-/// A network of just three items: how many nodes, the destination, the links.
+/// A network, if exactly three items follow the word: the number of nodes, the destination, the links.
 fn network(alloc: Global, rest: &[Value]) -> Result<Request, LineFault>
     ensures { Tells (ok_or (network_request (map view rest.now)) NotRequest) result }
 {
@@ -144,7 +144,7 @@ fn network(alloc: Global, rest: &[Value]) -> Result<Request, LineFault>
     Ok(Request::Network { nodes, dest, links })
 }
 
-/// The items that an array lists.
+/// The items of an array.
 fn item_list<T: Item>(alloc: Global, value: &Value) -> Result<Vec<T>, LineFault>
     ensures ok { IfOk result (λ items. option_and_then (read_all T.in_data) (items_in (view value.now)) ≡ Some items.items) }
     ensures refused { IfErr result (λ fault. fault ≢ Memory
@@ -160,7 +160,7 @@ fn item_list<T: Item>(alloc: Global, value: &Value) -> Result<Vec<T>, LineFault>
     Ok(items)
 }
 
-/// Puts the item that a value is behind those before it.
+/// Appends the item that a value describes.
 #[inline(always)]
 fn push_item<T: Item>(items: &mut Vec<T>, value: &Value) -> Result<(), LineFault>
     ensures ok { OnOk result (IsReadNext T.in_data items.old.items (view value.now) items.new.items) }
@@ -190,7 +190,7 @@ pub(crate) fn edit(value: &Value) -> Option<Edit>
     edit_by_word(first.as_str()?, rest)
 }
 
-/// The edit of a word and the items after it: an arm for each word.
+/// The edit of a word and the items after it, with an arm for each word.
 #[tactic(auto, unfolding(crate::specs::Requests::edit_of_word))]
 fn edit_by_word(word: &str, rest: &[Value]) -> Option<Edit>
     ensures { result ≡ edit_of_word word.now (map view rest.now) }
@@ -204,7 +204,7 @@ fn edit_by_word(word: &str, rest: &[Value]) -> Option<Edit>
     }
 }
 
-/// The items of an array.
+/// The values of an array.
 #[inline(always)]
 fn items_of(value: &Value) -> Option<&[Value]>
     ensures { option_map (λ items. map view items.now) result ≡ items_in (view value.now) }
@@ -212,7 +212,7 @@ fn items_of(value: &Value) -> Option<&[Value]>
     Some(value.as_array()?.as_slice())
 }
 
-/// Just one item, a number.
+/// The number, if there is exactly one item and it is a number.
 fn one_number(items: &[Value]) -> Option<u32>
     ensures { result ≡ single_number (map view items.now) }
 {
@@ -222,7 +222,7 @@ fn one_number(items: &[Value]) -> Option<u32>
     number(x)
 }
 
-/// Just two items, both numbers.
+/// The two numbers, if there are exactly two items and both are numbers.
 fn two_numbers(items: &[Value]) -> Option<(u32, u32)>
     ensures { result ≡ number_pair (map view items.now) }
 {
@@ -232,7 +232,7 @@ fn two_numbers(items: &[Value]) -> Option<(u32, u32)>
     Some((number(u)?, number(v)?))
 }
 
-/// A number, at most 4,294,967,295.
+/// A number from 0 to 4,294,967,295.
 fn number(value: &Value) -> Option<u32>
     ensures { result ≡ number_in (view value.now) }
 {

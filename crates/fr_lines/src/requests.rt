@@ -1,4 +1,4 @@
-//! The requests that a line can be, and why a line is none.
+//! The requests that a line can be, and why a line is not a request.
 
 ghost use Rattle.std.specs.Prelude.{◌≡◌};
 ghost use Rattle.fr_lines.specs.declared.requests.LineFault.TheVariants.{Memory};
@@ -7,20 +7,20 @@ use fr_graph::Edit;
 use std::alloc::{AllocError, AllocFailed};
 use thiserror::Error;
 
-/// What a line asks for. Each number is what the line says, from 0 to 4,294,967,295: whether it is a node, and whether
-/// the links make a network, is for the reader of the request to test.
+/// What a line asks for. The numbers are those of the line, from 0 to 4,294,967,295. Whoever uses the request has to
+/// test whether they are nodes, and whether the links make a network.
 #[derive(Debug, Drop)]
 pub enum Request {
-    /// Take this network from now on: `["net", nodes, dest, links]`.
+    /// Use this network from now on: `["net", nodes, dest, links]`.
     Network {
-        /// How many nodes there are.
+        /// The number of nodes.
         nodes: u32,
         /// The destination.
         dest: u32,
         /// The links in the order of the line, each from its tail to its head.
         links: Vec<(u32, u32)>,
     },
-    /// Take out the link between two nodes, whichever way it points: `["cut", u, v]`.
+    /// Remove the link between two nodes, whichever way it points: `["cut", u, v]`.
     Cut {
         /// One end of the link.
         u: u32,
@@ -34,59 +34,59 @@ pub enum Request {
         /// Its head.
         v: u32,
     },
-    /// Join two nodes by a link, whichever way it can point: `["join", u, v]`.
+    /// Join two nodes by a link, in a direction that closes no cycle: `["join", u, v]`.
     Join {
-        /// The tail of the link, unless a closed walk would follow it.
+        /// The tail of the link, unless that would close a cycle.
         u: u32,
-        /// Its head then.
+        /// The head of the link then.
         v: u32,
     },
-    /// Make these edits, one after the other: `["batch", [["cut", u, v], ["add", u, v], ["join", u, v], ..]]`.
+    /// Make these edits in order: `["batch", [["cut", u, v], ["add", u, v], ["join", u, v], ..]]`.
     Batch {
         /// The edits in the order of the line.
         edits: Vec<Edit>,
     },
-    /// Take another destination: `["dest", dest]`.
+    /// Use another destination: `["dest", dest]`.
     Destination {
         /// The destination.
         dest: u32,
     },
-    /// Tell the route from a node to the destination, and change nothing: `["walk", x]`.
+    /// Ask for the route from a node to the destination: `["walk", x]`. This changes nothing.
     Walk {
-        /// Where the route begins.
+        /// The first node of the route.
         x: u32,
     },
-    /// Answer a question, and change nothing.
+    /// Ask a question. This changes nothing.
     Ask(Question),
 }
 
-/// What can be asked of the network in use.
+/// What can be asked about the network in use.
 #[derive(Clone, Copy, Debug, PartialEq, Eq)]
 pub enum Question {
-    /// Which links there are, as they point now: `["links"]`.
+    /// The links, in their current directions: `["links"]`.
     Links,
-    /// How many turns each node has taken: `["counts"]`.
+    /// How often each node has turned: `["counts"]`.
     Counts,
-    /// Where each node sends on to, to get to the destination: `["hops"]`.
+    /// The next hop of each node on its way to the destination: `["hops"]`.
     Hops,
 }
 
-/// Why a line is no request.
+/// Why a line is not a request.
 #[derive(Debug, Drop, Error, PartialEq, Eq)]
 pub enum LineFault {
-    /// The line is no JSON value: it is not UTF-8 or not JSON, has more than one value or none, or nests deeper
-    /// than 127.
+    /// The line is not one JSON value: it is not UTF-8 or not JSON, it has no value or more than one, or it nests
+    /// deeper than 127.
     #[error("the line is no JSON")]
     NotJson,
-    /// The line is a JSON value, and the value is no request.
+    /// The line is a JSON value that is not a request.
     #[error("the line is no request")]
     NotRequest,
-    /// An allocation was refused, which says nothing of the line.
+    /// An allocation was refused. This says nothing about the line.
     #[error("no memory")]
     Memory,
 }
 
-// By hand, since clauses say which fault a `?` gives.
+// Written by hand, because clauses say which fault a `?` returns.
 impl From<AllocError> for LineFault {
     ghost from_gives = { λ _ fault. fault ≡ Memory };
 

@@ -1,4 +1,4 @@
-//! Values of JSON from tokens, as `serde_json` has them, which makes a table of its own for each text.
+//! Values of JSON from tokens, as `serde_json` reads them. `serde_json` itself would make a new table for each text.
 
 ghost use Rattle.std.specs.Prelude.{◌≡◌, ◌≢◌, ◌+◌, [], ◌∷◌, length, false, true, Some, None, option_map, IfOk, IfErr, OnOk};
 ghost use Rattle.fast_float.specs.Text.{scan};
@@ -16,7 +16,7 @@ use json::{Reader, Token};
 use serde_json::{Map, Number, Value};
 use std::alloc::Global;
 
-/// The next value of the reader, in which arrays and objects nest at most `depth` deep.
+/// The next value of the reader. Arrays and objects in it may nest at most `depth` deep.
 #[cycle(value)]
 #[inline(always)]
 pub(crate) fn value(
@@ -32,7 +32,7 @@ pub(crate) fn value(
     match token {
         Token::BeginArray if depth > 0 => items(alloc, reader, depth - 1).map(Value::Array),
         Token::BeginObject if depth > 0 => members(alloc, reader, depth - 1).map(Value::Object),
-        // Where nothing may nest, what opens an array or an object is no value.
+        // If nothing may nest, an opening bracket or brace begins no value.
         _ => single_value(alloc, token),
     }
 }
@@ -88,7 +88,7 @@ fn next_token<'a>(reader: &mut Reader<'a>) -> Result<Token<'a>, LineFault>
     reader.next().ok_or(LineFault::NotJson)
 }
 
-/// The value that a token is by itself.
+/// The value that consists of this token.
 #[inline(always)]
 fn single_value(alloc: Global, token: Token<'_>) -> Result<Value, LineFault>
     ensures ok { IfOk result (λ v. single_data (token_of token.entry) ≡ Some (view v)) }
@@ -112,7 +112,7 @@ fn next_name<'a>(reader: &mut Reader<'a>) -> Result<Option<&'a str>, LineFault>
     reader.next_key().or(Err(LineFault::NotJson))
 }
 
-/// Puts a member among those of an object. Of members with one name the last one stays.
+/// Puts a member into an object. If several members have the same name, the last one is kept.
 #[inline(always)]
 fn put_member(
     alloc: Global,
@@ -128,7 +128,7 @@ fn put_member(
     Ok(())
 }
 
-/// The number that a token writes, where it is in range.
+/// The number that a token writes, if it is in range.
 #[inline(always)]
 fn number(text: &str) -> Option<Number>
     ensures { option_map number_view result ≡ number_of text.now }
@@ -140,7 +140,7 @@ fn number(text: &str) -> Option<Number>
     }
 }
 
-/// The number that is written with no minus.
+/// The number of these bytes, which have no minus sign.
 #[inline(always)]
 fn unsigned(bytes: &[u8]) -> Option<Number>
     ensures { option_map number_view result ≡ number_from false (scan bytes.now) }
@@ -151,7 +151,8 @@ fn unsigned(bytes: &[u8]) -> Option<Number>
     }
 }
 
-/// The number that is written behind a minus. No request holds one, so it is kept out of the loops above.
+/// The number of these bytes, which follow a minus sign. Requests have no such number, so it is kept out of the loops
+/// above.
 #[inline(never)]
 fn negative(bytes: &[u8]) -> Option<Number>
     ensures { option_map number_view result ≡ number_from true (scan bytes.now) }
@@ -162,8 +163,8 @@ fn negative(bytes: &[u8]) -> Option<Number>
     }
 }
 
-/// The float that is nearest to these digits, where it is finite. No request holds one, so it is kept out of the loops
-/// above.
+/// The float that is nearest to these digits, if it is finite. Requests have no such number, so it is kept out of the
+/// loops above.
 #[inline(never)]
 fn float(sign: bool, bytes: &[u8]) -> Option<Number>
     ensures { option_map number_view result ≡ float_of sign (scan bytes.now) }

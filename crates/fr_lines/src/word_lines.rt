@@ -1,4 +1,4 @@
-//! The requests that their words open, by the bytes of a line, which may have white space wherever JSON has it.
+//! The requests, by the word that begins them and the bytes of a line. White space is allowed wherever JSON allows it.
 
 ghost use Rattle.std.specs.Prelude.{◌≡◌, ◌∷◌, [], IfOk, IfErr, IfSome};
 ghost use Rattle.json.specs.Lex.{token, comma};
@@ -15,8 +15,8 @@ use crate::words::{EditWord, Word};
 use fr_graph::Edit;
 use std::alloc::Global;
 
-/// The request of a line that this word opens: an arm for each word. A line with signs, fractions, exponents or
-/// escapes, or with an empty list, is `None`, although it may be a request.
+/// The request of a line that begins with this word, with an arm for each word. Returns `None` for a line with signs,
+/// fractions, exponents, escapes or an empty list, although it may be a request.
 #[inline(always)]
 pub(crate) fn request_after(
     alloc: Global,
@@ -72,7 +72,7 @@ fn walk(rest: &[u8]) -> Option<Request>
     Some(Request::Walk { x })
 }
 
-/// The number after a comma, where only the bracket of the line is behind it.
+/// The number after a comma, if only the bracket of the line follows it.
 #[inline(always)]
 fn last_number(rest: &[u8]) -> Option<u32>
     ensures { IfSome result (λ n. Begins rest.now (comma ∷ number_lexeme n ∷ token end_array ∷ []) []) }
@@ -88,7 +88,7 @@ fn ask(question: Question, rest: &[u8]) -> Option<Request>
     ends_line(b']', rest).then_some(Request::Ask(question))
 }
 
-/// A network with a link: `["net",n,d,[[u,v],..]]`.
+/// A network with at least one link: `["net",n,d,[[u,v],..]]`.
 #[inline(never)]
 fn network(alloc: Global, rest: &[u8]) -> Result<Option<Request>, LineFault>
     ensures ok { IfOk result (λ found. IfSome found (λ request. IsReadAs (letters Network) rest.now (plain request))) }
@@ -103,7 +103,7 @@ fn network(alloc: Global, rest: &[u8]) -> Result<Option<Request>, LineFault>
     }
 }
 
-/// How many nodes and which destination a network has, and what is behind the bracket that opens its links.
+/// The number of nodes and the destination of a network, and the text after the bracket that opens its links.
 fn network_head(rest: &[u8]) -> Option<(u32, u32, &[u8])>
     ensures { IfSome result (λ head. Begins rest.now (comma ∷ number_lexeme head.0 ∷ comma ∷ number_lexeme head.1 ∷ comma
         ∷ token begin_array ∷ []) head.2.now) }
@@ -113,7 +113,7 @@ fn network_head(rest: &[u8]) -> Option<(u32, u32, &[u8])>
     Some((nodes, dest, behind_mark(b'[', rest)?))
 }
 
-/// A batch with an edit: `["batch",[["cut",u,v],..]]`.
+/// A batch with at least one edit: `["batch",[["cut",u,v],..]]`.
 #[inline(never)]
 fn batch(alloc: Global, rest: &[u8]) -> Result<Option<Request>, LineFault>
     ensures ok { IfOk result (λ found. IfSome found (λ request. IsReadAs (letters Batch) rest.now (plain request))) }
@@ -128,7 +128,7 @@ fn batch(alloc: Global, rest: &[u8]) -> Result<Option<Request>, LineFault>
     }
 }
 
-/// What is behind the bracket that opens the edits of a batch.
+/// The text after the bracket that opens the edits of a batch.
 fn batch_head(rest: &[u8]) -> Option<&[u8]>
     ensures { IfSome result (λ items. Begins rest.now (comma ∷ token begin_array ∷ []) items.now) }
 {

@@ -1,4 +1,4 @@
-//! The words that open requests and edits, by the bytes of a line.
+//! The words that begin requests and edits, by the bytes of a line.
 
 ghost use Rattle.std.specs.Prelude.{◌≡◌, ◌∷◌, ◌++◌, [], IfSome};
 ghost use Rattle.fr_lines.specs.LineLexemes.{Begins, letters, opening};
@@ -26,7 +26,7 @@ pub(crate) enum EditWord {
 }
 
 impl Word {
-    /// The word between its quotes.
+    /// The word in its quotes.
     #[inline(always)]
     fn quoted(self) -> &'static [u8]
         ensures { result.now ≡ 34 ∷ (letters self ++ 34 ∷ []) }
@@ -46,7 +46,7 @@ impl Word {
     }
 }
 
-/// The word that opens the array at the front, and what is behind it.
+/// The word at the start of the array at the front, and the text after it.
 #[inline(always)]
 pub(crate) fn opening_word(text: &[u8]) -> Option<(Word, &[u8])>
     ensures { IfSome result (λ next. Begins text.now (opening (letters next.0)) next.1.now) }
@@ -56,7 +56,7 @@ pub(crate) fn opening_word(text: &[u8]) -> Option<(Word, &[u8])>
     Some((word, quoted.strip_prefix(word.quoted())?))
 }
 
-/// The one word that begins as this text does. The letters behind are not looked at.
+/// The only word that can begin as this text does. The other letters are not tested.
 #[inline(always)]
 fn word_like(quoted: &[u8]) -> Option<Word> {
     match quoted {

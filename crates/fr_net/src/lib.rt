@@ -1,6 +1,7 @@
-//! Networks for link reversal, and the lines of JSON that ask for them: what [`fr_graph`] and [`fr_lines`] offer, by one name.
+//! Networks for link reversal, and the lines of JSON that ask for them: what [`fr_graph`] and [`fr_lines`] offer, under
+//! one name.
 //!
-//! They are two crates so that what stands on networks alone is proved beside the lines.
+//! They are two crates, so that the crates that use only networks can be proved at the same time as the lines.
 #![tactic(auto)]
 
 pub use fr_graph::{

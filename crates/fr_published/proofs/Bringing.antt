@@ -21,7 +21,7 @@ pub nothing_first : (nodes : List ℕ) → None ≡ slice_get nodes 0 → nodes 
 nothing_first [] is = refl
 nothing_first (x ∷ nodes) is = absurd (none-some x is)
 
--- an order of tables that do not differ has no node
+-- the push order of equal tables has no node
 none_differ : (table other : List Hop) (nodes : List ℕ) → table ≡ other → IsPushOrder table other nodes → nodes ≡ []
 none_differ table other [] same is = refl
 none_differ table other (x ∷ nodes) same is = absurd ((is.these x).0 (0, omega arith, refl) (ap (λ (t : List Hop). slice_get t x) same))
@@ -30,7 +30,7 @@ module _ (k : Knowledge) (s : Option State) (nodes : List ℕ) where
   pub has_already : k.nodes ≡ most_nodes → AreHopsIn s most_nodes (last_table k) → Publishes k s nodes k
   has_already largest are = record { has = record { largest = largest; are = are }; by = inl refl }
 
-  -- where there is no node to push, the table has the hops
+  -- if there is no node to push, the table has the hops
   pub none_to_push : IsHistory k.nodes k.known → CanPublish k s nodes → nodes ≡ [] → AreHopsIn s most_nodes (last_table k)
   none_to_push history can none = ⊎_elim (λ are. are) (λ l.
       let long : length (last_table k) ≡ length l.hops =
@@ -41,7 +41,7 @@ module _ (k : Knowledge) (s : Option State) (nodes : List ℕ) where
       can.can
 
   module _ (settled : IsSettledSession s) (hops : List Hop) (are : AreHopsOf s hops) where
-    -- and where the table has the hop of one of them
+    -- the table also has them if it has the hop of one of the nodes
     pub one_is_there : CanPublish k s nodes → (x : ℕ) → Contains nodes x → HasHopAt (last_table k) (padded k.nodes hops) x
         → AreHopsIn s most_nodes (last_table k)
     one_is_there can x found is = ⊎_elim (λ are_there. are_there) (λ l.
@@ -51,7 +51,7 @@ module _ (k : Knowledge) (s : Option State) (nodes : List ℕ) where
         absurd ((l.order.these x).0 found (has ∙ ap (λ (t : List Hop). slice_get t x) same)))
         can.can
 
-    -- where it has not, the nodes lead to them
+    -- otherwise the nodes lead to them
     pub leads_here : CanPublish k s nodes → (x : ℕ) → ¬ HasHopAt (last_table k) (padded k.nodes hops) x
         → IsPushOrder (last_table k) (padded most_nodes hops) nodes
     leads_here can x other = ⊎_elim
@@ -76,7 +76,7 @@ module _ (k : Knowledge) (s : Option State) (nodes : List ℕ) where
       });
     }
 
-  -- a table that had the hops is left
+  -- a table that has the hops is unchanged
   left : HasHopsOf s k → (k' : Knowledge) → Publishes k s nodes k' → k' ≡ k
   left has k' p = ⊎_elim (λ same. same) (λ (a : ArePublished k s nodes k').
       let same : last_table k ≡ a.leads.hops = same_hops s most_nodes (last_table k) a.leads.hops has.are a.leads.are in

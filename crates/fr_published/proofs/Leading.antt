@@ -1,4 +1,4 @@
--- What leads from the hops of a session to those that it has after a call.
+-- The push order from the hops of a session to those after a call.
 use Rattle.std.proofs.Common.{List, Option, Some, None, ap, arith, get_or, inl, inr, le_refl, length, replicate}
 use Rattle.std.proofs.Common.{subst, sym, ℕ, ⊎_elim, ◌+◌, ◌++◌, ◌-◌, ◌<◌, ◌≤◌, ◌∙◌, ◌≡◌, ◌⊎◌}
 use Rattle.std.proofs.lemmas.Bool.{cases_lt}
@@ -61,7 +61,7 @@ longer_in None settled c hops enough low are =
     ∙ (replicate-append-replicate c (most_nodes - length hops) CutOff ∙ ap (λ (k : ℕ). replicate k CutOff) all)
 longer_in (Some s) settled c hops enough low are = longer_are s settled.after c most_nodes hops enough low are
 
--- the hops of the network, and cut off numbers behind them
+-- the hops of the network, and numbers after them that are cut off
 pub all_in : (s : Option State) → IsSettledSession s → (hops : List Hop) → AreHopsOf s hops → AreHopsIn s most_nodes (padded most_nodes hops)
 all_in None settled hops are = longer_in None settled 0 hops (omega arith) (omega arith) are
 all_in (Some s) settled hops are = longer_in (Some s) settled s.nodes hops (le_refl s.nodes) settled.few are
@@ -75,7 +75,7 @@ all_table (Some s) settled hops are =
 
 -- From one session to another
 
--- the push order of their hops below some number
+-- the push order of their hops for the numbers below some number
 pub record Leads (s t : Option State) (nodes : List ℕ) : Type 0 where
   pub count : ℕ
   pub before : List Hop
@@ -116,7 +116,7 @@ rerouted_leads s new nodes settled same r = record {
   order = r.order;
 }
 
--- a change leaves the number of nodes
+-- a change does not change the number of nodes
 pub changed_nodes : (s : State) (change : Change) (new : State) → IsChanged s change new → new.nodes ≡ s.nodes
 changed_nodes s (Cut u v) new is = is.1.nodes
 changed_nodes s (Add u v) new is = is.1.nodes
@@ -137,7 +137,7 @@ leads_to s t settled settled' k has nodes l =
           (padded_order most_nodes l.before l.after nodes long l.order);
     }
 
--- a call leaves the session, or leads to what it has then
+-- a call leaves the session unchanged, or the nodes lead to its new hops
 pub can_publish : (s t : Option State) → IsSettledSession s → IsSettledSession t → (nodes : List ℕ) → (t ≡ s) ⊎ Leads s t nodes
     → (k : Knowledge) → HasHopsOf s k → CanPublish k t nodes
 can_publish s t settled settled' nodes by k has = record {

@@ -1,4 +1,4 @@
--- Where a line leaves the session, and where it leads to other hops.
+-- When a line leaves the session unchanged, and when it leads to other hops.
 use Rattle.std.proofs.Common.{List, Option, Some, None, Result, Ok, Err, IfErr, IfNone, IfOk, IfSome, OnErr, String, ap, false, inl, inr, length}
 use Rattle.std.proofs.Common.{refl, string_bytes, subst, sym, true, ℕ, ⊎_elim, ◌∙◌, ◌≡◌, ◌≢◌, ◌≤◌, ◌⊎◌}
 use Rattle.std.specs.declared.alloc.Global.{Global}
@@ -26,7 +26,7 @@ use Rattle.fr_published.specs.Publishing.{IsSettled, IsSettledSession, Publishes
 use Rattle.fr_published.proofs.Bringing.{left_in}
 use Rattle.fr_published.proofs.Leading.{Leads, changed_nodes, replaced_leads, rerouted_leads}
 
--- an accepted request that is no question leads from the session to the new state
+-- an accepted request that is not a question leads from the session to the new state
 module _ (s : State) (settled : IsSettled s) (new : State) (before after : List ℕ) where
   told_of_one : (request : PlainRequest) → IsSettled new → IsAccepted (Some s) request new → TellsOf (Some s) request new before after
       → (Some new ≡ Some s) ⊎ Leads (Some s) (Some new) after
@@ -63,7 +63,7 @@ line_leads s next settled settled' (Ok request) before after told = ⊎_elim
     told
 line_leads s next settled settled' (Err fault) before after told = inl told.0
 
--- an answer to a line leaves the session, or leads to other hops
+-- an answer to a line leaves the session unchanged, or leads to other hops
 pub answer_leads : (s next : Option State) → IsSettledSession s → IsSettledSession next → (line : List ℕ)
     → (answer : Result (Option (String Global)) AnswerFault) (before after : List ℕ)
     → IfOk answer (λ a. IfNone a ((is_blank line ≡ true) × (next ≡ s))) → OnErr answer ((is_blank line ≡ false) × (next ≡ s))
@@ -73,7 +73,7 @@ answer_leads s next settled settled' line (Ok (Some text)) before after blank fa
     line_leads s next settled settled' (reading line) before after told.answered
 answer_leads s next settled settled' line (Err why) before after blank fault told = inl fault.1
 
--- and so does a change
+-- so does a change
 pub change_leads : (s next : State) → IsSettled s → (change : Change) (answer : Result Report RouteFault) (before after : List ℕ)
     → IfOk answer (λ _. IsChanged s change next) → OnErr answer (next ≡ s) → TellsRerouted s answer next before after
     → (Some next ≡ Some s) ⊎ Leads (Some s) (Some next) after
@@ -81,10 +81,10 @@ change_leads s next settled change (Ok report) before after changed fault told =
     inr (rerouted_leads s next after settled (changed_nodes s change next changed) told.rerouted)
 change_leads s next settled change (Err why) before after changed fault told = inl (ap Some fault)
 
--- What a session and its router answer, where it is published
+-- The answers of a session and its router, with publishing
 
 module _ (s s' : Option State) (nodes nodes' : List ℕ) (t t' : Option Knowledge) where
-  -- what leaves the session and the list leaves the table
+  -- what leaves the session and the list unchanged leaves the table unchanged
   all_left : IfSome t (HasHopsOf s) → PublishesIn t s' nodes' t' → s' ≡ s → nodes' ≡ nodes → published s' nodes' t' ≡ published s nodes t
   all_left has p same list =
       let kept : t' ≡ t = left_in t s' nodes' t' (subst (λ (u : Option State). IfSome t (HasHopsOf u)) (sym same) has) p in

@@ -1,4 +1,4 @@
--- What the calls of a published session answer.
+-- What the calls of a published session return. This project's own.
 use Rattle.std.specs.Prelude.{◌≡◌, ◌≢◌, ℕ, ◌≤◌, ◌⊎◌, true, false, length, List, Option, Some, None, Result, String}
 use Rattle.std.specs.Prelude.{IfOk, IfErr, IfSome, IfNone, OnOk, OnErr, string_bytes}
 use Rattle.std.specs.declared.alloc.AllocError.{AllocError}
@@ -20,7 +20,7 @@ use Rattle.fr_route.specs.declared.fault.RouteFault.TheVariants.{Start as RouteS
 use Rattle.fr_published.specs.Published.{Published}
 use Rattle.fr_published.specs.Publishing.{PublishesTo}
 
--- a line is answered, and what it reroutes is published; a blank one has no answer
+-- a line is answered, and the nodes that it reroutes are published; a blank line has no answer
 pub record AnswersLine
     (old : Published) (line : List ℕ) (answer : Result (Option (String Global)) AnswerFault) (new : Published) : Type 0 where
   pub blank : IfOk answer (λ a. IfNone a ((is_blank line ≡ true) × (new ≡ old)))
@@ -28,12 +28,12 @@ pub record AnswersLine
       × IsLineAnswer old.session (reading line) (string_bytes text) new.session))
   pub told : TellsOfLine old.session (reading line) answer new.session old.rerouted new.rerouted
   pub published : PublishesTo old.table new
-  -- an answer that is longer than any report changes nothing
+  -- if the answer is longer than any report, nothing has changed
   pub short : IfOk answer (λ a. IfSome a (λ text. (new ≡ old) ⊎ (length (string_bytes text) ≤ longest_report)))
   pub unchanged : OnErr answer ((is_blank line ≡ false) × (new ≡ old))
   pub no_start : IfErr answer (λ fault. fault ≢ Start)
 
--- the change is made, its round reports this, and tells which nodes it reroutes
+-- the change is made, with this report of its round and these rerouted nodes
 pub record IsMade (old : Published) (change : Change) (report : Report) (new : Published) : Type 0 where
   pub before : State
   pub after : State
@@ -43,14 +43,14 @@ pub record IsMade (old : Published) (change : Change) (report : Report) (new : P
   pub report_is : IsReport after report.turned report.cut
   pub rerouted : AreRerouted before after new.rerouted
 
--- the change is refused for this fault, or there was no memory
+-- the change is refused with this fault, or memory is missing
 pub record IsNotMade (old : Published) (change : Change) (fault : RouteFault) : Type 0 where
   pub before : State
   pub was : old.session ≡ Some before
   pub refused : IsRouteFault before change fault
   pub no_start : fault ≢ RouteStart
 
--- a change of the network is made, and what it reroutes is published; there is no answer just where there is no network
+-- a change is made, and the nodes that it reroutes are published; there is no answer exactly if there is no network
 pub record MakesChange
     (old : Published) (change : Change) (answer : Option (Result Report RouteFault)) (new : Published) : Type 0 where
   pub none : IfNone answer ((old.session ≡ None) × (new ≡ old))
@@ -59,7 +59,7 @@ pub record MakesChange
   pub unchanged : IfSome answer (λ a. OnErr a (new ≡ old))
   pub published : PublishesTo old.table new
 
--- a router takes the place of the one that was there, if any, and what it reroutes is published
+-- a router replaces the one before it, if there was one, and the nodes that it reroutes are published
 pub record PutsRouter (old : Published) (router : State) (answer : Result (Unit {0}) AllocError) (new : Published) : Type 0 where
   pub put : OnOk answer (new.session ≡ Some router)
   pub rerouted : OnOk answer (AreReplaced old.session router new.rerouted)

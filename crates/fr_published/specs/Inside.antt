@@ -1,4 +1,4 @@
--- What a `PublishedSession` keeps.
+-- The value of a `PublishedSession` in contracts. For proofs only.
 use Rattle.std.specs.Prelude.{IfSome}
 use Rattle.fr_published.specs.Published.{HasHopsOf, Published, published}
 use Rattle.fr_published.specs.declared.session.PublishedSession.TheInside.{Inside}

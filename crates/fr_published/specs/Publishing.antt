@@ -1,4 +1,4 @@
--- What is pushed, and when.
+-- What is pushed into the table of a published session, and when. This project's own.
 use Rattle.std.specs.Prelude.{◌≡◌, ℕ, ◌≤◌, ◌⊎◌, ◌++◌, List, [], Option, Some, None, slice_get}
 use Rattle.fr_graph.specs.Limits.{most_nodes}
 use Rattle.fr_route.specs.Reroutes.{AreHopsIn}
@@ -10,7 +10,7 @@ use Rattle.fr_shared.specs.Histories.{pushes_of}
 use Rattle.fr_shared.specs.Knowledge.{Knowledge, last_table}
 use Rattle.fr_published.specs.Published.{HasHopsOf, Published}
 
--- the network of a session is as a round left it, and no larger than may be
+-- the network of a session is the result of a round and within the limit
 pub record IsSettled (s : State) : Type 0 where
   pub after : IsAfterRound s
   pub few : s.nodes ≤ most_nodes
@@ -19,22 +19,22 @@ abbrev pub IsSettledSession : Option State → Type 0
 IsSettledSession None = Unit {0}
 IsSettledSession (Some s) = IsSettled s
 
--- the hops of the network of a session, and of none
+-- the hops of the network of a session; empty without a network
 abbrev pub AreHopsOf : Option State → List Hop → Type 0
 AreHopsOf None hops = hops ≡ []
 AreHopsOf (Some s) hops = AreHops s s.nodes hops
 
--- two tables have the same hop of node x, if any
+-- two tables have the same hop of node x, or both have none
 abbrev pub HasHopAt : List Hop → List Hop → ℕ → Type 0
 HasHopAt table other x = slice_get table x ≡ slice_get other x
 
--- these nodes are the push order from a table to the hops of the session
+-- these nodes are the push order from the table to the hops of the session
 pub record LeadsTo (k : Knowledge) (s : Option State) (nodes : List ℕ) : Type 0 where
   pub hops : List Hop
   pub are : AreHopsIn s most_nodes hops
   pub order : IsPushOrder (last_table k) hops nodes
 
--- the table has the hops of the session already, or these nodes lead to them
+-- the table already has the hops of the session, or these nodes lead to them
 pub record CanPublish (k : Knowledge) (s : Option State) (nodes : List ℕ) : Type 0 where
   pub largest : k.nodes ≡ most_nodes
   pub can : AreHopsIn s most_nodes (last_table k) ⊎ LeadsTo k s nodes
@@ -44,12 +44,13 @@ pub record ArePublished (k : Knowledge) (s : Option State) (nodes : List ℕ) (k
   pub leads : LeadsTo k s nodes
   pub pushed : k' ≡ record k { known = k.known ++ pushes_of leads.hops nodes }
 
--- the table has the hops of the session: it had them, and was left, or just these nodes were pushed, in push order
+-- the table has the hops of the session: it already had them and nothing was pushed, or exactly these nodes were
+-- pushed, in push order
 pub record Publishes (k : Knowledge) (s : Option State) (nodes : List ℕ) (k' : Knowledge) : Type 0 where
   pub has : HasHopsOf s k'
   pub by : (k' ≡ k) ⊎ ArePublished k s nodes k'
 
--- the same where there may be no table
+-- the same if there is a table
 abbrev pub PublishesIn : Option Knowledge → Option State → List ℕ → Option Knowledge → Type 0
 PublishesIn None s nodes table = table ≡ None
 PublishesIn (Some k) s nodes table = (k' : Knowledge) × (table ≡ Some k') × Publishes k s nodes k'

@@ -1,4 +1,4 @@
-//! How the hops of a session are pushed to a table.
+//! Pushing the hops of a session into a table.
 
 ghost use Rattle.std.specs.Prelude.{◌≡◌, ◌≤◌, ◌↔◌, IfOk, IfSome, IsTrue, length, slice_index_or};
 ghost use Rattle.std.specs.Option.{option_copied};
@@ -14,7 +14,7 @@ use fr_route::{Hop, Router, Session};
 use fr_shared::{Publisher, open};
 use std::alloc::{AllocError, Global};
 
-/// The network that a session holds is as a round left it. The function does nothing.
+/// The network of a session is the result of a round. The function does nothing.
 pub(crate) fn session_law(session: &Session)
     ensures { IsSettledSession session.now }
 {
@@ -24,7 +24,7 @@ pub(crate) fn session_law(session: &Session)
     }
 }
 
-/// Which nodes a router reroutes, in the place of the one before it, if any.
+/// The nodes that a router reroutes when it replaces the one before it, if there was one.
 pub(crate) fn replaced(
     alloc: Global,
     before: Option<&Router>,
@@ -38,7 +38,7 @@ pub(crate) fn replaced(
     }
 }
 
-/// The hops of the network of a session, if there is one.
+/// The hops of the network of a session; empty without a network.
 fn hops_in(session: &Session) -> &[Hop]
     ensures { AreHopsOf session.now result.now }
 {
@@ -48,7 +48,7 @@ fn hops_in(session: &Session) -> &[Hop]
     }
 }
 
-/// Whether a published table has the hop of node `x` in these hops: a node past their end is cut off.
+/// Whether a published table has the same hop of node `x` as these hops. A node past their end is cut off.
 fn has_hop(publisher: &mut Publisher, hops: &[Hop], x: u32) -> bool
     requires { length hops.now ≤ publisher.old.nodes }
     ensures same { IsTrue result ↔ HasHopAt (last_table publisher.old) (padded publisher.old.nodes hops.now) x }
@@ -61,15 +61,15 @@ fn has_hop(publisher: &mut Publisher, hops: &[Hop], x: u32) -> bool
     publisher.hop(x) == hop_in(hops, x)
 }
 
-/// The hop of node `x` in a table: one past its end is cut off.
+/// The hop of node `x` in a table. A node past its end is cut off.
 fn hop_in(hops: &[Hop], x: u32) -> Hop
     ensures { result ≡ slice_index_or hops.now x CutOff }
 {
     hops.get(x as usize).copied().unwrap_or(Hop::CutOff)
 }
 
-/// Brings a table to the hops of a session, by pushes of these nodes in their order. A table that has the hops already is left: then
-/// the nodes were pushed before, or there are none.
+/// Pushes the hops of a session into a table, for these nodes and in their order. If the table already has the hop of
+/// the first node, the nodes were pushed before, and nothing is pushed.
 fn bring(publisher: &mut Publisher, session: &Session, rerouted: &[u32])
     requires settled { IsSettledSession session.now }
     requires can { CanPublish publisher.old session.now rerouted.now }
@@ -86,7 +86,7 @@ fn bring(publisher: &mut Publisher, session: &Session, rerouted: &[u32])
     publisher.push_all(hops, rerouted);
 }
 
-/// The same, where there may be no table.
+/// Does the same if there is a table.
 pub(crate) fn publish(publisher: &mut Option<Publisher>, session: &Session, rerouted: &[u32])
     requires settled { IsSettledSession session.now }
     requires can { IfSome publisher.old (λ k. CanPublish k session.now rerouted.now) }
@@ -97,7 +97,7 @@ pub(crate) fn publish(publisher: &mut Option<Publisher>, session: &Session, rero
     }
 }
 
-/// A table with the hops of a session, for the nodes of the largest network.
+/// Opens a table with the hops of a session, for as many nodes as the largest network has.
 pub(crate) fn opened(alloc: Global, session: &Session) -> Result<Publisher, AllocError>
     ensures { IfOk result (HasHopsOf session.now) }
 {

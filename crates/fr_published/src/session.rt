@@ -10,8 +10,8 @@ use fr_shared::{Publisher, Reader};
 use std::alloc::{AllocError, Global};
 use std::marker::Model;
 
-/// A session whose next hops other threads read. Contracts see the state of the session, the nodes that its last accepted round
-/// rerouted, and once there are readers the table with all its pushes.
+/// A session whose next hops other threads read. The value in contracts is the state of the session, the nodes that its
+/// last accepted round rerouted, and, once there are readers, the table with all its pushes.
 #[derive(Drop)]
 pub struct PublishedSession {
     session: Session,
@@ -32,7 +32,7 @@ impl Model for PublishedSession {
 }
 
 impl PublishedSession {
-    /// A session that holds no network and has no readers. It takes no memory. O(1).
+    /// A session without a network and without readers. It does not allocate. O(1).
     pub fn new(alloc: Global) -> PublishedSession
         ensures { result ≡ published None [] None }
     {
@@ -43,7 +43,7 @@ impl PublishedSession {
         }
     }
 
-    /// The session, to be asked. O(1).
+    /// The session, for questions. O(1).
     pub fn session(&self) -> &Session
         ensures { result.now ≡ self.now.session }
     {
@@ -57,19 +57,21 @@ impl PublishedSession {
         &self.rerouted
     }
 
-    /// Between two calls the table that readers read has the hops of the session. The function does nothing.
+    /// Between two calls, the table of the readers has the hops of the session. The function does nothing.
     pub fn table_law(&self)
         ensures { IfSome self.now.table (HasHopsOf self.now.session) }
     {
-        // A field has to be read, since only then the proof sees the invariant.
+        // A field has to be read, because only then the proof can use the invariant.
         let _rerouted = self.rerouted.len();
     }
 
-    /// A reader of the hops, which knows all pushes made so far. The first one opens the table, for as many nodes as the largest
-    /// network has, so that the table outlives each network. A number that is no node is cut off in it.
+    /// Makes a reader of the hops, which knows all pushes made so far. The first call opens the table, for as many
+    /// nodes as the largest network has, so that the table can be used for every later network. A number that is not a
+    /// node is cut off in the table.
     ///
-    /// `AllocError` where an allocation is refused, or where the table has 2^63 readers: then nothing has changed. The first reader takes
-    /// 32 KiB, and O(4,096 + n). Each later one takes no memory, and O(1).
+    /// Fails with `AllocError` if an allocation is refused, or if the table already has 2^63 readers. Then nothing has
+    /// changed. The first reader takes 32 KiB and O(4,096 + n) time. Each later one takes O(1) time and does not
+    /// allocate.
     pub fn reader(&mut self, alloc: Global) -> Result<Reader, AllocError>
         ensures session { (self.new.session ≡ self.old.session) × (self.new.rerouted ≡ self.old.rerouted) }
         ensures kept { IfSome self.old.table (λ k. self.new.table ≡ Some k) }
@@ -85,9 +87,9 @@ impl PublishedSession {
         Ok(reader)
     }
 
-    /// Answers a line, and reports and publishes what it reroutes, as
-    /// [`answer_line_telling_alone`](fr_route::Session::answer_line_telling_alone) does, with its faults and at its cost. Once there is
-    /// a reader, a line costs one load more, and each rerouted node one store.
+    /// Answers a line, and lists and publishes the nodes that it reroutes. The answer, the faults and the cost are
+    /// those of [`answer_line_telling_alone`](fr_route::Session::answer_line_telling_alone). Once there is a reader,
+    /// each line also costs one load, and each rerouted node one store.
     pub fn answer_line(&mut self, alloc: Global, line: &[u8]) -> Result<Option<String>, AnswerFault>
         ensures { AnswersLine self.old line.now result self.new }
     {
@@ -100,9 +102,9 @@ impl PublishedSession {
         answer
     }
 
-    /// Changes the network, and reports and publishes what that reroutes, as
-    /// [`change_telling_alone`](fr_route::Router::change_telling_alone) does, with its faults and at its cost. There is no answer where
-    /// there is no network yet.
+    /// Changes the network, and lists and publishes the nodes that this reroutes. The report, the faults and the cost
+    /// are those of [`change_telling_alone`](fr_route::Router::change_telling_alone). Returns `None` if there is no
+    /// network yet.
     pub fn change(&mut self, alloc: Global, change: Change) -> Option<Result<Report, RouteFault>>
         ensures { MakesChange self.old change result self.new }
     {
@@ -114,10 +116,11 @@ impl PublishedSession {
         Some(answer)
     }
 
-    /// Puts a router in the place of the one that was there, if any, and reports and publishes what that reroutes, as
-    /// [`changed_since`](fr_route::Router::changed_since) lists it.
+    /// Replaces the router of the session, or sets the first one, and lists and publishes the nodes that this reroutes,
+    /// as [`changed_since`](fr_route::Router::changed_since) lists them.
     ///
-    /// `AllocError` where an allocation is refused: then nothing has changed. O(n) for n nodes of the larger network.
+    /// Fails with `AllocError` if an allocation is refused. Then nothing has changed. O(n) for the n nodes of the
+    /// larger network.
     pub fn put_router(&mut self, alloc: Global, router: Router) -> Result<(), AllocError>
         ensures { PutsRouter self.old router result self.new }
     {

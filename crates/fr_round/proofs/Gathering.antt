@@ -114,6 +114,7 @@ closes r workers words xs id v turned final closes' taken pairs =
       all_back = λ whole. ap (sum_by (λ (p : ℕ × ℕ). p.1)) pairs ∙ all_handed_back r.setup k.history words workers run opened parts apart numbered whole;
       state = s;
       ruled = k;
+      same = refl;
       words = final.2;
     }
 

@@ -13,10 +13,10 @@ use Rattle.fr_round.specs.declared.worker.Worker.TheInside.{Inside}
 use Rattle.fr_round.specs.Setups.{setup_of}
 use Rattle.fr_round.specs.Missing.{IsCounted}
 use Rattle.fr_round.specs.Histories.{IsHistory, entry, reached}
-use Rattle.fr_round.specs.Calls.{ShowsCount}
+use Rattle.fr_round.specs.Calls.{RoundSeat, ShowsCount}
 use Rattle.fr_round.specs.Callers.{Makes}
-use Rattle.fr_round.specs.Steps.{Extends}
-use Rattle.fr_round.specs.Knowledge.{IsKnowledge, LearnsReply}
+use Rattle.fr_round.specs.Steps.{CatchesUp, Extends}
+use Rattle.fr_round.specs.Knowledge.{IsKnowledge, KnownPast, LearnsPast, LearnsReply}
 use Rattle.fr_round.specs.WorkerInside.{IsSoundWorker, knowledge_of}
 use Rattle.fr_round.proofs.Entries.{reached_count}
 use Rattle.fr_round.proofs.TurnCounts.{few_turns, turns_fit, turn_count_push, turn_of}
@@ -75,4 +75,42 @@ module _ (words : Words) (w : Inside) (p : Caller) (x : ℕ) (reply : Reply) (s 
     count = subst (λ (l : List ℕ × List ℕ). ShowsCount w.caller.seat.me.0.setup.nodes l.0 l.1 x reply)
         (λ i. (s.noted i, made.stays.seen.counts i)) made.call.shows;
     known = knowledge_holds (with_caller w p (w.turned + turn_of reply)) (sound_after (w.turned + turn_of reply) refl);
+  }
+
+-- a worker that learned what another one knew
+abbrev pub taught : Inside → RoundSeat → Inside
+taught w p = with_caller w (record { seat = p; seen = w.caller.seen }) w.turned
+
+module _ (w : Inside) (past : KnownPast) (p : RoundSeat) (s : IsSoundWorker w) (table : p.table_id ≡ w.caller.seat.table_id)
+    (slots : p.me.1 ≡ []) (same : p.me.0 ≡ record w.caller.seat.me.0 { known = p.me.0.known; received = past.known })
+    (caught : CatchesUp (record w.caller.seat.me.0 { received = past.known }) p.me.0.known) where
+  setup_stays : p.me.0.setup ≡ w.caller.seat.me.0.setup
+  setup_stays = ap (λ (u : View). u.setup) same
+
+  own_stays : part w.number p.me.0.known ≡ part w.number w.caller.seat.me.0.known
+  own_stays = subst (λ (k : ℕ). part k p.me.0.known ≡ part k w.caller.seat.me.0.known) s.numbered caught.own
+
+  pub sound_taught : IsSoundWorker (taught w p)
+  sound_taught = record {
+    works = ap (λ (u : View). u.works) same ∙ s.works;
+    no_slot = slots;
+    noted = ap (λ (u : View). u.seen) same ∙ s.noted;
+    numbers = subst (λ (z : Setup). IsCounted z.nodes z.links w.caller.seen) (sym setup_stays) s.numbers;
+    numbered = ap (λ (u : View). u.number) same ∙ s.numbered;
+    counted = s.counted ∙ sym (ap (λ (h : List Entry). turn_count h) own_stays);
+    run = subst (λ (z : Setup). IsHistory z p.me.0.known) (sym setup_stays) caught.run;
+    below = λ z.
+        let e : slice_index w.caller.seat.me.0.seen z ≡ slice_index w.caller.seen.counts.items z = ap (λ l. slice_index l z) s.noted in
+        let r : reached p.me.0.setup p.me.0.known z ≡ reached w.caller.seat.me.0.setup p.me.0.known z =
+        ap (λ (b : Setup). reached b p.me.0.known z) setup_stays in
+        omega (arith, caught.below z, e, r);
+  }
+
+  pub learns_past : LearnsPast (knowledge_of w) past (knowledge_of (taught w p))
+  learns_past = record {
+    same = λ i. record { table = table i; setup = setup_stays i; number = w.number; known = p.me.0.known; seen = w.caller.seen.counts.items };
+    keeps = caught.begins;
+    learns = caught.received;
+    own = own_stays;
+    known = knowledge_holds (taught w p) sound_taught;
   }

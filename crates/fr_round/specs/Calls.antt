@@ -1,5 +1,5 @@
--- What a call and its steps make of what a worker knows. Contracts of the public calls cite `ShowsCount` alone, and
--- the laws what a step needs: `IsWorker`, `IsInCall`, `AllMeet`.
+-- What a call and its steps change in what a worker knows. This project's own. Contracts of public calls use only
+-- `ShowsCount`; the laws use `IsWorker`, `IsInCall` and `AllMeet`; the rest is for proofs only.
 use Rattle.std.specs.Prelude.{◌≡◌, ℕ, ◌+◌, ◌<◌, ◌≤◌, true, false, List, [], slice_index, replicate}
 use Rattle.atomic_table.specs.Seated.{TableId}
 use Rattle.atomic_table.specs.declared.shared.Seat.{Seat}
@@ -23,7 +23,7 @@ pub record IsWorker (b : Setup) (v : View) : Type 0 where
   pub works : v.works ≡ true
   pub setup : v.setup ≡ b
 
--- a count of x that the worker has seen once it has the reply
+-- the count of x that the worker has seen after this reply
 abbrev pub ShowsCount : ℕ → List ℕ → List ℕ → ℕ → Reply → Type 0
 ShowsCount n before after x (Turned k) = slice_index after x ≡ k
 ShowsCount n before after x (Held w) = Unit {0}
@@ -39,7 +39,7 @@ pub record IsCallMade (v : View) (x : ℕ) (reply : Reply) (w : View) : Type 0 w
   pub up : (z : ℕ) → slice_index v.seen z ≤ slice_index w.seen z
   pub shows : ShowsCount v.setup.nodes v.seen w.seen x reply
 
--- the call on x goes on, with the own count c, which was loaded
+-- the call on x continues, with the own count c, which was loaded
 pub record IsLooking (v : View) (x c : ℕ) (w : View) : Type 0 where
   pub same : w ≡ record v { seen = w.seen; node = x; count = c }
   pub up : (z : ℕ) → slice_index v.seen z ≤ slice_index w.seen z
@@ -47,9 +47,10 @@ pub record IsLooking (v : View) (x c : ℕ) (w : View) : Type 0 where
 
 -- the first j neighbours of a row meet their bounds
 abbrev pub AreEnough : List (ℕ × First) → ℕ → List ℕ → ℕ → Type 0
-AreEnough neighbours j seen c = (i : ℕ) → i < j → bound_of (neighbour_at neighbours i).1 c ≤ slice_index seen (neighbour_at neighbours i).0
+AreEnough neighbours j seen c = (i : ℕ) → i < j
+    → bound_of (neighbour_at neighbours i).1 c ≤ slice_index seen (neighbour_at neighbours i).0
 
--- the same where the first j neighbours of x were seen to meet them
+-- the same, and the first j neighbours of x were seen to meet their bounds
 pub record IsUnderWay (b : Setup) (v : View) (x c j : ℕ) (w : View) : Type 0 where
   pub looking : IsLooking v x c w
   pub enough : AreEnough (row b.nodes b.links x) j w.seen c
@@ -75,7 +76,7 @@ pub record IsClosing (table : TableId) (seat : RoundSeat) : Type 0 where
   pub idle : seat.me.0.works ≡ false
   pub not_opening : seat.me.0.opens ≡ false
 
--- the same seat at the same table, with the slots that it had
+-- the same seat at the same table, with the same slots
 abbrev pub IsSameSeat : RoundSeat → RoundSeat → Type 0
 IsSameSeat p q = (q.table_id ≡ p.table_id) × (q.id ≡ p.id) × (q.me.1 ≡ p.me.1)
 

@@ -1,4 +1,4 @@
--- Histories on the network of a round, from the counts 0.
+-- Histories on the network of a round, from the counts 0. Histories are those of Herlihy and Wing (1990).
 use Rattle.std.specs.Prelude.{◌≡◌, ◌≢◌, ℕ, List, [], ◌∷◌, ◌++◌, replicate}
 use Rattle.std.specs.List.{AllByRecursion as Each}
 use Rattle.fr_core.specs.History.{Moment, moment_of, after_all, count_at}
@@ -15,7 +15,7 @@ start b = moment_of b.links (replicate b.nodes 0)
 abbrev pub moment : Setup → List Entry → Moment
 moment b h = after_all (start b) h
 
--- the history is a run of full reversal by one thread
+-- the history is a run of full reversal on one thread
 abbrev pub IsHistory : Setup → List Entry → Type 0
 IsHistory b h = IsRun b.nodes b.dest (start b) h
 
@@ -23,7 +23,7 @@ IsHistory b h = IsRun b.nodes b.dest (start b) h
 abbrev pub reached : Setup → List Entry → ℕ → ℕ
 reached b h x = count_at (moment b h) x
 
--- no number stands twice
+-- no number occurs twice
 abbrev pub AreApart : List ℕ → Type 0
 AreApart [] = Unit {0}
 AreApart (k ∷ ks) = Each (λ (j : ℕ). j ≢ k) ks × AreApart ks

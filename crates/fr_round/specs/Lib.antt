@@ -8,6 +8,7 @@ pub mod Knowledge
 pub mod Callers
 pub mod Closing
 pub mod WorkerInside
+pub mod PastInside
 pub mod RoundInside
 pub mod Seated
 pub mod Laws

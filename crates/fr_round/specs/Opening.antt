@@ -1,4 +1,4 @@
--- What a round that was just opened says: nothing has happened yet.
+-- A round that was just opened: nothing has happened yet. This project's own.
 use Rattle.std.specs.Prelude.{◌≡◌, List, [], replicate}
 use Rattle.std.specs.List.{AllByRecursion as Each}
 use Rattle.atomic_table.specs.Table.{State}
@@ -8,20 +8,21 @@ use Rattle.fr_round.specs.Knowledge.{Knowledge, OpenRound}
 use Rattle.fr_round.specs.Laws.{StandsBehind, first_state}
 use Rattle.fr_round.specs.Rule.{KeepsRule}
 
--- the worker knows of no call, and has seen no node turn
+-- the worker knows no call, and has seen no turn
 pub record KnowsNothing (b : Setup) (k : Knowledge) : Type 0 where
   pub calls : k.known ≡ []
   pub seen : k.seen ≡ replicate b.nodes 0
 
--- nothing has happened yet:
+-- nothing has happened yet
 pub record HasNotBegun (r : OpenRound) (workers : List Knowledge) : Type 0 where
-  -- the round is in the first state of its law, which the rule allows,
+  -- the round is in the first state of its law, which the rule allows
   pub state : State (Unit {0}) View
   pub first : state ≡ first_state r.setup
   pub ruled : KeepsRule r.setup state
-  -- all words are 0,
+  pub empty : ruled.history ≡ []
+  -- all words are 0
   pub words : state.words ≡ replicate r.setup.nodes 0
-  -- the list of calls behind them is empty,
+  -- the list of calls is empty
   pub calls : StandsBehind r.setup state []
-  -- and no worker knows of any
+  -- no worker knows a call
   pub knows : Each (KnowsNothing r.setup) workers

@@ -1,4 +1,4 @@
--- The fields of a round.
+-- The value of a round in contracts. For proofs only.
 use Rattle.std.specs.Prelude.{◌≡◌, ◌<◌, ◌≤◌, [], length, vec_capacity}
 use Rattle.fr_round.specs.declared.round.Round.TheInside.{Inside}
 use Rattle.fr_round.specs.Setups.{setup_of}

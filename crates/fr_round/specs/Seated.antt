@@ -1,4 +1,4 @@
--- A table with its opening seat, after so many numbers were given out.
+-- A table with its opening seat, after so many numbers were given out. For proofs only.
 use Rattle.std.specs.Prelude.{◌≡◌, ℕ, []}
 use Rattle.atomic_table.specs.declared.shared.Shared.{Shared}
 use Rattle.fr_round.specs.declared.view.View.{View}

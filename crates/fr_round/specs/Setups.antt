@@ -1,4 +1,4 @@
--- What a round was opened with, as its seats know it.
+-- The setup of a round, from its terms. For proofs only.
 use Rattle.fr_round.specs.declared.view.Setup.{Setup}
 use Rattle.fr_round.specs.declared.terms.Terms.{Terms}
 

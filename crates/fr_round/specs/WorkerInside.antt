@@ -1,4 +1,4 @@
--- The fields of a worker.
+-- The value of a worker in contracts. For proofs only.
 use Rattle.std.specs.Prelude.{◌≡◌, ℕ, ◌≤◌, true, [], slice_index}
 use Rattle.fr_core.specs.History.{part, turn_count}
 use Rattle.fr_round.specs.declared.worker.Worker.TheInside.{Inside}
@@ -7,7 +7,13 @@ use Rattle.fr_round.specs.Histories.{IsHistory, reached}
 use Rattle.fr_round.specs.Knowledge.{Knowledge}
 
 abbrev pub knowledge_of : Inside → Knowledge
-knowledge_of w = record { table = w.caller.seat.table_id; setup = w.caller.seat.me.0.setup; number = w.number; known = w.caller.seat.me.0.known; seen = w.caller.seen.counts.items }
+knowledge_of w = record {
+  table = w.caller.seat.table_id;
+  setup = w.caller.seat.me.0.setup;
+  number = w.number;
+  known = w.caller.seat.me.0.known;
+  seen = w.caller.seen.counts.items;
+}
 
 pub record IsSoundWorker (w : Inside) : Type 0 where
   pub works : w.caller.seat.me.0.works ≡ true
@@ -17,4 +23,5 @@ pub record IsSoundWorker (w : Inside) : Type 0 where
   pub numbered : w.caller.seat.me.0.number ≡ w.number
   pub counted : w.turned ≡ turn_count (part w.number w.caller.seat.me.0.known)
   pub run : IsHistory w.caller.seat.me.0.setup w.caller.seat.me.0.known
-  pub below : (z : ℕ) → slice_index w.caller.seen.counts.items z ≤ reached w.caller.seat.me.0.setup w.caller.seat.me.0.known z
+  pub below : (z : ℕ)
+      → slice_index w.caller.seen.counts.items z ≤ reached w.caller.seat.me.0.setup w.caller.seat.me.0.known z

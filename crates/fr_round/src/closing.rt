@@ -1,4 +1,4 @@
-//! How a round takes its workers back and reads its words at the end.
+//! Closing a round: taking its workers back and reading its words.
 
 ghost use Rattle.std.specs.Prelude.{◌≡◌, ◌+◌, ◌≤◌, ◌++◌, map, length, vec_capacity};
 ghost use Rattle.std.specs.List.{AllByRecursion as Each};
@@ -15,18 +15,18 @@ use atomic_table::Closed as ClosedWords;
 use fr_graph::Net;
 use std::alloc::Global;
 
-/// A round that is over.
+/// A closed round.
 #[derive(Debug, Drop)]
 pub struct Closed {
     /// The network, with its first links.
     pub net: Net,
     /// How often each node has turned.
     pub counts: Vec<u64>,
-    /// The number of each worker that was handed back, and how often its own calls turned a node.
+    /// The number of each worker that was given back, and how often its own calls turned a node.
     pub turned: Vec<(u32, u64)>,
 }
 
-/// A closing seat takes the workers back, and their numbers and turns are written down.
+/// Takes the workers back at a closing seat, and lists their numbers and turns.
 pub(crate) fn take_over(
     table: &RoundTable,
     seat: &mut RoundSeat,
@@ -48,7 +48,7 @@ pub(crate) fn take_over(
     }
 }
 
-/// Reads the words into the room that was kept for them.
+/// Reads the words into the list that was allocated for them.
 pub(crate) fn read_counts(closed: &ClosedWords<(), Global>, counts: &mut [u64])
     requires full { IsFull closed.now.words }
     requires long { length (slots_items closed.now.words) ≡ length counts.old }

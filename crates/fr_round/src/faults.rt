@@ -1,9 +1,9 @@
-//! Why a round cannot be opened, and why a call takes no step.
+//! Why a round cannot be opened, and why a call is refused.
 
 use fr_graph::Net;
 use thiserror::Error;
 
-/// Why a call on a node takes no step. The variants stand in the order in which they are tested.
+/// Why a call on a node is refused and takes no step. The variants are listed in the order in which they are tested.
 #[derive(Debug, Drop, Clone, Copy, Error, PartialEq, Eq)]
 pub enum Refusal {
     /// The network has no such node.
@@ -17,10 +17,10 @@ pub enum Refusal {
     Alone,
 }
 
-/// Why a round cannot be opened. The variants stand in the order in which they are tested.
+/// Why a round cannot be opened. The variants are listed in the order in which they are tested.
 #[derive(Debug, Drop, Clone, Copy, Error, PartialEq, Eq)]
 pub enum OpenWhy {
-    /// The destination is no node, or there is no worker or more than `MAX_WORKERS`.
+    /// The destination is not a node, or the number of workers is not 1 to `MAX_WORKERS`.
     #[error("the destination is no node, or the number of workers is out of range")]
     Range,
     /// An allocation was refused.
@@ -28,7 +28,7 @@ pub enum OpenWhy {
     Memory,
 }
 
-/// A round that could not be opened: its network, handed back, and why.
+/// A round that could not be opened: its network, which is given back, and why.
 #[derive(Debug, Drop, Error)]
 #[error("no round was opened: {why}")]
 pub struct OpenFault {

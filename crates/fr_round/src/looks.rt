@@ -1,5 +1,5 @@
-//! The steps of a look at a node: those loads of the machine of `fr_core` that what was seen does not settle, one by
-//! one, on atomic words.
+//! The steps of a look at a node, on atomic words. They are those loads of the machine of `fr_core` whose result is not
+//! already known from what was seen.
 
 ghost use Rattle.fr_core.specs.Replies.{IsReplyToLook};
 ghost use Rattle.fr_core.specs.Targets.{IsLookable};
@@ -13,8 +13,8 @@ use crate::words::Words;
 use fr_core::Reply;
 
 impl Caller {
-    /// The second load of the own count of node `x`, which decides the call: if that is `c` still, the node was a
-    /// sink then.
+    /// Loads the own count of node `x` a second time, which decides the call: if it is still `c`, the node was a sink
+    /// then.
     fn confirm(&mut self, words: &Words, x: u32, c: u64) -> Reply
         requires caller { IsCaller words.now self.old }
         requires call { IsInCall (setup_of words.now.terms) x c self.old.seat.me.0 }
@@ -36,8 +36,9 @@ impl Caller {
         }
     }
 
-    /// One look at node `x`, up to the step that decides it. Its own count is loaded, then those of the neighbours
-    /// that were not seen to meet their bounds for it, in the order of its row, and then its own count again.
+    /// Makes one look at node `x`, up to the step that decides it. It loads the count of `x`; then those of the
+    /// neighbours that were not seen to meet their bounds for it, in the order of the row; and then the count of `x`
+    /// again.
     pub(crate) fn look_at(&mut self, words: &Words, x: u32) -> Reply
         requires caller { IsCaller words.now self.old }
         requires node { IsLookable words.now.terms.net.nodes words.now.terms.net.links x }

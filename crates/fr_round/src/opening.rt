@@ -1,4 +1,4 @@
-//! How a round gets its words, its workers, and the room that its closing needs.
+//! How a round gets its words, its workers, and the memory that closing needs.
 
 ghost use Rattle.std.specs.Prelude.{◌≡◌, ◌≤◌, ◌<◌, ◌^◌, IfOk, length, [], vec_capacity, replicate};
 ghost use Rattle.fr_graph.specs.Links.{IsNet};
@@ -26,8 +26,8 @@ fn zeros(alloc: Global, count: u32) -> Result<Vec<u64>, AllocError>
     vec![in alloc; 0u64; count as usize]
 }
 
-/// The words, all 0, and the workers. The seat that gives out their numbers goes at the end: it could not be shared
-/// by threads.
+/// The words, all 0, and the workers. The seat that gives out their numbers is dropped at the end, because threads
+/// could not share it.
 fn make_table(alloc: Global, terms: &Terms) -> Result<Seated, AllocError>
     requires dest { terms.now.dest < terms.now.net.nodes }
     requires net { IsNet terms.now.net.nodes terms.now.net.links }
@@ -48,7 +48,7 @@ fn make_table(alloc: Global, terms: &Terms) -> Result<Seated, AllocError>
     Ok(Seated { table, workers })
 }
 
-/// The words, the workers, and the room that closing needs.
+/// The words, the workers, and the memory that closing needs.
 pub(crate) struct Prepared {
     pub table: RoundTable,
     pub workers: Vec<Worker>,

@@ -1,16 +1,18 @@
-//! An open round, which threads share by reference: how it is opened, the calls of its workers, and how it is closed.
+//! An open round, which threads share by reference: opening it, the calls of its workers, and closing it.
 
 ghost use Rattle.std.specs.Prelude.{◌≡◌, ◌≤◌, IfOk, IfErr, length};
 ghost use Rattle.std.specs.List.{AllByRecursion as Each};
 ghost use Rattle.fr_core.specs.Replies.{IsReplyToTurn, IsReplyToLook};
 ghost use Rattle.fr_core.specs.Targets.{IsTurnable, IsLookable};
-ghost use Rattle.fr_round.specs.Knowledge.{IsOwn, IsOpenable, IsWhyNotOpened, KeepsWorker, LearnsReply, Refuses, RefusesLook, new_workers};
+ghost use Rattle.fr_round.specs.Knowledge.{IsOwn, IsOpenable, IsWhyNotOpened, KeepsWorker, LearnsPast, LearnsReply, Refuses};
+ghost use Rattle.fr_round.specs.Knowledge.{RefusesLook, new_workers, past_of};
 ghost use Rattle.fr_round.specs.Closing.{Closes};
 ghost use Rattle.fr_round.specs.Opening.{HasNotBegun};
 
 use crate::closing::{Closed, read_counts, take_over};
 use crate::faults::{OpenFault, OpenWhy, Refusal};
 use crate::opening::{Prepared, prepare};
+use crate::past::Past;
 use crate::rule::BeginClosing;
 use crate::terms::Terms;
 use crate::words::Words;
@@ -20,12 +22,12 @@ use fr_graph::Net;
 use std::alloc::Global;
 use std::marker::Model;
 
-/// An open round: one atomic word for each node, which counts its turns. Threads share it by reference, and each turns
-/// nodes by a worker of its own.
+/// An open round: one atomic word for each node, which counts its turns. Threads share it by reference, and each thread
+/// turns nodes with a worker of its own.
 #[derive(Drop)]
 pub struct Round {
     words: Words,
-    // The room that `close` needs.
+    // Memory that `close` needs.
     counts: Vec<u64>,
     turned: Vec<(u32, u64)>,
 }
@@ -43,12 +45,12 @@ impl Model for Round {
 }
 
 impl Round {
-    /// Opens a round on a network, and returns it with its workers, whose numbers are 0, 1 and so on. Nothing has
-    /// happened yet: the list of calls is empty, all counts are 0, and no worker knows of a call or has seen a turn.
+    /// Opens a round on a network, and returns it with its workers, whose numbers are 0, 1 and so on. The list of calls
+    /// is empty, all counts are 0, and no worker knows a call or has seen a turn.
     ///
-    /// Fails with `Range` if the destination is no node of the network, or if `workers` is not 1 to [`MAX_WORKERS`],
-    /// and else with `Memory` if an allocation is refused; the fault hands the network back. The round takes all its
-    /// memory here. `O(m + k n)` for k workers.
+    /// Fails with `Range` if the destination is not a node of the network, or if `workers` is not 1 to [`MAX_WORKERS`];
+    /// and with `Memory` if an allocation is refused. The fault gives the network back. The round allocates all its
+    /// memory here. O(m + k n) for k workers.
     pub fn open(
         alloc: Global,
         net: Net,
@@ -93,14 +95,14 @@ impl Round {
         }
     }
 
-    /// How many workers it was opened with. It takes no step and no memory. `O(1)`.
+    /// The number of workers with which the round was opened. It takes no step, and does not allocate. O(1).
     pub fn workers(&self) -> u32
         ensures { result ≡ self.now.setup.workers }
     {
         self.words.terms.workers
     }
 
-    /// Its network, with the first links. It takes no step and no memory. `O(1)`.
+    /// The network, with its first links. It takes no step, and does not allocate. O(1).
     pub fn net(&self) -> &Net
         ensures nodes { result.now.nodes ≡ self.now.setup.nodes }
         ensures links { result.now.links ≡ self.now.setup.links }
@@ -108,29 +110,28 @@ impl Round {
         &self.words.terms.net
     }
 
-    /// Its destination. It takes no step and no memory. `O(1)`.
+    /// The destination. It takes no step, and does not allocate. O(1).
     pub fn dest(&self) -> u32
         ensures { result ≡ self.now.setup.dest }
     {
         self.words.terms.dest
     }
 
-    /// Turns node `x` if it is a sink: full reversal (E. Gafni and D. Bertsekas, 1981), by single atomic loads and
-    /// one exchange. It takes no memory, and waits for nobody, whatever other threads do or leave undone.
+    /// Turns node `x` if it is a sink: full reversal (E. Gafni and D. Bertsekas, 1981), by single atomic loads and one
+    /// exchange. It does not allocate or wait, whatever other threads do or do not do.
     ///
-    /// The worker has to be one of this round. A call is refused with `NoNode`, `Destination` or `Alone`, tested in
-    /// this order, if `x` is no node, the destination, or a node with no link. A refused call takes no step and
-    /// changes nothing. Every other call is decided:
+    /// The worker must be one of this round. A call is refused with `NoNode`, `Destination` or `Alone`, tested in this
+    /// order, if `x` is not a node, is the destination, or has no link. A refused call takes no step and changes
+    /// nothing. Every other call is decided:
     ///
     /// - `Turned`: the call turned the node.
     /// - `Held`: a link points to this neighbour.
-    /// - `Moved`: another worker has turned the node since this one saw its count, which may have been before the
-    ///   call.
+    /// - `Moved`: another worker has turned the node since this one saw its count, which may have been before the call.
     /// - `Cut`: the node has turned as often as there are nodes.
     ///
-    /// Each reply is one that full reversal by one thread gives after a history that goes on from all that the worker
-    /// knew. With the reply, that history is what the worker knows now. At most d + 1 loads and an exchange, and a
-    /// walk over the row of each node whose seen count rises: `O(d²)`.
+    /// Full reversal on one thread gives the same reply after a history that extends what the worker knew. This
+    /// history, with the reply, is what the worker knows afterwards. The call makes at most d + 1 loads and an
+    /// exchange, and goes through the row of each node whose seen count rises: O(d²).
     pub fn try_turn(&self, worker: &mut Worker, x: u32) -> Result<Reply, Refusal>
         requires { IsOwn self.now worker.old }
         ensures keeps { KeepsWorker worker.old worker.new }
@@ -143,20 +144,20 @@ impl Round {
         Ok(worker.turn(&self.words, x))
     }
 
-    /// Looks where a link of node `x` points, and turns nothing: it only loads counts. It takes no memory, and waits
-    /// for nobody, whatever other threads do or leave undone.
+    /// Looks whether a link points away from node `x`, and turns nothing: it only loads counts. It does not allocate or
+    /// wait, whatever other threads do or do not do.
     ///
-    /// The worker has to be one of this round. A look is refused with `NoNode` or `Alone`, tested in this order, if
-    /// `x` is no node or a node with no link. A refused look takes no step and changes nothing. The destination and a
-    /// node that turns no more are looked at like any other. Every other look is decided:
+    /// The worker must be one of this round. A look is refused with `NoNode` or `Alone`, tested in this order, if `x`
+    /// is not a node or has no link. A refused look takes no step and changes nothing. The destination can be looked at
+    /// like any other node, and so can a node that has reached the cap. Every other look is decided:
     ///
     /// - `Held`: a link points to this neighbour.
     /// - `Sink`: all links point to the node.
     /// - `Moved`: another worker turned the node between the two loads of its count.
     ///
-    /// Each reply holds at one point of a history that goes on from all that the worker knew: the point of its entry.
-    /// With the reply, that history is what the worker knows now. At most d + 2 loads, and a walk over the row of
-    /// each node whose seen count rises: `O(d²)`.
+    /// Each reply is true at one point of a history that extends what the worker knew: the point of its entry. This
+    /// history, with the reply, is what the worker knows afterwards. The call makes at most d + 2 loads, and goes
+    /// through the row of each node whose seen count rises: O(d²).
     pub fn look(&self, worker: &mut Worker, x: u32) -> Result<Reply, Refusal>
         requires { IsOwn self.now worker.old }
         ensures keeps { KeepsWorker worker.old worker.new }
@@ -169,10 +170,36 @@ impl Round {
         Ok(worker.look(&self.words, x))
     }
 
-    /// Ends the round, and returns the network, the counts at the end, and the number and turns of each worker that
-    /// is handed back. The workers have to be of this round, and no more than it was opened with; some may be
-    /// missing. It takes no memory, and waits for nobody: the caller owns the round, so no thread shares it any more.
-    /// `O(n + k)` for k workers.
+    /// What the worker knows, to hand to another thread. It changes nothing.
+    ///
+    /// The worker must be one of this round. The call makes one load, and does not allocate or wait. O(1).
+    pub fn past(&self, worker: &mut Worker) -> Past
+        requires { IsOwn self.now worker.old }
+        ensures kept { worker.new ≡ worker.old }
+        ensures past { result ≡ past_of worker.old }
+    {
+        worker.past(&self.words)
+    }
+
+    /// The worker learns what another worker knew. All calls that either of them knew come before the worker's next
+    /// call in the list of calls.
+    ///
+    /// Hand a [`Past`] on wherever one thread continues after another, as after a join or a message. Contracts promise
+    /// no order between calls of two workers if nothing was handed on.
+    ///
+    /// The worker and the past must be of this round. The call makes two loads, and does not allocate or wait. O(1).
+    pub fn learn(&self, worker: &mut Worker, past: Past)
+        requires worker { IsOwn self.now worker.old }
+        requires past { past.table ≡ self.now.table }
+        ensures { LearnsPast worker.old past worker.new }
+    {
+        worker.learn(&self.words, past);
+    }
+
+    /// Ends the round. Returns the network, the counts at the end, and the number and turns of each worker that is
+    /// given back. The workers must be of this round, and at most as many as it was opened with; some may be missing.
+    /// The caller owns the round, so no thread shares it any more. The call does not allocate or wait. O(n + k) for k
+    /// workers.
     pub fn close(self, workers: Vec<Worker>) -> Closed
         requires own { Each (IsOwn self) workers.items }
         requires few { length workers.items ≤ self.setup.workers }

@@ -1,10 +1,11 @@
-//! What holds of the words of a round and of what its seats know, between any two steps, and what each step tells.
+//! The rule: what holds of the words of a round, and of what its seats know, between any two steps. The steps: what
+//! each one shows the seat that takes it.
 
 use crate::terms::Terms;
 use crate::view::View;
 use atomic_table::{Join, Play, Split, TableRule};
 
-/// One history stands behind the words and behind all that the seats know.
+/// One history explains the words and all that the seats know.
 pub struct Rule;
 
 impl TableRule<(), View, Terms> for Rule {
@@ -61,7 +62,7 @@ impl Play<(), View> for LoadToLook {
     ghost then = { look_begun };
 }
 
-/// A look's second load of it.
+/// A look's second load of its node's own count.
 pub struct LoadAgain;
 
 impl Play<(), View> for LoadAgain {
@@ -70,7 +71,7 @@ impl Play<(), View> for LoadAgain {
     ghost then = { look_ended };
 }
 
-/// How the opening seat gives out a number.
+/// The step with which the opening seat gives out a number.
 pub struct NumberWorker;
 
 impl Split<View> for NumberWorker {
@@ -81,7 +82,38 @@ impl Split<View> for NumberWorker {
     ghost right = { worker_view };
 }
 
-/// The load with which a closing seat comes.
+/// How what a worker knows gets a seat of its own.
+pub struct HandOn;
+
+impl Split<View> for HandOn {
+    ghost use Rattle.fr_round.specs.Rule.{past_view};
+
+    ghost left = { λ v. v };
+
+    ghost right = { past_view };
+}
+
+/// How a worker takes in what another one knew.
+pub struct Receive;
+
+impl Join<View> for Receive {
+    ghost use Rattle.fr_round.specs.Rule.{with_received, spent_view};
+
+    ghost both = { with_received };
+
+    ghost spent = { spent_view };
+}
+
+/// The load with which it does so.
+pub struct CatchUp;
+
+impl Play<(), View> for CatchUp {
+    ghost use Rattle.fr_round.specs.Steps.{caught_up};
+
+    ghost then = { caught_up };
+}
+
+/// The load with which a closing seat enters.
 pub struct BeginClosing;
 
 impl Play<(), View> for BeginClosing {
@@ -90,7 +122,7 @@ impl Play<(), View> for BeginClosing {
     ghost then = { closing_begun };
 }
 
-/// How a closing seat takes a worker back.
+/// The step with which a closing seat takes a worker back.
 pub struct TakeWorker;
 
 impl Join<View> for TakeWorker {

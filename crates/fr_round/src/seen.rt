@@ -1,4 +1,4 @@
-//! What a worker has seen of the counts.
+//! The counts that a worker has seen.
 
 ghost use Rattle.std.specs.Prelude.{◌≡◌, ◌≢◌, ℕ, ◌<◌, ◌≤◌, IfOk, IsTrue, not, nat_lt, ◌&&◌, ◌↔◌, length, slice_index, slice_set, replicate};
 ghost use Rattle.fr_graph.specs.RowLists.{opposite};
@@ -8,16 +8,15 @@ ghost use Rattle.fr_round.specs.Missing.{misses, missing_of, IsCounted};
 use fr_graph::{First, Net};
 use std::alloc::{AllocError, Global};
 
-/// The counts that a worker has seen, one for each node of a network, and beside each the number of its node: how
-/// many of its neighbours miss their bounds by what was seen. Counts never fall, so a bound that was seen to be met
-/// is met.
+/// The counts that a worker has seen, one for each node, and for each node how many of its neighbours miss their bounds
+/// according to the seen counts. Counts never fall, so a bound that was seen to be met is still met.
 #[derive(Drop)]
 pub(crate) struct Seen {
     counts: Vec<u16>,
     missing: Vec<u16>,
 }
 
-/// The bound that a neighbour of a node of the count `own` has to meet, where their link was `first`.
+/// The bound that a neighbour of a node with count `own` must meet, for a link with the first direction `first`.
 fn bound(first: First, own: u16) -> u32
     ensures { result ≡ bound_of first own }
 {
@@ -27,22 +26,23 @@ fn bound(first: First, own: u16) -> u32
     }
 }
 
-/// Whether a neighbour of this count misses that bound.
+/// Whether a neighbour with this count misses that bound.
 fn is_below(first: First, own: u16, count: u16) -> bool
     ensures { result ≡ nat_lt count (bound_of first own) }
 {
     u32::from(count) < bound(first, own)
 }
 
-/// Whether a node whose count rises from `had` to `count` begins to meet its bound for a neighbour of the count
-/// `other`, where their link was `first` from the node: it does where the neighbour begins to miss its own.
+/// Whether a node whose count rises from `had` to `count` begins to meet its bound for a neighbour with count `other`.
+/// `first` is the first direction of their link seen from the node. It does exactly if the neighbour begins to miss its
+/// own bound.
 fn begins_to_meet(first: First, other: u16, had: u16, count: u16) -> bool
     ensures { result ≡ (nat_lt had (bound_of (opposite first) other) && not (nat_lt count (bound_of (opposite first) other))) }
 {
     is_below(first, count, other) && !is_below(first, had, other)
 }
 
-/// How many links of node `x` point away from it first: so many of its neighbours miss their bounds while no node has
+/// How many links of node `x` first point away from it. So many of its neighbours miss their bounds while no node has
 /// turned.
 fn count_outward(net: &Net, x: u32) -> u16
     requires { x < net.now.nodes }
@@ -58,9 +58,9 @@ fn count_outward(net: &Net, x: u32) -> u16
     outward
 }
 
-/// Walks over the row of node `y`, of which this count is seen now, and with the counts as they were seen before. It
-/// takes the node off the number of each neighbour for which it begins to meet its bound, and answers how many
-/// neighbours miss theirs for it.
+/// Goes through the row of node `y`, whose seen count becomes `count`, while the other counts are as they were seen
+/// before. It updates the number of each neighbour for which `y` begins to meet its bound, and returns how many
+/// neighbours of `y` miss theirs.
 fn pass_row(net: &Net, counts: &[u16], missing: &mut [u16], y: u32, count: u16) -> u16
     requires node { y < net.now.nodes }
     requires one_each { (length counts.now ≡ net.now.nodes) × (length missing.old ≡ net.now.nodes) }
@@ -85,8 +85,8 @@ fn pass_row(net: &Net, counts: &[u16], missing: &mut [u16], y: u32, count: u16) 
 }
 
 impl Seen {
-    /// No turn of any node: all counts are 0, and the neighbours that miss their bounds are those to which a link
-    /// points first.
+    /// No turns of any node: all counts are 0, and the neighbours that miss their bounds are those to which a link
+    /// first points.
     pub fn new(alloc: Global, net: &Net) -> Result<Seen, AllocError>
         ensures counts { IfOk result (λ seen. seen.counts.items ≡ replicate net.now.nodes 0) }
         ensures counted { IfOk result (IsCounted net.now.nodes net.now.links) }
@@ -100,7 +100,7 @@ impl Seen {
         Ok(Seen { counts, missing })
     }
 
-    /// The same counts and numbers in room of their own.
+    /// A copy in memory of its own.
     pub fn to_copy(&self, alloc: Global) -> Result<Seen, AllocError>
         ensures counts { IfOk result (λ seen. seen.counts.items ≡ self.now.counts.items) }
         ensures missing { IfOk result (λ seen. seen.missing.items ≡ self.now.missing.items) }
@@ -119,7 +119,7 @@ impl Seen {
         u64::from(self.counts[x as usize])
     }
 
-    /// Whether every neighbour of node `x` meets its bound for the seen count of `x`, by what was seen.
+    /// Whether every neighbour of node `x` meets its bound for the seen count of `x`, according to the seen counts.
     pub fn all_meet(&self, x: u32) -> bool
         requires { x < length self.now.missing.items }
         ensures { IsTrue result ↔ (slice_index self.now.missing.items x ≡ 0) }
@@ -127,7 +127,8 @@ impl Seen {
         self.missing[x as usize] == 0
     }
 
-    /// Whether a neighbour, a row's entry, misses its bound for the count `own`, by what was seen.
+    /// Whether a neighbour, given by its entry in a row, misses its bound for the count `own`, according to the seen
+    /// counts.
     pub fn misses(&self, entry: (u16, First), own: u64) -> bool
         requires { entry.0 < length self.now.counts.items }
         ensures { result ≡ misses self.now.counts.items own entry }
@@ -139,8 +140,8 @@ impl Seen {
         }
     }
 
-    /// Notes a count of node `y`, which is no less than what was seen of it. Where it is more, the numbers of `y` and
-    /// of its neighbours are brought up to date, by a walk over the row of `y`.
+    /// Notes a count of node `y`, which is at least its seen count. If it is greater, the numbers of `y` and of its
+    /// neighbours are updated, by going through the row of `y`.
     #[inline(always)]
     pub fn raise(&mut self, net: &Net, y: u32, count: u64)
         requires node { y < net.now.nodes }

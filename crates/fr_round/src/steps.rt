@@ -1,5 +1,5 @@
-//! The steps of a call on a node: those loads of the machine of `fr_core` that what was seen does not settle, and its
-//! exchange, one by one, on atomic words.
+//! The steps of a call on a node, on atomic words: the exchange, and those loads of the machine of `fr_core` whose
+//! result is not already known from what was seen.
 
 ghost use Rattle.std.specs.Prelude.{◌≡◌, ◌<◌, IfNone, IfSome, slice_index};
 ghost use Rattle.std.specs.List.{Contains};
@@ -22,14 +22,14 @@ use fr_graph::First;
 /// A seat at the words of a round.
 pub type RoundSeat = Seat<(), View>;
 
-/// Who makes the steps of a call: a worker's seat, and what the worker has seen.
+/// The caller of the steps of a call: a worker's seat, and what the worker has seen.
 #[derive(Drop)]
 pub(crate) struct Caller {
     pub seat: RoundSeat,
     pub seen: Seen,
 }
 
-/// Loads the count of a neighbour of the node of the call. If that misses its bound, the call is decided.
+/// Loads the count of a neighbour of the call's node. If it misses its bound, the call is decided.
 fn load_neighbour(words: &Words, seat: &mut RoundSeat, entry: (u16, First)) -> u64
     requires table { IsAtWords words.now seat.old }
     requires call { IsInCall (setup_of words.now.terms) seat.old.me.0.node seat.old.me.0.count seat.old.me.0 }
@@ -46,7 +46,7 @@ fn load_neighbour(words: &Words, seat: &mut RoundSeat, entry: (u16, First)) -> u
 }
 
 impl Caller {
-    /// Whether a neighbour of `x` meets its bound for the count `c` of `x`: by what was seen, or else by a load. If
+    /// Whether a neighbour of `x` meets its bound for the count `c` of `x`, from what was seen or by a load. If it does
     /// not, the call is decided.
     fn is_met(&mut self, words: &Words, x: u32, c: u64, entry: (u16, First)) -> bool
         requires caller { IsCaller words.now self.old }
@@ -62,8 +62,8 @@ impl Caller {
         !self.seen.misses(entry, c)
     }
 
-    /// The first neighbour of `x`, in the order of its row, that misses its bound for the count `c` of `x`. It
-    /// decides the call.
+    /// The first neighbour of `x`, in the order of its row, that misses its bound for the count `c` of `x`. It decides
+    /// the call.
     pub(crate) fn held_by(&mut self, words: &Words, x: u32, c: u64) -> Option<u32>
         requires caller { IsCaller words.now self.old }
         requires call { IsInCall (setup_of words.now.terms) x c self.old.seat.me.0 }
@@ -79,7 +79,7 @@ impl Caller {
         None
     }
 
-    /// The exchange of the seen count `c` of node `x` for one more, which decides the call.
+    /// Exchanges the seen count `c` of node `x` for the next one, which decides the call.
     #[inline(always)]
     fn exchange(&mut self, words: &Words, x: u32, c: u64) -> Reply
         requires caller { IsCaller words.now self.old }
@@ -103,10 +103,10 @@ impl Caller {
         }
     }
 
-    /// One call on node `x`, up to the step that decides it. If every neighbour was seen to meet its bound for the
-    /// seen count of `x`, it is the exchange of that count alone. Else its own count is loaded, then those of the
-    /// neighbours that were not seen to meet their bounds for it, in the order of its row, and then its own count is
-    /// exchanged.
+    /// Makes one call on node `x`, up to the step that decides it. If every neighbour was seen to meet its bound for
+    /// the seen count of `x`, the call is only the exchange of that count. Otherwise it loads the count of `x`; then
+    /// those of the neighbours that were not seen to meet their bounds for it, in the order of the row; and then it
+    /// exchanges the count of `x`.
     pub(crate) fn turn_at(&mut self, words: &Words, x: u32) -> Reply
         requires caller { IsCaller words.now self.old }
         requires node { IsTurnable words.now.terms.net.nodes words.now.terms.dest words.now.terms.net.links x }

@@ -1,4 +1,4 @@
-//! What a round is opened with.
+//! The terms with which a round is opened.
 
 ghost use Rattle.std.specs.Prelude.{◌≡◌, ◌<◌, IfErr, IfOk};
 ghost use Rattle.fr_core.specs.Targets.{IsLookable, IsTurnable};
@@ -17,7 +17,7 @@ pub struct Terms {
 }
 
 impl Terms {
-    /// Its network, and nothing else of it.
+    /// Returns only the network.
     pub fn into_net(self) -> Net
         ensures { result ≡ self.net }
     {
@@ -29,7 +29,7 @@ impl Terms {
         net
     }
 
-    /// Refuses a turn of node `x` if it is no node, the destination, or a node with no link.
+    /// Refuses a turn of node `x` if it is not a node, is the destination, or has no link.
     pub fn check_turn(&self, x: u32) -> Result<(), Refusal>
         ensures turnable { IfOk result (λ _. IsTurnable self.now.net.nodes self.now.dest self.now.net.links x) }
         ensures refused { IfErr result (Refuses (setup_of self.now) x) }
@@ -40,7 +40,7 @@ impl Terms {
         self.check_look(x)
     }
 
-    /// Refuses a look at node `x` if it is no node, or a node with no link.
+    /// Refuses a look at node `x` if it is not a node or has no link.
     pub fn check_look(&self, x: u32) -> Result<(), Refusal>
         ensures lookable { IfOk result (λ _. IsLookable self.now.net.nodes self.now.net.links x) }
         ensures refused { IfErr result (RefusesLook (setup_of self.now) x) }

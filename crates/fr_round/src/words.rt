@@ -9,7 +9,7 @@ use std::alloc::Global;
 /// The table of the words of a round.
 pub(crate) type RoundTable = Table<(), View, Terms, Rule, Global>;
 
-/// What a round was opened with, and its words.
+/// The terms of a round, and its words.
 #[derive(Drop)]
 pub(crate) struct Words {
     pub terms: Terms,

@@ -7,17 +7,19 @@ ghost use Rattle.fr_core.specs.Targets.{IsTurnable, IsLookable};
 ghost use Rattle.fr_round.specs.Missing.{IsCounted};
 ghost use Rattle.fr_round.specs.Calls.{IsNewView};
 ghost use Rattle.fr_round.specs.Callers.{IsOfWords};
-ghost use Rattle.fr_round.specs.Knowledge.{IsKnowledge, KeepsWorker, LearnsReply, new_worker};
+ghost use Rattle.fr_round.specs.Knowledge.{IsKnowledge, KeepsWorker, LearnsPast, LearnsReply, new_worker, past_of};
 ghost use Rattle.fr_round.specs.Closing.{number_and_known};
 
+use crate::past::Past;
+use crate::rule::{CatchUp, HandOn, Receive};
 use crate::seen::Seen;
 use crate::steps::{Caller, RoundSeat};
 use crate::words::Words;
 use fr_core::Reply;
 use std::marker::Model;
 
-/// A worker of a round, which one thread at a time holds. Contracts see what it knows: the history up to its last
-/// call, and counts that the nodes had reached.
+/// A worker of a round, which one thread at a time holds. The value in contracts is what it knows: the history up to
+/// its last call, and counts that the nodes had reached.
 #[derive(Drop)]
 pub struct Worker {
     caller: Caller,
@@ -37,7 +39,7 @@ impl Model for Worker {
     ghost invariant = { IsSoundWorker };
 }
 
-/// How many turns a call with this reply made.
+/// How many turns a call with this reply made: 1 or 0.
 fn turns(reply: Reply) -> u64
     ensures { result ≡ cond (is_turned reply) 1 0 }
 {
@@ -61,7 +63,7 @@ impl Worker {
         }
     }
 
-    /// Its seat, and nothing else of it.
+    /// Returns only the seat.
     pub(crate) fn into_seat(self) -> RoundSeat
         ensures { (result.table_id ≡ self.table) × (result.me.1 ≡ []) × (result.me.0.works ≡ true)
             × (result.me.0.setup ≡ self.setup) × ((result.me.0.number, result.me.0.known) ≡ number_and_known self) }
@@ -74,22 +76,22 @@ impl Worker {
         seat
     }
 
-    /// Its number in the round, from 0 on. `O(1)`.
+    /// The worker's number in the round, counted from 0. O(1).
     pub fn number(&self) -> u32
         ensures { result ≡ self.now.number }
     {
         self.number
     }
 
-    /// How often its own calls turned a node. `O(1)`.
+    /// How often the worker's own calls turned a node. O(1).
     pub fn turned(&self) -> u64
         ensures { result ≡ turn_count (part self.now.number self.now.known) }
     {
         self.turned
     }
 
-    /// A count that node `x`, which has to be one, had reached by the worker's last call. It never falls, and takes
-    /// no step. `O(1)`.
+    /// A count that node `x` had reached by the worker's last call. The node must be in the network. The count never
+    /// falls, and the call takes no step. O(1).
     pub fn seen(&self, x: u32) -> u64
         requires { x < self.now.setup.nodes }
         ensures seen { result ≡ slice_index self.now.seen x }
@@ -98,7 +100,7 @@ impl Worker {
         self.caller.seen.count(x)
     }
 
-    /// One call to turn node `x`, on the words of its own round.
+    /// Makes one call to turn node `x`, on the words of the worker's round.
     pub(crate) fn turn(&mut self, words: &Words, x: u32) -> Reply
         requires own { IsOfWords words.now self.old }
         requires node { IsTurnable words.now.terms.net.nodes words.now.terms.dest words.now.terms.net.links x }
@@ -112,7 +114,30 @@ impl Worker {
         reply
     }
 
-    /// One look at node `x`, on the words of its own round.
+    /// What it knows, as a value of its own.
+    pub(crate) fn past(&mut self, words: &Words) -> Past
+        requires own { IsOfWords words.now self.old }
+        requires some { 0 < words.now.terms.net.nodes }
+        ensures kept { self.new ≡ self.old }
+        ensures past { result ≡ past_of self.old }
+    {
+        let shared = &words.table.shared;
+        Past::new(shared.split_seat::<HandOn>(&mut self.caller.seat))
+    }
+
+    /// It learns what another worker knew.
+    pub(crate) fn learn(&mut self, words: &Words, past: Past)
+        requires own { IsOfWords words.now self.old }
+        requires past { past.table ≡ self.old.table }
+        requires some { 0 < words.now.terms.net.nodes }
+        ensures { LearnsPast self.old past self.new }
+    {
+        let shared = &words.table.shared;
+        shared.join_seat::<Receive>(&mut self.caller.seat, past.into_seat());
+        shared.load::<CatchUp>(&mut self.caller.seat, 0);
+    }
+
+    /// Makes one look at node `x`, on the words of the worker's round.
     pub(crate) fn look(&mut self, words: &Words, x: u32) -> Reply
         requires own { IsOfWords words.now self.old }
         requires node { IsLookable words.now.terms.net.nodes words.now.terms.net.links x }

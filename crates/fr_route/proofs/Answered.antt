@@ -1,4 +1,4 @@
--- What a session makes of a request, by what has come of it.
+-- What a session makes of a request, from the result of the call below.
 use Rattle.std.proofs.Common.{Err, IfErr, IfOk, List, None, Ok, OnErr, OnOk, Option, Result, Some, inl, inr, length, refl, string_bytes, subst, sym}
 use Rattle.std.proofs.Common.{ℕ, ◌∙◌, ◌≡◌, ◌≢◌, ◌≤◌, ◌↔◌}
 use Rattle.std.specs.Prelude.{String}
@@ -27,12 +27,12 @@ use Rattle.fr_route.proofs.Opening.{refused_network}
 use Rattle.fr_route.proofs.Telling.{change_tells, told_of_change, told_of_edits, told_of_network}
 
 module _ (never : Type 0) (told : Told) where
-  -- want of memory leaves all
+  -- missing memory changes nothing
   pub no_memory : (s : Option State) (request : PlainRequest) (next : Option State) (more : Told) → next ≡ s
       → nodes_told more ≡ nodes_told told → IsAnswered never s (Ok request) told (Err Memory) next more
   no_memory s request next more n a = record { text = tt; tells = λ t. tt; unchanged = (n, a); short = tt; start = λ e. absurd cc; no_start = λ h e. absurd cc }
 
-  -- what changes nothing leaves the list
+  -- what changes nothing leaves the list unchanged
   pub unchanging : (s : Option State) (request : PlainRequest) (answer : Result (String Global) AnswerFault)
       → ((text : List ℕ) → IsAnswer s request text s → IsTold s request s (nodes_told told) (nodes_told told))
       → IfOk answer (λ text. IsAnswer s request (string_bytes text) s) → IfErr answer (λ fault. fault ≡ Memory)
@@ -56,7 +56,7 @@ module _ (never : Type 0) (told : Told) where
     no_start = λ h e. absurd cc;
   }
 
-  -- a request that wants a network is refused while there is none
+  -- a request that needs a network is refused while there is none
   pub none_yet : (s : Option State) (request : PlainRequest) (answer : Result (String Global) AnswerFault)
       (next : Option State) → s ≡ None → next ≡ None → IsRefused None request 3
       → IfOk answer (λ text. string_bytes text ≡ refusal_text 3) → IfErr answer (λ fault. fault ≡ Memory)
@@ -72,7 +72,7 @@ module _ (never : Type 0) (told : Told) where
   none_yet s request (Err fault) next here n refused is memory =
       record { text = tt; tells = λ t. tt; unchanged = (n ∙ sym here, refl); short = tt; start = λ e. absurd cc; no_start = λ h e. absurd cc }
 
-  -- a refusal leaves all
+  -- a refusal changes nothing
   refused : (s : Option State) (request : PlainRequest) (fault : RouteFault) (answer : Result (String Global) AnswerFault) (next : Option State) (more : Told)
       → ((text : List ℕ) → IsRefusalOf fault text → IsAnswer s request text next)
       → ((text : List ℕ) → IsRefusalOf fault text → IsTold s request next (nodes_told told) (nodes_told more))
@@ -92,7 +92,7 @@ module _ (never : Type 0) (told : Told) where
   refused s request fault (Err reason) next more answered tell may starts n a is why =
       record { text = tt; tells = λ t. tt; unchanged = (n, a); short = tt; start = λ e. may (why.0 e); no_start = λ h e. starts h (why.0 e) }
 
-  -- of a network,
+  -- the refusal of a network
   pub network_refused : (s : Option State) (n d : ℕ) (links : List (ℕ × ℕ)) (fault : RouteFault)
       (answer : Result (String Global) AnswerFault) → IsNewFault n d links fault → (never → fault ≢ route.Start)
       → IfOk answer (λ text. IsRefusalOf fault (string_bytes text))
@@ -102,7 +102,7 @@ module _ (never : Type 0) (told : Told) where
       (λ text. told_of_network s n d links fault text (nodes_told told) why)
       (λ e. subst (IsNewFault n d links) e why) starts refl refl is reason
 
-  -- of a change,
+  -- the refusal of a change
   pub change_refused : (s : State) (change : Change) (fault : RouteFault) (answer : Result (String Global) AnswerFault)
       (next : Option State) (more : Told) → IsRouteFault s change fault → (never → fault ≢ route.Start)
       → next ≡ Some s → nodes_told more ≡ nodes_told told → IfOk answer (λ text. IsRefusalOf fault (string_bytes text))
@@ -114,7 +114,7 @@ module _ (never : Type 0) (told : Told) where
       (λ text is. told_of_change s change fault text next (nodes_told told) (nodes_told more) why is n a)
       (λ e. start_for s change (subst (IsRouteFault s change) e why)) starts n a is reason
 
-  -- and of edits
+  -- the refusal of edits
   pub edits_refused : (s : State) (edits : List Edit) (fault : RouteFault) (answer : Result (String Global) AnswerFault)
       (next : Option State) (more : Told) → IsEditingFault s edits s.dest fault → (never → fault ≢ route.Start)
       → next ≡ Some s → nodes_told more ≡ nodes_told told → IfOk answer (λ text. IsRefusalOf fault (string_bytes text))
@@ -126,7 +126,7 @@ module _ (never : Type 0) (told : Told) where
       (λ text is. told_of_edits s edits s.dest fault text next (nodes_told told) (nodes_told more) why is n a)
       (λ e. subst (IsEditingFault s edits s.dest) e why) starts n a is reason
 
-  -- what is accepted is answered from the state that it makes, and tells of it
+  -- an accepted request is answered from the state that it makes, and lists the nodes of this state
   done : (s : State) (request : PlainRequest) (new : State) (text : String Global) (more : Told)
       → IsAccepted (Some s) request new → IsText new request (string_bytes text)
       → (IsListing told → TellsOf (Some s) request new (nodes_told told) (nodes_told more))
@@ -175,7 +175,7 @@ module _ (never : Type 0) (told : Told) where
     no_start = λ h e. absurd cc;
   }
 
--- a change wants a network
+-- a change needs a network
 pub change_wants : (change : Change) → IsRefused None (request_of_change change) 3
 change_wants (Cut u v) = refl
 change_wants (Add u v) = refl

@@ -1,4 +1,4 @@
--- How far a session has been asked lines.
+-- How far a session has answered lines.
 use Rattle.std.proofs.Common.{◌≡◌, ◌∙◌, ℕ, Bool, true, false, List, [], ◌∷◌, ◌++◌, Option, None, append_assoc, append-nil, refl, sym, ap, subst, MatchBool}
 use Rattle.fr_lines.specs.Requests.{reading}
 use Rattle.fr_route.specs.Answers.{AreAnswers, IsLineAnswer}
@@ -6,7 +6,7 @@ use Rattle.fr_route.specs.Blank.{is_blank}
 use Rattle.fr_route.specs.States.{State}
 use Rattle.fr_route.proofs.Determined.{Answered}
 
--- a session was asked the lines up to these that are left, and gave these answers
+-- a session has answered the lines up to those that are left, with these answers
 pub record HasAsked (lines : List (List ℕ)) (left : List (List ℕ)) (now : Option State) (answers : List ℕ) : Type 0 where
   pub done : List (List ℕ)
   pub cut : lines ≡ done ++ left
@@ -20,7 +20,7 @@ blank_line line now next blank same = of (is_blank line) blank
     of true e = (refl, same)
     of false e = cc
 
--- the answer to any other, with byte 10 behind it
+-- the answer to any other line, with byte 10 after it
 pub answered_line : (line text : List ℕ) (now next : Option State) → is_blank line ≡ false
     → IsLineAnswer now (reading line) text next → AreAnswers now (line ∷ []) (text ++ 10 ∷ []) next
 answered_line line text now next asks is = of (is_blank line) asks
@@ -62,7 +62,7 @@ none_asked lines = record {
   are_answers = (refl, refl);
 }
 
--- one line more is asked
+-- one more line is answered
 unfoldable pub asked_more : (lines : List (List ℕ)) (line : List ℕ) (left : List (List ℕ)) (now next : Option State)
     (answers more : List ℕ) → HasAsked lines (line ∷ left) now answers
     → AreAnswers now (line ∷ []) more next → HasAsked lines left next (answers ++ more)

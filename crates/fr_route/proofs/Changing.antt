@@ -1,4 +1,4 @@
--- What a change makes, by the edits that it makes and the destination toward which the network is then settled.
+-- What a change makes, from the edits that it makes and the destination after them.
 use Rattle.std.proofs.Common.{List, [], Option, Some, ap, arith, inl, inr, refl, subst, sym, length, take, ℕ, ◌++◌, ◌<◌, ◌≤◌, ◌∙◌, ◌∷◌, ◌≡◌, ◌≢◌}
 use Rattle.std.specs.List.{HoldsAt}
 use Rattle.fr_graph.specs.Batches.{AreMade, IsBatchFault, IsEditFault, IsMade}
@@ -41,7 +41,7 @@ pub made_nodes : (net : Network) (edits : List Edit) (after : Network) → AreMa
 made_nodes net [] after made = ap (λ (m : Network). m.nodes) made
 made_nodes net (e ∷ es) after made = made_nodes made.0 es after made.1.1 ∙ edited_nodes net e made.0 made.1.0
 
--- why the edits are not made: one is refused,
+-- the edits are not made because one is refused
 refused_for : (s : State) (edits : List Edit) (d : ℕ) (refused : EditFault) (fault : NetFault) → refused.fault ≡ fault
     → (refused.fault ≢ net.Memory → IsBatchFault (net_at s) edits refused) → IsEditingFault s edits d (of_net_fault fault)
 refused_for s edits d refused net.TooMany is why = (refused, (why (λ e. absurd cc), sym is))
@@ -56,7 +56,7 @@ pub refused_fault : (s : State) (edits : List Edit) (d : ℕ) (refused : EditFau
     → (refused.fault ≢ net.Memory → IsBatchFault (net_at s) edits refused) → IsEditingFault s edits d (of_net_fault refused.fault)
 refused_fault s edits d refused why = refused_for s edits d refused refused.fault refl why
 
--- or the round on the network that they make does not come to pass
+-- or because there is no round on the network that they make
 pub round_fault : (s : State) (edits : List Edit) (net : Network) (d : ℕ) (fault : RouteFault) → d < s.nodes
     → length edits ≤ most_edits → AreMade (net_at s) edits net → IsOpenFault net.nodes d fault
     → (IsStill net d → fault ≢ Start) → IsEditingFault s edits d fault
@@ -65,12 +65,12 @@ round_fault s edits net d Range below few made why moves = omega (arith, below, 
 round_fault s edits net d Start below few made why moves = (few, below, (net, (made, λ still. moves still refl)))
 round_fault s edits net d Memory below few made why moves = tt
 
--- the change is to make this one edit
+-- the change makes exactly this edit
 pub record IsBy (s : State) (change : Change) (e : Edit) : Type 0 where
   pub done : (new : State) → IsEdited s (e ∷ []) s.dest new → IsChanged s change new
   pub undone : (fault : RouteFault) → IsEditingFault s (e ∷ []) s.dest fault → IsRouteFault s change fault
 
--- the one edit of a change is refused
+-- the only edit of a change is refused
 refused_edit : (s : State) (e : Edit) (refused : EditFault) → IsBatchFault (net_at s) (e ∷ []) refused → IsEditFault (net_at s) e refused.fault
 refused_edit s e refused (inl more) = absurd (omega (arith, more.0))
 refused_edit s e refused (inr (few, at)) =
@@ -121,7 +121,7 @@ join_by s u v = record { done = done; undone = undone }
     undone Start h = h
     undone Memory h = tt
 
--- a change that is refused for this fault is answered by its text,
+-- a change that is refused with this fault is answered with its text
 pub refused_change : (s : State) (change : Change) (fault : RouteFault) (text : List ℕ) (next : Option State)
     → IsRouteFault s change fault → IsRefusalOf fault text → next ≡ Some s → IsAnswer (Some s) (request_of_change change) text next
 refused_change s (Cut u v) (Net fault) text next why is n = inl (fault_number fault, (fault, why, refl), is, n)
@@ -137,7 +137,7 @@ refused_change s (Destination d) Range text next why is n = inl (4, (why, refl),
 refused_change s change Start text next why is n = absurd is
 refused_change s change Memory text next why is n = absurd is
 
--- and so are edits
+-- the same for edits
 pub refused_edits : (s : State) (edits : List Edit) (d : ℕ) (fault : RouteFault) (text : List ℕ) (next : Option State)
     → IsEditingFault s edits d fault → IsRefusalOf fault text → next ≡ Some s → IsAnswer (Some s) (make_edits edits) text next
 refused_edits s edits d (Net fault) text next why is n = inl (fault_number fault, (why.0, why.1.0, ap fault_number why.1.1), is, n)
@@ -153,7 +153,7 @@ change_accepted s (Join u v) new made = made
 change_accepted s (Batch edits) new made = made
 change_accepted s (Destination d) new made = made
 
--- and answered by the report of its round
+-- the answer is the report of its round
 pub change_text : (change : Change) (new : State) (text : List ℕ) → IsReportLine new text → IsText new (request_of_change change) text
 change_text (Cut u v) new text line = line
 change_text (Add u v) new text line = line
@@ -161,7 +161,7 @@ change_text (Join u v) new text line = line
 change_text (Batch edits) new text line = line
 change_text (Destination d) new text line = line
 
--- a thread is wanted for a change only where it may be
+-- a thread is needed for a change only if it may be
 pub start_for : (s : State) (change : Change) → IsRouteFault s change Start → MayStartFor (Some s) (request_of_change change)
 start_for s (Cut u v) may = may
 start_for s (Add u v) may = may

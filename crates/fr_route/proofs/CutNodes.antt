@@ -1,4 +1,4 @@
--- How many nodes are cut off, by their hops, and by the counts of the round and the rows before it.
+-- How many nodes are cut off, from their hops, and from the counts of the round and the rows before it.
 use Rattle.std.proofs.Common.{Bool, Contains, List, [], ◌∷◌, add-one, ap, append_assoc, arith, cond, eq-eqb, eqb-true, false, get_or, inl, inr}
 use Rattle.std.proofs.Common.{length, map, ne_eqb, refl, slice_index, sym, suc, true, zero, zero-add, ℕ, ⊎_elim, ◌+◌, ◌++◌, ◌<◌, ◌≤◌, ◌↔◌, ◌∙◌, ◌≡◌}
 use Rattle.std.proofs.Common.{◌⊎◌, ◌==◌, IsTrue}
@@ -65,7 +65,7 @@ but d p x = not (x == d) && p x
 but_below : (p : ℕ → Bool) (d n : ℕ) → n ≤ d → count_by (but d p) (range_with_len 0 n) ≡ count_by p (range_with_len 0 n)
 but_below p d n high = count-range_agree (but d p) p 0 n (λ x low. rw (ne_eqb x d (omega arith)) refl)
 
--- of those below n that pass, d is one or not
+-- of the numbers below n that pass, one is d or none is
 pub count_but : (p : ℕ → Bool) (d n : ℕ) → d < n → count_by p (range_with_len 0 n) ≡ count_by (but d p) (range_with_len 0 n) + cond (p d) 1 0
 count_but p d zero low = absurd (omega arith)
 count_but p d (suc n) low =
@@ -89,7 +89,7 @@ weigh_either true false bar = refl
 weigh_either false true bar = refl
 weigh_either false false bar = refl
 
--- of two tests that nothing passes both, either
+-- of two tests that nothing passes both, how many pass either
 count_either : (p q : ℕ → Bool) (n : ℕ) → ((x : ℕ) → x < n → p x ≡ true → q x ≡ true → ⊥)
     → count_by (λ x. p x || q x) (range_with_len 0 n) ≡ count_by p (range_with_len 0 n) + count_by q (range_with_len 0 n)
 count_either p q zero bar = refl
@@ -103,14 +103,14 @@ count_either p q (suc n) bar =
     let here : weight (either n) ≡ weight (p n) + weight (q n) = weigh_either (p n) (q n) (bar n (omega arith)) in
     omega (arith, whole, left, right, here, count_either p q n (λ x low. bar x (omega arith)))
 
--- which of the numbers from 0 on pass a test, once one more is tried
+-- which of the numbers from 0 on pass a test, with one more number
 filter-range_more : (p : ℕ → Bool) (n : ℕ) → filter p (range_with_len 0 (n + 1)) ≡ filter p (range_with_len 0 n) ++ cond (p n) (n ∷ []) []
 filter-range_more p n =
     ap (filter p) (sym (map-id (range_with_len 0 (n + 1))))
     ∙ (filter_of_map_range_with_len_more p (λ x. x) 0 n n (zero-add n)
     ∙ ap (λ (xs : List ℕ). filter p xs ++ cond (p n) (n ∷ []) []) (map-id (range_with_len 0 n)))
 
--- and so behind others in a list
+-- the same after others in a list
 pub filtered_more : (p : ℕ → Bool) (n : ℕ) (b : Bool) (before now : List ℕ) → p n ≡ b
     → now ≡ before ++ filter p (range_with_len 0 n) → now ++ cond b (n ∷ []) [] ≡ before ++ filter p (range_with_len 0 (n + 1))
 filtered_more p n b before now is so_far =
@@ -125,7 +125,7 @@ count_listed p xs n long =
     let at : ℕ → ℕ = λ x. slice_index xs x in
     ap (count_by p) (fill_by_all at xs n 0 long (λ k l. refl)) ∙ count_by-map p at (range_with_len 0 n)
 
--- how many nodes without a link there are, as d is one of them or not
+-- how many nodes have no link, if d is one of them and if not
 pub alone_there : (n : ℕ) (links : List (ℕ × ℕ)) (d : ℕ) → d < n → length (row n links d) ≡ 0 → alone_count n links ≡ lone_count n links d + 1
 alone_there n links d below none =
     let weight : Bool → ℕ = λ b. cond b 1 0 in
@@ -138,7 +138,7 @@ alone_elsewhere n links d below some =
     let nothing : weight (has_no_neighbour n links d) ≡ 0 = rw (ne_eqb (length (row n links d)) 0 some) refl in
     omega (arith, count_but (has_no_neighbour n links) d n below, nothing)
 
--- a row is empty just where no link joins its node
+-- a row is empty exactly if no link joins its node
 pub alone_just : (n : ℕ) (links : List (ℕ × ℕ)) → IsNet n links → (x : ℕ) → IsTrue (has_no_neighbour n links x) ↔ IsAlone links x
 alone_just n links net x = (
   (λ e. row_alone n links x net (eqb-true (length (row n links x)) 0 e)),
@@ -148,7 +148,8 @@ alone_just n links net x = (
       (cases_eq (length (row n links x)) 0)),
 )
 
--- after a round, those nodes are cut off that have turned as often as there are nodes, and those without a link but the destination
+-- after a round, the nodes that are cut off are those that have turned as often as there are nodes, and those without a
+-- link except the destination
 module _ (n d : ℕ) (first : List (ℕ × ℕ)) (s : State) (net : IsNet n first) (below : d < n) (round : IsRound n d first s)
     (alone : ℕ → Bool) (just : (x : ℕ) → x < n → IsTrue (alone x) ↔ IsAlone first x) where
   abbrev capped : ℕ → Bool
@@ -198,13 +199,13 @@ module _ (net : Network) (d : ℕ) (counts : List ℕ) (is : IsNet net.nodes net
   pub after_outcome : IsAfterRound (settled_state net d counts)
   after_outcome = record { first = net.links; is_net = is; dest = counted.destination; round = ended }
 
-  -- by the rows before the round
+  -- from the rows before the round
   pub cut_by_rows : IsCutCount net.nodes d (settled_state net d counts).links (lone_count net.nodes net.links d + count_by (λ count. count == net.nodes) counts)
   cut_by_rows = cut_count net.nodes d net.links (settled_state net d counts) is counted.destination ended
       (has_no_neighbour net.nodes net.links) (λ x low. alone_just net.nodes net.links is x)
 
 module _ (s : State) (after : IsAfterRound s) where
-  -- the nodes with a link that the round cut off are those that have turned as often as there are nodes
+  -- the nodes with links that the round cut off are those that have turned as often as there are nodes
   pub capped_cut : (x : ℕ) → slice_index s.counts x ≡ s.nodes → Contains (cut_off_nodes s) x
   capped_cut x is =
       let long : length s.counts ≡ s.nodes = after.round.counts.one_each in
@@ -227,7 +228,7 @@ module _ (s : State) (after : IsAfterRound s) where
       let joins = round_joins s.nodes s.dest after.first s after.is_net after.dest after.round x in
       ((λ e w h. (is.0 e) w ((joins w).0 h)), (λ alone. is.1 (λ w h. alone w ((joins w).1 h))))
 
-  -- and the round reports them beside the nodes without a link
+  -- the round reports them and the nodes without a link
   pub reported_cut : (turned cut : ℕ) → IsReport s turned cut → cut ≡ lone_count s.nodes s.links s.dest + length (cut_off_nodes s)
   reported_cut turned cut report =
       let lone : ℕ = lone_count s.nodes s.links s.dest in

@@ -1,4 +1,4 @@
--- The answer to a request and to lines is determined by the state and the request, and so are hops and reports.
+-- The state and the request determine the answer, the hops and the report; and so do the state and lines.
 use Rattle.std.proofs.Common.{◌≡◌, ◌∙◌, ℕ, zero, suc, ◌+◌, ◌<◌, ◌++◌, Bool, true, false, MatchBool, List, [], ◌∷◌, get_or, length, refl, sym, ap}
 use Rattle.std.proofs.Common.{subst, inl, inr, arith, Option, Some, None, Result, Ok, Err}
 use Rattle.std.proofs.lemmas.List.{ext_get_or}
@@ -48,7 +48,7 @@ hops_unique s n a b h g = ext_get_or hop.Here a b (h.one_each ∙ sym g.one_each
     one_hop s i (get_or a i hop.Here) (get_or b i hop.Here)
     (h.each i (get_or a i hop.Here) (slice_get-get_or a i hop.Here low)) (g.each i (get_or b i hop.Here) (slice_get-get_or b i hop.Here inside)))
 
--- faults of one kind have one number
+-- faults of one kind have the same number
 number_at : ℕ → ℕ
 number_at zero = 9
 number_at (suc k) = k + 4
@@ -66,7 +66,7 @@ number_by_place n links Memory h = absurd h
 one_number : (n : ℕ) (links : List (ℕ × ℕ)) (f g : NetFault) → IsFirstFault n links f → IsFirstFault n links g → fault_number f ≡ fault_number g
 one_number n links f g hf hg = number_by_place n links f hf ∙ (ap number_at (first_fault_place n links f g hf hg) ∙ sym (number_by_place n links g hg))
 
--- faults of edits have the numbers of their kinds as well
+-- faults of edits have the numbers of their kinds, too
 edit_number : (net : Network) (e : Edit) (f : NetFault) → IsEditFault net e f → fault_number f ≡ number_at (fault_place f)
 unfolding number_at
 edit_number net (edit.Cut u v) f h = let is = (cut_fault_is net.links u v f h).0 in
@@ -183,7 +183,7 @@ line_unique s (Err NotJson) t u p q a b = (a.0 ∙ sym b.0, a.1 ∙ sym b.1)
 line_unique s (Err NotRequest) t u p q a b = (a.0 ∙ sym b.0, a.1 ∙ sym b.1)
 line_unique s (Err LineMemory) t u p q a b = absurd a
 
--- the answers to a line that is not blank and to those behind it
+-- the answers to a line that is not blank and to those after it
 abbrev pub Answered : Option State → List ℕ → List (List ℕ) → List ℕ → Option State → Type 0
 Answered s line rest out last =
     (text : List ℕ) × (between : Option State) × (more : List ℕ) × IsLineAnswer s (reading line) text between

@@ -45,7 +45,7 @@ use Rattle.fr_route.proofs.FirstFaults.{faultless_or_fault}
 use Rattle.fr_route.proofs.RoundEnds.{capped_cut_off, hop_leads_on, still_cut_off}
 use Rattle.fr_graph.proofs.Neighbours.{cases_joins, cases_points}
 
--- the state after a round on some network, whose links can be changed
+-- the state after a round on a network whose links can be changed
 pub record IsSettledState (s : State) : Type 0 where
   pub first : List (ℕ × ℕ)
   pub net : IsNet s.nodes first
@@ -53,12 +53,12 @@ pub record IsSettledState (s : State) : Type 0 where
   pub round : IsRound s.nodes s.dest first s
   pub faultless : IsFaultless s.nodes s.links
 
--- no state, or one after a round
+-- no state, or the state after a round
 abbrev pub IsReached : Option State → Type 0
 IsReached None = Unit {0}
 IsReached (Some s) = IsSettledState s
 
--- faultless links make a network, whose links in rising order are faultless as well
+-- faultless links make a network, and in order they are faultless, too
 made_network : (n : ℕ) (listed : List (ℕ × ℕ)) → IsFaultless n listed → IsNetworkOf n listed (net_of n listed) × IsFaultless n (in_order listed)
 made_network n listed clear =
     let same = in_order_permutes listed in
@@ -169,7 +169,7 @@ add_answer s good u v = ⊎_elim
     (λ f. (refusal_text (fault_number f.0), Some s, inl (fault_number f.0, (f.0, f.1, refl), refl, refl), good))
     (faultless_or_fault s.nodes (s.links ++ (u, v) ∷ []))
 
--- two nodes are joined one way or the other, or there is a fault
+-- two nodes can be joined in one of the two directions, or there is a fault
 abbrev IsJoinable : ℕ → List (ℕ × ℕ) → ℕ → ℕ → Type 0
 IsJoinable n links u v =
     ((net : Network) × IsJoined n links u v net × IsFaultless net.nodes net.links) ⊎ ((fault : NetFault) × IsJoinFault n links u v fault)
@@ -222,7 +222,7 @@ edit_made net clear (Add u v) = ⊎_elim
     (faultless_or_fault net.nodes (net.links ++ (u, v) ∷ []))
 edit_made net clear (Join u v) = joined_or_fault net.nodes net.links u v clear
 
--- and all of several are, one after the other, or one is refused first
+-- several edits are all made in order, or one is refused first
 edits_made : (net : Network) → IsFaultless net.nodes net.links → (edits : List Edit)
     → ((after : Network) × AreMade net edits after × IsFaultless after.nodes after.links) ⊎ ((at : ℕ) × (fault : NetFault) × IsRefusedAt net edits at fault)
 edits_made net clear [] = inl (net, refl, clear)

@@ -1,4 +1,4 @@
--- Links are faultless or have a first fault.
+-- Links have no fault or a first fault.
 use Rattle.std.proofs.Common.{Any, Contains, List, [], ap, arith, count_by, eqb, inl, inr, length, length-append, refl, subst, suc, sym, zero, ℕ}
 use Rattle.std.proofs.Common.{⊎_elim, ◌++◌, ◌<◌, ◌^◌, ◌∙◌, ◌∷◌, ◌≡◌, ◌≤◌, ◌⊎◌}
 use Rattle.std.proofs.lemmas.Bool.{cases_eq, cases_lt}
@@ -22,7 +22,7 @@ use Rattle.fr_core.proofs.Turning.{All-from_Contains}
 abbrev PathOf : List (ℕ × ℕ) → ℕ → ℕ → Type 0
 PathOf links k x = (vs : List ℕ) × IsPath links x vs × (length vs ≡ k)
 
--- a link from x with a path of k links behind it
+-- a link from x with a path of k links after it
 abbrev Begins : List (ℕ × ℕ) → ℕ → ℕ → ℕ × ℕ → Type 0
 Begins links k x l = (l.0 ≡ x) × PathOf links k l.1
 
@@ -53,11 +53,11 @@ part_to links s (v ∷ vs) u path h = ⊎_elim
     (λ r. let p = part_to links v vs u path.1 r in (v, p.0 ∷ p.1, (path.0, p.2), p.3, omega (arith, p.4)))
     (Contains-cases u v vs h)
 
--- a closed walk of few steps
+-- a cycle of few steps
 abbrev ShortCycle : List (ℕ × ℕ) → ℕ → Type 0
 ShortCycle links most = (w : ℕ) × (ws : List ℕ) × IsClosedWalk links w ws × (length ws ≤ most)
 
--- a path comes to no node twice, or has a closed walk in it
+-- a path visits no node twice, or contains a cycle
 distinct_or_cycle : (links : List (ℕ × ℕ)) (u : ℕ) (vs : List ℕ) → IsPath links u vs → IsDistinct eqb (u ∷ vs) ⊎ ShortCycle links (length vs)
 distinct_or_cycle links u [] path = inl (IsDistinct-more u [] (λ y h. absurd (Contains-none y h)) IsDistinct-none)
 distinct_or_cycle links u (v ∷ vs) path = ⊎_elim
@@ -78,13 +78,13 @@ path_in_range n links below u [] l path q h = ⊎_elim (λ e. omega (arith, e)) 
 path_in_range n links below u (v ∷ vs) l path q h = ⊎_elim (λ e. omega (arith, e))
     (path_in_range n links below v vs (below_of n links u v below path.0).1 path.1 q) (Contains-cases q u (v ∷ vs) h)
 
--- a path and another from its end
+-- a path and another one from its end
 path_on : (links : List (ℕ × ℕ)) (u v : ℕ) (vs ws : List ℕ) → IsPath links u vs → end_of u vs ≡ v → IsPath links v ws
     → IsPath links u (vs ++ ws) × (end_of u (vs ++ ws) ≡ end_of v ws)
 path_on links u v [] ws p e q = (subst (λ (z : ℕ). IsPath links z ws) (sym e) q, ap (λ (z : ℕ). end_of z ws) e)
 path_on links u v (w ∷ vs) ws p e q = let rest = path_on links w v vs ws p.1 e q in ((p.0, rest.0), rest.1)
 
--- round and round
+-- the same cycle again and again
 again : (links : List (ℕ × ℕ)) (u : ℕ) (vs : List ℕ) → IsClosedWalk links u vs → (k : ℕ) → (ws : List ℕ) × IsPath links u ws
     × (end_of u ws ≡ u) × (k ≤ length ws)
 again links u [] closed k = absurd closed
@@ -103,7 +103,7 @@ closed_begins : (n : ℕ) (links : List (ℕ × ℕ)) (u : ℕ) (vs : List ℕ) 
 closed_begins n links u [] below closed = absurd closed
 closed_begins n links u (v ∷ vs) below closed = (below_of n links u v below closed.0.0).0
 
--- links among n nodes have no closed walk, or one of at most n steps
+-- links among n nodes contain no cycle, or one of at most n steps
 pub acyclic_or_cycle : (n : ℕ) (links : List (ℕ × ℕ)) → AreBelow n links → IsAcyclic links ⊎ ShortCycle links n
 acyclic_or_cycle n links below = ⊎_elim
     (λ long. ⊎_elim
@@ -150,7 +150,7 @@ single_or_twice links = ⊎_elim
     (cases_some (λ (l : ℕ × ℕ). 2 ≤ count_by (is_between l.0 l.1) links)
     (λ l. ⊎_elim (λ few. inr (λ many. omega (arith, few, many))) inl (cases_lt (count_by (is_between l.0 l.1) links) 2)) links)
 
--- a `Vec` of the code with these items, which is what evidence of a closed walk stands in
+-- a `Vec` with these items, which holds the evidence of a cycle
 vec_with : (items : List ℕ) → length items < 2 ^ 63 → (v : Vec ℕ Global) × (v.items ≡ items)
 vec_with items few = (
   record {
@@ -190,7 +190,7 @@ module _ (n : ℕ) (links : List (ℕ × ℕ)) (limits : IsWithinLimits n links)
       (λ s. inr (SelfLink s.0, (limits, record { some = some; below = below }, s.1)))
       (self_or_none links)
 
--- links are faultless, or have a first fault
+-- links have no fault, or a first fault
 pub faultless_or_fault : (n : ℕ) (links : List (ℕ × ℕ)) → IsFaultless n links ⊎ ((fault : NetFault) × IsFirstFault n links fault)
 faultless_or_fault n links = ⊎_elim
     (λ many. inr (TooMany, inl many))

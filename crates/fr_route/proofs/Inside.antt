@@ -1,4 +1,4 @@
--- What a router keeps once a round on a network is put in place.
+-- What a router keeps after a round on a network is put in place.
 use Rattle.std.proofs.Common.{List, subst, sym, ℕ, ◌≡◌}
 use Rattle.std.specs.declared.alloc.Global.{Global}
 use Rattle.std.specs.declared.vec.Vec.{Vec}

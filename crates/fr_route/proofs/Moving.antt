@@ -1,5 +1,5 @@
--- After a round: which nodes can be sinks once edits are made or the destination moves, and where the others send on to. These are not
--- touched, and the round left each that is linked a way home.
+-- Which nodes can be sinks after edits are made or the destination moves, and where the others send on to. The others
+-- are not touched, and the last round left each of them that has links with a way home.
 use Rattle.std.proofs.Common.{List, arith, inl, inr, refl, slice_index, subst, sym, ℕ, ⊎_elim, ◌<◌, ◌∙◌, ◌∷◌, ◌≡◌, Contains}
 use Rattle.std.specs.List.{All}
 use Rattle.std.proofs.lemmas.Bool.{cases_eq}
@@ -27,12 +27,13 @@ use Rattle.fr_route.proofs.Touched.{AreAt, HaveSameAt, edits_at}
 here : (s : State) → IsAfterRound s → IsNet s.nodes s.links
 here s after = round_net s.nodes s.dest after.first s after.is_net after.dest after.round
 
--- what edits make of the network of a round is a network
+-- edits of the network after a round make a network
 pub made_net : (s : State) (edits : List Edit) (net : Network) → IsAfterRound s → AreMade (net_at s) edits net → IsNet net.nodes net.links
 made_net s edits net after made = let left : AreAt (net_at s) (ends_of edits) net = edits_at (net_at s) edits net (here s after) made in left.is_net
 
 module _ (s : State) (after : IsAfterRound s) where
-  -- a linked node whose links stay has a link that points from it, if it was neither cut off nor the destination
+  -- a node with links that do not change has a link that points away from it, unless it was cut off or is the
+  -- destination
   no_sink : (links : List (ℕ × ℕ)) (x : ℕ) → HaveSameAt s.links links x → ¬ (x ≡ s.dest) → ¬ (slice_index s.counts x ≡ s.nodes) → ¬ IsSink links x
   no_sink links x same apart free sink =
       let joins : Joins s.links x sink.0.0 = inr ((same.into sink.0.0).1 sink.0.1) in
@@ -46,7 +47,7 @@ module _ (s : State) (after : IsAfterRound s) where
     same_nodes : net.nodes ≡ s.nodes
     same_nodes = made_nodes (net_at s) edits net made
 
-    -- what is not touched is neither destination, and its links stay
+    -- a node that is not touched is not a destination, and its links do not change
     untouched : (x : ℕ) → ¬ Contains (touched s d edits) x → (¬ (x ≡ s.dest)) × (¬ (x ≡ d)) × HaveSameAt s.links net.links x
     untouched x none = (
       (λ e. none (subst (Contains (touched s d edits)) (sym e) (Contains-head s.dest (d ∷ ends_of edits)))),
@@ -54,7 +55,7 @@ module _ (s : State) (after : IsAfterRound s) where
       left.keeps x (λ h. none (Contains-tail x s.dest (d ∷ ends_of edits) (Contains-tail x d (ends_of edits) h))),
     )
 
-    -- what cannot move is not touched, and was not cut off with a link
+    -- a node that cannot move is not touched, and was not cut off with links
     unmoved : (x : ℕ) → ¬ Contains (movable s d edits) x → (¬ Contains (touched s d edits) x) × ¬ (slice_index s.counts x ≡ s.nodes)
     unmoved x none = (
       (λ h. none (Contains-append_left (touched s d edits) (cut_off_nodes s) x h)),
@@ -84,17 +85,17 @@ module _ (s : State) (after : IsAfterRound s) where
       round : IsRound net.nodes d net.links (settled_state net d counts)
       round = ended net d counts left.is_net counted
 
-      -- a node that has not turned keeps of its links away those to nodes that have not,
+      -- a node that has not turned keeps its links that point away from it to nodes that have not turned
       still_away : (x y : ℕ) → slice_index counts x ≡ 0 → slice_index counts y ≡ 0 → Points net.links x y → Points (settled_state net d counts).links x y
       still_away x y rests stays h = into_order (links_at net.links counts) (x, y) (Points-links_at_same net.links counts x y h (stays ∙ sym rests))
 
-      -- and gets no other
+      -- it gets no other link that points away from it
       was_away : (x y : ℕ) → slice_index counts x ≡ 0 → Points (settled_state net d counts).links x y → Points net.links x y
       was_away x y rests h = ⊎_elim (λ p. p.0) (λ p. absurd (omega (arith, rests, p.1)))
           (Points-links_at_from net.links counts x y (out_of_order (links_at net.links counts) (x, y) h))
 
-      -- so where its links stayed in the edits, and it was not cut off with a link, it sends on to where it did, unless that node has
-      -- turned, or it was or is the destination
+      -- so if its links did not change in the edits, and it was not cut off with links, it sends on to the same node,
+      -- unless that node has turned, or is or was the destination
       hop_stands : (x : ℕ) (hop : Hop) → HaveSameAt s.links net.links x → ¬ (x ≡ s.dest) → ¬ (x ≡ d)
           → ¬ (slice_index s.counts x ≡ s.nodes) → ¬ IsStale (settled_state net d counts) x hop → slice_index counts x ≡ 0
           → IsHop s x hop → IsHop (settled_state net d counts) x hop
@@ -121,7 +122,7 @@ module _ (s : State) (after : IsAfterRound s) where
           h.1 ((round_joined s.nodes s.dest after.first s after.is_net after.dest after.round x).0
           (linked_joined s.nodes s.dest after.first s after.is_net after.dest after.round x w joins free)))
 
-      -- and the hop of each node that cannot move stays right, unless it is stale
+      -- the hop of each node that cannot move stays right, unless it is stale
       pub unmoved_hops : (hops : List Hop) → AreHops s s.nodes hops → HoldsMoved (settled_state net d counts) hops (movable s d edits)
       unmoved_hops hops are = record {
         below = movable_below;

@@ -1,4 +1,4 @@
--- Which hops are other ones once some are made anew, and the list that notes where.
+-- Which hops change when some are updated, and the list that notes their nodes.
 use Rattle.std.proofs.Common.{Contains, false, true, List, [], Some, ap, arith, eqb, get_or, inl, inr, length, length-set, refl, set, slice_get}
 use Rattle.std.proofs.Common.{subst, sym, ℕ, ⊎_elim, ◌++◌, ◌<◌, ◌∙◌, ◌∷◌, ◌≡◌, ◌⊎◌}
 use Rattle.std.specs.List.{IsDistinct, list_any}
@@ -20,7 +20,7 @@ use Rattle.fr_route.specs.declared.told.Told.TheVariants.{Nobody, Nodes}
 use Rattle.fr_tables.specs.declared.hop.Hop.{Hop}
 use Rattle.fr_route.proofs.Determined.{one_hop}
 
--- no hop is made anew
+-- no hop is updated
 pub notes_none : (s : State) (hops : List Hop) (told : Told) → NotesMore s hops told hops told
 notes_none s hops told = record { keeps = record { places = λ n has. has; listing = λ is. is }; noted = λ room before noted. noted }
 
@@ -31,7 +31,7 @@ notes_then s a b c l m n same h g = record {
   noted = λ room before noted. g.noted (subst (λ (k : ℕ). HasPlaces k m) (sym same) (h.keeps.places (length a) room)) before (h.noted room before noted);
 }
 
--- no hop is another one yet
+-- no hop has changed yet
 pub noted_first : (s : State) (hops : List Hop) → AreNoted s hops hops []
 unfolding IsDistinct
 noted_first s hops = record { once = tt; these = λ x h. absurd (Contains-none x h); others = λ x out. refl }
@@ -48,7 +48,7 @@ not_any x nodes out = ⊎_elim
     (λ f. f)
     (cases_Bool (list_any (eqb x) nodes))
 
--- another hop is right for x than stands there
+-- another hop is right for x than the table has
 module _ (s : State) (x : ℕ) (hop : Hop) (right : IsHop s x hop) (old : List Hop) (low : x < length old)
     (another : ¬ (slice_get old x ≡ Some hop)) (before : List Hop) (nodes : List ℕ) (noted : AreNoted s before old nodes) where
   here : slice_get (set old x hop) x ≡ Some hop
@@ -61,14 +61,14 @@ module _ (s : State) (x : ℕ) (hop : Hop) (right : IsHop s x hop) (old : List H
       (λ past. slice_get_past (set old x hop) y (omega (arith, past, length-set old x hop)) ∙ sym (slice_get_past old y past))
       (cases_lt y (length old))
 
-  -- it is not noted yet, since it would be right then
+  -- it is not noted yet, because it would be right then
   fresh : ¬ Contains nodes x
   fresh found = let at = noted.these x found in another (at.1.0 ∙ ap Some (one_hop s x at.0 hop at.1.1 right))
 
   once_more : IsDistinct eqb (nodes ++ x ∷ [])
   once_more = IsDistinct-push {eq = eqb} nat_eq_equiv nodes x noted.once (not_any x nodes fresh)
 
-  -- there is a place left for it
+  -- there is room for it
   place_left : length nodes < length old
   place_left =
       let below : (y : ℕ) → list_any (eqb y) (nodes ++ x ∷ []) ≡ true → y < length old =
@@ -92,7 +92,7 @@ module _ (s : State) (x : ℕ) (hop : Hop) (right : IsHop s x hop) (old : List H
         ∙ noted.others y (λ h. out (Contains-append_left nodes (x ∷ []) y h));
   }
 
--- the hop of x is made anew and noted
+-- the hop of x is updated and noted
 pub notes_one : (s : State) (x : ℕ) (hop d : Hop) (old : List Hop) (told more : Told) → IsHop s x hop → x < length old → ¬ (get_or old x d ≡ hop)
     → KeepsPlaces told more → ((n : ℕ) → HasPlaces n told → length (nodes_told told) < n → nodes_told more ≡ nodes_told told ++ x ∷ [])
     → NotesMore s old told (set old x hop) more
@@ -104,7 +104,7 @@ notes_one s x hop d old told more right low apart keeps put = record {
       subst (AreNoted s before (set old x hop)) (sym (put (length old) room left)) (noted_also s x hop right old low another before (nodes_told told) noted);
 }
 
--- the noted nodes are those with another hop
+-- the noted nodes are those whose hop has changed
 pub others_noted : (s : State) (before hops : List Hop) (nodes : List ℕ) → AreNoted s before hops nodes → AreOthers before hops nodes
 others_noted s before hops nodes noted = record {
   once = noted.once;
@@ -116,7 +116,7 @@ others_noted s before hops nodes noted = record {
   );
 }
 
--- where there is a place, somebody is told
+-- if there is room, there is a list
 pub listing_has : (n : ℕ) (told : Told) → HasPlaces n told → IsListing told
 listing_has n Nobody has = has
 listing_has n (Nodes list) has = tt

@@ -1,4 +1,4 @@
--- What is told of a line is determined by the line and the states before and after it.
+-- A line and the states before and after it determine the list of rerouted nodes.
 use Rattle.std.proofs.Common.{◌≡◌, ◌∙◌, ℕ, List, Option, Some, None, Result, Ok, Err, inl, inr, subst, sym}
 use Rattle.fr_lines.specs.Requests.{PlainRequest, new_network, cut_link, add_link, join_nodes, make_edits, move_dest, walk_from, ask}
 use Rattle.fr_lines.specs.declared.requests.LineFault.{LineFault}
@@ -11,7 +11,7 @@ use Rattle.fr_route.specs.States.{State}
 use Rattle.fr_route.specs.Told.{IsLineTold, IsTold, TellsOf}
 use Rattle.fr_route.proofs.Determined.{hops_unique, not_both}
 
--- equal tables have one push order
+-- equal tables have the same push order
 same_order : (old new before after : List Hop) (a b : List ℕ) → old ≡ before → new ≡ after
     → IsPushOrder old new a → IsPushOrder before after b → a ≡ b
 same_order old new before after a b e f h k =

@@ -1,4 +1,4 @@
--- Why a network is not taken, and how that is answered.
+-- Why a network is refused, and how that is answered.
 use Rattle.std.proofs.Common.{Err, IfErr, List, Ok, Option, Result, ap, arith, inl, inr, refl, ℕ, ◌≢◌}
 use Rattle.fr_graph.specs.Faults.{IsFirstFault, IsNetworkOf}
 use Rattle.fr_graph.specs.Network.{Network}
@@ -14,7 +14,7 @@ use Rattle.fr_route.specs.States.{State}
 use Rattle.fr_route.specs.declared.fault.RouteFault.{RouteFault}
 use Rattle.fr_route.specs.declared.fault.RouteFault.TheVariants.{Memory, Net, Range, Start}
 
--- its links have a fault,
+-- its links have a fault
 pub new_fault : (n d : ℕ) (links : List (ℕ × ℕ)) (fault : NetFault) → (fault ≢ net.Memory → IsFirstFault n links fault)
     → IsNewFault n d links (of_net_fault fault)
 new_fault n d links net.TooMany why = why (λ e. absurd cc)
@@ -25,7 +25,7 @@ new_fault n d links (net.Cycle walk) why = why (λ e. absurd cc)
 new_fault n d links net.NoLink why = why (λ e. absurd cc)
 new_fault n d links net.Memory why = tt
 
--- or no router is opened on it
+-- no router is opened on it
 open_fault : (n d : ℕ) (links : List (ℕ × ℕ)) (net : Network) (fault : RouteFault) → IsNetworkOf n links net
     → IsOpenFault net.nodes d fault → (IsStill net d → fault ≢ Start) → IsNewFault n d links fault
 open_fault n d links net (Net fault) made why moves = absurd why

@@ -1,4 +1,4 @@
--- The links that point from a node, by its row.
+-- The links that point away from a node, from its row.
 use Rattle.std.proofs.Common.{Contains, List, ap, arith, get_or, length, subst, sym, ℕ, ⊎_elim, ◌<◌, ◌∙◌, ◌≡◌, ◌≤◌}
 use Rattle.std.proofs.lemmas.Bool.{cases_eq, cases_lt}
 use Rattle.std.proofs.lemmas.List.{get_or_default}
@@ -42,7 +42,7 @@ module _ (n : ℕ) (links : List (ℕ × ℕ)) (x : ℕ) (net : IsNet n links) w
     least = no_later k d inside inward;
   }
 
-  -- the first entry whose link points away names the next hop
+  -- the first entry with a link that points away has the next hop
   pub least_at : (entries : List (ℕ × First)) → entries ≡ row n links x → (k : ℕ) (d : ℕ × First) → k < length entries
       → (get_or entries k d).1 ≡ Outward → AreInward entries k → IsNextHop links x (get_or entries k d).0
   least_at entries is = subst (λ (es : List (ℕ × First)). (k : ℕ) (d : ℕ × First) → k < length es
@@ -54,6 +54,6 @@ module _ (n : ℕ) (links : List (ℕ × ℕ)) (x : ℕ) (net : IsNet n links) w
       let low = at.1 in
       differ (sym (ap (λ (e : ℕ × First). e.1) at.2) ∙ inward at.0 (w, Outward) (omega (arith, low)))
 
-  -- where all links of a row point to x, none points away
+  -- if all links of a row point to x, none points away
   pub none_out : (entries : List (ℕ × First)) → entries ≡ row n links x → (k : ℕ) → length entries ≤ k → AreInward entries k → (w : ℕ) → ¬ Points links x w
   none_out entries is = subst (λ (es : List (ℕ × First)). (k : ℕ) → length es ≤ k → AreInward es k → (w : ℕ) → ¬ Points links x w) (sym is) none_in_row

@@ -1,4 +1,4 @@
--- How many nodes a push order has: as many as the list that is put in order.
+-- A push order has as many nodes as the list that is put in order.
 use Rattle.std.proofs.Common.{Contains, List, arith, eqb, get_or, length, subst, sym, ℕ, ⊎_elim, ◌∙◌, ◌≡◌, ◌≤◌}
 use Rattle.std.specs.Cmp.{nat_eq_equiv}
 use Rattle.std.specs.List.{IsDistinct}

@@ -1,4 +1,4 @@
--- Where nodes send on to once some hops are made anew.
+-- Where nodes send on to after some hops are updated.
 use Rattle.std.proofs.Common.{List, ap, arith, get_or, inl, inr, length, subst, sym, ℕ, ⊎_elim, ◌+◌, ◌<◌, ◌∙◌, ◌≡◌, ◌≤◌}
 use Rattle.std.proofs.lemmas.Bool.{cases_eq}
 use Rattle.std.proofs.lemmas.List.{get_or_default}
@@ -14,11 +14,11 @@ use Rattle.fr_route.specs.States.{State}
 use Rattle.fr_tables.specs.declared.hop.Hop.{Hop}
 use Rattle.fr_tables.specs.declared.hop.Hop.TheVariants.{To}
 
--- nothing is made anew
+-- no hop is updated
 pub renewed_none : (s : State) (hops : List Hop) (left : ℕ → Hop → Type 0) → ((x : ℕ) (hop : Hop) → left x hop) → AreRenewed s hops hops left
 renewed_none s hops left all = record { each = λ x hop at. inr (at, all x hop) }
 
--- the hop that stands at x is right
+-- the hop of x in the table is right
 pub renewed_right : (s : State) (hops : List Hop) (x : ℕ) (hop d : Hop) → IsHop s x hop → get_or hops x d ≡ hop → AreRenewed s hops hops (λ y _. ¬ (y ≡ x))
 renewed_right s hops x hop d right is = record {
   each = λ y other at. ⊎_elim
@@ -38,7 +38,7 @@ renewed_then s a b c first then left h g both = record {
       (g.each x hop at);
 }
 
--- what is left may be said in other words
+-- the property `left` can be replaced by a weaker one
 pub renewed_as : (s : State) (a b : List Hop) (left other : ℕ → Hop → Type 0) → AreRenewed s a b left
     → ((x : ℕ) (hop : Hop) → left x hop → other x hop) → AreRenewed s a b other
 renewed_as s a b left other h into = record { each = λ x hop at. ⊎_elim inl (λ was. inr (was.0, into x hop was.1)) (h.each x hop at) }
@@ -56,7 +56,7 @@ none_more entries k e x y hop inside before here j d low is = ⊎_elim
     (λ apart. before j d (omega arith) is)
     (cases_eq j k)
 
--- where the row of x ends, no neighbour of x is left that sends on to it
+-- at the end of the row of x, no neighbour of x is left that sends on to it
 pub none_left : (n : ℕ) (links : List (ℕ × ℕ)) (x : ℕ) (entries : List (ℕ × First)) (k : ℕ) → IsNet n links
     → entries ≡ row n links x → length entries ≤ k → (y : ℕ) (hop : Hop) → ¬ (y ≡ x) → NoneSends entries k x y hop → ¬ SendsTo links x y hop
 none_left n links x entries k net is past y hop apart none sends = go sends

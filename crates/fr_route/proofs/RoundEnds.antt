@@ -29,7 +29,7 @@ round_end n d first counts net settled is = record {
   links = ap (λ (m : Network). m.links) is;
 }
 
--- the links as they were listed, in whatever order
+-- the links in the order of the list
 pub round_listed : (n d : ℕ) (listed : List (ℕ × ℕ)) (net : Network) (s : State) → IsNetworkOf n listed net
     → IsRound net.nodes d net.links s → IsRound n d listed s
 round_listed n d listed net s made round =
@@ -43,7 +43,7 @@ round_listed n d listed net s made round =
       links = round.links ∙ in_order-links_at net.links listed s.counts back;
     }
 
--- there is but one
+-- there is only one
 pub round_unique : (n d : ℕ) (first : List (ℕ × ℕ)) (s t : State) → IsRound n d first s → IsRound n d first t → s ≡ t
 round_unique n d first s t a b =
     let c : s.counts ≡ t.counts = settled_unique n d first s.counts t.counts a.counts b.counts in
@@ -72,7 +72,7 @@ module _ (n d : ℕ) (first : List (ℕ × ℕ)) (s : State) (net : IsNet n firs
       subst (IsNet n) (sym round.links) (permuted_net n (links_at first s.counts) (in_order (links_at first s.counts))
       (in_order_permutes (links_at first s.counts)) given)
 
-  -- no closed walk stands among them
+  -- they contain no cycle
   pub round_acyclic : IsAcyclic s.links
   round_acyclic = same_acyclic (links_at first s.counts) s.links as_given (links_at_acyclic first s.counts net.acyclic)
 
@@ -98,14 +98,14 @@ module _ (n d : ℕ) (first : List (ℕ × ℕ)) (s : State) (net : IsNet n firs
   pub capped_cut_off : (x : ℕ) → ¬ (x ≡ d) → slice_index s.counts x ≡ n → IsCutOff d s.links x
   capped_cut_off x apart capped = (apart, λ j. not_joined_from_cap n d first net below s.counts round.counts x capped ((round_joined x).1 j))
 
-  -- so is a node that no link joins at first
+  -- so is a node without a link
   pub alone_cut_off : (x : ℕ) → ¬ (x ≡ d) → IsAlone first x → IsCutOff d s.links x
   alone_cut_off x apart alone = (
     apart,
     (λ j. let joined : IsJoined first d x = (round_joined x).1 j in ⊎_elim apart (λ h. alone h.0 h.1) (walk_linked first d joined.1.0 joined.0 x joined.1.1)),
   )
 
-  -- and so is a node from which no link points
+  -- so is a node from which no link points away
   pub still_cut_off : (x : ℕ) → ¬ (x ≡ d) → ((w : ℕ) → ¬ Points s.links x w) → IsCutOff d s.links x
   still_cut_off x apart none = (
     apart,
@@ -113,7 +113,7 @@ module _ (n d : ℕ) (first : List (ℕ × ℕ)) (s : State) (net : IsNet n firs
         ((round_joined x).1 j) apart in none o.0 ((as_given x o.0).0 o.1),
   )
 
-  -- a linked node whose count is below the cap is joined with the destination
+  -- a node with a link whose count is below the cap is joined with the destination
   pub linked_joined : (x y : ℕ) → Joins s.links x y → ¬ (slice_index s.counts x ≡ n) → IsJoined first d x
   linked_joined x y h free = go (of_linked n d first net below s.counts round.counts x y ((round_joins x y).1 h))
     where
@@ -121,13 +121,13 @@ module _ (n d : ℕ) (first : List (ℕ × ℕ)) (s : State) (net : IsNet n firs
       go (inl least) = (slice_index s.counts x, least.reached)
       go (inr out) = absurd (free out.1)
 
-  -- and a link points from it, unless it is the destination
+  -- a link points away from it, unless it is the destination
   pub linked_out : (x y : ℕ) → Joins s.links x y → ¬ (slice_index s.counts x ≡ n) → ¬ (x ≡ d) → (w : ℕ) × Points s.links x w
   linked_out x y h free apart =
       let out = out_of_joined n d first net below s.counts round.counts x (linked_joined x y h free) apart in
       (out.0, (as_given x out.0).0 out.1)
 
-  -- from every other node but the destination the next hop leads on
+  -- from every other node except the destination the next hop leads on
   pub hop_leads_on : (x y : ℕ) → ¬ (x ≡ d) → ¬ (slice_index s.counts x ≡ n) → IsNextHop s.links x y → (rest : List ℕ) × IsRoute s.links d x (y ∷ rest)
   hop_leads_on x y apart free hop =
       let link = (given_back x y).0 hop.link in

@@ -1,5 +1,5 @@
--- Routes: they are simple paths to the destination, no node has two, and at settled counts just the nodes that are joined
--- with the destination have one.
+-- Routes: they are simple paths to the destination, no node has two, and at settled counts exactly the nodes that are
+-- joined with the destination have one.
 use Rattle.std.proofs.Common.{List, [], ap, ap₂, arith, eqb, inl, inr, length, refl, slice_index, subst, suc, sym, zero, ℕ, ⊎_elim, ◌<◌, ◌∷◌, ◌≡◌, ◌⊎◌}
 use Rattle.std.proofs.lemmas.Bool.{cases_eq}
 use Rattle.std.specs.List.{IsDistinct}
@@ -18,7 +18,7 @@ use Rattle.fr_core.specs.Settled.{AreSettled}
 use Rattle.fr_core.specs.Walks.{IsJoined, IsLeastAway}
 use Rattle.fr_route.specs.Routes.{IsNextHop, IsRoute}
 
--- a node from which a link points has a next hop
+-- a node from which a link points away has a next hop
 next_hop : (links : List (ℕ × ℕ)) (n : ℕ) → ((u v : ℕ) → Points links u v → v < n) → (x y : ℕ) → Points links x y → (z : ℕ) × IsNextHop links x z
 next_hop links n below x y h = ⊎_elim
     (λ f. (f.0, record { link = f.2; least = f.3 }))
@@ -73,7 +73,7 @@ module _ (n d : ℕ) (first : List (ℕ × ℕ)) (net : IsNet n first) (in_range
       go (inl h) = joined_along n d first net in_range c settled x y h.0 joined
       go (inr h) = joined_against n d first net in_range c settled x y h.0 joined
 
-  -- a link points from each node that is joined with the destination, but from the destination itself
+  -- a link points away from each node that is joined with the destination, except from the destination
   pub out_of_joined : (x : ℕ) → IsJoined first d x → ¬ (x ≡ d) → (y : ℕ) × Points (links_at first c) x y
   out_of_joined x joined apart = go (walk_linked first d joined.1.0 joined.0 x joined.1.1)
     where
@@ -85,7 +85,7 @@ module _ (n d : ℕ) (first : List (ℕ × ℕ)) (net : IsNet n first) (in_range
       go (inl e) = absurd (apart e)
       go (inr (w, h)) = settled_out n d first net in_range c settled x (least_of (of_linked n d first net in_range c settled x w h)) (λ e. apart (sym e))
 
-  -- after k hops the destination is reached, or a path of k links was gone
+  -- after k hops the destination is reached, or there is a path of k links
   route_by : (k x : ℕ) → IsJoined first d x → ((ys : List ℕ) × IsRoute (links_at first c) d x ys)
       ⊎ ((vs : List ℕ) × (length vs ≡ k) × IsPath (links_at first c) x vs)
   route_by zero x joined = inr ([], refl, tt)

@@ -1,4 +1,5 @@
--- The hops of a settled network as a table: it has no loop, and each hop names a node. Which nodes are told, by such tables.
+-- The hops of a settled network as a table: it has no loop, and each hop names a node. Which nodes are listed as
+-- rerouted, from such tables.
 use Rattle.std.proofs.Common.{Contains, Err, IfErr, List, Ok, Result, Some, [], ap, arith, get_or, inl, inr, le_refl, length, refl, replicate}
 use Rattle.std.proofs.Common.{slice_get, subst, sym, take, ℕ, ⊎_elim, ◌+◌, ◌++◌, ◌-◌, ◌<◌, ◌≤◌, ◌∙◌, ◌∷◌, ◌≡◌, ◌↔◌}
 use Rattle.std.proofs.Math.ListN.{get_or-append}
@@ -32,7 +33,7 @@ module _ (s : State) (n : ℕ) (hops : List Hop) (are : AreHops s n hops) where
   walk_path x [] goes = tt
   walk_path x (y ∷ ys) goes = ((are.each x (To y) goes.0).1.1.link, walk_path y ys goes.1)
 
-  -- a loop would be a closed walk along the links
+  -- a loop would be a cycle along the links
   no_loop : IsAcyclic s.links → (x : ℕ) (xs : List ℕ) → ¬ IsWalk hops x (xs ++ x ∷ [])
   no_loop acyclic x [] goes = acyclic x (x ∷ []) (walk_path x (x ∷ []) goes, refl)
   no_loop acyclic x (y ∷ ys) goes =
@@ -60,7 +61,7 @@ settled_loop_free s hops after are = (settled_table s s.nodes hops are after (le
 pub settled_in_range : (s : State) (hops : List Hop) → IsAfterRound s → AreHops s s.nodes hops → IsInRange hops
 settled_in_range s hops after are = (settled_table s s.nodes hops are after (le_refl s.nodes)).in_range
 
--- the hops of the numbers past the nodes: they are cut off
+-- the hops of the numbers past the nodes, which are cut off
 module _ (s : State) (after : IsAfterRound s) where
   pub outside_cut : (x : ℕ) → s.nodes ≤ x → IsCutOff s.dest s.links x
   outside_cut x out = (
@@ -114,7 +115,7 @@ pub push_fault : {T : Type 0} (s : State) (hops table : List Hop) → IsAfterRou
 push_fault s hops table after are few (Ok nodes) h = h
 push_fault s hops table after are few (Err fault) h = push_fault_is s hops table after are few fault h
 
--- just the rerouted nodes are told
+-- exactly the rerouted nodes are listed
 pub rerouted_told : (old new : State) (nodes : List ℕ) (x : ℕ) → old.nodes ≡ new.nodes → AreRerouted old new nodes
     → Contains nodes x ↔ ((x < new.nodes) × IsRerouted old new x)
 rerouted_told old new nodes x same r = (

@@ -1,4 +1,4 @@
--- How long the report of a round can be.
+-- The greatest length of a report.
 use Rattle.std.proofs.Common.{arith, codes, length, length-append, ℕ, ◌++◌, ◌<◌, ◌≤◌, ◌^◌}
 use Rattle.std.specs.Fmt.{decimal}
 use Rattle.std.proofs.lemmas.Fmt.{length-decimal-le}

@@ -1,4 +1,4 @@
--- What edits and a new destination touch: the links of every other node stay as they are, and so does where it sends on to.
+-- What edits and a new destination touch: the links of every other node are unchanged, and so is its hop.
 use Rattle.std.proofs.Common.{Bool, Contains, List, [], ap, append_assoc, get_or, inl, inr, length, refl, subst, sym, take, true, ℕ, ⊎_elim, ◌+◌}
 use Rattle.std.proofs.Common.{◌++◌, ◌<◌, ◌↔◌, ◌∙◌, ◌∷◌, ◌≡◌, ◌⊎◌}
 use Rattle.std.specs.Prelude.{not}
@@ -23,7 +23,7 @@ use Rattle.fr_graph.proofs.Ordering.{in_order_order}
 use Rattle.fr_core.proofs.SameLinks.{same_from_permutation}
 use Rattle.fr_route.specs.Outcomes.{ends_of}
 
--- the same links join x with others in both lists, and they point the same way
+-- the same links join x with others in both lists, in the same direction
 pub record HaveSameAt (some other : List (ℕ × ℕ)) (x : ℕ) : Type 0 where
   pub out : (w : ℕ) → Points some x w ↔ Points other x w
   pub into : (w : ℕ) → Points some w x ↔ Points other w x
@@ -37,7 +37,7 @@ then_at a b c x h g = record {
   into = λ w. ((λ p. (g.into w).0 ((h.into w).0 p)), (λ p. (h.into w).1 ((g.into w).1 p)));
 }
 
--- the links as they were listed, in whatever order
+-- the links in the order of the list
 listed_at : (a listed : List (ℕ × ℕ)) (n : ℕ) (net : Network) (x : ℕ) → IsNetworkOf n listed net → HaveSameAt a listed x → HaveSameAt a net.links x
 listed_at a listed n net x made h =
     let same : HaveSameLinks listed net.links = same_from_permutation listed net.links made.same_links in
@@ -80,7 +80,7 @@ apart u v x rest none = (
   (λ h. none (Contains-tail x u (v ∷ rest) (Contains-tail x v rest h))),
 )
 
--- an edit is made, and its ends are these: at every other node the links stay
+-- an edit is made, and its ends are these: at every other node the links are unchanged
 record IsAt (net : Network) (u v : ℕ) (after : Network) : Type 0 where
   keeps : (x : ℕ) → ¬ (u ≡ x) → ¬ (v ≡ x) → HaveSameAt net.links after.links x
   is_net : IsNet after.nodes after.links
@@ -136,7 +136,7 @@ join_at net u v after (inr made) =
       head = turned.tail;
     }
 
--- what edits leave: at every node but their ends the links stay, and the ends are nodes
+-- after edits, the links at every node except their ends are unchanged, and the ends are nodes
 pub record AreAt (net : Network) (ends : List ℕ) (after : Network) : Type 0 where
   pub keeps : (x : ℕ) → ¬ Contains ends x → HaveSameAt net.links after.links x
   pub below : All (λ (x : ℕ). x < net.nodes) ends
@@ -174,7 +174,7 @@ ends_push (Cut u v ∷ es) e = ap (λ (xs : List ℕ). u ∷ (v ∷ xs)) (ends_p
 ends_push (Add u v ∷ es) e = ap (λ (xs : List ℕ). u ∷ (v ∷ xs)) (ends_push es e)
 ends_push (Join u v ∷ es) e = ap (λ (xs : List ℕ). u ∷ (v ∷ xs)) (ends_push es e)
 
--- the ends of one edit more
+-- the ends of one more edit
 pub ends_more : (es : List Edit) (k : ℕ) (e : Edit) (nodes : List ℕ) (x y u v : ℕ) → k < length es
     → ends_of (get_or es k e ∷ []) ≡ u ∷ (v ∷ []) → nodes ≡ x ∷ (y ∷ ends_of (take k es)) → (nodes ++ u ∷ []) ++ v ∷ [] ≡ x ∷ (y ∷ ends_of (take (k + 1) es))
 ends_more es k e nodes x y u v low is so_far =

@@ -1,4 +1,4 @@
--- What is tried may be said in other words.
+-- What holds of an attempt holds of any weaker one.
 use Rattle.std.proofs.Common.{[], ◌∷◌, ◌≡◌, Err, Ok, Result, subst, ℕ}
 use Rattle.fr_graph.specs.declared.edit.Edit.{Edit}
 use Rattle.fr_route.specs.Outcomes.{IsEdited, IsEditingFault}
@@ -31,7 +31,7 @@ tried_as never trial other Tells s told (Err fault) next more made undone is = r
   no_start = is.no_start;
 }
 
--- one edit toward the destination as it is
+-- one edit, with the same destination
 pub edit_as : {T : Type 0} (never : Type 0) (edit : Edit) (d : ℕ) (other : Trial) (Tells : Report → T → Type 0) (s : State) (told : Told)
     (answer : Result T RouteFault) (next : State) (more : Told)
     → ((new : State) → IsEdited s (edit ∷ []) s.dest new → other.Made new)

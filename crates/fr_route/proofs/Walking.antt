@@ -10,7 +10,7 @@ use Rattle.fr_tables.specs.declared.hop.Hop.{Hop}
 use Rattle.fr_tables.specs.declared.hop.Hop.TheVariants.{Here, To, CutOff}
 use Rattle.fr_route.proofs.Routing.{route_joined, route_path, route_unique}
 
--- these nodes are the front of the route from x, and the rest of it begins at the node that was reached
+-- these nodes are the front of the route from x, and its rest begins at the node that was reached
 pub record HasWalked (s : State) (x at : ℕ) (nodes : List ℕ) : Type 0 where
   pub done : List ℕ
   pub left : List ℕ
@@ -35,7 +35,7 @@ walks_on s x at next nodes w h =
       rest = h.1.2;
     }
 
--- where no hop leads on the destination is reached
+-- if there is no hop to another node, the destination is reached
 pub walk_ends : (s : State) (x at : ℕ) (nodes : List ℕ) → HasWalked s x at nodes → (hop : Hop) → IsHop s at hop
     → ((next : ℕ) → ¬ (hop ≡ To next)) → (rest : List ℕ) × IsRoute s.links s.dest x rest × (nodes ≡ x ∷ rest)
 walk_ends s x at nodes w Here h none =
@@ -44,7 +44,7 @@ walk_ends s x at nodes w Here h none =
 walk_ends s x at nodes w (To next) h none = absurd (none next refl)
 walk_ends s x at nodes w CutOff h none = absurd (h.1 (route_joined s.links s.dest at w.left w.rest))
 
--- a node with a route is a node of the network
+-- a node with a route is in the network
 pub route_in_range : (n : ℕ) (links : List (ℕ × ℕ)) (d x : ℕ) (ys : List ℕ) → IsNet n links → d < n → IsRoute links d x ys → x < n
 route_in_range n links d x [] net below r = subst (λ (y : ℕ). y < n) (sym r) below
 route_in_range n links d x (y ∷ ys) net below r = (All-contains (λ (l : ℕ × ℕ). (l.0 < n) × (l.1 < n)) links (x, y) net.in_range r.1.link).0

@@ -1,4 +1,4 @@
--- What a list of hops holds once one is written.
+-- What holds of a list of hops after one of them is written.
 use Rattle.std.proofs.Common.{List, Some, ap, arith, get_or, length, length-set, set, slice_get, subst, sym, ℕ, ⊎_elim, ◌<◌, ◌∙◌, ◌≡◌}
 use Rattle.std.proofs.lemmas.Bool.{cases_eq}
 use Rattle.std.proofs.lemmas.List.{get_or-set_other, get_or-set_same}
@@ -6,7 +6,7 @@ use Rattle.std.proofs.lemmas.Option.{get_or_from_slice_get, slice_get-get_or, sl
 
 module _ {X : Type 0} (P : ℕ → X → Type 0) (xs : List X) (i : ℕ) (x : X) (here : P i x) (others : (j : ℕ) (y : X)
     → ¬ (j ≡ i) → slice_get xs j ≡ Some y → P j y) where
-  -- what holds of the written element, and of each other one as it was, holds of each
+  -- what holds of the written element, and of all others before, holds of each
   pub written : (j : ℕ) (y : X) → slice_get (set xs i x) j ≡ Some y → P j y
   written j y at =
       let low : j < length xs = omega (arith, slice_get_within (set xs i x) j y at, length-set xs i x) in

@@ -1,4 +1,5 @@
--- The answer to each request and to each line, from the state before it.
+-- The answer to each request and to each line, from the state before it: the definition of docs/LINES.md. This
+-- project's own.
 use Rattle.std.specs.Prelude.{◌≡◌, ℕ, ◌<◌, ◌≤◌, ◌⊎◌, List, [], ◌∷◌, ◌++◌, MatchBool, Option, Some, None, Result, Ok, Err}
 use Rattle.fr_graph.specs.Batches.{IsBatchFault}
 use Rattle.fr_graph.specs.Faults.{IsFirstFault, IsFaultless, IsNetworkOf}
@@ -18,7 +19,7 @@ use Rattle.fr_route.specs.Texts.{counts_text, links_text, hops_text, walk_text, 
 use Rattle.fr_route.specs.declared.change.Change.TheVariants.{Cut, Add, Join, Destination}
 use Rattle.fr_tables.specs.declared.hop.Hop.{Hop}
 
--- the number by which an answer names a fault of links or of an edit (want of memory is none, and has no number)
+-- the number in an answer for a fault of links or of an edit. `Memory` is not a refusal and has no number
 abbrev pub fault_number : NetFault → ℕ
 fault_number TooMany = 9
 fault_number (Range x) = 4
@@ -28,9 +29,9 @@ fault_number (Cycle walk) = 7
 fault_number NoLink = 8
 fault_number Memory = 0
 
--- the request is refused in this state, by this number: a network for the first fault of its links, or else for a
--- destination that is no node; every other request where there is no network yet; a change for its fault; and a destination
--- or the start of a walk that is no node
+-- The request is refused in this state, with this number. A network is refused for the first fault of its links, or for
+-- a destination that is not a node. Without a network, every other request is refused. A change is refused for its
+-- fault. A new destination, or the start of a route, is refused if it is not a node.
 abbrev pub IsRefused : Option State → PlainRequest → ℕ → Type 0
 IsRefused s (new_network n d links) number =
     ((fault : NetFault) × IsFirstFault n links fault × (number ≡ fault_number fault))
@@ -44,7 +45,8 @@ IsRefused (Some s) (move_dest d) number = (s.nodes ≤ d) × (number ≡ 4)
 IsRefused (Some s) (walk_from x) number = (s.nodes ≤ x) × (number ≡ 4)
 IsRefused (Some s) (ask question) number = ⊥
 
--- the request is accepted, and this is the state after it: a network and a change begin a round, and all else changes nothing
+-- the request is accepted, and `new` is the state after it: a network or a change begins a round, and all else changes
+-- nothing
 abbrev pub IsAccepted : Option State → PlainRequest → State → Type 0
 IsAccepted s (new_network n d links) new = IsFaultless n links × (d < n) × IsRound n d links new
 IsAccepted None request new = ⊥
@@ -60,11 +62,11 @@ IsAccepted (Some s) (ask question) new = new ≡ s
 abbrev pub IsReportLine : State → List ℕ → Type 0
 IsReportLine s text = (turned : ℕ) × (cut : ℕ) × IsReport s turned cut × (text ≡ report_text turned cut)
 
--- the line that tells where each node sends on to
+-- the line with the hop of each node
 abbrev pub IsHopsLine : State → List ℕ → Type 0
 IsHopsLine s text = (hops : List Hop) × AreHops s s.nodes hops × (text ≡ hops_text hops)
 
--- the line that tells the route from x, or that there is none
+-- the line with the route from x, or that there is none
 abbrev pub IsWalkLine : State → ℕ → List ℕ → Type 0
 IsWalkLine s x text =
     ((rest : List ℕ) × IsRoute s.links s.dest x rest × (text ≡ walk_text (x ∷ rest)))
@@ -83,20 +85,20 @@ IsText s (ask Links) text = text ≡ links_text s.links
 IsText s (ask Counts) text = text ≡ counts_text s.counts
 IsText s (ask Hops) text = IsHopsLine s text
 
--- the answer to a request, and the state after it: a refusal leaves the state as it was
+-- the answer to a request, and the state after it: a refusal does not change the state
 abbrev pub IsAnswer : Option State → PlainRequest → List ℕ → Option State → Type 0
 IsAnswer s request text next =
     ((number : ℕ) × IsRefused s request number × (text ≡ refusal_text number) × (next ≡ s))
     ⊎ ((new : State) × IsAccepted s request new × IsText new request text × (next ≡ Some new))
 
--- the answer to a line as it is read
+-- the answer to a line that was read with this result
 abbrev pub IsLineAnswer : Option State → Result PlainRequest LineFault → List ℕ → Option State → Type 0
 IsLineAnswer s (Ok request) text next = IsAnswer s request text next
 IsLineAnswer s (Err NotJson) text next = (text ≡ refusal_text 1) × (next ≡ s)
 IsLineAnswer s (Err NotRequest) text next = (text ≡ refusal_text 2) × (next ≡ s)
 IsLineAnswer s (Err LineMemory) text next = ⊥
 
--- the answers to lines, each ended by byte 10, and the state after them: a blank line has no answer
+-- the answers to lines, each followed by byte 10, and the state after them. A blank line has no answer
 abbrev pub AreAnswers : Option State → List (List ℕ) → List ℕ → Option State → Type 0
 AreAnswers s [] out next = (out ≡ []) × (next ≡ s)
 AreAnswers s (line ∷ rest) out next =
@@ -104,11 +106,11 @@ AreAnswers s (line ∷ rest) out next =
     ((text : List ℕ) × (between : Option State) × (more : List ℕ)
     × IsLineAnswer s (reading line) text between × AreAnswers between rest more next × (out ≡ (text ++ 10 ∷ []) ++ more))
 
--- a thread may be wanted for a new network: it is accepted, and a node can turn on it
+-- a new network may need a thread: it is accepted, and a node can turn
 abbrev pub MayStartNew : ℕ → ℕ → List (ℕ × ℕ) → Type 0
 MayStartNew n d links = (d < n) × ((net : Network) × (IsNetworkOf n links net × ¬ IsStill net d))
 
--- and for a request: it is accepted, and a node can turn on the network that it makes
+-- a request may need a thread: it is accepted, and a node can turn on the network that it makes
 abbrev pub MayStartFor : Option State → PlainRequest → Type 0
 MayStartFor s (new_network n d links) = MayStartNew n d links
 MayStartFor None request = ⊥
@@ -120,7 +122,7 @@ MayStartFor (Some s) (move_dest d) = MayStart s (Destination d)
 MayStartFor (Some s) (walk_from x) = ⊥
 MayStartFor (Some s) (ask question) = ⊥
 
--- and for a line as it is read
+-- the same for a line that was read with this result
 abbrev pub MayStartForLine : Option State → Result PlainRequest LineFault → Type 0
 MayStartForLine s (Ok request) = MayStartFor s request
 MayStartForLine s (Err fault) = ⊥

@@ -1,4 +1,5 @@
--- What a change makes of a state, and why none is made.
+-- What a change makes of a state, and why a change is refused. This project's own; failed and added links are those of
+-- Gafni and Bertsekas (1981).
 use Rattle.std.specs.Prelude.{◌≡◌, ℕ, ◌<◌, ◌≤◌, List, [], ◌∷◌, ◌++◌, length, replicate}
 use Rattle.fr_graph.specs.Batches.{AreMade, IsBatchFault}
 use Rattle.fr_graph.specs.Edits.{IsCutFault, IsJoined, IsJoinFault, without}
@@ -17,22 +18,22 @@ use Rattle.fr_route.specs.declared.change.Change.TheVariants.{Cut, Add, Join, Ba
 use Rattle.fr_route.specs.declared.fault.RouteFault.{RouteFault}
 use Rattle.fr_route.specs.declared.fault.RouteFault.TheVariants.{Net, Range, Start, Memory}
 
--- the edits are made, and this is the state after the round on the network that they make
+-- the edits are made, and `new` is the state after the round on the resulting network
 abbrev pub IsBatch : State → List Edit → State → Type 0
 IsBatch s edits new =
     (length edits ≤ most_edits) × ((net : Network) × (AreMade (net_at s) edits net × IsRound net.nodes s.dest net.links new))
 
--- this is the state after the round on the network with u and v joined
+-- `new` is the state after the round on the network with u and v joined
 abbrev pub IsAfterJoin : State → ℕ → ℕ → State → Type 0
 IsAfterJoin s u v new = (net : Network) × (IsJoined s.nodes s.links u v net × IsRound net.nodes s.dest net.links new)
 
--- the destination is a node, and this is the state after the round that leads to it
+-- the destination is a node, and `new` is the state after the round towards it
 abbrev pub IsMoved : State → ℕ → State → Type 0
 IsMoved s d new = (d < s.nodes) × IsRound s.nodes d s.links new
 
--- the change is accepted, and this is the state after the round on the changed links: a cut where the link stood, an added
--- link where the links with it have no fault, a join where the link can point one way or the other, a batch where none of its
--- edits is refused, and a destination that is a node
+-- The change is accepted, and `new` is the state after the round on the changed links. A cut is accepted if there is a
+-- link, an added link if the links with it have no fault, a join if the link can point in one of the two directions, a
+-- batch if none of its edits is refused, and a destination if it is a node.
 abbrev pub IsChanged : State → Change → State → Type 0
 IsChanged s (Cut u v) new = Joins s.links u v × IsRound s.nodes s.dest (without u v s.links) new
 IsChanged s (Add u v) new =
@@ -41,7 +42,7 @@ IsChanged s (Join u v) new = IsAfterJoin s u v new
 IsChanged s (Batch edits) new = IsBatch s edits.items new
 IsChanged s (Destination d) new = IsMoved s d new
 
--- the change is refused for this fault
+-- the change is refused with this fault
 abbrev pub IsChangeFault : State → Change → NetFault → Type 0
 IsChangeFault s (Cut u v) fault = IsCutFault s.links u v fault
 IsChangeFault s (Add u v) fault = IsFirstFault s.nodes (s.links ++ (u, v) ∷ []) fault
@@ -49,7 +50,7 @@ IsChangeFault s (Join u v) fault = IsJoinFault s.nodes s.links u v fault
 IsChangeFault s (Batch edits) fault = (refused : EditFault) × (IsBatchFault (net_at s) edits.items refused × (fault ≡ refused.fault))
 IsChangeFault s (Destination d) fault = ⊥
 
--- the change names a destination that is no node
+-- the change names a destination that is not a node
 abbrev pub NamesNoNode : State → Change → Type 0
 NamesNoNode s (Cut u v) = ⊥
 NamesNoNode s (Add u v) = ⊥
@@ -57,15 +58,15 @@ NamesNoNode s (Join u v) = ⊥
 NamesNoNode s (Batch edits) = ⊥
 NamesNoNode s (Destination d) = s.nodes ≤ d
 
--- no node of the network can turn, toward d: the counts of no turns are the settled ones
+-- no node of the network can turn, with destination d: the settled counts are all 0
 abbrev pub IsStill : Network → ℕ → Type 0
 IsStill net d = AreSettled net.nodes d net.links (replicate net.nodes 0)
 
--- the edits are accepted, d is a node, and the network that they make is not still: a node can turn
+-- the edits are accepted, d is a node, and a node can turn on the resulting network
 abbrev pub CanTurnAfter : State → List Edit → ℕ → Type 0
 CanTurnAfter s edits d = (length edits ≤ most_edits) × (d < s.nodes) × ((net : Network) × (AreMade (net_at s) edits net × ¬ IsStill net d))
 
--- a thread may be wanted: the change is accepted, and a node can turn after it
+-- the change may need a thread: it is accepted, and a node can turn after it
 abbrev pub MayStart : State → Change → Type 0
 MayStart s (Cut u v) = CanTurnAfter s (edit.Cut u v ∷ []) s.dest
 MayStart s (Add u v) = CanTurnAfter s (edit.Add u v ∷ []) s.dest
@@ -73,14 +74,14 @@ MayStart s (Join u v) = CanTurnAfter s (edit.Join u v ∷ []) s.dest
 MayStart s (Batch edits) = CanTurnAfter s edits.items s.dest
 MayStart s (Destination d) = CanTurnAfter s [] d
 
--- why no change is made: it is refused, or there was no thread or no memory for it
+-- why a change fails: it is refused, or a thread or memory is missing
 abbrev pub IsRouteFault : State → Change → RouteFault → Type 0
 IsRouteFault s change (Net fault) = IsChangeFault s change fault
 IsRouteFault s change Range = NamesNoNode s change
 IsRouteFault s change Start = MayStart s change
 IsRouteFault s change Memory = Unit {0}
 
--- why no router is opened: the destination is no node, or else there was no thread or no memory for it
+-- why no router is opened: the destination is not a node, or a thread or memory is missing
 abbrev pub IsOpenFault : ℕ → ℕ → RouteFault → Type 0
 IsOpenFault n d (Net fault) = ⊥
 IsOpenFault n d Range = n ≤ d

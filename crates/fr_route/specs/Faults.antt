@@ -1,4 +1,5 @@
--- Which fault of a router stands for a fault of the layers below, and which fault of a session for one of a router.
+-- How faults of the layers below become faults of a router, and those of a router become faults of a session. For
+-- proofs only.
 use Rattle.std.specs.Prelude.{Option, Some, None}
 use Rattle.fr_graph.specs.declared.fault.NetFault.{NetFault}
 use Rattle.fr_graph.specs.declared.fault.NetFault.TheVariants as net
@@ -11,7 +12,7 @@ use Rattle.fr_route.specs.declared.fault.AnswerFault.TheVariants as answer
 use Rattle.fr_route.specs.declared.fault.RouteFault.{RouteFault}
 use Rattle.fr_route.specs.declared.fault.RouteFault.TheVariants.{Net, Range, Start, Memory}
 
--- want of memory is no fault of links
+-- `Memory` is not a fault of links
 abbrev pub of_net_fault : NetFault → RouteFault
 of_net_fault net.Memory = Memory
 of_net_fault fault = Net fault
@@ -25,7 +26,7 @@ abbrev pub of_not_edited : NotEdited RouteFault → RouteFault
 of_not_edited (Refused refused) = of_net_fault refused.fault
 of_not_edited (Fault fault) = fault
 
--- a thread or memory that was missing is handed on; any other fault is a refusal, and none of a session's
+-- a missing thread or missing memory stays a fault; any other fault is a refusal, and not a fault of a session
 abbrev pub of_route_fault : RouteFault → Option AnswerFault
 of_route_fault (Net net.Memory) = Some answer.Memory
 of_route_fault (Net fault) = None

@@ -1,4 +1,5 @@
--- The laws of routes and of answers. Each is the contract of a function of src/laws.rt.
+-- The laws of routes and of answers. Each one is a clause of a function of src/laws.rt. This project's own. For rounds
+-- see Gafni and Bertsekas (1981), and Busch and Tirthapura (2005) on the number of turns.
 use Rattle.std.specs.Prelude.{◌≡◌, ℕ, ◌<◌, ◌↔◌, List, ◌∷◌, Contains, Option, Result, nat_eq}
 use Rattle.std.specs.List.{IsDistinct}
 use Rattle.fr_graph.specs.Links.{IsAcyclic, IsNet, IsPath, end_of}
@@ -14,25 +15,25 @@ use Rattle.fr_tables.specs.declared.hop.Hop.{Hop}
 
 -- Rounds
 
--- there is but one state after a round
+-- the first links determine the state after a round
 abbrev pub RoundIsUnique : Type 0
 RoundIsUnique = (n d : ℕ) (first : List (ℕ × ℕ)) (some other : State) → IsRound n d first some → IsRound n d first other → some ≡ other
 
--- no closed walk stands among the links after a round
+-- the links after a round contain no cycle
 abbrev pub RoundLeavesNoLoop : Type 0
 RoundLeavesNoLoop = (n d : ℕ) (first : List (ℕ × ℕ)) (s : State) → IsNet n first → d < n → IsRound n d first s → IsAcyclic s.links
 
--- a round joins no node with the destination, and parts none from it
+-- the same nodes are joined with the destination before and after a round
 abbrev pub RoundKeepsJoined : Type 0
 RoundKeepsJoined = (n d : ℕ) (first : List (ℕ × ℕ)) (s : State) (x : ℕ) → IsNet n first → d < n → IsRound n d first s → IsJoined first d x ↔ IsJoined s.links d x
 
--- there is but one report of a state
+-- a state has only one report
 abbrev pub ReportIsUnique : Type 0
 ReportIsUnique = (s : State) (t u k l : ℕ) → IsReport s t k → IsReport s u l → (t ≡ u) × (k ≡ l)
 
 -- Routes
 
--- after a round a node has a route exactly if it is joined with the destination
+-- after a round, a node has a route exactly if it is joined with the destination
 abbrev pub RoutesLeadHome : Type 0
 RoutesLeadHome = (n d : ℕ) (first : List (ℕ × ℕ)) (s : State) (x : ℕ) → IsNet n first → d < n → IsRound n d first s
     → IsJoined s.links d x ↔ ((rest : List ℕ) × IsRoute s.links d x rest)
@@ -41,7 +42,7 @@ RoutesLeadHome = (n d : ℕ) (first : List (ℕ × ℕ)) (s : State) (x : ℕ) �
 abbrev pub RouteIsUnique : Type 0
 RouteIsUnique = (links : List (ℕ × ℕ)) (d x : ℕ) (some other : List ℕ) → IsRoute links d x some → IsRoute links d x other → some ≡ other
 
--- a route is a path along the links that ends at the destination and comes to no node twice
+-- a route is a path along the links that ends at the destination and visits no node twice
 abbrev pub RouteIsSimple : Type 0
 RouteIsSimple = (links : List (ℕ × ℕ)) (d x : ℕ) (rest : List ℕ) → IsAcyclic links → IsRoute links d x rest
     → IsPath links x rest × (end_of x rest ≡ d) × IsDistinct nat_eq (x ∷ rest)
@@ -52,21 +53,21 @@ HopIsUnique = (s : State) (x : ℕ) (some other : Hop) → IsHop s x some → Is
 
 -- Pushes
 
--- the hops of a state after a round have no loop, and name nodes
+-- the hops after a round have no loop, and all name nodes
 abbrev pub HopsHaveNoLoop : Type 0
 HopsHaveNoLoop = (s : State) (hops : List Hop) → IsAfterRound s → AreHops s s.nodes hops → IsLoopFree hops × IsInRange hops
 
--- just the rerouted nodes are told
+-- exactly the rerouted nodes are listed
 abbrev pub ReroutedAreTold : Type 0
 ReroutedAreTold = (old new : State) (nodes : List ℕ) (x : ℕ) → old.nodes ≡ new.nodes → AreRerouted old new nodes
     → Contains nodes x ↔ ((x < new.nodes) × IsRerouted old new x)
 
 -- Answers
 
--- the text of an answer and the state after it are determined by the state before it and the request,
+-- the state and the request determine the text of the answer and the state after it
 abbrev pub AnswerIsUnique : Type 0
 AnswerIsUnique = (s : Option State) (request : PlainRequest) (t u : List ℕ) (p q : Option State) → IsAnswer s request t p → IsAnswer s request u q → (t ≡ u) × (p ≡ q)
 
--- and so they are for a line
+-- the same holds for a line
 abbrev pub LineAnswerIsUnique : Type 0
 LineAnswerIsUnique = (s : Option State) (line : Result PlainRequest LineFault) (t u : List ℕ) (p q : Option State) → IsLineAnswer s line t p → IsLineAnswer s line u q → (t ≡ u) × (p ≡ q)

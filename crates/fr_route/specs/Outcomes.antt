@@ -1,4 +1,4 @@
--- What a round on a network comes to, and the nodes at which edits change links.
+-- The outcome of a round on a network, and the nodes at which edits change links. For proofs only.
 use Rattle.std.specs.Prelude.{◌≡◌, ℕ, ◌<◌, ◌≤◌, ◌⊎◌, ◌↔◌, not, ◌==◌, ◌&&◌, List, [], ◌∷◌, ◌++◌, count_by, length, nat_eq, slice_get, slice_index, Some, ◌≢◌}
 use Rattle.std.specs.List.{All, Contains, IsDistinct, filter, range_with_len}
 use Rattle.fr_graph.specs.Batches.{AreMade, IsBatchFault}
@@ -25,7 +25,7 @@ use Rattle.fr_route.specs.declared.hops.AfterRound.{AfterRound}
 use Rattle.fr_route.specs.declared.outcome.Outcome.{Outcome}
 use Rattle.fr_route.specs.declared.told.Told.{Told}
 
--- the state after a round with these counts on a network
+-- the state after a round with these counts on the network
 abbrev pub settled_state : Network → ℕ → List ℕ → State
 settled_state net d counts = state_with (net_of net.nodes (links_at net.links counts)) d counts
 
@@ -35,91 +35,93 @@ pub record IsOutcome (net : Network) (d : ℕ) (outcome : Outcome) : Type 0 wher
   pub counts : IsCounted net.nodes d net.links outcome.turns
   pub report : IsReport (settled_state net d outcome.turns) outcome.report.turned outcome.report.cut
 
--- why no round on a network is made: the destination is no node, or there was no thread or no memory for it. No thread is wanted where no
--- node can turn, or by a way that never starts one
+-- why there is no round on a network: the destination is not a node, or a thread or memory is missing. No thread is
+-- needed if no node can turn, or if the way to settle never starts one
 pub record IsRoundFault (never : Type 0) (net : Network) (d : ℕ) (fault : RouteFault) : Type 0 where
   pub why : IsOpenFault net.nodes d fault
   pub still : IsStill net d → fault ≢ Start
   pub no_start : never → fault ≢ Start
 
--- the state after a round, by its links as they point now
+-- the state after a round
 abbrev pub state_after : AfterRound → State
 state_after round = state_with round.net.now round.dest round.turns.now
 
--- how many of n nodes other than d have no neighbour
+-- how many of n nodes, other than d, have no neighbour
 abbrev pub lone_count : ℕ → List (ℕ × ℕ) → ℕ → ℕ
 lone_count n links d = count_by (λ x. not (x == d) && has_no_neighbour n links x) (range_with_len 0 n)
 
--- the ends of the links that the edits take out or add
+-- the ends of the links that the edits remove or add
 abbrev pub ends_of : List Edit → List ℕ
 ends_of [] = []
 ends_of (Cut u v ∷ rest) = u ∷ (v ∷ ends_of rest)
 ends_of (Add u v ∷ rest) = u ∷ (v ∷ ends_of rest)
 ends_of (Join u v ∷ rest) = u ∷ (v ∷ ends_of rest)
 
--- the nodes that edits and a new destination touch: both destinations, and the ends of the edits
+-- the nodes that edits and a new destination touch: the old and the new destination, and the ends of the edited links
 abbrev pub touched : State → ℕ → List Edit → List ℕ
 touched s d edits = s.dest ∷ (d ∷ ends_of edits)
 
--- the nodes with a link that the last round cut off: each has turned as often as there are nodes
+-- the nodes with links that the last round cut off: each has turned as often as there are nodes
 abbrev pub cut_off_nodes : State → List ℕ
 cut_off_nodes s = filter (λ x. slice_index s.counts x == s.nodes) (range_with_len 0 s.nodes)
 
--- the nodes that can be sinks once the edits are made and the destination has moved, and whose hops can be wrong though no node turns
+-- the nodes that can be sinks after the edits and the move of the destination, and whose hops can be wrong even if no
+-- node turns
 abbrev pub movable : State → ℕ → List Edit → List ℕ
 movable s d edits = touched s d edits ++ cut_off_nodes s
 
--- the hop of x itself, or that of a neighbour which sends on to x
+-- y is x itself, or a neighbour that sends on to x
 abbrev pub SendsTo : List (ℕ × ℕ) → ℕ → ℕ → Hop → Type 0
 SendsTo links x y hop = (y ≡ x) ⊎ (Joins links y x × (hop ≡ To x))
 
--- the hop may be wrong after a round, since its node has turned or the one to which it sends on has
+-- the hop may be wrong after a round, because its node has turned, or the node to which it sends on
 abbrev pub IsStale : State → ℕ → Hop → Type 0
 IsStale s y hop = (x : ℕ) × ((0 < slice_index s.counts x) × SendsTo s.links x y hop)
 
--- each of these is a node, and the hop of every other node is right, unless it is stale
+-- all moved nodes are nodes of the state, and every other hop is right unless it is stale
 pub record HoldsMoved (s : State) (hops : List Hop) (moved : List ℕ) : Type 0 where
   pub below : All (λ x. x < s.nodes) moved
   pub others : (x : ℕ) (hop : Hop) → slice_get hops x ≡ Some hop → ¬ Contains moved x → ¬ IsStale s x hop → IsHop s x hop
 
--- each hop is right now, or it is what it was, and one of those that are left
+-- each hop is right now, or it is unchanged and satisfies `left`
 pub record AreRenewed (s : State) (old new : List Hop) (left : ℕ → Hop → Type 0) : Type 0 where
   pub each : (x : ℕ) (hop : Hop) → slice_get new x ≡ Some hop → IsHop s x hop ⊎ ((slice_get old x ≡ Some hop) × left x hop)
 
--- these are the places at which the hops are no longer those before, each once, and there they are right
+-- these are exactly the nodes whose hop differs from that in `before`, each once, and their hops are right
 pub record AreNoted (s : State) (before hops : List Hop) (nodes : List ℕ) : Type 0 where
   pub once : IsDistinct nat_eq nodes
   pub these : (x : ℕ) → Contains nodes x → (hop : Hop) × ((slice_get hops x ≡ Some hop) × IsHop s x hop × ¬ (slice_get before x ≡ Some hop))
   pub others : (x : ℕ) → ¬ Contains nodes x → slice_get hops x ≡ slice_get before x
 
--- as hops are made anew the list goes on to note where, if it has a place for each: whatever the hops were that it began with
+-- while hops are updated, the list continues to note where they differ from any table `before`, if it has room for each
+-- node
 pub record NotesMore (s : State) (old : List Hop) (told : Told) (new : List Hop) (more : Told) : Type 0 where
   pub keeps : KeepsPlaces told more
   pub noted : HasPlaces (length old) told → (before : List Hop) → AreNoted s before old (nodes_told told) → AreNoted s before new (nodes_told more)
 
--- these are the places at which the hops differ, each once
+-- these are exactly the nodes at which the hops differ, each once
 pub record AreOthers (old new : List Hop) (nodes : List ℕ) : Type 0 where
   pub once : IsDistinct nat_eq nodes
   pub below : All (λ x. x < length new) nodes
   pub just : (x : ℕ) → Contains nodes x ↔ DifferAt old new x
 
--- whoever is told has just these places in the list, if it has a place for each
+-- the list has exactly the nodes at which the hops differ, if it has room for each node
 pub record ListsOthers (old new : List Hop) (told more : Told) : Type 0 where
   pub keeps : KeepsPlaces told more
   pub others : HasPlaces (length old) told → AreOthers old new (nodes_told more)
 
--- the hops of the numbers below n in a state after a round, as a table
+-- the hops of the numbers below n after a round, as a table
 pub record IsSettledTable (s : State) (n : ℕ) (hops : List Hop) : Type 0 where
   pub are : AreHops s n hops
   pub in_range : IsInRange hops
   pub loop_free : IsLoopFree hops
 
--- the edits are made, and this is the state after the round on the network that they make, toward d
+-- the edits are made, and `new` is the state after the round on the resulting network, with destination d
 abbrev pub IsEdited : State → List Edit → ℕ → State → Type 0
 IsEdited s edits d new =
     (length edits ≤ most_edits) × ((net : Network) × (AreMade (net_at s) edits net × IsRound net.nodes d net.links new))
 
--- why none of it comes to pass: an edit is refused, or there was no thread or no memory for it
+-- why this fails: an edit is refused, or a thread or memory is missing
 abbrev pub IsEditingFault : State → List Edit → ℕ → RouteFault → Type 0
 IsEditingFault s edits d (Net fault) = (refused : EditFault) × (IsBatchFault (net_at s) edits refused × (fault ≡ refused.fault))
 IsEditingFault s edits d Range = ⊥

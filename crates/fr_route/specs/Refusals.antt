@@ -1,4 +1,5 @@
--- The numbers of refusals, changes as requests, and refusals by the faults of a router.
+-- The numbers of refusals, which are this project's own (docs/LINES.md). For proofs only: the requests for changes, and
+-- the refusals for the faults of a router.
 use Rattle.std.specs.Prelude.{◌≡◌, ◌≤◌, ℕ, List}
 use Rattle.fr_graph.specs.Faults.{IsFaultless, IsFirstFault}
 use Rattle.fr_lines.specs.Requests.{PlainRequest, cut_link, add_link, join_nodes, make_edits, move_dest}
@@ -11,7 +12,7 @@ use Rattle.fr_route.specs.declared.fault.RouteFault.TheVariants.{Net, Range, Sta
 use Rattle.fr_route.specs.declared.refusals.Refusal.{Refusal}
 use Rattle.fr_route.specs.declared.refusals.Refusal.TheVariants.{NotJson, NotRequest, NoNetwork, NoNode, SelfLink, Twice, Cycle, NoLink, TooMany}
 
--- the number by which an answer names a refusal
+-- the number of a refusal in an answer
 abbrev pub number_of : Refusal → ℕ
 number_of NotJson = 1
 number_of NotRequest = 2
@@ -31,14 +32,15 @@ request_of_change (Join u v) = join_nodes u v
 request_of_change (Batch edits) = make_edits edits.items
 request_of_change (Destination d) = move_dest d
 
--- why no network is taken: its links have this first fault, or else the destination is no node, or there was no thread or no memory
+-- why a network is refused: its links have a first fault, or the destination is not a node; or a thread or memory is
+-- missing
 abbrev pub IsNewFault : ℕ → ℕ → List (ℕ × ℕ) → RouteFault → Type 0
 IsNewFault n d links (Net fault) = IsFirstFault n links fault
 IsNewFault n d links Range = IsFaultless n links × (n ≤ d)
 IsNewFault n d links Start = MayStartNew n d links
 IsNewFault n d links Memory = Unit {0}
 
--- the text that refuses a request for this fault; want of a thread or of memory is no refusal
+-- the text that refuses a request with this fault. A missing thread or missing memory is not a refusal
 abbrev pub IsRefusalOf : RouteFault → List ℕ → Type 0
 IsRefusalOf (Net fault) text = text ≡ refusal_text (fault_number fault)
 IsRefusalOf Range text = text ≡ refusal_text 4

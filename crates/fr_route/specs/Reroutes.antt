@@ -1,5 +1,5 @@
--- Which nodes a round reroutes, those that send on to another node than before it, in the order in which their hops are pushed; the same
--- for a new network; and which nodes of a caller's table have to be pushed.
+-- Which nodes a round reroutes: those whose hop changes, in push order. The same for a new network, and for a table of
+-- the caller. This project's own.
 use Rattle.std.specs.Prelude.{◌≡◌, ◌≢◌, ℕ, max, List, Option, Some, None, Result, IfOk, OnErr, length, replicate}
 use Rattle.fr_route.specs.Routes.{AreHops, IsHop}
 use Rattle.fr_route.specs.States.{State}
@@ -11,7 +11,7 @@ use Rattle.fr_tables.specs.declared.fault.TableFault.TheVariants.{Length, Range,
 use Rattle.fr_tables.specs.declared.hop.Hop.{Hop}
 use Rattle.fr_tables.specs.declared.hop.Hop.TheVariants.{CutOff}
 
--- the hop of x in the new state is another one than in the old state
+-- the hop of x differs in the two states
 pub record IsRerouted (old new : State) (x : ℕ) : Type 0 where
   pub before : Hop
   pub after : Hop
@@ -19,7 +19,7 @@ pub record IsRerouted (old new : State) (x : ℕ) : Type 0 where
   pub is : IsHop new x after
   pub another : ¬ (before ≡ after)
 
--- the nodes whose hop in the new state is another one than in the old state, in push order
+-- the nodes whose hop differs in the two states, in push order
 pub record AreRerouted (old new : State) (nodes : List ℕ) : Type 0 where
   pub before : List Hop
   pub after : List Hop
@@ -28,22 +28,22 @@ pub record AreRerouted (old new : State) (nodes : List ℕ) : Type 0 where
   pub order : IsPushOrder before after nodes
 
 module _ {T E : Type 0} where
-  -- a change that was made tells which nodes it reroutes, and one that was not leaves the list
+  -- a change that succeeds lists the nodes that it reroutes, and a change that fails leaves the list unchanged
   pub record TellsRerouted (old : State) (answer : Result T E) (new : State) (before after : List ℕ) : Type 0 where
     pub rerouted : IfOk answer (λ _. AreRerouted old new after)
     pub untold : OnErr answer (after ≡ before)
 
--- how many nodes the network has that a session holds, if it holds one
+-- how many nodes the network of a session has, 0 without a network
 abbrev pub nodes_in : Option State → ℕ
 nodes_in None = 0
 nodes_in (Some s) = s.nodes
 
--- the hops of the numbers below n in a session: a number that is no node is cut off, as all are before the first network
+-- the hops of the numbers below n in a session. A number that is not a node is cut off; without a network, all are
 abbrev pub AreHopsIn : Option State → ℕ → List Hop → Type 0
 AreHopsIn None n hops = hops ≡ replicate n CutOff
 AreHopsIn (Some s) n hops = AreHops s n hops
 
--- where a new network comes in the place of an old one, if any: the numbers whose hop is another one than before, in push order
+-- a new network replaces an old one, if there is one: the numbers whose hop differs, in push order
 pub record AreReplaced (old : Option State) (new : State) (nodes : List ℕ) : Type 0 where
   pub count : ℕ
   pub before : List Hop
@@ -53,13 +53,13 @@ pub record AreReplaced (old : Option State) (new : State) (nodes : List ℕ) : T
   pub are : AreHops new count after
   pub order : IsPushOrder before after nodes
 
--- the nodes whose hop in the state is another one than in this table, in push order
+-- the nodes whose hop in the state differs from that in the table, in push order
 pub record ArePushes (s : State) (table : List Hop) (nodes : List ℕ) : Type 0 where
   pub hops : List Hop
   pub are : AreHops s s.nodes hops
   pub order : IsOrdered table hops nodes
 
--- why there are none: the table has too few or too many hops, or the first of them that names no node names x, or there was no memory
+-- why this fails: the table has too few or too many hops, its first out-of-range hop names x, or memory is missing
 abbrev pub IsPushesFault : State → List Hop → TableFault → Type 0
 IsPushesFault s table Length = length table ≢ s.nodes
 IsPushesFault s table (Range x) = (length table ≡ s.nodes) × IsFirstOutside table x

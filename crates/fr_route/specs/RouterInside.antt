@@ -1,4 +1,4 @@
--- What a `Router` keeps.
+-- The value of a `Router` in contracts. For proofs only.
 use Rattle.std.specs.Prelude.{◌≡◌, ◌<◌, length}
 use Rattle.fr_route.specs.States.{State, IsAfterRound, IsReport, state_with}
 use Rattle.fr_route.specs.Routes.{AreHops}

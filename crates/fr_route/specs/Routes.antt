@@ -1,4 +1,5 @@
--- Routes along the links, a notion of this project: each node sends on to the least node that its links point to.
+-- Routes along the links: each node sends on to the node with the lowest number to which one of its links points. This
+-- project's own; next hops are those of RFC 6976.
 use Rattle.std.specs.Prelude.{◌≡◌, ℕ, ◌≤◌, Bool, true, false, List, [], ◌∷◌, length, slice_get, Some}
 use Rattle.fr_graph.specs.Links.{Points}
 use Rattle.fr_route.specs.States.{State, IsCutOff}
@@ -7,17 +8,17 @@ use Rattle.fr_tables.specs.declared.hop.Hop.TheVariants.{Here, To, CutOff}
 use Rattle.fr_route.specs.declared.hops.Walked.{Walked}
 use Rattle.fr_route.specs.declared.hops.Walked.TheVariants.{Route, CutOff as NoRoute}
 
--- the least node to which a link from x points
+-- the node with the lowest number to which a link from x points
 pub record IsNextHop (links : List (ℕ × ℕ)) (x y : ℕ) : Type 0 where
   pub link : Points links x y
   pub least : (w : ℕ) → Points links x w → y ≤ w
 
--- from x by these nodes to d, each the next hop of the one before
+-- a route from x along these nodes to d, each the next hop of the one before
 abbrev pub IsRoute : List (ℕ × ℕ) → ℕ → ℕ → List ℕ → Type 0
 IsRoute links d x [] = x ≡ d
 IsRoute links d x (y ∷ ys) = ¬ (x ≡ d) × IsNextHop links x y × IsRoute links d y ys
 
--- where x sends on to: the second node of its route
+-- the hop of x: the second node of its route
 abbrev pub IsHop : State → ℕ → Hop → Type 0
 IsHop s x Here = x ≡ s.dest
 IsHop s x (To y) = (rest : List ℕ) × IsRoute s.links s.dest x (y ∷ rest)
@@ -34,7 +35,7 @@ is_cut_off Here = false
 is_cut_off (To y) = false
 is_cut_off CutOff = true
 
--- the nodes of the route from x, which is the first of them, or that there is none
+-- the answer for x: the nodes of its route, beginning with x, or that there is none
 abbrev pub IsWalked : State → ℕ → Walked → Type 0
 IsWalked s x (Route nodes) = (rest : List ℕ) × IsRoute s.links s.dest x rest × (nodes.items ≡ x ∷ rest)
 IsWalked s x NoRoute = IsCutOff s.dest s.links x

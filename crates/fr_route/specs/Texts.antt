@@ -1,4 +1,4 @@
--- The texts of answers.
+-- The texts of answers: the definition of docs/LINES.md. This project's own.
 use Rattle.std.specs.Prelude.{ℕ, List, [], ◌∷◌, ◌++◌, codes, decimal}
 use Rattle.fr_tables.specs.declared.hop.Hop.{Hop}
 use Rattle.fr_tables.specs.declared.hop.Hop.TheVariants.{Here, To, CutOff}
@@ -11,7 +11,7 @@ spaced (n ∷ ns) = codes " " ++ (decimal n ++ spaced ns)
 abbrev pub counts_text : List ℕ → List ℕ
 counts_text counts = codes "counts" ++ spaced counts
 
--- each link after a space, as its tail, `>` and its head
+-- for each link a space, its tail, `>` and its head
 abbrev pub spaced_links : List (ℕ × ℕ) → List ℕ
 spaced_links [] = []
 spaced_links (l ∷ ls) = codes " " ++ (decimal l.0 ++ (codes ">" ++ (decimal l.1 ++ spaced_links ls)))
@@ -25,7 +25,7 @@ hop_word Here = codes "here"
 hop_word (To node) = decimal node
 hop_word CutOff = codes "cut"
 
--- the word for each hop after a space
+-- for each hop a space and its word
 abbrev pub spaced_hops : List Hop → List ℕ
 spaced_hops [] = []
 spaced_hops (hop ∷ hops) = codes " " ++ (hop_word hop ++ spaced_hops hops)
@@ -42,7 +42,7 @@ no_walk_text node = codes "walk " ++ (decimal node ++ codes " cut")
 abbrev pub report_text : ℕ → ℕ → List ℕ
 report_text turned cut = codes "turned " ++ (decimal turned ++ (codes " cut " ++ decimal cut))
 
--- a report has at most so many bytes: its words, and two numbers below 2 ^ 64
+-- the greatest length of a report in bytes: its words, and two numbers below 2 ^ 64
 abbrev pub longest_report : ℕ
 longest_report = 52
 

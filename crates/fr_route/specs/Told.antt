@@ -1,4 +1,4 @@
--- Which nodes an answered request tells of, to a caller that keeps the hops of all nodes.
+-- Which rerouted nodes an answered request lists, for a caller that keeps the hops of all nodes. This project's own.
 use Rattle.std.specs.Prelude.{◌≡◌, ℕ, ◌⊎◌, List, Option, Some, None, Result, Ok, Err, String, IfOk, IfSome, IfNone, OnErr}
 use Rattle.std.specs.declared.alloc.Global.{Global}
 use Rattle.fr_lines.specs.Requests.{PlainRequest, new_network, cut_link, add_link, join_nodes, make_edits, move_dest, walk_from, ask}
@@ -8,8 +8,8 @@ use Rattle.fr_route.specs.Reroutes.{AreReplaced, AreRerouted}
 use Rattle.fr_route.specs.States.{State}
 use Rattle.fr_route.specs.declared.fault.AnswerFault.{AnswerFault}
 
--- an accepted request tells of these nodes, where the list had others before: a network and a change of those that it reroutes, in push
--- order, and all else leaves the list
+-- what an accepted request makes of the list: a network or a change lists the nodes that it reroutes, in push order,
+-- and any other request leaves the list unchanged
 abbrev pub TellsOf : Option State → PlainRequest → State → List ℕ → List ℕ → Type 0
 TellsOf s (new_network n d links) new before after = AreReplaced s new after
 TellsOf None request new before after = ⊥
@@ -21,18 +21,18 @@ TellsOf (Some s) (move_dest d) new before after = AreRerouted s new after
 TellsOf (Some s) (walk_from x) new before after = after ≡ before
 TellsOf (Some s) (ask question) new before after = after ≡ before
 
--- what is told of a request, and the state after it: a refusal leaves the list
+-- what a request makes of the list, and the state after it: a refused request leaves the list unchanged
 abbrev pub IsTold : Option State → PlainRequest → Option State → List ℕ → List ℕ → Type 0
 IsTold s request next before after =
     ((number : ℕ) × IsRefused s request number × (next ≡ s) × (after ≡ before))
     ⊎ ((new : State) × IsAccepted s request new × (next ≡ Some new) × TellsOf s request new before after)
 
--- what is told of a line as it is read
+-- the same for a line that was read with this result
 abbrev pub IsLineTold : Option State → Result PlainRequest LineFault → Option State → List ℕ → List ℕ → Type 0
 IsLineTold s (Ok request) next before after = IsTold s request next before after
 IsLineTold s (Err fault) next before after = (next ≡ s) × (after ≡ before)
 
--- what a caller is told in a list of its own: of an answered line, and nothing of a blank one or at a fault
+-- what a line makes of the caller's list: nothing if the line is blank or the call fails
 pub record TellsOfLine (s : Option State) (asked : Result PlainRequest LineFault) (answer : Result (Option (String Global)) AnswerFault) (next : Option State) (before after : List ℕ) : Type 0 where
   pub answered : IfOk answer (λ a. IfSome a (λ _. IsLineTold s asked next before after))
   pub blank : IfOk answer (λ a. IfNone a (after ≡ before))

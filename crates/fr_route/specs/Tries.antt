@@ -1,4 +1,4 @@
--- What a router makes of edits or of a change, whatever the way by which it is settled.
+-- What a router does with edits or a change, by any way to settle networks. For proofs only.
 use Rattle.std.specs.Prelude.{◌≡◌, ◌≢◌, ℕ, [], ◌∷◌, Result, IfOk, IfErr, OnErr}
 use Rattle.fr_graph.specs.declared.edit.Edit.{Edit}
 use Rattle.fr_route.specs.Changes.{IsChanged, IsRouteFault}
@@ -13,7 +13,7 @@ use Rattle.fr_route.specs.declared.fault.RouteFault.TheVariants.{Start}
 use Rattle.fr_route.specs.declared.revision.Revision.{Revision}
 use Rattle.fr_route.specs.declared.told.Told.{Told}
 
--- what is tried in a state: the states that may come of it, and why it may come to nothing
+-- what is attempted in a state: the states that it can lead to, and the faults with which it can fail
 pub record Trial : Type 1 where
   pub Made : State → Type 0
   pub Undone : RouteFault → Type 0
@@ -34,8 +34,8 @@ abbrev pub change_of : State → Change → Trial
 change_of s change = record { Made = IsChanged s change; Undone = IsRouteFault s change }
 
 module _ {T : Type 0} where
-  -- what was tried in this state came about, and the answer is what is told of its report; or it came to nothing for a fault, and nothing
-  -- has changed. By a way that never starts a thread no thread is wanted. Whoever is told learns which nodes are rerouted
+  -- The attempt succeeded, and the answer is what `tell` made of the report; or it failed with a fault, and nothing has
+  -- changed. With `never`, the way to settle starts no thread. If there is a list, it has the rerouted nodes.
   pub record IsTried (never : Type 0) (trial : Trial) (Tells : Report → T → Type 0) (s : State) (told : Told) (answer : Result T RouteFault) (next : State) (more : Told) : Type 0 where
     pub made : IfOk answer (λ _. trial.Made next)
     pub told_of : IfOk answer (λ told. (report : Report) × IsReport next report.turned report.cut × Tells report told)

@@ -1,9 +1,9 @@
-//! Which lines ask for nothing.
+//! Blank lines, which ask for nothing.
 
 ghost use Rattle.std.specs.Prelude.{◌≡◌};
 ghost use Rattle.fr_route.specs.Blank.{is_blank as is_blank_line};
 
-/// Whether a line has nothing but tabs, carriage returns and spaces. `O(b)` for b bytes.
+/// Whether a line contains only tabs, carriage returns and spaces. O(b) for b bytes.
 pub fn is_blank(line: &[u8]) -> bool
     ensures { result ≡ is_blank_line line.now }
 {

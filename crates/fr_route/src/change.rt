@@ -1,35 +1,35 @@
-//! Changes of a network, and what the round after one reports.
+//! Changes of a network, and the report of the round after a change.
 
 use fr_graph::Edit;
 
 /// A change of the network, made between two rounds.
 #[derive(Debug, Drop, PartialEq, Eq)]
 pub enum Change {
-    /// The link between two nodes is taken out, whichever way it points.
+    /// Remove the link between two nodes, whichever way it points.
     Cut {
         /// One end of the link.
         u: u32,
         /// The other end.
         v: u32,
     },
-    /// A link is added, which points from `u` to `v` at first.
+    /// Add a link, which points from `u` to `v` at first.
     Add {
         /// The tail of the link.
         u: u32,
         /// Its head.
         v: u32,
     },
-    /// Two nodes are joined by a link, which points from `u` to `v` at first, or from `v` to `u` where a closed walk would follow the
-    /// other.
+    /// Join two nodes by a link, which points from `u` to `v` at first, or from `v` to `u` if the first would close a
+    /// cycle.
     Join {
-        /// The tail of the link, unless a closed walk would follow it.
+        /// The tail of the link, unless that would close a cycle.
         u: u32,
-        /// Its head then.
+        /// The head of the link then.
         v: u32,
     },
-    /// These edits are made one after the other, and one round follows the last of them. Where one is refused none is made.
+    /// Make these edits in order, with one round after the last of them. If one is refused, none is made.
     Batch(Vec<Edit>),
-    /// The destination moves to another node.
+    /// Move the destination to another node.
     Destination {
         /// The destination from now on.
         dest: u32,
@@ -39,8 +39,8 @@ pub enum Change {
 /// What a round reports.
 #[derive(Clone, Copy, Debug, PartialEq, Eq)]
 pub struct Report {
-    /// How many turns it took: the sum of the counts.
+    /// How many turns the round took: the sum of the counts.
     pub turned: u64,
-    /// How many nodes are cut off: other than the destination, and not joined with it.
+    /// How many nodes are cut off: not the destination, and not joined with it.
     pub cut: u64,
 }

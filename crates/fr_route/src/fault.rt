@@ -1,4 +1,4 @@
-//! Why a router gives no answer, and why a session gives none.
+//! Why a call of a router or of a session fails.
 
 ghost use Rattle.std.specs.Prelude.{◌≡◌};
 ghost use Rattle.fr_route.specs.declared.fault.RouteFault.TheVariants.{Memory as RouteMemory};
@@ -10,16 +10,16 @@ use fr_graph::{EditFault, NetFault, NotEdited};
 use std::alloc::{AllocError, AllocFailed};
 use thiserror::Error;
 
-/// Why a router could not be opened or changed, or could not answer.
+/// Why a router cannot be opened or changed, or cannot answer.
 #[derive(Debug, Drop, Error, PartialEq, Eq)]
 pub enum RouteFault {
-    /// The changed links make no network, or one edit of a batch is refused for this. The fault is never `Memory`.
+    /// The links of the change, or an edit of the batch, are refused with this fault, which is never `Memory`.
     #[error("{0}")]
     Net(NetFault),
-    /// The destination is no node of the network.
+    /// The destination is not a node of the network.
     #[error("the destination is no node")]
     Range,
-    /// A thread could not be started. Those that were started have ended.
+    /// A thread could not be started. The threads that were started have ended.
     #[error("a thread could not be started")]
     Start,
     /// An allocation was refused.
@@ -27,7 +27,7 @@ pub enum RouteFault {
     Memory,
 }
 
-// By hand, since clauses say which fault a `?` gives.
+// Written by hand, because clauses say which fault a `?` returns.
 impl From<AllocError> for RouteFault {
     ghost from_gives = { λ _ fault. fault ≡ RouteMemory };
 
@@ -86,10 +86,10 @@ impl From<CrewFault> for RouteFault {
     }
 }
 
-/// Why a session gives no answer. It is then as it was, and the request can be asked again.
+/// Why a session cannot answer. The session is unchanged, and the request can be made again.
 #[derive(Clone, Copy, Debug, Drop, Error, PartialEq, Eq)]
 pub enum AnswerFault {
-    /// A thread could not be started. Those that were started have ended.
+    /// A thread could not be started. The threads that were started have ended.
     #[error("a thread could not be started")]
     Start,
     /// An allocation was refused.

@@ -1,4 +1,4 @@
-//! Where each node sends on to.
+//! The next hop of each node.
 
 ghost use Rattle.std.specs.Prelude.{◌≡◌, ℕ, ◌<◌, ◌≤◌, ◌↔◌, ◌++◌, ◌-◌, All, Contains, IsTrue, length, replicate, take, IfOk, MatchOption};
 ghost use Rattle.fr_graph.specs.Links.{Points};
@@ -17,11 +17,11 @@ use std::alloc::{AllocError, Global};
 pub enum Walked {
     /// The nodes of the route, from the first to the destination.
     Route(Vec<u32>),
-    /// There is none: the node is not joined with the destination.
+    /// The node is not joined with the destination, so it has no route.
     CutOff,
 }
 
-/// A network after a round: its links as they point now, where all nodes send to, and how often each of them turned.
+/// A network after a round: its links in their current directions, its destination, and how often each node has turned.
 #[derive(Clone, Copy)]
 pub(crate) struct AfterRound<'a> {
     pub(crate) net: &'a Net,
@@ -29,7 +29,7 @@ pub(crate) struct AfterRound<'a> {
     pub(crate) turns: &'a Turns,
 }
 
-/// The least node to which a link from node `x` points.
+/// The node with the lowest number to which a link from node `x` points.
 pub(crate) fn least_out(net: &Net, x: u32) -> Option<u32>
     requires { x < net.now.nodes }
     ensures { MatchOption result ((w : ℕ) → ¬ Points net.now.links x w) (IsNextHop net.now.links x) }
@@ -44,7 +44,7 @@ pub(crate) fn least_out(net: &Net, x: u32) -> Option<u32>
     None
 }
 
-/// Where node `x` sends on to, by its settled count and the settled links.
+/// The next hop of node `x`, from its settled count and the settled links.
 fn hop_of(round: &AfterRound<'_>, x: u32) -> Hop
     requires round { IsAfterRound (state_after round.now) }
     requires node { x < round.now.net.now.nodes }
@@ -58,12 +58,12 @@ fn hop_of(round: &AfterRound<'_>, x: u32) -> Hop
     }
     match least_out(round.net, x) {
         Some(next) => Hop::To(next),
-        // The node is alone: with a link it would have turned until one points away.
+        // The node has no link. With a link, it would have turned until a link points away from it.
         None => Hop::CutOff,
     }
 }
 
-/// Where each node sends on to.
+/// The next hop of each node.
 pub(crate) fn hop_table(alloc: Global, round: &AfterRound<'_>) -> Result<Vec<Hop>, AllocError>
     requires { IsAfterRound (state_after round.now) }
     ensures { IfOk result (λ hops. AreHops (state_after round.now) round.now.net.now.nodes hops.items) }
@@ -73,8 +73,9 @@ pub(crate) fn hop_table(alloc: Global, round: &AfterRound<'_>) -> Result<Vec<Hop
     Ok(hops)
 }
 
-/// Makes anew where the moved nodes send on to, and what turns have made stale. Each other hop is right as it stands. As in all that
-/// it calls, each node with another hop than before is noted, once, where somebody is told.
+/// Updates the hops of the moved nodes, and the hops that turns have made stale. All other hops stay right. Each node
+/// whose hop changes is noted once, if the caller asks for the rerouted nodes. The same holds for the functions that
+/// this one calls.
 pub(crate) fn renew_hops(hops: &mut [Hop], round: &AfterRound<'_>, moved: &[u32], told: &mut Told)
     requires round { IsAfterRound (state_after round.now) }
     requires one_each { length hops.old ≡ round.now.net.now.nodes }
@@ -86,8 +87,8 @@ pub(crate) fn renew_hops(hops: &mut [Hop], round: &AfterRound<'_>, moved: &[u32]
     renew_some(hops, round, moved, told);
 }
 
-/// Makes anew where each node sends on to that has turned, and each neighbour that sends on to such a node. The links of every
-/// other node point as they did.
+/// Updates the hop of each node that has turned, and of each neighbour that sends on to such a node. The links of all
+/// other nodes have not changed.
 fn renew_turned(hops: &mut [Hop], round: &AfterRound<'_>, told: &mut Told)
     requires round { IsAfterRound (state_after round.now) }
     requires one_each { length hops.old ≡ round.now.net.now.nodes }
@@ -99,7 +100,7 @@ fn renew_turned(hops: &mut [Hop], round: &AfterRound<'_>, told: &mut Told)
     }
 }
 
-/// Makes anew where node `x` sends on to, and each neighbour that sends on to it.
+/// Updates the hop of node `x`, and of each neighbour that sends on to it.
 fn renew_near(hops: &mut [Hop], round: &AfterRound<'_>, x: u32, told: &mut Told)
     requires round { IsAfterRound (state_after round.now) }
     requires one_each { length hops.old ≡ round.now.net.now.nodes }
@@ -107,7 +108,7 @@ fn renew_near(hops: &mut [Hop], round: &AfterRound<'_>, x: u32, told: &mut Told)
     ensures renewed { AreRenewed (state_after round.now) hops.old hops.new (λ y hop. ¬ SendsTo round.now.net.now.links x y hop) }
     ensures noted { NotesMore (state_after round.now) hops.old told.old hops.new told.new }
 {
-    // By the law the row has each link of `x`.
+    // By this law, the row has each link of `x`.
     round.net.network_law();
     renew_one(hops, round, x, told);
     let row = round.net.row(x);
@@ -116,7 +117,7 @@ fn renew_near(hops: &mut [Hop], round: &AfterRound<'_>, x: u32, told: &mut Told)
     }
 }
 
-/// Makes anew where node `w` sends on to, if that is node `x`.
+/// Updates the hop of node `w`, if it sends on to node `x`.
 fn renew_sender(hops: &mut [Hop], round: &AfterRound<'_>, w: u32, x: u32, told: &mut Told)
     requires round { IsAfterRound (state_after round.now) }
     requires one_each { length hops.old ≡ round.now.net.now.nodes }
@@ -129,7 +130,7 @@ fn renew_sender(hops: &mut [Hop], round: &AfterRound<'_>, w: u32, x: u32, told: 
     }
 }
 
-/// Makes anew where each of these nodes sends on to.
+/// Updates the hops of these nodes.
 fn renew_some(hops: &mut [Hop], round: &AfterRound<'_>, moved: &[u32], told: &mut Told)
     requires round { IsAfterRound (state_after round.now) }
     requires one_each { length hops.old ≡ round.now.net.now.nodes }
@@ -142,7 +143,7 @@ fn renew_some(hops: &mut [Hop], round: &AfterRound<'_>, moved: &[u32], told: &mu
     }
 }
 
-/// Makes anew where node `x` sends on to, and notes it where that is another hop.
+/// Updates the hop of node `x`, and notes the node if the hop changes.
 fn renew_one(hops: &mut [Hop], round: &AfterRound<'_>, x: u32, told: &mut Told)
     requires round { IsAfterRound (state_after round.now) }
     requires one_each { length hops.old ≡ round.now.net.now.nodes }
@@ -158,14 +159,14 @@ fn renew_one(hops: &mut [Hop], round: &AfterRound<'_>, x: u32, told: &mut Told)
     told.note(x);
 }
 
-/// Whether two hops are the same.
+/// Whether two hops are equal.
 fn is_same(some: Hop, other: Hop) -> bool
     ensures { IsTrue result ↔ (some ≡ other) }
 {
     some == other
 }
 
-/// A copy of a table that has `count` hops: those past its end are cut off.
+/// A copy of a table with `count` hops: nodes past the end of the table are cut off.
 pub(crate) fn resized(alloc: Global, table: &[Hop], count: u32) -> Result<Vec<Hop>, AllocError>
     ensures { IfOk result (λ hops. hops.items ≡ take count table.now ++ replicate (count - length table.now) CutOff) }
 {
@@ -175,7 +176,7 @@ pub(crate) fn resized(alloc: Global, table: &[Hop], count: u32) -> Result<Vec<Ho
     Ok(hops)
 }
 
-/// Makes anew where each node sends on to.
+/// Updates the hop of each node.
 fn renew_all(hops: &mut [Hop], round: &AfterRound<'_>)
     requires round { IsAfterRound (state_after round.now) }
     requires one_each { length hops.old ≡ round.now.net.now.nodes }

@@ -1,17 +1,21 @@
 //! Routing by full link reversal: a network that is settled again after each change, the route from each node to the
 //! destination, and the answers to request lines.
 //!
-//! A [`Router`] keeps a settled network, and answers next hops and walks. [`Router::change`] cuts or adds a link, joins two
-//! nodes, makes a batch of edits or moves the destination, and settles what comes of it by a crew. A [`Session`] answers request after
-//! request by a router. Beside each call that settles stands one that comes to the same on the thread that calls, with no crew:
-//! [`Router::open_alone`], [`Router::change_alone`], [`Session::answer_line_alone`], [`Session::answer_alone`]. The laws of routes
-//! and answers are in [`laws`].
+//! A [`Router`] keeps a settled network, and answers with next hops and routes. [`Router::change`] removes or adds a
+//! link, joins two nodes, makes a batch of edits or moves the destination, and then settles the network by a crew of
+//! threads. A [`Session`] keeps a router and answers one request after the other. For each call that settles by a crew
+//! there is one with the same results that uses only the calling thread: [`Router::open_alone`],
+//! [`Router::change_alone`], [`Session::answer_line_alone`], [`Session::answer_alone`]. The laws of routes and answers
+//! are in [`laws`].
 //!
-//! For those who answer lines in another way there are the parts of an answer: [`is_blank`], [`Refusal`], [`fault_number`],
-//! [`links_line`] and [`counts_line`]; for those who change the network of a session with no line at all, [`Session::router_mut`] and
-//! [`Session::put_router`].
+//! Full link reversal is the method of E. Gafni and D. Bertsekas ("Distributed Algorithms for Generating Loop-Free
+//! Routes in Networks with Frequently Changing Topology", 1981). The requests and answers are those of docs/LINES.md.
 //!
-//! Costs are told for n nodes, m links, and d links at a node, as read off the code.
+//! Callers that answer lines in another way can use the parts of an answer: [`is_blank`], [`Refusal`],
+//! [`fault_number`], [`links_line`] and [`counts_line`]. Callers that change the network of a session without lines can
+//! use [`Session::router_mut`] and [`Session::put_router`].
+//!
+//! Costs are for n nodes, m links, and d links at a node. They are read off the code, not proved.
 #![tactic(auto)]
 
 mod blank;

@@ -1,4 +1,4 @@
-//! What a round on a network comes to, before any of it is put in place.
+//! The outcome of a round on a network, computed before any of it is put in place.
 
 ghost use Rattle.std.specs.Prelude.{◌≡◌, ℕ, ◌<◌, ◌==◌, ◌↔◌, List, [], ◌∷◌, ◌++◌, All, Any, IsTrue, count_by, length, slice_index, sum, IfOk, OnOk};
 ghost use Rattle.std.specs.List.{filter, range_with_len};
@@ -19,10 +19,10 @@ use fr_graph::{Edit, Net, Turns};
 use fr_tables::Hop;
 use std::alloc::{AllocError, Global};
 
-/// What a round on a network comes to.
+/// The outcome of a round on a network.
 #[derive(Drop)]
 pub(crate) struct Outcome {
-    /// Where all nodes send to.
+    /// The destination.
     pub(crate) dest: u32,
     /// How often each node turns.
     pub(crate) turns: Turns,
@@ -44,8 +44,8 @@ pub(crate) fn any_can_turn(net: &Net, dest: u32, counts: &[u64], among: &[u32]) 
     false
 }
 
-/// What the round with these settled counts reports: cut off are the nodes without a link, and those that have turned as often as
-/// there are nodes.
+/// The report of a round with these settled counts. The nodes that are cut off are those without a link, and those that
+/// have turned as often as there are nodes.
 pub(crate) fn report_of(net: &Net, dest: u32, turns: &Turns) -> Report
     requires { IsCounted net.now.nodes dest net.now.links turns.now }
     ensures { IsReport (settled_state net.now dest turns.now) result.turned result.cut }
@@ -71,7 +71,7 @@ pub(crate) fn alone_nodes(net: &Net, dest: u32) -> u64
     }
 }
 
-/// How many nodes have turned as often as there are nodes: none, where there are fewer turns.
+/// How many nodes have turned as often as there are nodes. There is none if there are fewer turns than nodes.
 fn capped_nodes(nodes: u32, counts: &[u64], turned: u64) -> u64
     requires one_each { length counts.now ≡ nodes }
     requires turned { turned ≡ sum counts.now }
@@ -84,8 +84,8 @@ fn capped_nodes(nodes: u32, counts: &[u64], turned: u64) -> u64
     counts.iter().filter(|count| **count == cap).count() as u64
 }
 
-/// Puts a round in place: turns the links as its turns leave them, and makes anew where the moved nodes send on to, and what
-/// turns have made stale. Whoever is told learns which nodes have another hop than before.
+/// Puts a round in place: turns the links, and updates the hops of the moved nodes and those that turns have made
+/// stale. Lists the nodes whose hop has changed, if the caller asks for them.
 pub(crate) fn put_in_place(
     net: &mut Net,
     hops: &mut [Hop],
@@ -111,7 +111,8 @@ pub(crate) fn put_in_place(
     renew_hops(hops, &round, moved, told);
 }
 
-/// The nodes that edits and a new destination touch: both destinations, and the ends of the links that are taken out or added.
+/// The nodes that edits and a new destination touch: the old and the new destination, and the ends of the links that
+/// are removed or added.
 pub(crate) fn touched_nodes(
     alloc: Global,
     dest: u32,
@@ -132,7 +133,7 @@ pub(crate) fn touched_nodes(
     Ok(nodes)
 }
 
-/// Pushes the nodes that have turned as often as there are nodes, in rising order.
+/// Appends the nodes that have turned as often as there are nodes, in increasing order.
 pub(crate) fn push_capped(
     capped: &mut Vec<u32>,
     nodes: u32,
@@ -150,7 +151,7 @@ pub(crate) fn push_capped(
     Ok(())
 }
 
-/// The ends of the link that an edit takes out or adds.
+/// The ends of the link that an edit removes or adds.
 fn ends(edit: Edit) -> (u32, u32)
     ensures { ends_of (edit ∷ []) ≡ result.0 ∷ (result.1 ∷ []) }
 {

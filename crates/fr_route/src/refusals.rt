@@ -1,4 +1,4 @@
-//! Why a line is refused, and the number by which its answer says so.
+//! Why a line is refused, and the number of the refusal in its answer.
 
 ghost use Rattle.std.specs.Prelude.{◌≡◌, IfNone, IfSome};
 ghost use Rattle.fr_route.specs.Answers.{fault_number as fault_number_of};
@@ -6,31 +6,31 @@ ghost use Rattle.fr_route.specs.Refusals.{number_of};
 
 use fr_graph::NetFault;
 
-/// Why a line is refused. Answers name it by its number, from 1 to 9.
+/// Why a line is refused. The answer contains the number of the refusal, from 1 to 9.
 #[derive(Clone, Copy, Debug, Drop, PartialEq, Eq)]
 pub enum Refusal {
     /// The line is not JSON.
     NotJson,
-    /// It is no request.
+    /// The line is JSON, but not a request.
     NotRequest,
     /// There is no network yet.
     NoNetwork,
-    /// Something that has to be a node is none, or there is no node.
+    /// A number that has to be that of a node is not, or there are no nodes.
     NoNode,
     /// A link would join a node with itself.
     SelfLink,
     /// Two links would join the same nodes.
     Twice,
-    /// A closed walk would follow the links.
+    /// The links would contain a cycle.
     Cycle,
-    /// There is no such link.
+    /// No link joins the two nodes.
     NoLink,
     /// There would be too many nodes or links, or there are too many edits.
     TooMany,
 }
 
 impl Refusal {
-    /// The refusal of links or of an edit with this fault. Want of memory is none. `O(1)`.
+    /// The refusal for a fault of links or of an edit. `None` for `Memory`. O(1).
     pub fn of(fault: &NetFault) -> Option<Refusal>
         ensures number { IfSome result (λ refusal. fault_number_of fault.now ≡ number_of refusal) }
         ensures none { IfNone result (fault_number_of fault.now ≡ 0) }
@@ -46,7 +46,7 @@ impl Refusal {
         }
     }
 
-    /// The number by which an answer names it. `O(1)`.
+    /// The number of the refusal in an answer. O(1).
     pub fn number(self) -> u32
         ensures { result ≡ number_of self }
     {
@@ -64,7 +64,8 @@ impl Refusal {
     }
 }
 
-/// The number by which an answer names a fault of links or of an edit, from 4 to 9. Want of memory has none, and is 0. `O(1)`.
+/// The number in an answer for a fault of links or of an edit, from 4 to 9. For `Memory`, which is not a refusal, it is
+/// 0. O(1).
 pub fn fault_number(fault: &NetFault) -> u32
     ensures { result ≡ fault_number_of fault.now }
 {

@@ -1,8 +1,8 @@
-//! What is made of a network in one round.
+//! What one round changes in a network.
 
 use fr_graph::Edit;
 
-/// What is made of a network in one round: edits, and the destination after them.
+/// What one round changes in a network: edits, and the destination after them.
 #[derive(Clone, Copy)]
 pub(crate) struct Revision<'a> {
     pub(crate) edits: &'a [Edit],

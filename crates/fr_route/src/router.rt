@@ -1,4 +1,4 @@
-//! A router: a settled network with its next hops and routes, and the changes after which it is settled anew.
+//! A router: a settled network with its next hops and routes, and the changes after which it settles again.
 
 ghost use Rattle.std.specs.Prelude.{◌≡◌, ◌≢◌, ◌<◌, ◌≤◌, ◌⊎◌, [], ◌∷◌, length, replicate, Ok, Some, IfOk, IfErr, IfSome, OnErr, OnOk};
 ghost use Rattle.std.specs.Option.{option_copied};
@@ -30,8 +30,8 @@ use std::mem;
 use std::sync::Wait;
 use std::thread::Threads;
 
-/// A settled network: links and counts as the last round left them, and where each node sends on to. Contracts see the
-/// state: how many nodes, the destination, the links in rising order, and the counts.
+/// A settled network: the links and counts after the last round, and the next hop of each node. The value in contracts
+/// is the state: the number of nodes, the destination, the links in order, and the counts.
 #[derive(Debug, Drop)]
 pub struct Router {
     net: Net,
@@ -55,7 +55,7 @@ impl Model for Router {
     ghost invariant = { IsSoundRouter };
 }
 
-/// Puts these turns in place of the last ones, whose table is kept for the next round.
+/// Replaces the turns of the last round by these, and keeps the old table for the next round.
 fn keep_turns(last: &mut Turns, spare: &mut Spare, turns: Turns)
     ensures { last.new ≡ turns }
 {
@@ -73,8 +73,8 @@ impl<'a, F: Fn(&Net, u32, Option<&[u32]>, Turns) -> Result<Turns, CrewFault>> As
         Router::settled(self.alloc, net, dest, turns)
     }
 
-    /// Changes the network or its destination where it stands, settles it anew, and answers what is told of the report. All that the
-    /// change needs is made before anything is put in place.
+    /// Changes the network or its destination in place, settles it again, and returns what `tell` makes of the report.
+    /// All that the change needs is allocated and computed before anything is put in place.
     pub(crate) fn change<T, K: Fn(Report) -> Result<T, AllocError>>(
         &self,
         router: &mut Router,
@@ -118,7 +118,7 @@ impl<'a, F: Fn(&Net, u32, Option<&[u32]>, Turns) -> Result<Turns, CrewFault>> As
         }
     }
 
-    /// Makes these edits where the network stands, and settles it anew toward the destination after them.
+    /// Makes these edits in place, and settles the network again, with the destination after them.
     pub(crate) fn edit<T, K: Fn(Report) -> Result<T, AllocError>>(
         &self,
         router: &mut Router,
@@ -164,10 +164,14 @@ impl<'a, F: Fn(&Net, u32, Option<&[u32]>, Turns) -> Result<Turns, CrewFault>> As
 }
 
 impl Router {
-    /// Settles a network by a crew, by the plan and under the gate. `Range` where the destination is no node, `Start` where a thread
-    /// could not be started, `Memory` where no room could be had; never `Net`. `Start` never comes with the budget 0, by one worker, or
-    /// where no node can turn. On a fault the network is given up. It waits for the threads of the crew, which end where the calls of
-    /// the gate return. `O(n + m)`, and what [`settle`](fr_crew::settle) costs.
+    /// Settles a network by a crew, with this plan and gate. It waits for the threads of the crew, which end once the
+    /// calls of the gate return.
+    ///
+    /// Fails with `Range` if the destination is not a node, with `Start` if a thread could not be started, and with
+    /// `Memory` if an allocation is refused; never with `Net`. It does not fail with `Start` if the budget is 0, if
+    /// there is one worker, or if no node can turn. If it fails, the network is dropped.
+    ///
+    /// O(n + m), and the cost of [`settle`](fr_crew::settle).
     pub fn open<R: Threads + Wait + Sync, G: Gate + Sync>(
         rt: &R,
         alloc: Global,
@@ -197,8 +201,8 @@ impl Router {
         .open(net, dest)
     }
 
-    /// The same on the thread that calls, with no crew: it starts no thread, waits for nobody, and never answers `Start`. `O(n + m)`, and
-    /// what [`Net::turn`] costs.
+    /// Does the same on the calling thread. It starts no thread, does not wait, and never fails with `Start`. O(n + m),
+    /// and the cost of [`Net::turn`].
     pub fn open_alone(alloc: Global, net: Net, dest: u32) -> Result<Router, RouteFault>
         ensures opened { IfOk result (λ router. (dest < net.nodes) × IsRound net.nodes dest net.links router) }
         ensures fault { IfErr result (IsOpenFault net.nodes dest) }
@@ -211,7 +215,7 @@ impl Router {
         .open(net, dest)
     }
 
-    /// The router of a network whose settled counts are these.
+    /// The router of a network with these settled counts.
     fn settled(alloc: Global, mut net: Net, dest: u32, turns: Turns) -> Result<Router, RouteFault>
         requires { IsCounted net.nodes dest net.links turns }
         ensures opened { IfOk result (λ router. (dest < net.nodes) × IsRound net.nodes dest net.links router) }
@@ -239,21 +243,24 @@ impl Router {
         })
     }
 
-    /// Changes the network or its destination and settles it anew by a crew, by the plan and under the gate, and answers what
-    /// the round reports. A batch is one round, after its last edit. `Net` with the fault for which the change is refused: a cut
-    /// for `NoLink` alone, an added link for what `Net::with_link` names, a join for what `Net::with_join` names, and a batch for the
-    /// first edit that `Net::with_edits` refuses, or its length; `Range` for a destination that is no node, and only there; `Start` and
-    /// `Memory` as in `open`, and `Start` never for what is refused. Any fault leaves the router as it was.
+    /// Changes the network or its destination, settles the network again by a crew, with this plan and gate, and
+    /// returns the report of the round. A batch takes one round, after its last edit.
     ///
-    /// The change is made where the network stands, and all that can fail is done before any of it stays. Only the ends of the
-    /// links, the two destinations, and the nodes with a link that the last round cut off are looked at for what can turn; where none
-    /// can, that look is all, and only their hops are made anew. Where nodes turn, the hops of these are made anew as well, and of
-    /// the neighbours that sent on to them. The parts with a link that stay cut off turn anew in each round, each of their nodes as
-    /// often as there are nodes.
+    /// Fails with `Net` and the fault for which the change is refused: a cut only for `NoLink`, an added link or a join
+    /// for the faults of `Net::with_link` or `Net::with_join`, and a batch for its length or the first edit that
+    /// `Net::with_edits` refuses. Fails with `Range` only for a destination that is not a node. Fails with `Start` and
+    /// `Memory` as `open` does, but never with `Start` if the change is refused. If it fails, the router is unchanged.
     ///
-    /// It costs what [`Net::edit_if`] does, and `O((e + k + 1) d)` for e edits and k nodes with a link that the last round cut off; `O(n)`
-    /// more where k is not 0, at the first change, and after a fault; and where nodes turn, what [`settled_counts`] and [`Net::turn`] do,
-    /// and a step for each link of these nodes and of the neighbours that sent on to them.
+    /// The change is made in place, and everything that can fail comes before anything is kept. To find nodes that can
+    /// turn, the call looks only at the ends of the edited links, at the two destinations, and at the nodes with links
+    /// that the last round cut off. If none of these can turn, only their hops are updated. Otherwise the hops of all
+    /// nodes that turn are updated too, and those of their neighbours that sent on to them. Parts with links that stay
+    /// cut off turn again in each round, each of their nodes as often as there are nodes.
+    ///
+    /// The cost is that of [`Net::edit_if`], and O((e + k + 1) d) for e edits and k nodes with links that the last
+    /// round cut off. It is O(n) more if k is not 0, at the first change, and after a failed call. If nodes turn, there
+    /// is also the cost of [`settled_counts`] and [`Net::turn`], and one step for each link of these nodes and of the
+    /// neighbours that sent on to them.
     pub fn change<R: Threads + Wait + Sync, G: Gate + Sync>(
         &mut self,
         rt: &R,
@@ -284,8 +291,8 @@ impl Router {
         .change(self, &change, &|report| Ok(report), &mut Told::Nobody)
     }
 
-    /// The same on the thread that calls, with no crew: it starts no thread, waits for nobody, and never answers `Start`. It costs
-    /// what `change` does, with [`settled_counts_alone`] where nodes turn.
+    /// Does the same on the calling thread. It starts no thread, does not wait, and never fails with `Start`. The cost
+    /// is that of `change`, with [`settled_counts_alone`] if nodes turn.
     pub fn change_alone(&mut self, alloc: Global, change: Change) -> Result<Report, RouteFault>
         ensures changed { IfOk result (λ _. IsChanged self.old change self.new) }
         ensures report { IfOk result (λ report. IsReport self.new report.turned report.cut) }
@@ -300,15 +307,15 @@ impl Router {
         .change(self, &change, &|report| Ok(report), &mut Told::Nobody)
     }
 
-    /// Changes the network as `change` does, and tells which nodes it reroutes, in a list of the caller's: those that send on to
-    /// another node than before, that are cut off now, or that are no longer. Just their hops are new to a caller that keeps the
-    /// hops of all nodes. They come in push order: each behind the rerouted nodes on its new route. Routers that get their hops in this
-    /// order send nothing round a loop at any moment ([`push_law`](fr_tables::laws::push_law)). A fault leaves the list as it was, as it
-    /// does the router.
+    /// Changes the network as `change` does, and lists the rerouted nodes in the caller's list: those that now send on
+    /// to another node, that are now cut off, or that are no longer cut off. The hops of all other nodes are unchanged.
+    /// The nodes are in push order: each one comes after the rerouted nodes on its new route. If routers get their hops
+    /// in this order, no packet goes round a loop at any moment ([`push_law`](fr_tables::laws::push_law)). If the call
+    /// fails, the list and the router are unchanged.
     ///
-    /// The list gets room for all nodes before anything is changed, and keeps it: so a caller that hands in the same list each
-    /// time pays for that once. It costs what `change` does, and where it tells more than one node, what
-    /// [`PushRoom::order`](fr_tables::PushRoom::order) does: little for a few, at most `O(n)`.
+    /// The list gets room for all nodes before anything is changed, and keeps it. A caller that passes the same list
+    /// each time pays for this once. The cost is that of `change`, and for more than one rerouted node that of
+    /// [`PushRoom::order`](fr_tables::PushRoom::order): little for a few nodes, at most O(n).
     pub fn change_telling<R: Threads + Wait + Sync, G: Gate + Sync>(
         &mut self,
         crew: &Crew<'_, R, G>,
@@ -334,8 +341,8 @@ impl Router {
         report
     }
 
-    /// The same on the thread that calls, with no crew: it starts no thread, waits for nobody, and never answers `Start`. It costs
-    /// what `change_alone` does, and for the list what `change_telling` does.
+    /// Does the same on the calling thread. It starts no thread, does not wait, and never fails with `Start`. The cost
+    /// is that of `change_alone`, and for the list that of `change_telling`.
     pub fn change_telling_alone(
         &mut self,
         alloc: Global,
@@ -359,9 +366,10 @@ impl Router {
         report
     }
 
-    /// The nodes that can be sinks once these edits are made and the destination has moved, and whose hops can be wrong though no
-    /// node turns: those that the edits and the new destination touch, and those with a link that the last round cut off. Each other
-    /// node with a link has a way on that the edits leave. Too many edits are refused before they take memory.
+    /// The nodes that can be sinks after these edits and the move of the destination, and whose hops can be wrong even
+    /// if no node turns: those that the edits and the new destination touch, and those with links that the last round
+    /// cut off. Every other node with a link still has a link that points away from it. Too many edits are refused
+    /// before anything is allocated.
     fn movable(&self, alloc: Global, revision: &Revision<'_>) -> Result<Vec<u32>, RouteFault>
         ensures movable { IfOk result (λ nodes. nodes.items ≡ movable self.now revision.now.dest revision.now.edits.now) }
         ensures fault { IfErr result (IsEditingFault self.now revision.now.edits.now revision.now.dest) }
@@ -379,7 +387,7 @@ impl Router {
         Ok(nodes)
     }
 
-    /// How many nodes with a link the last round cut off. Such a node has turned as often as there are nodes.
+    /// How many nodes with links the last round cut off. Each such node has turned as often as there are nodes.
     fn linked_cut_off(&self) -> u64
         ensures { result ≡ length (cut_off_nodes self.now) }
     {
@@ -387,14 +395,14 @@ impl Router {
         self.report.cut - alone_nodes(&self.net, self.dest)
     }
 
-    /// What the last round reported: how many turns it took, and how many nodes are cut off. `O(1)`.
+    /// The report of the last round: how many turns it took, and how many nodes are cut off. O(1).
     pub fn report(&self) -> Report
         ensures { IsReport self.now result.turned result.cut }
     {
         self.report
     }
 
-    /// The network as the last round left it. `O(1)`.
+    /// The network after the last round. O(1).
     pub fn net(&self) -> &Net
         ensures nodes { result.now.nodes ≡ self.now.nodes }
         ensures links { result.now.links ≡ self.now.links }
@@ -402,7 +410,7 @@ impl Router {
         &self.net
     }
 
-    /// The destination, which is a node of the network. `O(1)`.
+    /// The destination, which is a node of the network. O(1).
     pub fn dest(&self) -> u32
         ensures value { result ≡ self.now.dest }
         ensures node { self.now.dest < self.now.nodes }
@@ -410,7 +418,7 @@ impl Router {
         self.dest
     }
 
-    /// How often each node turned in the last round: one count for each node. `O(1)`.
+    /// How often each node turned in the last round: one count for each node. O(1).
     pub fn counts(&self) -> &[u64]
         ensures value { result.now ≡ self.now.counts }
         ensures one_each { length self.now.counts ≡ self.now.nodes }
@@ -418,25 +426,28 @@ impl Router {
         self.turns.counts()
     }
 
-    /// Where each node sends on to: a table without loops, by [`hops_law`](crate::laws::hops_law). `O(1)`.
+    /// The hop of each node: a table without loops, by [`hops_law`](crate::laws::hops_law). O(1).
     pub fn hops(&self) -> &[Hop]
         ensures { AreHops self.now self.now.nodes result.now }
     {
         &self.hops
     }
 
-    /// The law of a router: its network is as a round left it. It does nothing; a function whose proof needs the law calls it.
+    /// The law of a router: its network is the result of a round. The function does nothing; call it where a proof
+    /// needs the law.
     pub fn state_law(&self)
         ensures { IsAfterRound self.now }
     {
-        // A field has to be read, since only then the proof sees the invariant.
+        // A field has to be read, because only then the proof can use the invariant.
         let _dest = self.dest;
     }
 
-    /// Which nodes have another hop than in `before`, the router that this one replaces, in push order: each after those of them on its
-    /// route. Whoever keeps the hops of all nodes gives them their new ones in this order. A number that is no node of a router counts as
-    /// cut off there; with no router before, all nodes were cut off. The only fault is `Memory`, where no room could be had. `O(n)` for n
-    /// nodes of the larger network.
+    /// Lists the nodes whose hop differs from that in `before`, the router that this one replaces. They are in push
+    /// order: each one comes after those of them on its route. A caller that keeps the hops of all nodes can push the
+    /// new ones in this order. Numbers that are not nodes of a router count as cut off there. Without `before`, all
+    /// nodes count as cut off before.
+    ///
+    /// Fails only with `Memory`, if an allocation is refused. O(n) for the n nodes of the larger network.
     pub fn changed_since(
         &self,
         alloc: Global,
@@ -458,7 +469,7 @@ impl Router {
         Ok(known_push_order(alloc, &old, &new)?)
     }
 
-    /// The hops of the numbers below `count`: one that is no node is cut off.
+    /// The hops of the numbers below `count`. A number that is not a node is cut off.
     fn hops_below(&self, alloc: Global, count: u32) -> Result<Vec<Hop>, AllocError>
         requires { self.now.nodes ≤ count }
         ensures { IfOk result (λ hops. IsSettledTable self.now count hops.items) }
@@ -466,12 +477,13 @@ impl Router {
         resized(alloc, &self.hops, count)
     }
 
-    /// Which nodes of a caller's table have another hop than here, in push order: each behind those on its route. Whoever gives the
-    /// table their hops, one after the other, has the hops of all nodes at the end, and no loop at any moment that was not in the
-    /// table ([`push_law`](fr_tables::laws::push_law)). It can be any table, also one with loops.
+    /// Lists the nodes whose hop in `table` differs from the hop here, in push order: each one comes after those of
+    /// them on its route. A caller that pushes the hops of these nodes into the table, one after the other, ends with
+    /// the hops of this router. At no moment is there a loop that was not in the table at first
+    /// ([`push_law`](fr_tables::laws::push_law)). The table can have loops.
     ///
-    /// `Length` where the table has not a hop for each node, `Range` with the node that its first hop out of range names, and `Memory` where no
-    /// room could be had; never `Loop`. `O(n)`.
+    /// Fails with `Length` if the table does not have one hop for each node, with `Range` and the node that the first
+    /// out-of-range hop names, and with `Memory` if an allocation is refused; never with `Loop`. O(n).
     pub fn pushes(&self, alloc: Global, table: &[Hop]) -> Result<Vec<u32>, TableFault>
         ensures pushes { IfOk result (λ nodes. ArePushes self.now table.now nodes.items) }
         ensures fault { IfErr result (IsPushesFault self.now table.now) }
@@ -486,8 +498,8 @@ impl Router {
         Ok(known_push_order(alloc, table, &self.hops)?)
     }
 
-    /// Where node `x` sends on to, which has to be a node: the least neighbour to which its links point. `CutOff`: it is not joined with
-    /// the destination. `O(1)`.
+    /// The next hop of node `x`, which must be in the network: the neighbour with the lowest number to which a link
+    /// from `x` points. `CutOff` if the node is not joined with the destination. O(1).
     pub fn next_hop(&self, x: u32) -> Hop
         requires { x < self.now.nodes }
         ensures { IsHop self.now x result }
@@ -495,8 +507,8 @@ impl Router {
         self.hops[x as usize]
     }
 
-    /// The route from node `x` to the destination, hop by hop; `x` has to be a node. The only fault is `Memory`, where no room could be had.
-    /// `O(r)` for r nodes of the route.
+    /// The route from node `x` to the destination, hop by hop. The node must be in the network. Fails only with
+    /// `Memory`, if an allocation is refused. O(r) for a route of r nodes.
     pub fn walk(&self, alloc: Global, x: u32) -> Result<Walked, RouteFault>
         requires { x < self.now.nodes }
         ensures walked { IfOk result (IsWalked self.now x) }

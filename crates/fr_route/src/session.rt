@@ -1,4 +1,4 @@
-//! What the requests so far have made, and the answer to the next one.
+//! The state that the requests so far have made, and the answer to the next request.
 
 ghost use Rattle.std.specs.Prelude.{◌≡◌, ◌≢◌, ◌<◌, ◌≤◌, ◌⊎◌, ◌↔◌, length, replicate, true, false, Ok, Some, None, IfOk, IfErr, OnErr, OnOk, IfSome, IfNone, MatchOption, string_bytes, vec_capacity};
 ghost use Rattle.std.specs.Option.{option_copied};
@@ -37,8 +37,8 @@ use std::marker::Model;
 use std::sync::Wait;
 use std::thread::Threads;
 
-/// A session: the router of the last network that was accepted, if there was one, and the reader of its lines. Contracts see
-/// the state of the router.
+/// A session: the router of the last accepted network, if there is one, and the reader of lines. The value in contracts
+/// is the state of the router.
 #[derive(Debug, Drop)]
 pub struct Session {
     router: Option<Router>,
@@ -58,7 +58,7 @@ impl Session {
     ghost use Rattle.std.specs.Borrow.{sem};
     ghost use Rattle.fr_route.specs.Lending.{LendsRouter};
 
-    /// A session that holds no network yet. `O(1)`.
+    /// A session without a network. O(1).
     pub fn new() -> Session
         ensures { result ≡ None }
     {
@@ -68,14 +68,14 @@ impl Session {
         }
     }
 
-    /// The router of the last network that was accepted, or None where there is none yet. `O(1)`.
+    /// The router of the last accepted network, or `None` if there is none yet. O(1).
     pub fn router(&self) -> Option<&Router>
         ensures { option_copied result ≡ self.now }
     {
         self.router.as_ref()
     }
 
-    /// The same, to be changed where it stands: what it is then is the state of the session. `O(1)`.
+    /// The same router, for changes in place. Its state after the changes is the state of the session. O(1).
     pub fn router_mut(&mut self) -> Option<&mut Router>
         ensures* writes_back { sem 𝓛 (LendsRouter self.entry result) }
         ensures value { MatchOption result (self.old ≡ None) (λ router. self.old ≡ Some router.now) }
@@ -86,19 +86,23 @@ impl Session {
         }
     }
 
-    /// Puts a router in the place of the one that was there, if any. `O(1)`, and what giving back the memory of that one costs.
+    /// Replaces the router of the session, or sets the first one. O(1), and the cost of dropping the old one.
     pub fn put_router(&mut self, router: Router)
         ensures { self.new ≡ Some router }
     {
         self.router = Some(router);
     }
 
-    /// The answer to a line, or None for a blank one; `specs/Answers.antt` says what the answer to a line is. The session is
-    /// then in the state after the line, which for a refused line is the state before it. `Start` says that a thread could
-    /// not be started, `Memory` that memory ran out; a fault leaves the session as it was. `Start` comes only where a network or a change
-    /// is accepted and a node can turn on it, and never with the budget 0 or by one worker. Networks are settled by the plan and under
-    /// the gate, on which no answer depends. `O(b)` for b bytes of answer, what [`LineReader::read`] costs, and what the request takes of
-    /// [`Net::new`] and of the router.
+    /// Answers a line, or returns `None` for a blank one. `specs/Answers.antt` defines the answer. The session is then
+    /// in the state after the line; a refused line does not change it. Networks are settled with this plan and gate; no
+    /// answer depends on them.
+    ///
+    /// Fails with `Start` if a thread could not be started, and with `Memory` if an allocation is refused. Then the
+    /// session is unchanged. It fails with `Start` only if a network or a change is accepted and a node can turn, and
+    /// never if the budget is 0 or there is one worker.
+    ///
+    /// O(b) for b bytes of answer, the cost of [`LineReader::read`], and for the request the cost of [`Net::new`] and
+    /// of the router's calls.
     pub fn answer_line<R: Threads + Wait + Sync, G: Gate + Sync>(
         &mut self,
         rt: &R,
@@ -130,8 +134,8 @@ impl Session {
         .answer_line(self, line, &mut Told::Nobody)
     }
 
-    /// The same on the thread that calls, with no crew: it starts no thread, waits for nobody, and never answers `Start`. It costs the
-    /// same, by the calls of the router that end in `_alone`.
+    /// Does the same on the calling thread. It starts no thread, does not wait, and never fails with `Start`. The cost
+    /// is the same, with the router's calls that end in `_alone`.
     pub fn answer_line_alone(
         &mut self,
         alloc: Global,
@@ -151,10 +155,10 @@ impl Session {
         .answer_line(self, line, &mut Told::Nobody)
     }
 
-    /// The same, and tells in a list of the caller's which nodes the line reroutes, in push order: after a change as
-    /// [`Router::change_telling`] does, after a new network as [`Router::changed_since`] does. Whatever else is answered leaves the list,
-    /// and so does a fault. The list gets room for all nodes before anything is changed, and keeps it. It costs the same, by the calls of
-    /// the router that tell.
+    /// Does the same, and lists the nodes that the line reroutes in the caller's list, in push order: after a change as
+    /// [`Router::change_telling`] does, after a new network as [`Router::changed_since`] does. Any other answer leaves
+    /// the list unchanged, and so does a failure. The list gets room for all nodes before anything is changed, and
+    /// keeps it. The cost is the same, with the router's calls that list rerouted nodes.
     pub fn answer_line_telling_alone(
         &mut self,
         alloc: Global,
@@ -179,8 +183,9 @@ impl Session {
         answer
     }
 
-    /// The answer to a request, as `answer_line` gives it to the line of the request, with the same faults. The text has no line end.
-    /// `O(b)` for b bytes of answer, and what the request takes of [`Net::new`] and of the router.
+    /// Answers a request, as `answer_line` answers the line of the request, with the same faults. The text does not end
+    /// in a newline. O(b) for b bytes of answer, and for the request the cost of [`Net::new`] and of the router's
+    /// calls.
     pub fn answer<R: Threads + Wait + Sync, G: Gate + Sync>(
         &mut self,
         rt: &R,
@@ -210,8 +215,8 @@ impl Session {
         .answer(self, request, &mut Told::Nobody)
     }
 
-    /// The same on the thread that calls, with no crew: it starts no thread, waits for nobody, and never answers `Start`. It costs the
-    /// same, by the calls of the router that end in `_alone`.
+    /// Does the same on the calling thread. It starts no thread, does not wait, and never fails with `Start`. The cost
+    /// is the same, with the router's calls that end in `_alone`.
     pub fn answer_alone(&mut self, alloc: Global, request: &Request) -> Result<String, AnswerFault>
         ensures text { IfOk result (λ text. IsAnswer self.old (plain request.now) (string_bytes text) self.new) }
         ensures unchanged { OnErr result (self.new ≡ self.old) }
@@ -225,8 +230,9 @@ impl Session {
         .answer(self, request, &mut Told::Nobody)
     }
 
-    /// The same, and tells in a list of the caller's which nodes the request reroutes, as [`Session::answer_line_telling_alone`] does of a
-    /// line. It costs the same, by the calls of the router that tell.
+    /// Does the same, and lists the nodes that the request reroutes in the caller's list, as
+    /// [`Session::answer_line_telling_alone`] does for a line. The cost is the same, with the router's calls that list
+    /// rerouted nodes.
     pub fn answer_telling_alone(
         &mut self,
         alloc: Global,
@@ -249,7 +255,8 @@ impl Session {
         answer
     }
 
-    /// Puts a router in place, once the line that reports its round is made, and tells which nodes have another hop if that is asked.
+    /// Puts a router in place once its report line is made, and lists the nodes whose hop has changed if the caller
+    /// asks for them.
     fn put(&mut self, alloc: Global, router: Router, told: &mut Told) -> Result<String, AnswerFault>
         ensures text { IfOk result (λ text. IsReportLine router (string_bytes text) × (self.new ≡ Some router)) }
         ensures told { IsListing told.old → OnOk result (AreReplaced self.old router (nodes_told told.new)) }
@@ -263,7 +270,7 @@ impl Session {
         Ok(text)
     }
 
-    /// Tells the route from a node, once there is a network.
+    /// The answer to a request for the route from a node.
     fn walk(&self, alloc: Global, x: u32) -> Result<String, AnswerFault>
         ensures text { IfOk result (λ text. IsAnswer self.now (walk_from x) (string_bytes text) self.now) }
         ensures memory { IfErr result (λ fault. fault ≡ Memory) }
@@ -281,8 +288,8 @@ impl Session {
         }
     }
 
-    /// The answer to a question, as [`Session::answer`] gives it, which changes nothing. `Memory` is its only fault. `O(b)` for b bytes of
-    /// answer.
+    /// Answers a question, as [`Session::answer`] does. This changes nothing. Fails only with `Memory`. O(b) for b
+    /// bytes of answer.
     pub fn answer_question(&self, alloc: Global, question: Question) -> Result<String, AnswerFault>
         ensures text { IfOk result (λ text. IsAnswer self.now (ask question) (string_bytes text) self.now) }
         ensures memory { IfErr result (λ fault. fault ≡ Memory) }
@@ -298,7 +305,7 @@ impl Session {
     }
 }
 
-/// Tells which nodes a new router reroutes, in the place of the one before it, if there was one.
+/// Lists the nodes that a new router reroutes when it replaces the one before it, if there was one.
 fn tell_replaced(
     alloc: Global,
     before: Option<&Router>,
@@ -321,7 +328,7 @@ fn tell_replaced(
     }
 }
 
-/// The answer to a line that is refused.
+/// The answer to a line with this refusal.
 fn refuse(alloc: Global, refusal: Refusal) -> Result<String, AnswerFault>
     ensures text { IfOk result (λ text. string_bytes text ≡ refusal_text (number_of refusal)) }
     ensures memory { IfErr result (λ fault. fault ≡ Memory) }
@@ -329,7 +336,7 @@ fn refuse(alloc: Global, refusal: Refusal) -> Result<String, AnswerFault>
     Ok(refusal_line(alloc, refusal)?)
 }
 
-/// The answer to a request that is refused for this fault; a fault that is no refusal is handed on.
+/// The answer to a request that fails with this fault. A fault that is not a refusal is returned.
 fn refusal(alloc: Global, fault: RouteFault) -> Result<String, AnswerFault>
     ensures text { IfOk result (λ text. IsRefusalOf fault (string_bytes text)) }
     ensures start { IfErr result (λ why. (why ≡ Start) ↔ (fault ≡ RouteStart)) }
@@ -337,7 +344,7 @@ fn refusal(alloc: Global, fault: RouteFault) -> Result<String, AnswerFault>
     refuse(alloc, refusal_for(&fault)?)
 }
 
-/// The refusal for this fault, if it is one.
+/// The refusal for this fault. A fault that is not a refusal is returned.
 fn refusal_for(fault: &RouteFault) -> Result<Refusal, AnswerFault>
     ensures refusal { IfOk result (λ refusal. IsRefusalOf fault.now (refusal_text (number_of refusal))) }
     ensures refused { OnOk result (of_route_fault fault.now ≡ None) }
@@ -352,7 +359,7 @@ fn refusal_for(fault: &RouteFault) -> Result<Refusal, AnswerFault>
 }
 
 impl<'a, F: Fn(&Net, u32, Option<&[u32]>, Turns) -> Result<Turns, CrewFault>> Asking<'a, F> {
-    /// The answer to a line, or None for a blank one.
+    /// The answer to a line, or `None` for a blank one.
     fn answer_line(
         &self,
         session: &mut Session,
@@ -443,7 +450,7 @@ impl<'a, F: Fn(&Net, u32, Option<&[u32]>, Turns) -> Result<Turns, CrewFault>> As
         self.open(net, dest)
     }
 
-    /// Changes the network, or says for which fault the change is refused.
+    /// The answer to a change, or why it is refused.
     fn change_session(
         &self,
         session: &mut Session,
@@ -476,7 +483,7 @@ impl<'a, F: Fn(&Net, u32, Option<&[u32]>, Turns) -> Result<Turns, CrewFault>> As
         }
     }
 
-    /// Makes these edits, or says for which fault one is refused.
+    /// The answer to a batch of edits, or why one is refused.
     fn edit_session(
         &self,
         session: &mut Session,

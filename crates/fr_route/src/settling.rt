@@ -13,9 +13,9 @@ use fr_crew::CrewFault;
 use fr_graph::{Net, Turns};
 use std::alloc::Global;
 
-/// How a request is settled: where it takes memory, and its way to settled counts, which is a closure over
-/// [`settled_counts`](fr_crew::settled_counts) or [`settled_counts_alone`](fr_crew::settled_counts_alone). All that is the same by any way is
-/// a method of this.
+/// How a request is settled: the allocator, and the way to get settled counts, which is a closure over
+/// [`settled_counts`](fr_crew::settled_counts) or [`settled_counts_alone`](fr_crew::settled_counts_alone). All that
+/// does not depend on the way is a method of this type.
 #[derive(Drop)]
 pub(crate) struct Asking<'a, F> {
     pub(crate) alloc: Global,
@@ -23,14 +23,14 @@ pub(crate) struct Asking<'a, F> {
 }
 
 impl<'a, F: Fn(&Net, u32, Option<&[u32]>, Turns) -> Result<Turns, CrewFault>> Asking<'a, F> {
-    /// An asking that takes memory there, and settles this way.
+    /// Requests with this allocator and this way to get settled counts.
     pub(crate) fn new(alloc: Global, settle: &'a F) -> Asking<'a, F>
         ensures { result.settle.now ≡ settle.now }
     {
         Asking { alloc, settle }
     }
 
-    /// The settled counts of a network, by the way.
+    /// The settled counts of a network, by this way.
     fn settled_counts(
         &self,
         net: &Net,
@@ -46,7 +46,8 @@ impl<'a, F: Fn(&Net, u32, Option<&[u32]>, Turns) -> Result<Turns, CrewFault>> As
         (self.settle)(net, dest, from, turns)
     }
 
-    /// The settled counts of a network, or those of no turns where no node of `from` can turn: then that look is all.
+    /// The settled counts of a network. If no node of `from` can turn, there are no turns, and the call only looks at
+    /// these nodes.
     fn settled_from(
         &self,
         net: &Net,
@@ -67,7 +68,8 @@ impl<'a, F: Fn(&Net, u32, Option<&[u32]>, Turns) -> Result<Turns, CrewFault>> As
         self.settled_counts(net, dest, Some(from), turns)
     }
 
-    /// The settled counts of a network whose sinks are not known. `Range` where the destination is no node, which is tested first.
+    /// The settled counts of a network whose sinks are not known. Fails with `Range` if the destination is not a node,
+    /// which is tested first.
     pub(crate) fn first_counts(&self, net: &Net, dest: u32) -> Result<Turns, RouteFault>
         requires { Settles F.pre F.post self.now.settle.now }
         ensures counted { IfOk result (IsCounted net.now.nodes dest net.now.links) }
@@ -81,8 +83,8 @@ impl<'a, F: Fn(&Net, u32, Option<&[u32]>, Turns) -> Result<Turns, CrewFault>> As
         Ok(self.settled_counts(net, dest, None, turns)?)
     }
 
-    /// What a round on a network comes to, told in a table in which no node has turned yet. Each node that can turn at first is
-    /// among `from`.
+    /// The outcome of a round on a network. `turns` is a table in which no node has turned yet. Each node that can turn
+    /// at first must be in `from`.
     pub(crate) fn outcome(
         &self,
         net: &Net,

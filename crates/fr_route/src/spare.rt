@@ -1,4 +1,4 @@
-//! A table that a round leaves for the next one.
+//! A table that one round leaves for the next one.
 
 ghost use Rattle.std.specs.Prelude.{◌≡◌, ◌≤◌, IfOk, IfSome, length, replicate};
 ghost use Rattle.std.proofs.Props.{props};
@@ -7,7 +7,8 @@ ghost use Rattle.fr_graph.specs.Limits.{most_nodes};
 use fr_graph::Turns;
 use std::alloc::{AllocError, Global};
 
-/// A table for the next round, in which no node has turned; None before the first change, and after a fault in one.
+/// A table for the next round, in which no node has turned. There is none before the first change, and after a failed
+/// change.
 #[derive(Debug, Drop)]
 pub(crate) struct Spare {
     table: Option<Turns>,
@@ -15,12 +16,12 @@ pub(crate) struct Spare {
 }
 
 impl Spare {
-    /// None yet.
+    /// No table yet.
     pub fn none() -> Spare {
         Spare { table: None }
     }
 
-    /// A table of so many nodes, in which none has turned: the spare one, or else a new one.
+    /// A table for this many nodes in which none has turned: the spare one if it fits, otherwise a new one.
     pub fn take(&mut self, alloc: Global, nodes: u32) -> Result<Turns, AllocError>
         requires { nodes ≤ most_nodes }
         ensures { IfOk result (λ turns. turns ≡ replicate nodes 0) }
@@ -31,7 +32,7 @@ impl Spare {
         }
     }
 
-    /// Clears a table, and keeps it.
+    /// Clears a table and keeps it.
     pub fn keep(&mut self, mut turns: Turns) {
         turns.clear();
         self.table = Some(turns);

@@ -11,12 +11,13 @@ use fr_tables::Hop;
 use itoa::Buffer;
 use std::alloc::{AllocError, Global};
 
-/// The bytes of a space and a number below 10,000, as nodes and counts are: no node counts more turns than there are nodes.
+/// The bytes of a space and a number below 10,000. Nodes and counts are below 10,000, because no count is greater than
+/// the number of nodes.
 const NUMBER_ROOM: usize = 5;
 
 const _: () = prove!(MAX_NODES < 10_000);
 
-/// A line that begins with this word, and has room for so many numbers and a line end behind it.
+/// A line that begins with this word, with room for so many numbers and a line end after it.
 fn begun(alloc: Global, word: &str, numbers: usize) -> Result<String, AllocError>
     ensures { IfOk result (λ line. string_bytes line ≡ word.now) }
 {
@@ -26,8 +27,8 @@ fn begun(alloc: Global, word: &str, numbers: usize) -> Result<String, AllocError
     Ok(line)
 }
 
-/// A number of a list, behind this text. The buffer takes its digits, one number after the other. One of one digit, as in a refusal, needs
-/// no buffer.
+/// Appends a text and a number. The buffer is for the digits, and is reused for each number. A number of one digit, as
+/// in a refusal, needs no buffer.
 fn push_number(
     line: &mut String,
     before: &str,
@@ -43,8 +44,8 @@ fn push_number(
     line.push_str(buffer.format(number))
 }
 
-/// The number of nodes that are cut off, behind its word. It is no call of `push_number`, whose callers all put one byte before a
-/// number, so that it is compiled to a store of that byte.
+/// Appends the number of nodes that are cut off, after its word. It does not call `push_number`: all callers of that
+/// function put one byte before the number, so it compiles to a store of that byte.
 fn push_cut(line: &mut String, cut: u64, buffer: &mut Buffer) -> Result<(), AllocError>
     ensures { OnOk result (string_bytes line.new ≡ string_bytes line.old ++ (codes " cut " ++ decimal cut)) }
 {
@@ -52,7 +53,8 @@ fn push_cut(line: &mut String, cut: u64, buffer: &mut Buffer) -> Result<(), Allo
     line.push_str(buffer.format(cut))
 }
 
-/// `links`, and each link after a space, as `tail>head`. `AllocError` where no room could be had. `O(b)` for b bytes of text.
+/// `links`, and then a space and `tail>head` for each link. Fails with `AllocError` if an allocation is refused. O(b)
+/// for b bytes of text.
 pub fn links_line(alloc: Global, links: Links<'_>) -> Result<String, AllocError>
     ensures { IfOk result (λ line. string_bytes line ≡ links_text links.entry) }
 {
@@ -65,7 +67,8 @@ pub fn links_line(alloc: Global, links: Links<'_>) -> Result<String, AllocError>
     Ok(line)
 }
 
-/// `counts`, and each count after a space. `AllocError` where no room could be had. `O(b)` for b bytes of text.
+/// `counts`, and then a space and the count for each node. Fails with `AllocError` if an allocation is refused. O(b)
+/// for b bytes of text.
 pub fn counts_line(alloc: Global, counts: &[u64]) -> Result<String, AllocError>
     ensures { IfOk result (λ line. string_bytes line ≡ counts_text counts.now) }
 {
@@ -77,7 +80,7 @@ pub fn counts_line(alloc: Global, counts: &[u64]) -> Result<String, AllocError>
     Ok(line)
 }
 
-/// A space, and the word for a hop: `here`, the node that is sent to, or `cut`.
+/// Appends a space and the word for a hop: `here`, the number of the next node, or `cut`.
 fn push_hop(line: &mut String, hop: Hop, buffer: &mut Buffer) -> Result<(), AllocError>
     ensures { OnOk result (string_bytes line.new ≡ string_bytes line.old ++ (codes " " ++ hop_word hop)) }
 {
@@ -88,7 +91,7 @@ fn push_hop(line: &mut String, hop: Hop, buffer: &mut Buffer) -> Result<(), Allo
     }
 }
 
-/// `hops`, and the word for each hop after a space.
+/// `hops`, and then a space and the word for each hop.
 pub(crate) fn hops_line(alloc: Global, hops: &[Hop]) -> Result<String, AllocError>
     ensures { IfOk result (λ line. string_bytes line ≡ hops_text hops.now) }
 {
@@ -100,7 +103,7 @@ pub(crate) fn hops_line(alloc: Global, hops: &[Hop]) -> Result<String, AllocErro
     Ok(line)
 }
 
-/// `walk`, and each node after a space.
+/// `walk`, and then a space and the number of each node.
 pub(crate) fn walk_line(alloc: Global, nodes: &[u32]) -> Result<String, AllocError>
     ensures { IfOk result (λ line. string_bytes line ≡ walk_text nodes.now) }
 {
@@ -112,14 +115,14 @@ pub(crate) fn walk_line(alloc: Global, nodes: &[u32]) -> Result<String, AllocErr
     Ok(line)
 }
 
-/// The walk of a node that is cut off.
+/// The answer for a route from a node that is cut off.
 pub(crate) fn no_walk_line(alloc: Global, node: u32) -> Result<String, AllocError>
     ensures { IfOk result (λ line. string_bytes line ≡ no_walk_text node) }
 {
     format!(in alloc; "walk {node} cut")
 }
 
-/// How many turns a round took, and how many nodes are cut off.
+/// The report of a round: how many turns it took, and how many nodes are cut off.
 pub(crate) fn report_line(alloc: Global, report: Report) -> Result<String, AllocError>
     ensures text { IfOk result (λ line. string_bytes line ≡ report_text report.turned report.cut) }
     ensures short { IfOk result (λ line. length (string_bytes line) ≤ longest_report) }

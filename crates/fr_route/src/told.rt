@@ -1,4 +1,4 @@
-//! Who is told which nodes a change reroutes.
+//! The list of rerouted nodes, if the caller asks for it.
 
 ghost use Rattle.std.specs.Prelude.{◌≡◌, ℕ, ◌<◌, List, [], ◌∷◌, ◌++◌, OnOk, length};
 ghost use Rattle.fr_route.specs.Listing.{HasPlaces, IsListing, KeepsPlaces, nodes_told};
@@ -10,17 +10,17 @@ use fr_tables::{Hop, PushRoom};
 use std::alloc::{AllocError, Global};
 use std::mem;
 
-/// Who is told which nodes a change reroutes.
+/// The list of rerouted nodes, if the caller asks for it.
 #[derive(Debug, Drop)]
 pub(crate) enum Told {
-    /// Nobody asks.
+    /// The caller does not ask for them.
     Nobody,
-    /// A caller, by these nodes.
+    /// The caller's list.
     Nodes(Vec<u32>),
 }
 
 impl Told {
-    /// A list of the caller's, which is empty meanwhile.
+    /// Takes the caller's list, which is empty meanwhile.
     pub fn taken(list: &mut Vec<u32>, alloc: Global) -> Told
         ensures listing { IsListing result }
         ensures same { nodes_told result ≡ list.old.items }
@@ -28,7 +28,7 @@ impl Told {
         Told::Nodes(mem::replace(list, Vec::new(alloc)))
     }
 
-    /// The list, to be given back to the caller.
+    /// Returns the list for the caller.
     pub fn into_list(self, alloc: Global) -> Vec<u32>
         ensures { result.items ≡ nodes_told self }
     {
@@ -38,7 +38,7 @@ impl Told {
         }
     }
 
-    /// Makes room for all nodes, if anybody is told.
+    /// Makes room for all nodes, if there is a list.
     pub fn make_room(&mut self, nodes: u32) -> Result<(), AllocError>
         ensures room { IsListing self.old → OnOk result (HasPlaces nodes self.new) }
         ensures same { nodes_told self.new ≡ nodes_told self.old }
@@ -50,7 +50,7 @@ impl Told {
         }
     }
 
-    /// Forgets the nodes of an earlier change.
+    /// Clears the nodes of an earlier change.
     pub fn clear(&mut self)
         ensures none { nodes_told self.new ≡ [] }
         ensures keeps { KeepsPlaces self.old self.new }
@@ -61,7 +61,7 @@ impl Told {
         }
     }
 
-    /// Notes a node. Each node is noted once, so a list with a place for each node has one left.
+    /// Appends a node. Each node is noted only once, so a list with room for each node has room for this one.
     pub fn note(&mut self, x: u32)
         ensures noted { (n : ℕ) → HasPlaces n self.old → length (nodes_told self.old) < n → nodes_told self.new ≡ nodes_told self.old ++ x ∷ [] }
         ensures keeps { KeepsPlaces self.old self.new }
@@ -76,7 +76,7 @@ impl Told {
         }
     }
 
-    /// Puts the noted nodes in push order: those whose hop is another one than in the table of before.
+    /// Puts the noted nodes, whose hop differs from that in the table before, in push order.
     pub fn put_in_order(&mut self, room: &mut PushRoom, hops: &[Hop])
         requires room { length hops.now ≡ room.old }
         requires table { IsInRange hops.now × IsLoopFree hops.now }

@@ -1,4 +1,6 @@
--- The laws of a shared table: what holds at each moment, whatever the threads did. Each is a clause of `shared_law`.
+-- The laws of a shared table: what holds at each moment, whatever the threads did. Each one is a clause of
+-- `shared_law`. This project's own; the steps are single atomic loads and stores, as those of the registers of Herlihy
+-- and Wing (1990).
 use Rattle.std.specs.Prelude.{◌≡◌, ℕ, ◌<◌, ◌≤◌, ◌++◌, ◌∷◌, true, List, [], count_by, map, nat_eq, replicate, slice_set}
 use mathlib.Core.Option.{none, some}
 use lib.ListN.{get_elem?}
@@ -14,48 +16,49 @@ use Rattle.fr_shared.specs.Reading.{GoesBy}
 use Rattle.fr_shared.specs.Rule.{KeepsRule, first_view, reader_view, spent_view, with_met}
 use Rattle.fr_shared.specs.Steps.{compared, looked, recalled, written}
 
--- In every state that the rule allows, the hops that the words hold are a table without loops,
+-- In every state that the rule allows, the hops in the words are a table without loops.
 abbrev pub IsTableAtEachMoment : Type 0
 IsTableAtEachMoment = (n : ℕ) (s : State (Unit {0}) View) → KeepsRule n s → IsTable n (map hop_of s.words)
 
 pub record Explains (n : ℕ) (s : State (Unit {0}) View) (history : List Push) : Type 0 where
-  -- no table of the history has a loop,
+  -- no table of the history has a loop
   pub tables : IsHistory n history
-  -- the words are the last one,
+  -- the words are its last table
   pub words : map hop_of s.words ≡ table_of n history
-  -- what each seat knows is a beginning of it,
+  -- each seat knows a beginning of it
   pub begins : (j : ℕ) (v : View) → get_elem? s.views j ≡ some v → StartsWith history v.known
-  -- and the publisher's seat knows all of it
+  -- the publisher's seat knows all of it
   pub all : (j : ℕ) (v : View) → get_elem? s.views j ≡ some v → v.writes ≡ true → v.known ≡ history
 
--- and one history explains the words and what the seats know.
+-- In every such state, one history explains the words and what the seats know.
 abbrev pub OneHistoryExplainsAll : Type 0
 OneHistoryExplainsAll = (n : ℕ) (s : State (Unit {0}) View) → KeepsRule n s → (history : List Push) × Explains n s history
 
--- The rule allows the state in which a table is opened: every node is cut off, and the publisher's seat is the only one,
+-- The rule allows the state in which a table is opened: every node is cut off, and the publisher's seat is the only
+-- one.
 abbrev pub RuleHoldsAtFirst : Type 0
 RuleHoldsAtFirst = (n : ℕ) → n < 4294967296 → KeepsRule {S = Unit {0}} n (opening (replicate n (word_of CutOff)) [] (first_view n))
 
--- and no other words when the publisher's seat is the only one and nothing is pushed.
+-- If the publisher's seat is the only one and nothing is pushed, the rule allows no other words.
 abbrev pub NoOtherStateIsFirst : Type 0
 NoOtherStateIsFirst = (n : ℕ) (words : List ℕ) → KeepsRule {S = Unit {0}} n (opening words [] (first_view n)) → words ≡ replicate n (word_of CutOff)
 
--- Each step of a seat leads from states that the rule allows to such states, whatever the other threads do meanwhile, and
--- tells the seat what `specs/Steps.antt` says of it:
+-- Each step of a seat leads from a state that the rule allows to another such state, whatever the other threads do
+-- meanwhile. It also shows the seat what `specs/Steps.antt` says of the step.
 pub record StepsKeepTheRule (n : ℕ) : Type 0 where
-  -- a load,
+  -- a load
   pub load : (slots id : ℕ) (me : Me (Unit {0}) View) (x : ℕ) → me.0.nodes ≡ n → x < n
       → Allows (KeepsRule n) slots id me x (λ word. word) (looked (step slots x 0 0 none) me)
-  -- the publisher's load,
+  -- the publisher's load
   pub recall : (slots id : ℕ) (me : Me (Unit {0}) View) (x : ℕ) → me.0.nodes ≡ n → me.0.writes ≡ true → x < n
       → Allows (KeepsRule n) slots id me x (λ word. word) (recalled (step slots x 0 0 none) me)
-  -- the publisher's store of a hop with which the table has no loop,
+  -- the publisher's store of a hop with which the table has no loop
   pub store : (slots id : ℕ) (me : Me (Unit {0}) View) (x : ℕ) (hop : Hop) → me.0.nodes ≡ n → me.0.writes ≡ true → x < n
       → IsTable n (slice_set (table_of n me.0.known) x hop)
       → Allows (KeepsRule n) slots id me x (λ _. word_of hop) (λ _. written (step slots x (word_of hop) 0 none) me (word_of hop))
-  -- a reader more,
+  -- one more reader
   pub adds : (id : ℕ) (v : View) → Splits {S = Unit {0}} (KeepsRule n) id v v (reader_view v)
-  -- and how the publisher meets a reader
+  -- the step by which the publisher meets a reader, and the load after it
   pub meets : (id : ℕ) (v : View) (other : ℕ) (w : View) → Joins {S = Unit {0}} (KeepsRule n) id v other w (with_met v w) spent_view
   pub compares : (slots id : ℕ) (me : Me (Unit {0}) View) (x : ℕ) → me.0.writes ≡ true
       → Allows (KeepsRule n) slots id me x (λ word. word) (compared (step slots x 0 0 none) me)
@@ -63,8 +66,8 @@ pub record StepsKeepTheRule (n : ℕ) : Type 0 where
 abbrev pub EveryStepKeepsTheRule : Type 0
 EveryStepKeepsTheRule = (n : ℕ) → StepsKeepTheRule n
 
--- All pushes that a walk sees are of one push order: it begins once the pushes before this order are known, and ends within
--- the pushes of the order.
+-- all pushes that a walk sees are of one push order: the walk begins once all pushes before the order are known, and
+-- ends within the pushes of the order
 pub record AreOfOneOrder (n : ℕ) (before : List Push) (new : List Hop) (order : List ℕ) (known after : List Push) : Type 0 where
   pub tables : IsHistory n before
   pub new_table : IsTable n new

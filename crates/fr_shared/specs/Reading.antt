@@ -1,4 +1,4 @@
--- What a reader reads, while hops are pushed.
+-- What a reader reads while hops are pushed. This project's own.
 use Rattle.std.specs.Prelude.{◌≡◌, ℕ, ◌≤◌, List, [], ◌∷◌, length, slice_get, Some, take}
 use Rattle.fr_tables.specs.Tables.{SendsOn, end_of}
 use Rattle.fr_tables.specs.declared.hop.Hop.{Hop}
@@ -10,23 +10,24 @@ use Rattle.fr_shared.specs.declared.walks.WalkEnd.TheVariants.{Arrived, CutOff a
 use Rattle.fr_shared.specs.Histories.{IsHistory, StartsWith, table_of}
 use Rattle.fr_shared.specs.Knowledge.{Knowledge, last_table}
 
--- a reader that knew of `old` has read this hop of node x, and knows of `new`
+-- a reader that knew `old` has read this hop of node x, and now knows `new`
 pub record HasRead (old new : Knowledge) (x : ℕ) (hop : Hop) : Type 0 where
   pub same : new ≡ record old { known = new.known }
-  -- the history that it knows goes on from what it knew,
+  -- the known history extends what the reader knew
   pub grows : StartsWith new.known old.known
-  -- none of its tables has a loop,
+  -- none of its tables has a loop
   pub loop_free : IsHistory new.nodes new.known
-  -- and the last one has this hop
+  -- its last table has this hop
   pub answer : slice_get (last_table new) x ≡ Some hop
 
--- from x by these nodes, each the hop of the one before in a table of a history that goes on from step to step
+-- a walk from x along these nodes, each the hop of the one before in the last table of a history, where each history
+-- extends the one before
 abbrev pub GoesBy : ℕ → List Push → ℕ → List ℕ → List Push → Type 0
 GoesBy n known x [] after = StartsWith after known × IsHistory n after
 GoesBy n known x (y ∷ ys) after = (history : List Push) × StartsWith history known × IsHistory n history × SendsOn (table_of n history) x y
     × GoesBy n history y ys after
 
--- a walk in this table ends so at node x
+-- why a walk in this table ends at node x
 abbrev pub IsEnd : WalkEnd → List Hop → ℕ → Type 0
 IsEnd Arrived table x = slice_get table x ≡ Some Here
 IsEnd AtCutOff table x = slice_get table x ≡ Some CutOff
@@ -36,7 +37,7 @@ IsEnd Longer table x = (y : ℕ) × SendsOn table x y
 pub record HasWalked (old new : Knowledge) (x : ℕ) (room : List ℕ) (walk : Walk) : Type 0 where
   pub few : walk.count ≤ length room
   pub goes : GoesBy old.nodes old.known x (take walk.count room) new.known
-  -- it ended by the hop of its last node, in the last table that was read,
+  -- the hop of its last node, in the last table that was read, ended it
   pub ends : IsEnd walk.end (last_table new) (end_of x (take walk.count room))
-  -- and this hop is to one more node only where the room is full
+  -- it stops before another node only if the room is full
   pub full : walk.end ≡ Longer → walk.count ≡ length room

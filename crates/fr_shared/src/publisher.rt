@@ -19,7 +19,7 @@ use std::alloc::AllocError;
 use std::marker::Model;
 use std::sync::Arc;
 
-/// Writes a table. Contracts see all its pushes.
+/// Writes a table. Its value in contracts includes all its pushes.
 #[derive(Drop)]
 pub struct Publisher {
     nodes: u32,
@@ -49,7 +49,7 @@ impl Publisher {
         Publisher { nodes, table, seat }
     }
 
-    /// For how many nodes the table was opened. O(1).
+    /// The number of nodes for which the table was opened. O(1).
     pub fn nodes(&self) -> u32
         ensures { result ≡ self.now.nodes }
     {
@@ -63,15 +63,15 @@ impl Publisher {
         let _nodes = self.nodes;
     }
 
-    /// Pushes the hops of a new table, node after node in this order. The new table can have fewer nodes than this one:
-    /// the nodes past its end are cut off.
+    /// Pushes the hops of the new table, one node after the other in this order. The new table can have fewer nodes
+    /// than this one: the nodes past its end are cut off.
     ///
-    /// The new table must have no more nodes than this one, no hop out of range and no loop. The order must be the push
+    /// The new table must have no more nodes than this one, all hops in range and no loop. The order must be the push
     /// order from the table of the last push to the new one, as [`known_push_order`](fr_tables::known_push_order) and
     /// [`PushRoom::order`](fr_tables::PushRoom::order) return it. Then no table on the way has a loop, by
     /// [`push_law`](fr_tables::laws::push_law).
     ///
-    /// It makes one store a node. It takes no memory and waits for nobody. O(p) for p nodes.
+    /// It makes one store for each node of the order. It does not allocate or wait. O(p) for p nodes in the order.
     pub fn push_all(&mut self, new: &[Hop], order: &[u32])
         requires new { IsTable self.old.nodes (padded self.old.nodes new.now) }
         requires order { IsPushOrder (last_table self.old) (padded self.old.nodes new.now) order.now }
@@ -85,7 +85,7 @@ impl Publisher {
         }
     }
 
-    /// Pushes one hop, if the table with it has no loop.
+    /// Pushes one hop. With it the table must have no loop.
     fn push(&mut self, x: u32, hop: Hop)
         requires node { x < self.old.nodes }
         requires table { IsTable self.old.nodes (slice_set (last_table self.old) x hop) }
@@ -96,9 +96,9 @@ impl Publisher {
             .store::<Write>(&mut self.seat, x as usize, word(hop));
     }
 
-    /// The hop of node `x`, which must be one of the table, after the last push.
+    /// Returns the hop of node `x` after the last push. The node must be in the table.
     ///
-    /// It makes one load. It takes no memory and waits for nobody. O(1).
+    /// It makes one load, and does not allocate or wait. O(1).
     pub fn hop(&mut self, x: u32) -> Hop
         requires { x < self.old.nodes }
         ensures kept { self.new ≡ self.old }
@@ -107,9 +107,9 @@ impl Publisher {
         hop_in(self.table.shared.load::<Recall>(&mut self.seat, x as usize))
     }
 
-    /// One more reader, which knows all pushes made so far: it never answers from an earlier table.
+    /// Makes another reader. It knows all pushes made so far, so it never answers from an earlier table.
     ///
-    /// `AllocError` only where the table has 2^63 readers already. O(1).
+    /// Fails with `AllocError` only if the table already has 2^63 readers. O(1).
     pub fn reader(&mut self) -> Result<Reader, AllocError>
         ensures kept { self.new ≡ self.old }
         ensures reader { IfOk result (λ reader. reader ≡ self.old) }
@@ -119,7 +119,7 @@ impl Publisher {
         Ok(Reader::new(self.nodes, table, seat))
     }
 
-    /// Shows that what a reader of this table knows is a beginning of the publisher's pushes. It changes neither.
+    /// Proves that what a reader of this table knows is a beginning of the publisher's pushes. It changes neither.
     ///
     /// It makes three loads. O(1).
     pub fn meet(&mut self, reader: &mut Reader)

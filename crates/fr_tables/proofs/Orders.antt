@@ -1,4 +1,5 @@
--- Push orders: their beginnings and whole waves are closed downstream, they end with the new table, and the tables determine them.
+-- Push orders: their beginnings and whole waves are closed downstream, they end with the new table, and the tables
+-- determine them.
 use Rattle.std.proofs.Common.{Contains, List, [], arith, get_or, inl, inr, length, length-append, refl, slice_get, subst, suc, sym, ℕ, ⊎_elim, ◌++◌}
 use Rattle.std.proofs.Common.{◌<◌, ◌∙◌, ◌∷◌, ◌≡◌, ap, Some, length-set, set}
 use Rattle.std.proofs.lemmas.List.Elements.{Contains-append_left, Contains-push, Contains-push_cases}
@@ -37,7 +38,7 @@ beginning_closed old new done left order x y (i, low, here) down differs =
           ]
     ]
 
--- two tables with the same hops are one
+-- two tables with the same hops are equal
 same_table : (some other : List Hop) → length some ≡ length other → ((x : ℕ) → slice_get some x ≡ slice_get other x) → some ≡ other
 same_table some other same at = ext_get_or Here some other same
     (λ x low. get_or_from_slice_get some x (get_or other x Here) Here (at x ∙ slice_get-get_or other x Here (omega arith)))
@@ -77,7 +78,7 @@ push_is_one_more old new nodes table x hop same is pushed =
           set_there table x hop y apart ∙ pushed.others y (λ found. out (Contains-append_left nodes (x ∷ []) y found));
     }
 
--- lists that are sorted by a relation in one direction alone, and have the same elements, are one
+-- lists with the same elements that are sorted by an asymmetric relation are equal
 
 IsSorted : (ℕ → ℕ → Type 0) → List ℕ → Type 0
 IsSorted R [] = Unit {0}

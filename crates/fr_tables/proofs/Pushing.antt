@@ -1,4 +1,4 @@
--- Hops of a set that is closed downstream are pushed: which loops stand, and where a packet comes.
+-- Hops of a set that is closed downstream are pushed: which loops there can be, and where a packet goes.
 use Rattle.std.proofs.Common.{Bool, Contains, List, [], ap, arith, cond, eqb, false, inl, inr, refl, slice_get, subst, sym, true, ℕ, ⊎_elim, ◌++◌}
 use Rattle.std.proofs.Common.{◌+◌, ◌∙◌, ◌∷◌, ◌≡◌, ◌≤◌, ◌↔◌, ◌⊎◌}
 use Rattle.std.specs.List.{count_by}
@@ -19,7 +19,7 @@ pub clean_next : (old new : List Hop) (nodes : List ℕ) (x y : ℕ) → IsClean
 clean_next old new nodes x y clean sends z down = clean z (record { by = y ∷ down.by; goes = (sends, down.goes); ends = down.ends })
 
 module _ (old new : List Hop) (nodes : List ℕ) (table : List Hop) (pushed : IsPushed old new nodes table) where
-  -- a clean node has its hop of the new table,
+  -- a clean node has its hop of the new table
   clean_here : (x : ℕ) → IsClean old new nodes x → slice_get table x ≡ slice_get new x
   clean_here x clean = ⊎_elim (pushed.these x)
       (λ out. ⊎_elim
@@ -39,13 +39,13 @@ module _ (old new : List Hop) (nodes : List ℕ) (table : List Hop) (pushed : Is
   walk_clean x [] clean goes = tt
   walk_clean x (y ∷ ys) clean goes = (clean_here x clean ∙ goes.0, walk_clean y ys (clean_next old new nodes x y clean goes.0) goes.1)
 
-  -- and it ends at a clean node
+  -- its walk ends at a clean node
   clean_end : (x : ℕ) (ys : List ℕ) → IsClean old new nodes x → IsWalk table x ys → IsClean old new nodes (end_of x ys)
   clean_end x [] clean goes = clean
   clean_end x (y ∷ ys) clean goes = clean_end y ys (clean_next old new nodes x y clean (sym (clean_here x clean) ∙ goes.0)) goes.1
 
   module _ (closed : IsClosedDownstream old new nodes) where
-    -- a walk goes along the old table as well, or it ends at a clean node
+    -- a walk follows the old table as well, or it ends at a clean node
     walk_cases : (x : ℕ) (ys : List ℕ) → IsWalk table x ys → IsWalk old x ys ⊎ IsClean old new nodes (end_of x ys)
     walk_cases x [] goes = inl tt
     walk_cases x (y ∷ ys) goes = ⊎_elim
@@ -63,7 +63,7 @@ module _ (old new : List Hop) (nodes : List ℕ) (table : List Hop) (pushed : Is
     pub pushed_right : (x : ℕ) (ys : List ℕ) → Contains nodes x → IsWalk table x ys ↔ IsWalk new x ys
     pushed_right x ys inside = (clean_walk x ys (λ z. closed x z inside), walk_clean x ys (λ z. closed x z inside))
 
--- how often a walk comes to a node
+-- how often a walk visits a node
 
 come_more : (z x : ℕ) (xs : List ℕ) → count_by (eqb z) (x ∷ xs) ≡ cond (eqb z x) 1 0 + count_by (eqb z) xs
 come_more z x xs = sum_by-cons (λ (y : ℕ). cond (eqb z y) 1 0) x xs
@@ -93,7 +93,7 @@ come_once table z x (y ∷ ys) free goes = elim (cases_Bool (eqb z x)) [
   | inr f ↦ omega (arith, come_more z x (y ∷ ys), none_more z x f, come_once table z y ys free goes.1)
 ]
 
--- a packet at a clean node moves along the new table,
+-- a packet at a clean node moves along the new table
 moves_clean : (old new : List Hop) (pushed : ℕ → List ℕ) (x : ℕ) (ys : List ℕ) → Grows pushed → IsClean old new (pushed 0) x
     → Moves old new pushed x ys → IsWalk new x ys
 moves_clean old new pushed x [] grows clean moves = tt
@@ -109,7 +109,7 @@ moves_clean old new pushed x (y ∷ ys) grows clean moves =
           (λ z down differs. grows 0 z (clean_next old new (pushed 0) x y clean sends z down differs)) moves.1,
     )
 
--- and before it was at one, along the old table
+-- before that, it moved along the old table
 moves_split : (old new : List Hop) (pushed : ℕ → List ℕ) (x : ℕ) (ys : List ℕ)
     → ((k : ℕ) → IsClosedDownstream old new (pushed k)) → Grows pushed → Moves old new pushed x ys
     → (us : List ℕ) × (vs : List ℕ) × (ys ≡ us ++ vs) × IsWalk old x us × IsWalk new (end_of x us) vs

@@ -1,4 +1,4 @@
--- How far the walks of the new table are followed. For functions inside of this crate alone.
+-- How far the walks of the new table have been followed. For proofs only.
 use Rattle.std.specs.Prelude.{◌≡◌, ℕ, ◌<◌, ◌≤◌, ◌+◌, ◌*◌, ◌^◌, ◌↔◌, ◌⊎◌, ◌++◌, Bool, true, false, cond, All, List, [], ◌∷◌, Contains, length, slice_get, slice_index, slice_index_or, nat_eq, count_by, vec_capacity}
 use Rattle.std.specs.List.{IsDistinct}
 use Rattle.std.specs.declared.alloc.Global.{Global}
@@ -28,11 +28,11 @@ pub record IsStacked (new : List Hop) (marks : List Mark) (walk : List ℕ) : Ty
   pub once : IsDistinct nat_eq walk
   pub trail : IsTrail new walk
 
--- waves that are known are right
+-- the known waves are right
 abbrev pub AreKnown : List Hop → List Hop → List Mark → Type 0
 AreKnown old new marks = (x k : ℕ) → mark_of marks x ≡ Wave k → IsWave old new x k
 
--- no wave was forgotten, or has become known
+-- the same waves are known before and after
 abbrev pub IsKept : List Mark → List Mark → Type 0
 IsKept before after = (x k : ℕ) → (mark_of before x ≡ Wave k) ↔ (mark_of after x ≡ Wave k)
 
@@ -40,7 +40,7 @@ IsKept before after = (x k : ℕ) → (mark_of before x ≡ Wave k) ↔ (mark_of
 abbrev pub IsMet : List Mark → List ℕ → ℕ → Type 0
 IsMet marks walk x = Contains walk x ⊎ ((k : ℕ) × (mark_of marks x ≡ Wave k))
 
--- y sends on to a node of wave k, or to none, and k is 0
+-- y sends on to a node of wave k, or sends on to no node and k is 0
 abbrev pub LeadsToWave : List Hop → List Mark → ℕ → ℕ → Type 0
 LeadsToWave new marks y k = ((z : ℕ) × SendsOn new y z × (mark_of marks z ≡ Wave k)) ⊎ (((z : ℕ) → ¬ SendsOn new y z) × (k ≡ 0))
 
@@ -49,12 +49,13 @@ abbrev pub IsStop : List Hop → List Mark → List ℕ → Stop → Type 0
 IsStop new marks walk (Known k) = (rest : List ℕ) (y : ℕ) → walk ≡ rest ++ y ∷ [] → LeadsToWave new marks y k
 IsStop new marks walk (StopLoop y) = Contains walk y × IsTrail new (walk ++ y ∷ [])
 
--- a hop, and another one
+-- some hop that differs from this one
 abbrev pub other_hop : Hop → Hop
 other_hop Here = CutOff
 other_hop _ = Here
 
--- a table that differs from this one at the nodes that are marked. Of an old table only where it differs is known here
+-- a table that differs from this one exactly at the marked nodes. Here all that is known about the old table is where
+-- it differs
 abbrev pub changed_at : List Bool → List Hop → List Hop
 changed_at [] new = new
 changed_at (b ∷ differ) [] = []
@@ -66,13 +67,13 @@ pub record HasTable (differ : List Bool) (new : List Hop) : Type 0 where
   pub few : length new < 2 ^ 32
   pub range : IsInRange new
 
--- the walk that is being followed, in a list with a place for each node
+-- the walk that is being followed, in a list with capacity for each node
 pub record IsWalking (new : List Hop) (marks : List Mark) (walk : Vec ℕ Global) : Type 0 where
   pub range : IsInRange new
   pub room : length new ≤ vec_capacity walk
   pub stacked : IsStacked new marks walk.items
 
--- the same with the waves that are known
+-- the same, with the waves that are known
 pub record IsSound (differ : List Bool) (new : List Hop) (marks : List Mark) (walk : Vec ℕ Global) : Type 0 where
   pub table : HasTable differ new
   pub walking : IsWalking new marks walk
@@ -88,37 +89,37 @@ pub record IsFollowed (new : List Hop) (before after : List Mark) (walk : Vec �
   pub met : IsMet after walk.items x
   pub is_stop : IsStop new after walk.items stop
 
--- x has its wave, and each node that had one has one
+-- x has its wave, and no node has lost its wave
 pub record HasMet (differ : List Bool) (new : List Hop) (before after : List Mark) (walk : Vec ℕ Global) (x : ℕ) : Type 0 where
   pub sound : IsSound differ new after walk
   pub empty : walk.items ≡ []
   pub kept : (y : ℕ) → HasWave before y → HasWave after y
   pub met : HasWave after x
 
--- the walk comes back to node y of it
+-- the walk comes back to its node y
 pub record IsBack (new : List Hop) (walk : List ℕ) (y : ℕ) : Type 0 where
   pub back : Contains walk y
   pub trail : IsTrail new (walk ++ y ∷ [])
   pub once : IsDistinct nat_eq walk
 
--- these nodes are marked, and no others
+-- exactly these nodes are marked
 abbrev pub AreNoted : List ℕ → List Bool → Type 0
 AreNoted changed differ = (x : ℕ) → Contains changed x ↔ (slice_index_or differ x false ≡ true)
 
--- nodes of a table without loops, each once
+-- distinct nodes of a table without loops
 pub record IsChange (new : List Hop) (changed : List ℕ) : Type 0 where
   pub range : IsInRange new
   pub free : IsLoopFree new
   pub inside : All (λ (x : ℕ). x < length new) changed
   pub once : IsDistinct nat_eq changed
 
--- of which nodes the marks are set
+-- the marks are those of these nodes
 pub record AreMarked (differ : List Bool) (new : List Hop) (changed : List ℕ) : Type 0 where
   pub table : HasTable differ new
   pub noted : AreNoted changed differ
   pub change : IsChange new changed
 
--- for each old table that differs at the nodes before, the nodes after are the push order
+-- `after` is the push order for each old table that differs exactly at the nodes of `before`
 abbrev pub IsPutInOrder : List Hop → List ℕ → List ℕ → Type 0
 IsPutInOrder new before after = (old : List Hop) → ((x : ℕ) → Contains before x ↔ DifferAt old new x) → IsPushOrder old new after
 
@@ -126,15 +127,15 @@ IsPutInOrder new before after = (old : List Hop) → ((x : ℕ) → Contains bef
 abbrev pub AreWaves : List Hop → List Hop → List ℕ → List ℕ → Type 0
 AreWaves old new nodes waves = (x : ℕ) → Contains nodes x → IsWave old new x (slice_index waves x)
 
--- rises with the wave of x, and within a wave with x
+-- increases with the wave of x, and within a wave with x
 abbrev pub place_by_wave : List ℕ → ℕ → ℕ
 place_by_wave waves x = slice_index waves x * 2 ^ 32 + x
 
--- x has a wave, from 1 up to this one
+-- x has a wave from 1 to `most`
 abbrev pub HasWaveUpTo : ℕ → List Mark → ℕ → Type 0
 HasWaveUpTo most marks x = (k : ℕ) × (mark_of marks x ≡ Wave k) × (0 < k) × (k ≤ most)
 
--- the waves of the changed nodes as keys, and 0 for the others, and how many have each key
+-- the keys are the waves of the changed nodes, and 0 for the others; `counts` says how many nodes have each key
 pub record AreListed (marks : List Mark) (changed keys counts : List ℕ) : Type 0 where
   pub counted : AreCounts keys counts
   pub low : All (λ (k : ℕ). k ≤ length keys) keys

@@ -1,6 +1,6 @@
--- A router gets its new hop by a push. Which nodes have to be pushed, in which order, what the tables of all routers are meanwhile, and
--- how a packet moves through them. Pushing downstream nodes first is RFC 6976; waves, and sets that are closed downstream, are
--- notions of this project.
+-- A router gets its new hop by a push. This file defines which nodes have to be pushed and in which order, what the
+-- mixed table is meanwhile, and how a packet moves through it. RFC 6976 also updates downstream routers first. Waves,
+-- and sets that are closed downstream, are this project's own.
 use Rattle.std.specs.Prelude.{◌≡◌, ℕ, ◌<◌, ◌≤◌, ◌+◌, ◌==◌, ◌↔◌, Bool, true, false, not, List, [], ◌∷◌, Contains, length, slice_get, slice_index, Option, Some, None, count_by}
 use Rattle.fr_tables.specs.Tables.{SendsOn, IsDownstream, IsWholeWalk}
 use Rattle.fr_tables.specs.declared.hop.Hop.{Hop}
@@ -10,7 +10,7 @@ use Rattle.fr_tables.specs.declared.hop.Hop.TheVariants.{Here, To, CutOff}
 abbrev pub DifferAt : List Hop → List Hop → ℕ → Type 0
 DifferAt old new x = ¬ (slice_get old x ≡ slice_get new x)
 
--- the same as a test
+-- the same, as a test
 abbrev pub is_same_hop : Hop → Hop → Bool
 is_same_hop Here Here = true
 is_same_hop (To x) (To y) = x == y
@@ -31,7 +31,7 @@ pub record IsWave (old new : List Hop) (x wave : ℕ) : Type 0 where
   pub whole : IsWholeWalk new x walk
   pub number : wave ≡ count_by (differ_at old new) (x ∷ walk)
 
--- x is pushed before y: it is of an earlier wave, or of the same one and has the lower number
+-- x is pushed before y: its wave is less, or the waves are equal and its number is less
 pub record IsBefore (old new : List Hop) (x y : ℕ) : Type 0 where
   pub wave_x : ℕ
   pub wave_y : ℕ
@@ -45,17 +45,17 @@ pub record IsPushOrder (old new : List Hop) (order : List ℕ) : Type 0 where
   pub these : (x : ℕ) → Contains order x ↔ DifferAt old new x
   pub sorted : (i j : ℕ) → i < j → j < length order → IsBefore old new (slice_index order i) (slice_index order j)
 
--- with each of these nodes, they have all nodes downstream of it in the new table at which the tables differ
+-- the nodes include every differing node downstream of one of them in the new table
 abbrev pub IsClosedDownstream : List Hop → List Hop → List ℕ → Type 0
 IsClosedDownstream old new nodes = (x y : ℕ) → Contains nodes x → IsDownstream new x y → DifferAt old new y → Contains nodes y
 
--- the old table with the new hops of these nodes
+-- the old table, with the new hops of these nodes
 pub record IsPushed (old new : List Hop) (nodes : List ℕ) (table : List Hop) : Type 0 where
   pub one_length : length table ≡ length old
   pub these : (x : ℕ) → Contains nodes x → slice_get table x ≡ slice_get new x
   pub others : (x : ℕ) → ¬ Contains nodes x → slice_get table x ≡ slice_get old x
 
--- these are all differing nodes of the waves before this one, and some of this wave
+-- these are all differing nodes of earlier waves, and any differing nodes of this wave
 pub record IsUpToWave (old new : List Hop) (nodes : List ℕ) (wave : ℕ) : Type 0 where
   pub before : (x k : ℕ) → DifferAt old new x → IsWave old new x k → k < wave → Contains nodes x
   pub differ : (x : ℕ) → Contains nodes x → DifferAt old new x
@@ -66,7 +66,8 @@ pub record SendsOnPushed (old new : List Hop) (nodes : List ℕ) (x y : ℕ) : T
   pub pushed : Contains nodes x → SendsOn new x y
   pub other : ¬ Contains nodes x → SendsOn old x y
 
--- a packet moves from x by these nodes while hops are pushed: before its step k, the nodes `pushed k` have been
+-- a packet moves from x along these nodes while hops are pushed: before its step k, the nodes `pushed k` have been
+-- pushed
 abbrev pub Moves : List Hop → List Hop → (ℕ → List ℕ) → ℕ → List ℕ → Type 0
 Moves old new pushed x [] = Unit {0}
 Moves old new pushed x (y ∷ ys) = SendsOnPushed old new (pushed 0) x y × Moves old new (λ k. pushed (k + 1)) y ys

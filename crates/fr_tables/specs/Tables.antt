@@ -1,5 +1,5 @@
--- Forwarding tables, by next hops: a walk follows them from node to node, and a loop is a walk that comes back. Next hops and
--- forwarding loops are those of RFC 6976 (ordered updates of forwarding tables); downstream is towards the destination.
+-- Forwarding tables of next hops. A walk follows the hops from node to node, and a loop is a walk that comes back to
+-- its first node. Next hops and forwarding loops are those of RFC 6976; downstream means towards the destination.
 use Rattle.std.specs.Prelude.{◌≡◌, ℕ, ◌<◌, ◌≤◌, ◌++◌, List, [], ◌∷◌, length, slice_get, Some}
 use Rattle.fr_tables.specs.declared.hop.Hop.{Hop}
 use Rattle.fr_tables.specs.declared.hop.Hop.TheVariants.{To}
@@ -8,17 +8,17 @@ use Rattle.fr_tables.specs.declared.hop.Hop.TheVariants.{To}
 abbrev pub SendsOn : List Hop → ℕ → ℕ → Type 0
 SendsOn table x y = slice_get table x ≡ Some (To y)
 
--- from x by these nodes, each the next hop of the one before
+-- a walk from x along these nodes, each the next hop of the one before
 abbrev pub IsWalk : List Hop → ℕ → List ℕ → Type 0
 IsWalk table x [] = Unit {0}
 IsWalk table x (y ∷ ys) = SendsOn table x y × IsWalk table y ys
 
--- the node at which the walk from x by these nodes ends
+-- the last node of the walk from x along these nodes
 abbrev pub end_of : ℕ → List ℕ → ℕ
 end_of x [] = x
 end_of x (y ∷ ys) = end_of y ys
 
--- and this node sends on to none
+-- a walk whose last node sends on to no node
 pub record IsWholeWalk (table : List Hop) (x : ℕ) (ys : List ℕ) : Type 0 where
   pub goes : IsWalk table x ys
   pub ends : (y : ℕ) → ¬ SendsOn table (end_of x ys) y
@@ -32,7 +32,7 @@ IsLoop table (x ∷ xs) = IsWalk table x (xs ++ x ∷ [])
 abbrev pub IsLoopFree : List Hop → Type 0
 IsLoopFree table = (nodes : List ℕ) → ¬ IsLoop table nodes
 
--- y lies downstream of x: the walk from x comes to it. Each node lies downstream of itself
+-- y is downstream of x: the walk from x leads to it. Each node is downstream of itself
 pub record IsDownstream (table : List Hop) (x y : ℕ) : Type 0 where
   pub by : List ℕ
   pub goes : IsWalk table x by
@@ -42,7 +42,7 @@ pub record IsDownstream (table : List Hop) (x y : ℕ) : Type 0 where
 abbrev pub IsInRange : List Hop → Type 0
 IsInRange table = (x y : ℕ) → SendsOn table x y → y < length table
 
--- the first hop that does not names y
+-- y is the node that the first out-of-range hop names
 pub record IsFirstOutside (table : List Hop) (y : ℕ) : Type 0 where
   pub at : ℕ
   pub sends : SendsOn table at y

@@ -1,11 +1,11 @@
-//! The laws of push orders: each clause here is a law of `specs/Laws.antt`, proved. The functions do nothing.
+//! The laws of push orders. Each clause is a law of `specs/Laws.antt`, proved. The functions do nothing.
 
 ghost use Rattle.fr_tables.specs.Laws.{StartsAsOld, PushIsOneMore, NoLoopIsNew, NeverLoops, PushedIsRight, ComesTwiceAtMost};
 ghost use Rattle.fr_tables.specs.Laws.{BeginningIsClosed, WavesAreClosed, EndsAsNew, OrderExists, OrderIsUnique};
 
-/// Where the new table has no loop, pushes make none, in whatever order, as long as the nodes that have been pushed
-/// are closed downstream: each loop of the mixed table was in the old table. A packet that moves meanwhile comes to no
-/// node more than twice, if the old table had no loop either.
+/// If the new table has no loop and the pushed nodes are closed downstream, pushes add no loop, in whatever order they
+/// are made: each loop of the mixed table was in the old table. If the old table had no loop either, a packet that
+/// moves meanwhile visits no node more than twice.
 pub fn push_law()
     ensures start { StartsAsOld }
     ensures step { PushIsOneMore }
@@ -15,8 +15,8 @@ pub fn push_law()
     ensures twice { ComesTwiceAtMost }
 {}
 
-/// Push orders are closed downstream at each moment, also while the nodes of one wave are pushed in any order. They
-/// end with the new table. The two tables determine the order.
+/// The pushed nodes of a push order are closed downstream at each moment, even if the nodes of one wave are pushed in
+/// any order. The last push makes the new table. Two tables have exactly one push order.
 pub fn order_law()
     ensures beginnings { BeginningIsClosed }
     ensures waves { WavesAreClosed }

@@ -1,4 +1,4 @@
-//! Putting nodes in push order without memory: the room is taken ahead.
+//! Putting nodes in push order without allocating: the memory is allocated beforehand.
 
 ghost use Rattle.std.specs.Prelude.{◌≡◌, ℕ, ◌<◌, ◌+◌, ◌^◌, ◌↔◌, All, Contains, IfOk, IsTrue, List, [], length, nat_eq, replicate, slice_index, slice_index_or, false, true};
 ghost use Rattle.std.specs.List.{IsDistinct};
@@ -14,20 +14,20 @@ use crate::waves::{Mark, mark_waves};
 use std::alloc::{AllocError, Global};
 use std::marker::Model;
 
-/// Up to this many changed nodes are ordered by their own walks, if these are short. So few are sorted by insertion,
-/// with at most 120 comparisons. For more nodes, `order_many` goes over the whole table once.
+/// At most this many changed nodes are ordered by following their walks, if these are short. So few are sorted by
+/// insertion, with at most 120 comparisons. For more nodes, `order_many` goes over the whole table once.
 const FEW: usize = 16;
 
-/// Room to put the nodes of one table in push order. It is taken ahead, so that ordering takes no memory. Contracts
-/// see for how many nodes.
+/// Memory to put the nodes of one table in push order, allocated beforehand. Its value in contracts is the number of
+/// nodes.
 #[derive(Debug, Drop)]
 pub struct PushRoom {
     // Whether the hop of each node has changed. Between calls all are `false`.
     differ: Vec<bool>,
     marks: Vec<Mark>,
-    // It has a place for each node.
+    // Its capacity is the number of nodes.
     walk: Vec<u32>,
-    // The wave of each node whose hop has changed. `order_many` has 0 for each other node.
+    // The wave of each node whose hop has changed. `order_many` sets it to 0 for every other node.
     keys: Vec<u32>,
     places: Vec<u32>,
 }
@@ -45,7 +45,7 @@ impl Model for PushRoom {
 }
 
 impl PushRoom {
-    /// Room for tables of so many nodes. `AllocError` where no room could be had. O(n).
+    /// Allocates room for tables of this many nodes. Fails with `AllocError` if an allocation is refused. O(n).
     pub fn new(alloc: Global, nodes: u32) -> Result<PushRoom, AllocError>
         ensures { IfOk result (λ room. room ≡ nodes) }
     {
@@ -59,11 +59,12 @@ impl PushRoom {
         })
     }
 
-    /// Puts the nodes whose hop has changed in push order, as [`push_order`](crate::push_order) does. `new` is the
-    /// table as it is now, with as many nodes as there is room for. It takes no memory.
+    /// Puts the nodes whose hop has changed in push order, the order that [`push_order`](crate::push_order) returns.
+    /// `new` is the table after the change. It must have as many nodes as there is room for, all hops in range and no
+    /// loop; `changed` must list nodes of it, each once. The call allocates nothing.
     ///
-    /// O(1) for one node or none. For k nodes, up to 16, it takes as long as their walks, if none of these has more
-    /// than n / k nodes. Else O(n).
+    /// O(1) for at most one node. For k nodes, up to 16, the time is that of following their walks, if no walk has more
+    /// than n / k nodes. Otherwise O(n).
     pub fn order(&mut self, new: &[Hop], changed: &mut [u32])
         requires room { length new.now ≡ self.old }
         requires new { IsInRange new.now × IsLoopFree new.now }
@@ -80,8 +81,8 @@ impl PushRoom {
         }
     }
 
-    /// Orders few nodes with short walks, and reads only these walks. `false`: there are too many nodes, or a walk is
-    /// too long, and no node has moved.
+    /// Orders few nodes with short walks, and reads only these walks. Returns `false`, with no node moved, if there are
+    /// too many nodes or a walk is too long.
     fn order_few(&mut self, new: &[Hop], changed: &mut [u32]) -> bool
         requires room { length new.now ≡ self.old }
         requires change { IsChange new.now changed.old }
@@ -98,7 +99,7 @@ impl PushRoom {
         is_ordered
     }
 
-    /// Orders any number of nodes. It goes over the whole table.
+    /// Orders any number of nodes, going over the whole table.
     fn order_many(&mut self, new: &[Hop], changed: &mut [u32])
         requires room { length new.now ≡ self.old }
         requires change { IsChange new.now changed.old }
@@ -117,7 +118,7 @@ impl PushRoom {
     }
 }
 
-/// Notes that the hops of these nodes have changed.
+/// Marks the nodes whose hops have changed.
 fn note(differ: &mut [bool], changed: &[u32])
     requires nodes { All (λ (x : ℕ). x < length differ.old) changed.now }
     requires none { differ.old ≡ replicate (length differ.old) false }
@@ -129,7 +130,7 @@ fn note(differ: &mut [bool], changed: &[u32])
     }
 }
 
-/// Clears the notes of these nodes. No other node is noted.
+/// Clears the marks of these nodes. No other node is marked.
 fn forget(differ: &mut [bool], changed: &[u32])
     requires nodes { All (λ (x : ℕ). x < length differ.old) changed.now }
     requires noted { AreNoted changed.now differ.old }
@@ -140,7 +141,7 @@ fn forget(differ: &mut [bool], changed: &[u32])
     }
 }
 
-/// Makes the waves of the changed nodes their keys, and counts how many of them have each key.
+/// Takes the waves of the changed nodes as their keys, and counts how many nodes have each key.
 fn list_keys(marks: &[Mark], changed: &[u32], keys: &mut [u32], places: &mut [u32])
     requires few { length keys.old < 2 ^ 32 }
     requires none { AreListed marks.now [] keys.old places.old }
@@ -156,7 +157,7 @@ fn list_keys(marks: &[Mark], changed: &[u32], keys: &mut [u32], places: &mut [u3
     }
 }
 
-/// The wave that a mark tells.
+/// The wave that a mark holds.
 fn wave_of(mark: Mark) -> u32
     ensures { (wave : ℕ) → mark ≡ Mark.Wave wave → result ≡ wave }
 {

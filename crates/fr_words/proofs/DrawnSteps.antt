@@ -1,10 +1,10 @@
--- Drawing a schedule, one step after another.
+-- Drawing a schedule, step by step.
 use Rattle.std.proofs.Common.{◌≡◌, ◌∙◌, ℕ, suc, ◌+◌, ◌%◌, List, [], ◌∷◌, ◌++◌, append_assoc, append-nil, zero-add, ap, refl, sym}
 use Rattle.rand_pcg.specs.Lcg.{Lcg}
 use Rattle.rand_pcg.specs.Pcg.{pcg32}
 use Rattle.fr_words.specs.Draws.{draws}
 
--- one more step moves across the seam
+-- one more step moves from the rest to the steps taken
 pub draws-step : (g h : Lcg) (x w k : ℕ) (done : List ℕ) → (x, h) ≡ pcg32 g → done ++ draws g (suc k) w ≡ (done ++ x % w ∷ []) ++ draws h k w
 unfolding draws
 draws-step g h x w k done is =

@@ -13,7 +13,7 @@ use Rattle.fr_words.specs.declared.task.TaskFault.{TaskFault}
 use Rattle.fr_words.specs.declared.task.TaskFault.TheVariants.{Usage, Version, Memory}
 
 module _ {T : Type 0} where
-  -- words that the command takes have no fault
+  -- words that the command accepts have no fault
   pub taken_faultless : (app : App) (words : List Text) (r : Result T Error) → app ≡ command
       → (is_simple_and_free app ≡ true → FailsBy (fault_of app words) r) → IfOk r (λ _. fault_of command words ≡ [])
   taken_faultless app words (Ok m) same kinds =
@@ -27,7 +27,7 @@ module _ {T : Type 0} where
   refused_kinds app words (Err e) same kinds =
       subst (λ (a : App). HasKind (fault_of a words) e) same (kinds (subst (λ (a : App). is_simple_and_free a ≡ true) (sym same) refl))
 
--- what is said of it says whether help or the version was asked for
+-- the fault says whether help or the version was asked for
 pub said_fault : (words : List Text) (e : Error) (fault : TaskFault) → HasKind (fault_of command words) e → IsUsageOf (kind_of e) fault → IsFaultOf words fault
 said_fault words e (Usage text asked) (inl none) said = absurd (said.0 none)
 said_fault words e (Usage text asked) (inr among) said = (kind_of e, among, said.1, said.2)

@@ -20,7 +20,7 @@ number_read E k G f name parses (Some n) none value = go (one_text f name) refl
         let is = (parses t (Ok n) (value t e)).1 in
         rw (← one_text-rows f name, e) (ap Some (sym is))
 
--- where it reads no number of at most so much, the option's text is none
+-- if it reads no number of at most `most`, the option's text is not such a number
 pub number_not_read : (E : Type 0) (k most : ℕ) (G : List ℕ → Result ℕ E → Type 0) (f : Found) (name : Text)
     → ((u : List ℕ) (x : Result ℕ E) → G u x → ParsesUnsigned k 10 u x) → most < 2 ^ k
     → (r : Option ℕ) → ((t : List ℕ) → one_text f name ≡ Some t → ReadsOne G t r) → IfSome r (λ n. most < n) → (text : Text)

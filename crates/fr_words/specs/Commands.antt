@@ -1,4 +1,4 @@
--- The command line, as `clap` reads it:
+-- The command line, as the crate `clap` reads it. This project's own:
 --     revroute run [--workers N] [--seed S] [--budget B]
 --     revroute serve [--workers N] [--seed S] [--budget B]
 --     revroute play [--workers N] [--seed S] [--steps M]
@@ -11,12 +11,12 @@ use Rattle.clap.specs.declared.builder.value_parser.ValueParser.TheVariants.{Sig
 use Rattle.fr_core.specs.Limits.{most_workers}
 use Rattle.fr_words.specs.Draws.{most_steps}
 
--- an option of this name with one number of these, and the text that stands for it where it is not given
+-- an option with this name and one number, and its text if it is not given
 abbrev pub option : Text → Text → ValueParser → Rule
 option name default numbers =
     record (new_rule name) { long = Some name; value_names = 1; defaults = default ∷ []; parser = Some numbers }
 
--- 1 to as many workers as there may be
+-- from 1 to the greatest number of workers
 abbrev pub workers_option : Text → Rule
 workers_option default = option (codes "workers") default (Signed (pos 1) (pos most_workers))
 
@@ -24,7 +24,7 @@ workers_option default = option (codes "workers") default (Signed (pos 1) (pos m
 abbrev pub seed_option : Rule
 seed_option = option (codes "seed") (codes "0") (Unsigned 0 18446744073709551615)
 
--- the largest budget that the command line takes
+-- the largest budget that the command line accepts
 abbrev pub most_budget : ℕ
 most_budget = 1000000000
 
@@ -34,7 +34,7 @@ budget_option = option (codes "budget") (codes "1000000") (Signed (pos 0) (pos m
 abbrev pub steps_option : Rule
 steps_option = option (codes "steps") (codes "100") (Signed (pos 0) (pos most_steps))
 
--- a subcommand of this name that settles networks by a plan
+-- a subcommand with this name that settles networks with a plan
 abbrev pub answering : Text → App
 answering name = with_rule (with_rule (with_rule (new_app name) (workers_option (codes "4"))) seed_option) budget_option
 
@@ -47,7 +47,7 @@ serve_command = answering (codes "serve")
 abbrev pub play_command : App
 play_command = with_rule (with_rule (with_rule (new_app (codes "play")) (workers_option (codes "2"))) seed_option) steps_option
 
--- a command that tells its version, and one of whose subcommands has to be given
+-- a command that prints its version and needs a subcommand
 abbrev pub program : Shape → Shape
 program s = record s { has_version = true; subcommand_required = true }
 
@@ -56,10 +56,10 @@ abbrev pub command : App
 command =
     with_subcommand (with_subcommand (with_subcommand (on_top program (new_app (codes "revroute"))) run_command.top) serve_command.top) play_command.top
 
--- the text is a number of at most this
+-- the text is a number of at most `most`
 abbrev pub IsNumberUpTo : ℕ → Text → Type 0
 IsNumberUpTo most text = IsNumeral 10 (without_leading_plus text) × (digits_value 10 (without_leading_plus text) ≤ most)
 
--- the number that an option of the words has
+-- the number of an option
 abbrev pub number_of : Text → List Row → Option ℕ
 number_of name rows = option_map (λ text. digits_value 10 (without_leading_plus text)) (one_of name rows)

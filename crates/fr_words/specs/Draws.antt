@@ -1,18 +1,20 @@
--- The schedule that a seed draws.
+-- The schedule that is drawn from a seed. This project's own; the generator is PCG32 (M. E. O'Neill, "PCG: A Family of
+-- Simple Fast Space-Efficient Statistically Good Algorithms for Random Number Generation", 2014), seeded as the crate
+-- `rand_pcg` does.
 use Rattle.std.specs.Prelude.{ℕ, zero, suc, ◌%◌, List, [], ◌∷◌}
 use Rattle.rand_core.specs.Pcg32Seed.{pcg32_seed}
 use Rattle.rand_pcg.specs.Lcg.{Lcg}
 use Rattle.rand_pcg.specs.Pcg.{pcg32, pcg32_of_seed}
 
--- the most steps of a play
+-- the greatest number of steps of a play
 abbrev pub most_steps : ℕ
 most_steps = 10000
 
--- the generator that a seed makes
+-- the generator with this seed
 unfoldable pub seeded : ℕ → Lcg
 seeded seed = pcg32_of_seed (pcg32_seed 16 seed)
 
--- so many words of a generator, one after the other, each modulo the number of workers
+-- `steps` words of a generator, one after the other, each modulo the number of workers
 unfoldable pub draws : Lcg → ℕ → ℕ → List ℕ
 draws generator zero workers = []
 draws generator (suc steps) workers = (pcg32 generator).0 % workers ∷ draws (pcg32 generator).1 steps workers

@@ -1,4 +1,4 @@
--- What a command line asks for.
+-- What a command line asks for. This project's own.
 use Rattle.std.specs.Prelude.{◌≡◌, ◌≢◌, ◌≤◌, ◌↔◌, ⊤, IsTrue, List, [], Some, codes}
 use Rattle.clap.specs.Walk.{Row, Text}
 use Rattle.clap.specs.Simple.{subcommand_of}
@@ -23,33 +23,34 @@ IsPlanIn rows plan =
     × (number_of (codes "seed") rows ≡ Some plan.seed)
     × (number_of (codes "budget") rows ≡ Some plan.budget) × (plan.budget ≤ most_budget)
 
--- and so the draw
+-- the draw has the numbers of these options, each in its range
 abbrev pub IsDrawIn : List Row → Draw → Type 0
 IsDrawIn rows draw =
     (number_of (codes "workers") rows ≡ Some draw.workers) × (1 ≤ draw.workers) × (draw.workers ≤ most_workers)
     × (number_of (codes "seed") rows ≡ Some draw.seed)
     × (number_of (codes "steps") rows ≡ Some draw.steps) × (draw.steps ≤ most_steps)
 
--- the task is that of the subcommand of this name, with the numbers of its options
+-- the task of the subcommand with this name, with the numbers of its options
 abbrev pub IsTaskOf : Text → List Row → Task → Type 0
 IsTaskOf name rows (Run plan) = (name ≡ codes "run") × IsPlanIn rows plan
 IsTaskOf name rows (Serve plan) = (name ≡ codes "serve") × IsPlanIn rows plan
 IsTaskOf name rows (Play draw) = (name ≡ codes "play") × IsDrawIn rows draw
 
--- the task is that of the words, in which `clap` finds no fault, as it reads them: where an option is not given, its number is
--- the default
+-- The task of the words, in which `clap` finds no fault, as `clap` reads them. If an option is not given, its number is
+-- the default.
 abbrev pub IsTaskIn : List Text → Task → Type 0
 IsTaskIn words task =
     (fault_of command words ≡ [])
     × ((name : Text) × (rows : List Row) × (subcommand_of command words ≡ Some (name, rows)) × IsTaskOf name rows task)
 
--- what is said of an error of this kind: that help or the version was asked for, just where it was
+-- the fault for an error of this kind: it says that help or the version was asked for exactly if it was
 abbrev pub IsUsageOf : ErrorKind → TaskFault → Type 0
 IsUsageOf kind (Usage text asked) = (kind ≢ OutOfMemory) × (kind ≢ DisplayVersion) × (IsTrue asked ↔ (kind ≡ DisplayHelp))
 IsUsageOf kind (Version text) = kind ≡ DisplayVersion
 IsUsageOf kind Memory = ⊤
 
--- the words are not those of the command, by one of the kinds of error that `clap` has for them; want of memory may come at all words
+-- the fault for words that `clap` does not accept, with one of the kinds of error that it has for them; memory can be
+-- missing for any words
 abbrev pub IsFaultOf : List Text → TaskFault → Type 0
 IsFaultOf words (Usage text asked) = (kind : ErrorKind) × IsAmong kind (fault_of command words) × (kind ≢ DisplayVersion) × (IsTrue asked ↔ (kind ≡ DisplayHelp))
 IsFaultOf words (Version text) = IsAmong DisplayVersion (fault_of command words)

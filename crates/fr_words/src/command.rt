@@ -1,4 +1,4 @@
-//! The command line, as `clap` is to read it.
+//! The command line, as `clap` reads it.
 
 ghost use Rattle.std.specs.Prelude.{◌≡◌, [], IfOk, IfErr, map, codes, pos, false};
 ghost use Rattle.clap.specs.Simple.{on_top};
@@ -60,17 +60,17 @@ const BUDGET: &str =
 
 const STEPS: &str = "How many steps are made, 0 to 10000";
 
-// The texts name these limits.
+// The texts above contain these limits.
 const _: () = prove!(MAX_WORKERS == 16);
 
 const _: () = prove!(MAX_BUDGET == 1_000_000_000);
 
 const _: () = prove!(MAX_STEPS == 10_000);
 
-/// The largest budget that the command line takes.
+/// The largest budget that the command line accepts.
 pub(crate) const MAX_BUDGET: u32 = 1_000_000_000;
 
-/// What the words of a command line say, the program's name first, where the program has this version.
+/// What the words of a command line say, for a program with this version. The first word is the program's name.
 pub(crate) fn matches_of<'a>(
     alloc: Global,
     words: &'a [&'a str],
@@ -100,7 +100,7 @@ fn command_for_requests<'a>(alloc: Global, version: &'a str) -> Result<Command<'
     command_for_runs(alloc, version)?.subcommand(serve)
 }
 
-/// The program with the subcommand that answers all requests at once.
+/// The program with the subcommand that reads all requests before it answers.
 fn command_for_runs<'a>(alloc: Global, version: &'a str) -> Result<Command<'a>, AllocError>
     ensures { IfOk result (λ c. (app_of c ≡ with_subcommand (on_top program (new_app (codes "revroute"))) run_command_of.top)
         × ((out-Command c).has_globals ≡ false)) }
@@ -109,7 +109,7 @@ fn command_for_runs<'a>(alloc: Global, version: &'a str) -> Result<Command<'a>, 
     bare_command(alloc, version).subcommand(run)
 }
 
-/// The program, before its subcommands: one of them has to be given, and it tells its version.
+/// The program before its subcommands. One of them must be given, and the program prints its version.
 fn bare_command<'a>(alloc: Global, version: &'a str) -> Command<'a>
     ensures app { app_of result ≡ on_top program (new_app (codes "revroute")) }
     ensures local { (out-Command result).has_globals ≡ false }
@@ -133,7 +133,7 @@ fn serve_command<'a>(alloc: Global) -> Result<Command<'a>, AllocError>
     answering(alloc, "serve", SERVE_ABOUT)
 }
 
-/// A subcommand that settles networks by a plan; its help names the requests.
+/// A subcommand that settles networks with a plan. Its help lists the requests.
 fn answering<'a>(alloc: Global, name: &'a str, about: &'a str) -> Result<Command<'a>, AllocError>
     ensures { IfOk result (λ c. (app_of c ≡ answering_of name.entry.now) × ((out-Command c).has_globals ≡ false)) }
 {
@@ -171,7 +171,7 @@ fn play_command<'a>(alloc: Global) -> Result<Command<'a>, AllocError>
     )
 }
 
-/// A command of this name, with what it is for and an example.
+/// A command with this name, a description and an example.
 fn described<'a>(alloc: Global, name: &'a str, about: &'a str, example: &'a str) -> Command<'a>
     ensures app { app_of result ≡ new_app name.entry.now }
     ensures local { (out-Command result).has_globals ≡ false }
@@ -179,7 +179,7 @@ fn described<'a>(alloc: Global, name: &'a str, about: &'a str, example: &'a str)
     Command::new(alloc, name).about(about).after_help(example)
 }
 
-/// The command with this option more.
+/// The command with one more option.
 fn with_option<'a>(command: Command<'a>, option: Arg<'a>) -> Result<Command<'a>, AllocError>
     requires command { (out-Command command).has_globals ≡ false }
     requires local { option.global ≡ false }
@@ -189,7 +189,7 @@ fn with_option<'a>(command: Command<'a>, option: Arg<'a>) -> Result<Command<'a>,
     command.arg(option)
 }
 
-/// An option with a number, by its name, with the text that stands for it where it is not given.
+/// An option with a number. `default` is its text if the option is not given.
 fn option<'a>(
     alloc: Global,
     name: &'a str,

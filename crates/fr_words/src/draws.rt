@@ -1,4 +1,4 @@
-//! Which schedule a play follows: so many steps of so many workers, drawn from a seed.
+//! The schedule of a play: `steps` steps of `workers` workers, drawn from a seed.
 
 ghost use Rattle.std.specs.Prelude.{◌≡◌, ◌≤◌, ◌<◌, ◌⊎◌, ◌↔◌, IsNone, IfSome, IfOk};
 ghost use Rattle.fr_core.specs.Limits.{most_workers};
@@ -10,11 +10,12 @@ use rand_core::utils::NextWord;
 use rand_pcg::Lcg64Xsh32;
 use std::alloc::{AllocError, Global};
 
-/// The most steps of a play.
+/// The greatest number of steps of a play.
 pub const MAX_STEPS: u32 = 10_000;
 
-/// Which schedule a play draws: so many steps of so many workers, from a seed. Whoever makes one has to show its three bounds, as the prover
-/// does by itself for numbers that stand in the code; [`Draw::new`] tests those that come from outside.
+/// A draw determines the schedule of a play: so many steps of so many workers, from a seed. Code that makes a `Draw`
+/// has to prove its three bounds. The prover does this by itself for constants; for other numbers, [`Draw::new`] tests
+/// them.
 #[derive(Clone, Copy, Debug, PartialEq, Eq)]
 pub struct Draw {
     /// How many workers there are, 1 to [`MAX_WORKERS`].
@@ -29,7 +30,8 @@ pub struct Draw {
 }
 
 impl Draw {
-    /// The draw with 1 to [`MAX_WORKERS`] workers and at most [`MAX_STEPS`] steps; with other numbers there is none. `O(1)`.
+    /// The draw with these numbers. `None` unless there are 1 to [`MAX_WORKERS`] workers and at most [`MAX_STEPS`]
+    /// steps. O(1).
     pub fn new(workers: u32, seed: u64, steps: u32) -> Option<Draw>
         ensures none { IsNone result ↔ ((workers ≡ 0) ⊎ (most_workers < workers) ⊎ (most_steps < steps)) }
         ensures some { IfSome result (λ draw. (draw.workers ≡ workers) × (draw.seed ≡ seed) × (draw.steps ≡ steps)) }
@@ -44,8 +46,8 @@ impl Draw {
         })
     }
 
-    /// The schedule: for each step the next word of the generator that the seed makes, modulo the number of workers. `AllocError` where no
-    /// room could be had. `O(s)` for s steps.
+    /// The schedule. For each step, it has the next word of the generator with this seed, modulo the number of workers.
+    /// Fails with `AllocError` if an allocation is refused. O(s) for s steps.
     pub fn schedule(&self, alloc: Global) -> Result<Vec<u32>, AllocError>
         ensures { IfOk result (λ schedule. schedule.items ≡ drawn self.now.seed self.now.steps self.now.workers) }
     {

@@ -1,7 +1,7 @@
 //! The words of a command line, and the task that they ask for.
 //!
-//! [`task_of`] reads the words by `clap`, and answers a [`Task`]: to answer requests by a plan, or to play the schedule of a [`Draw`].
-//! [`task_end`] says how the program ends where they ask for no task.
+//! [`task_of`] reads the words with `clap`, and returns a [`Task`]: to answer requests with a plan, or to play the
+//! schedule of a [`Draw`]. [`task_end`] says how the program ends if the words do not ask for a task.
 #![tactic(auto)]
 
 mod command;

@@ -16,32 +16,32 @@ use fr_crew::Plan;
 use std::alloc::{AllocError, Global};
 use thiserror::Error as FaultError;
 
-/// What `clap` writes before the usage.
+/// The text that `clap` writes before the usage.
 const USAGE: &str = "\n\nUsage:";
 
-/// The same behind a tip for whoever names a file.
+/// The same text after a tip for users who name a file.
 const USAGE_WITH_TIP: &str =
     "\n\n  tip: requests are read from standard input, as by 'revroute run < FILE'\n\nUsage:";
 
 /// What the program is to do.
 #[derive(Clone, Copy, Debug, PartialEq, Eq)]
 pub enum Task {
-    /// Answer the requests of the input, each round by this plan.
+    /// Answer the requests of the input, with this plan for each round.
     Run(Plan),
-    /// Answer each request as it comes, each round by this plan.
+    /// Answer each request as it comes, with this plan for each round.
     Serve(Plan),
     /// Play the schedule of this draw on the network of the input.
     Play(Draw),
 }
 
-/// Why the words of a command line ask for no task.
+/// Why the words of a command line do not ask for a task.
 #[derive(Debug, Drop, FaultError, PartialEq, Eq)]
 pub enum TaskFault {
-    /// Help was asked for (`asked`), and the text is that; or the words are not those of the command line, and the text says what is wrong
-    /// with them.
+    /// The words ask for help, and the text is the help (`asked`); or they are not those of the command line, and the
+    /// text says what is wrong.
     #[error("{text}")]
     Usage { text: String, asked: bool },
-    /// The version was asked for, and the text tells it.
+    /// The words ask for the version, and the text is the version.
     #[error("{text}")]
     Version { text: String },
     /// An allocation was refused.
@@ -49,11 +49,14 @@ pub enum TaskFault {
     Memory,
 }
 
-/// The task that the words of a command line ask for, the program's name first, where the program has this version: `run` or `serve`, with 1 to 16 workers, 4 if no
-/// number is given, any seed, or 0, and a budget of at most 1,000,000,000 calls, or 1,000,000; or `play`, with 1 to 16 workers, or
-/// 2, any seed, or 0, and at most 10,000 steps, or 100. `specs/Commands.antt` has the command line as `clap` reads it. `Usage` and `Version`
-/// where `clap` does not take the words: `Version` because they ask for the version, and `Usage` because they ask for help (`asked`) or are
-/// not those of the command line. `Memory` where no room could be had. `O(b)` for b bytes of words.
+/// The task that the words of a command line ask for, for a program with this version. The first word is the program's
+/// name. `specs/Commands.antt` has the command line as `clap` reads it.
+///
+/// The task is `run` or `serve`, with 1 to 16 workers (4 if not given), any seed (0) and a budget of at most
+/// 1,000,000,000 calls (1,000,000); or `play`, with 1 to 16 workers (2), any seed (0) and at most 10,000 steps (100).
+///
+/// Fails with `Version` if the words ask for the version, with `Usage` if they ask for help (`asked`) or are not those
+/// of the command line, and with `Memory` if an allocation is refused. O(b) for b bytes of words.
 pub fn task_of<'a>(alloc: Global, words: &'a [&'a str], version: &'a str) -> Result<Task, TaskFault>
     ensures ok { IfOk result (IsTaskIn (map (λ s. s.now) words.entry.now)) }
     ensures fault { IfErr result (IsFaultOf (map (λ s. s.now) words.entry.now)) }
@@ -62,7 +65,7 @@ pub fn task_of<'a>(alloc: Global, words: &'a [&'a str], version: &'a str) -> Res
         Ok(matches) => matches,
         Err(error) => return Err(usage_of(alloc, &error)),
     };
-    // `clap` takes no words without a task. Its contract does not say so, and so there is an answer for them.
+    // `clap` accepts no words without a subcommand. Its contract does not say so, so this case needs an answer.
     match matches.subcommand() {
         Some((name, options)) => task_in(name, options).ok_or(TaskFault::Memory),
         None => Err(TaskFault::Memory),
@@ -81,7 +84,7 @@ fn task_in(name: &str, options: &ArgMatches) -> Option<Task>
     }
 }
 
-/// The plan that the options give.
+/// The plan of the options.
 fn plan_in(options: &ArgMatches) -> Option<Plan>
     ensures { IfSome result (IsPlanIn (rows_of (found_of options.now))) }
 {
@@ -90,7 +93,7 @@ fn plan_in(options: &ArgMatches) -> Option<Plan>
     Plan::new(workers, seed_in(options)?, u64::from(budget))
 }
 
-/// The draw that the options give.
+/// The draw of the options.
 fn draw_in(options: &ArgMatches) -> Option<Draw>
     ensures { IfSome result (IsDrawIn (rows_of (found_of options.now))) }
 {
@@ -99,7 +102,7 @@ fn draw_in(options: &ArgMatches) -> Option<Draw>
     Draw::new(workers, seed_in(options)?, steps)
 }
 
-/// The number of an option, where it is at most `most`.
+/// The number of an option, if it is at most `most`.
 fn number_in(options: &ArgMatches, name: &str, most: u32) -> Option<u32>
     ensures number { IfSome result (λ n. (number_of name.now (rows_of (found_of options.now)) ≡ Some n) × (n ≤ most)) }
     ensures none { IsNone result → (text : List ℕ) → one_of name.now (rows_of (found_of options.now)) ≡ Some text → ¬ IsNumberUpTo most text }
@@ -117,7 +120,8 @@ fn seed_in(options: &ArgMatches) -> Option<u64>
     options.get_one::<u64>("seed")
 }
 
-/// The fault for words that `clap` does not take, with a text made from the text of `clap`. No clause says what the text is.
+/// The fault for words that `clap` does not accept, with a text made from the text of `clap`. No clause says what the
+/// text is.
 fn usage_of(alloc: Global, error: &Error) -> TaskFault
     ensures { IsUsageOf (kind_of error.now) result }
 {
@@ -132,7 +136,7 @@ fn usage_of(alloc: Global, error: &Error) -> TaskFault
     }
 }
 
-/// The text of an error, with a tip where a word too many is no option: it may name a file.
+/// The text of an error. If a superfluous word is not an option, the text has a tip, because the word may name a file.
 fn text_of(alloc: Global, error: &Error) -> Result<String, AllocError> {
     let text = error.to_string(alloc)?;
     let is_too_many = matches!(error.kind(), ErrorKind::UnknownArgument);
@@ -143,8 +147,8 @@ fn text_of(alloc: Global, error: &Error) -> Result<String, AllocError> {
     }
 }
 
-/// The exit status of a fault, and its text: for standard output where the status is 0, and else for standard error. It has no clause, and
-/// is only tested. `O(1)`.
+/// The exit status for a fault, and its text, which is for standard output if the status is 0 and otherwise for
+/// standard error. No clause says what they are; they are only tested. O(1).
 pub fn task_end(fault: &TaskFault) -> (u8, &str) {
     match fault {
         TaskFault::Usage { text, asked: true } | TaskFault::Version { text } => (0, text.as_str()),

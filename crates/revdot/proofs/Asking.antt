@@ -1,4 +1,4 @@
--- How far a session has been asked the lines of an input.
+-- How many lines of an input a session has answered.
 use Rattle.std.proofs.Common.{◌≡◌, ℕ, true, false, List, [], ◌∷◌, ◌++◌, Option, Some, None, Global, String, string_bytes, IfSome, IfNone, append-nil}
 use Rattle.std.proofs.Common.{subst, sym, ◌∙◌}
 use Rattle.fr_lines.specs.Requests.{reading}
@@ -9,7 +9,7 @@ use Rattle.fr_bytes.specs.Lines.{lines_of}
 use Rattle.fr_route.proofs.Asking.{HasAsked, none_asked, asked_more, blank_line, answered_line}
 use Rattle.revdot.specs.Drawings.{IsLeftBy}
 
--- the session was asked the lines up to those that are left
+-- the session has answered the lines up to those that are left
 abbrev pub IsAsked : List ℕ → List (List ℕ) → Option State → Type 0
 IsAsked whole left now = (answers : List ℕ) × HasAsked (lines_of whole) left now answers
 
@@ -23,7 +23,7 @@ pub answer_of : (line : List ℕ) (now next : Option State) (answer : Option (St
 answer_of line now next None blank told = ([], blank_line line now next blank.0 blank.1)
 answer_of line now next (Some text) blank told = (string_bytes text ++ 10 ∷ [], answered_line line (string_bytes text) now next told.0 told.1)
 
--- one line more
+-- one more line
 pub one_line_more : (whole line : List ℕ) (all left : List (List ℕ)) (now next : Option State) → all ≡ line ∷ left → IsAsked whole all now
     → ((text : List ℕ) × AreAnswers now (line ∷ []) text next) → IsAsked whole left next
 one_line_more whole line all left now next first h is =

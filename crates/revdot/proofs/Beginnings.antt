@@ -1,4 +1,4 @@
--- The links with which a round began, from those at its end.
+-- The links before a round, from those after it.
 use Rattle.std.proofs.Common.{◌≡◌, ◌∙◌, ℕ, ◌<◌, List, [], ◌∷◌, map, slice_index, arith, eq-eqb, ne_eqb, inl, inr, subst, sym}
 use Rattle.std.proofs.lemmas.Bool.{cond-false, cond-true}
 use Rattle.std.proofs.lemmas.List.Elements.{All-contains}

@@ -1,4 +1,4 @@
--- The picture of an input is determined by the input.
+-- The input determines its picture.
 use Rattle.std.proofs.Common.{◌≡◌, ◌∙◌, ℕ, ◌-◌, ◌≤◌, ◌⊎◌, List, [], ◌∷◌, ◌++◌, Option, None, Some, length, map, ap, arith, inl, inr, refl, subst, sym}
 use Rattle.std.specs.List.{range_with_len}
 use Rattle.std.proofs.lemmas.Bool.{cases_lt}
@@ -33,7 +33,7 @@ next_unique n d m x y p q =
           ]
     ]
 
--- no more than k turns, and fewer only where none is left
+-- at most k turns, and fewer only if no node can turn
 record AreMost (n d k : ℕ) (m : Moment) (xs : List ℕ) : Type 0 where
   few : length xs ≤ k
   all : (length xs ≡ k) ⊎ NoneCanTurn n d (after_turns m xs)
@@ -82,7 +82,7 @@ picture_unique picture None a b p q = p ∙ sym q
 picture_unique Network (Some s) a b p q = graph_unique s a b p q
 picture_unique Turns (Some s) a b p q = strip_unique s a b p q
 
--- an input has one picture
+-- an input has only one picture
 pub drawing_unique : (picture : Picture) (bytes a b : List ℕ) → IsDrawing picture bytes a → IsDrawing picture bytes b → a ≡ b
 drawing_unique picture bytes a b p q =
     let last : q.last ≡ p.last = (answers_unique None (lines_of bytes) q.is_left.0 p.is_left.0 q.last p.last q.is_left.1 p.is_left.1).1 in

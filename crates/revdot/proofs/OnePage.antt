@@ -1,4 +1,4 @@
--- The page of an input is determined by the input.
+-- The input determines its page.
 use Rattle.std.proofs.Common.{◌≡◌, ◌∙◌, ℕ, ◌+◌, Bool, true, false, List, [], ◌∷◌, ◌++◌, Option, None, Some, MatchBool, ap, inl, inr, subst, sym}
 use Rattle.std.specs.Prelude.{Result, Ok, Err, codes}
 use Rattle.fr_lines.specs.Requests.{PlainRequest, ask, reading}
@@ -97,6 +97,6 @@ blocks_unique s number (line ∷ rest) a b h k =
     let texts : h.0 ++ h.2 ≡ k.0 ++ k.2 = (λ i. one.0 i ++ more i) in
     h.5 ∙ (texts ∙ sym k.5)
 
--- an input has one page
+-- an input has only one page
 pub page_unique : (first last bytes a b : List ℕ) → IsPage first last bytes a → IsPage first last bytes b → a ≡ b
 page_unique first last bytes a b h k = h.2 ∙ (ap (λ (t : List ℕ). first ++ (t ++ last)) (blocks_unique None 1 (lines_of bytes) h.0 k.0 h.1 k.1) ∙ sym k.2)

@@ -1,4 +1,4 @@
--- Sinks, by the ends of links.
+-- Sinks, from the ends of links.
 use Rattle.std.proofs.Common.{◌≡◌, ◌≢◌, ◌∙◌, ℕ, ◌+◌, ◌<◌, ◌==◌, ◌||◌, ⊎_elim, Bool, true, false, List, ap, length, length-set, get_or, set}
 use Rattle.std.proofs.Common.{slice_index_or, take, refl, subst, sym, arith, eq-eqb, eqb-true, ne_eqb}
 use Rattle.std.proofs.Math.Bool.{or-false, or-true}
@@ -10,7 +10,7 @@ use Rattle.fr_graph.specs.Links.{Points}
 use Rattle.fr_graph.specs.Turn.{IsSink}
 use Rattle.revdot.specs.Ends.{HaveEnds}
 
--- the marks of the ends of one link more
+-- the marks with one end of one more link
 marked_more : (end_of : ℕ × ℕ → ℕ) (n k t : ℕ) (marks : List Bool) (links : List (ℕ × ℕ)) (d : ℕ × ℕ) → length marks ≡ n
     → k < length links → end_of (get_or links k d) ≡ t
     → ((x : ℕ) → x < n → slice_index_or marks x false ≡ list_any (λ (l : ℕ × ℕ). end_of l == x) (take k links))
@@ -29,7 +29,7 @@ marked_more end_of n k t marks links d long inside is before x low =
     ∙ (before x low ∙ sym (more ∙ (ap (λ (b : Bool). list_any ends (take k links) || b) other ∙ or-false (list_any ends (take k links))))))
     (cases_eq x t)
 
--- and of both its ends
+-- with both its ends
 pub ends_more : (n k t h : ℕ) (tails heads : List Bool) (links : List (ℕ × ℕ)) (d : ℕ × ℕ) → k < length links
     → get_or links k d ≡ (t, h) → HaveEnds n tails heads (take k links) → HaveEnds n (set tails t true) (set heads h true) (take (k + 1) links)
 ends_more n k t h tails heads links d inside is ends = record {
@@ -39,7 +39,7 @@ ends_more n k t h tails heads links d inside is ends = record {
   heads_are = marked_more (λ (l : ℕ × ℕ). l.1) n k h heads links d ends.heads_long inside (ap (λ (l : ℕ × ℕ). l.1) is) ends.heads_are;
 }
 
--- a mark as it is read
+-- a mark that is read
 pub mark_at : (marks : List Bool) (x n : ℕ) (read mark : Bool) → length marks ≡ n → x < n → read ≡ get_or marks x read
     → read ≡ mark → slice_index_or marks x false ≡ mark
 mark_at marks x n read mark long low is e =
@@ -47,7 +47,7 @@ mark_at marks x n read mark long low is e =
     get_or_default marks x false read inside ∙ (sym is ∙ e)
 
 module _ (n x : ℕ) (tails heads : List Bool) (links : List (ℕ × ℕ)) (ends : HaveEnds n tails heads links) (node : x < n) where
-  -- a head that is no tail
+  -- a head that is not a tail
   pub sink : slice_index_or heads x false ≡ true → slice_index_or tails x false ≡ false → IsSink links x
   sink head no_tail =
       let h = Any-from_list_any (λ (l : ℕ × ℕ). l.1 == x) links (sym (ends.heads_are x node) ∙ head) in (

@@ -1,4 +1,4 @@
--- How far the story of an input has been told.
+-- How many lines of an input the story has.
 use Rattle.std.proofs.Common.{◌≡◌, ◌∙◌, ℕ, ◌+◌, ◌≤◌, List, [], ◌∷◌, ◌++◌, length, ap, append_assoc, append-nil, arith, Option, None, Some, true}
 use Rattle.std.proofs.Common.{Bool, false, inl, inr, not, refl, rules, subst, sym, ◌&&◌}
 use Rattle.std.specs.List.{starts_with}
@@ -25,7 +25,7 @@ three old a b c one two new e f g =
     g ∙ (ap (λ (t : List ℕ). t ++ c) (f ∙ (ap (λ (t : List ℕ). t ++ b) e ∙ append_assoc old a b))
     ∙ (append_assoc old (a ++ b) c ∙ ap (λ (t : List ℕ). old ++ t) (append_assoc a b c)))
 
--- this was told of so many lines, and the story is that and whatever is to be told of those that are left
+-- this is the story of so many lines, and the whole story is this and that of the lines that are left
 pub record HasTold (whole : List ℕ) (left : List (List ℕ)) (now : Option State) (number : ℕ) (old new : List ℕ) : Type 0 where
   pub told : List ℕ
   pub text : new ≡ old ++ told
@@ -47,7 +47,7 @@ pub next_line : (whole line : List ℕ) (all left : List (List ℕ)) (now : Opti
     → HasTold whole (line ∷ left) now number old new
 next_line whole line all left now number old new is h = subst (λ (ls : List (List ℕ)). HasTold whole ls now number old new) is h
 
--- one line more is told
+-- the story has one more line
 pub one_line_more : (whole line : List ℕ) (left : List (List ℕ)) (now next : Option State) (number : ℕ)
     (old new newer block : List ℕ) → HasTold whole (line ∷ left) now number old new
     → IsBlock now (number + 1) line block next → newer ≡ new ++ block → HasTold whole left next (number + 1) old newer
@@ -65,7 +65,7 @@ all_told whole left now number old new none h =
     let last : AreBlocks now (number + 1) left [] = rw none refl in
     (h.told ++ [], h.rest [] last, h.text ∙ ap (λ (t : List ℕ). old ++ t) (sym (append-nil h.told)))
 
--- the three answers behind one another
+-- the three answers, one after the other
 pub settled_told : (s : Option State) (links counts hops old one two new : List ℕ) → IsAnswerLine s Links links
     → IsAnswerLine s Counts counts → IsAnswerLine s Hops hops
     → one ≡ old ++ links → two ≡ one ++ counts → new ≡ two ++ hops → (out : List ℕ) × AreSettledLines s out × (new ≡ old ++ out)
@@ -81,7 +81,7 @@ settled_told s links counts hops old one two new are_links are_counts are_hops e
     } in
     (links ++ (counts ++ hops), lines, three old links counts hops one two new e f g)
 
--- a short round: its net, its beginning, what it left, and the nodes that it reroutes, one after the other
+-- a short round: its nodes and destination, its beginning, its result, and the nodes that it reroutes
 pub round_told : (s : State) (session : Option State) (turns settled rerouted old one two more new : List ℕ)
     → Some s ≡ session → is_short s ≡ true → AreAllTurns most_told_turns s.nodes s.dest (beginning s) turns
     → AreSettledLines session settled → one ≡ old ++ net_text s.nodes s.dest → two ≡ one ++ beginning_text s turns
@@ -105,7 +105,7 @@ round_told s session turns settled rerouted old one two more new some short are_
     let in_session = subst (λ (t : Option State). IsRoundStory true t rerouted (net ++ rest)) some story in
     (net ++ rest, in_session, three old net (beginning_text s turns) (settled ++ pushes) one two new e f end)
 
--- a report is no refusal
+-- a report is not a refusal
 no_refusal : (s : State) (request : PlainRequest) (answer : List ℕ) → IsText s request answer
     → (makes_round request && not (starts_with eqb answer (codes "refused"))) ≡ makes_round request
 no_refusal s (new_network n d links) answer is = rw is.3 refl
@@ -120,13 +120,13 @@ no_refusal s (ask question) answer is = refl
 none_begun : (request : PlainRequest) → (makes_round request && false) ≡ false
 none_begun request = search rules
 
--- whether a request began a round, by its kind and its answer
+-- whether a request began a round, from its kind and its answer
 pub begun_by : (s next : Option State) (request : PlainRequest) (answer : List ℕ) (began : Bool) → IsAnswer s request answer next
     → began ≡ (makes_round request && not (starts_with eqb answer (codes "refused"))) → HasBegun s request began
 begun_by s next request answer began (inl (number, refused, is, same)) e = inl (number, refused, e ∙ rw is (none_begun request))
 begun_by s next request answer began (inr (new, accepted, is, same)) e = inr (new, accepted, e ∙ no_refusal new request answer is)
 
--- the answer to a request, what it asks, and its round, one after the other
+-- the answer to a request, what it asks, and its round
 pub answered_told : (s next : Option State) (number : ℕ) (request : PlainRequest) (began : Bool) (answer rerouted told old one two new : List ℕ)
     → IsAnswer s request answer next → IsTold s request next [] rerouted → HasBegun s request began → IsRoundStory began next rerouted told
     → one ≡ old ++ answer_text number answer → two ≡ one ++ asked_text (Ok request) → new ≡ two ++ told
@@ -145,7 +145,7 @@ answered_told s next number request began answer rerouted told old one two new i
     } in
     (_, answered, three old (answer_text number answer) (asked_text (Ok request)) told one two new e f g)
 
--- the answer to a line that is no request
+-- the answer to a line that is not a request
 pub refused_told : (s : Option State) (fault : LineFault) (why number : ℕ) (line : List ℕ) → is_blank line ≡ false → reading line ≡ Err fault
     → IsLineAnswer s (Err fault) (refusal_text why) s → IsBlock s number line (answer_text number (refusal_text why)) s
 refused_told s fault why number line asks reads is_answer = rw (asks, reads) record {

@@ -1,4 +1,4 @@
--- How far the turns of a round have come.
+-- How many turns of a round have been made.
 use Rattle.std.proofs.Common.{Err, IfOk, IfSome, MatchOption, None, Ok, Option, Result, Some, ◌^◌, ◌≤◌, ◌⊎◌, ◌≡◌, ◌∙◌, ℕ, ◌+◌, ◌<◌, List, [], ◌∷◌}
 use Rattle.std.proofs.Common.{◌++◌, drop, length, map, slice_index, ap, append_assoc, append-nil, length-append, eq-eqb, ne_eqb, ◌==◌, Bool, true}
 use Rattle.std.proofs.Common.{false, cond, refl, subst, sym, take, arith, inl, inr}
@@ -15,14 +15,14 @@ use Rattle.revdot.specs.Replays.{IsReplay, moment_of}
 use Rattle.revdot.specs.Strips.{beginning, first_link, after_turn, after_turns, IsNext, AreAllTurns, AreTurns, turn_text, turns_text}
 use Rattle.revdot.specs.declared.turns.Replay.{Replay}
 
--- so many turns of a round were made, of these nodes
+-- these nodes have turned in the round
 pub record HaveTurned (s : State) (number : ℕ) (turns : List ℕ) (replay : Replay) : Type 0 where
   pub is_replay : IsReplay s replay
   pub are_turns : AreTurns s.nodes s.dest (beginning s) turns
   pub now : after_turns (beginning s) turns ≡ moment_of replay
   pub counted : length turns ≡ number
 
--- the same, and each turn is drawn
+-- the same, with each turn drawn
 pub record HasTurned (s : State) (number : ℕ) (replay : Replay) (old new : List ℕ) : Type 0 where
   pub turns : List ℕ
   pub have : HaveTurned s number turns replay
@@ -87,7 +87,7 @@ at_start s replay old is first = record {
   text = sym (append-nil old);
 }
 
--- one turn more
+-- one more turn
 module _ (s : State) (number : ℕ) (replay after : Replay) (x : ℕ) (next : IsNext s.nodes s.dest (moment_of replay) x)
     (turned : moment_of after ≡ after_turn (moment_of replay) x)
     (kept : (s : State) → IsReplay s replay → IsReplay s after) where
@@ -115,7 +115,7 @@ module _ (s : State) (number : ℕ) (replay after : Replay) (x : ℕ) (next : Is
         ∙ sym (text_more s (beginning s) 1 h.turns x))));
   }
 
--- no turn is left, or the most were made
+-- no turn is left, or the limit is reached
 pub all_turned : (most : ℕ) (s : State) (number : ℕ) (turns : List ℕ) (replay : Replay) → HaveTurned s number turns replay → number ≤ most
     → (number ≡ most) ⊎ NoneCanTurn s.nodes s.dest (moment_of replay) → AreAllTurns most s.nodes s.dest (beginning s) turns
 all_turned most s number turns replay h few end = record {
@@ -127,7 +127,7 @@ all_turned most s number turns replay h few end = record {
   ];
 }
 
--- the next to turn has not turned often yet
+-- the next node to turn has not turned too often
 pub next_is_few : {E : Type 0} (n d : ℕ) (m : Moment) (r : Result (Option ℕ) E) → n < 2 ^ 32
     → IfOk r (λ next. MatchOption next (NoneCanTurn n d m) (IsNext n d m))
     → IfOk r (λ next. IfSome next (λ x. slice_index m.counts x < 2 ^ 32))
@@ -135,7 +135,7 @@ next_is_few n d m (Ok None) small is = tt
 next_is_few n d m (Ok (Some x)) small is = let cap = is.can.below_cap in omega arith
 next_is_few n d m (Err e) small is = tt
 
--- the links once they are written back
+-- the links after they are written back
 pub written_back : (x len : ℕ) (links new : List (ℕ × ℕ)) → new ≡ turn x links → len ≡ length links → take len (new ++ drop (length new) links) ≡ turn x links
 written_back x len links new is long =
     let same : length (turn x links) ≡ length links = length-map links (turned_link x) in

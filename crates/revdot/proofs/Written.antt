@@ -1,4 +1,4 @@
--- What the writing of a text comes to.
+-- The result of writing a text.
 use Rattle.std.proofs.Common.{◌≡◌, Err, IfErr, List, Ok, OnErr, OnOk, Option, Result, ℕ}
 use Rattle.std.specs.Io.KnownBytes.{Appends}
 use Rattle.fr_bytes.specs.Bytes.{IsBeginning, ReadsInput}

@@ -1,4 +1,4 @@
--- What a line asks, by words and numbers.
+-- The line of a story that says what a request asks. This project's own.
 use Rattle.std.specs.Prelude.{ℕ, List, [], ◌∷◌, ◌++◌, Result, Ok, Err, codes, decimal}
 use Rattle.fr_lines.specs.Requests.{PlainRequest, new_network, cut_link, add_link, join_nodes, make_edits, move_dest, walk_from, ask}
 use Rattle.fr_graph.specs.declared.edit.Edit.{Edit}
@@ -17,7 +17,7 @@ edit_text (Cut u v) = pair_text (codes "cut") u v
 edit_text (Add u v) = pair_text (codes "add") u v
 edit_text (Join u v) = pair_text (codes "join") u v
 
--- each edit after a space
+-- for each edit a space and the edit
 abbrev pub spaced_edits : List Edit → List ℕ
 spaced_edits [] = []
 spaced_edits (edit ∷ edits) = codes " " ++ (edit_text edit ++ spaced_edits edits)
@@ -37,7 +37,7 @@ request_text (move_dest d) = codes "dest" ++ (codes " " ++ decimal d)
 request_text (walk_from x) = codes "walk" ++ (codes " " ++ decimal x)
 request_text (ask question) = question_text question
 
--- what a line asks, as a line, and nothing where it is no request
+-- the line for a request, and nothing for a line that is not a request
 abbrev pub asked_text : Result PlainRequest LineFault → List ℕ
 asked_text (Ok request) = codes "asks " ++ (request_text request ++ codes "\n")
 asked_text (Err fault) = []

@@ -1,4 +1,4 @@
--- The picture of an input.
+-- The picture of an input. This project's own.
 use Rattle.std.specs.Prelude.{◌≡◌, ℕ, List, [], Option, Some, None}
 use Rattle.fr_route.specs.States.{State}
 use Rattle.fr_route.specs.Answers.{AreAnswers}
@@ -8,17 +8,17 @@ use Rattle.revdot.specs.Strips.{IsStripOf}
 use Rattle.revdot.specs.declared.drawing.Picture.{Picture}
 use Rattle.revdot.specs.declared.drawing.Picture.TheVariants.{Network, Turns}
 
--- the state that the lines of an input leave, if there is a network
+-- the state after the lines of an input; `None` if there is no network
 abbrev pub IsLeftBy : List ℕ → Option State → Type 0
 IsLeftBy bytes last = (answers : List ℕ) × AreAnswers None (lines_of bytes) answers last
 
--- the picture of a state; where there is no network there is no graph
+-- the picture of a state, and nothing without a network
 abbrev pub IsPictureOf : Picture → Option State → List ℕ → Type 0
 IsPictureOf picture None out = out ≡ []
 IsPictureOf Network (Some s) out = IsGraphOf s out
 IsPictureOf Turns (Some s) out = IsStripOf s out
 
--- the picture of the state that an input leaves
+-- the picture of the state after the lines of an input
 pub record IsDrawing (picture : Picture) (bytes out : List ℕ) : Type 0 where
   pub last : Option State
   pub is_left : IsLeftBy bytes last

@@ -1,4 +1,4 @@
--- Graphs in Graphviz's language, line by line.
+-- Graphs in the DOT language of Graphviz, line by line. The looks are this project's own.
 use Rattle.std.specs.Prelude.{ℕ, List, [], ◌++◌, Bool, true, false, Option, Some, None, codes, decimal}
 use Rattle.std.specs.List.{flat_map}
 use Rattle.revdot.specs.declared.graphs.NodeLook.{NodeLook}
@@ -9,7 +9,7 @@ use Rattle.revdot.specs.declared.graphs.DrawnNode.{DrawnNode}
 use Rattle.revdot.specs.declared.graphs.DrawnLink.{DrawnLink}
 use Rattle.revdot.specs.declared.graphs.Title.{Title}
 
--- what all nodes and all links have
+-- the attributes of all nodes and links
 unfoldable pub opening : List ℕ
 opening = codes "digraph network {\n    graph [ nodesep = 0.4 ranksep = 0.4 fontname = Helvetica ]\n    node [ shape = circle fixedsize = true width = 0.55 fontname = Helvetica style = filled fillcolor = white ]\n    edge [ color = gray50 arrowsize = 0.8 ]\n"
 
@@ -18,14 +18,14 @@ abbrev pub title_text : Option Title → List ℕ
 title_text (Some t) = codes "    label = <turn " ++ (decimal t.turn ++ (codes ": node " ++ (decimal t.node ++ codes ">\n")))
 title_text None = []
 
--- what a node has of its own
+-- the attributes of one node
 abbrev pub node_look_text : NodeLook → List ℕ
 node_look_text node.Plain = []
 node_look_text node.Destination = codes " shape = doublecircle"
 node_look_text node.CutOff = codes " color = gray70 fontcolor = gray60"
 node_look_text node.Turning = codes " fillcolor = gold"
 
--- the text behind it is small, on a line of its own
+-- begins a new line in a small font
 unfoldable pub small : List ℕ
 small = codes "<br/><font point-size='9'>"
 
@@ -41,7 +41,7 @@ node_line m = codes "    " ++ (decimal m.node ++ (codes " [ label = <" ++ (label
 abbrev pub lowest_line : ℕ → List ℕ
 lowest_line d = codes "    { rank = sink " ++ (decimal d ++ codes " }\n")
 
--- what a link has of its own
+-- the attributes of one link
 abbrev pub link_look_text : LinkLook → List ℕ
 link_look_text link.Plain = []
 link_look_text link.NextHop = codes " color = black penwidth = 2.5"

@@ -1,4 +1,4 @@
--- The page of an input.
+-- The page of an input. This project's own.
 use Rattle.std.specs.Prelude.{◌≡◌, ℕ, List, ◌++◌}
 use Rattle.revdot.specs.Stories.{IsStory}
 

@@ -1,4 +1,4 @@
--- A round that is gone through again, turn by turn.
+-- A round that is replayed turn by turn. For proofs only.
 use Rattle.std.specs.Prelude.{◌≡◌, length}
 use Rattle.fr_graph.specs.Links.{AreBelow}
 use Rattle.fr_core.specs.History.{Moment}
@@ -10,7 +10,7 @@ use Rattle.revdot.specs.declared.turns.Replay.{Replay}
 abbrev pub moment_of : Replay → Moment
 moment_of replay = moment replay.links.items replay.counts.items
 
--- the round is one on the links and nodes of this state
+-- the replay is of a round that ended in this state
 pub record IsReplay (s : State) (replay : Replay) : Type 0 where
   pub settled : replay.settled.items ≡ s.links
   pub below : AreBelow s.nodes replay.links.items

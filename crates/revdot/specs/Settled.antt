@@ -1,4 +1,4 @@
--- The graph of a settled network.
+-- The graph of a settled network. This project's own.
 use Rattle.std.specs.Prelude.{◌≡◌, ℕ, ◌==◌, if◌then◌else◌, false, List, None, map, slice_index, slice_index_or}
 use Rattle.std.specs.List.{range_with_len}
 use Rattle.fr_route.specs.States.{State}
@@ -13,13 +13,13 @@ use Rattle.revdot.specs.declared.graphs.LinkLook.TheVariants as link
 use Rattle.revdot.specs.declared.graphs.DrawnNode.{DrawnNode}
 use Rattle.revdot.specs.declared.graphs.DrawnLink.{DrawnLink}
 
--- how a node is drawn, by where it sends on to
+-- the look of a node with this hop
 abbrev pub node_look : Hop → NodeLook
 node_look Here = node.Destination
 node_look (To y) = node.Plain
 node_look CutOff = node.CutOff
 
--- how a link to this head is drawn, by where its tail sends on to: the next hop is bold
+-- the look of a link to this head whose tail has this hop: the link to the next hop is bold
 abbrev pub link_look : Hop → ℕ → LinkLook
 link_look Here head = link.Plain
 link_look (To y) head = if y == head then link.NextHop else link.Plain
@@ -31,7 +31,7 @@ settled_node counts hops x = record { node = x; count = slice_index counts x; lo
 abbrev pub settled_link : List Hop → ℕ × ℕ → DrawnLink
 settled_link hops l = record { tail = l.0; head = l.1; look = link_look (slice_index_or hops l.0 Here) l.1; back = false }
 
--- the graph of a state: each node with its settled count and each link, by the hops of the nodes
+-- the graph of a state: each node with its settled count, and each link
 pub record IsGraphOf (s : State) (out : List ℕ) : Type 0 where
   pub hops : List Hop
   pub are_hops : AreHops s s.nodes hops

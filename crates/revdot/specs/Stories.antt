@@ -1,4 +1,5 @@
--- The story of an input: the answer to each line, and each round turn by turn, with the nodes that get new hops.
+-- The story of an input: the answer to each line, and each round turn by turn, with the nodes that get new hops. This
+-- project's own.
 use Rattle.std.specs.Prelude.{◌≡◌, ℕ, ◌+◌, nat_le, ◌⊎◌, ◌&&◌, Bool, true, false, List, [], ◌∷◌, ◌++◌, Option, Some, None, Result, Ok, Err, MatchBool, codes, decimal, sum}
 use Rattle.fr_lines.specs.Requests.{PlainRequest, walk_from, ask, reading}
 use Rattle.fr_lines.specs.declared.requests.LineFault.{LineFault}
@@ -13,7 +14,7 @@ use Rattle.fr_bytes.specs.Lines.{lines_of}
 use Rattle.revdot.specs.Asked.{asked_text}
 use Rattle.revdot.specs.Strips.{AreAllTurns, BeginsTheRound, beginning}
 
--- the most nodes, and the most turns, of a round that is told turn by turn
+-- the limits for a round that is told turn by turn
 abbrev pub most_told_nodes : ℕ
 most_told_nodes = 256
 
@@ -33,7 +34,7 @@ first_text links = codes "first" ++ (spaced_links links ++ codes "\n")
 abbrev pub nodes_line : List ℕ → List ℕ → List ℕ
 nodes_line word nodes = word ++ (spaced nodes ++ codes "\n")
 
--- the links as they began the round, in the order in which they stand now, and its turns
+-- the links before the round, listed in the order of the settled links, and the turns
 abbrev pub beginning_text : State → List ℕ → List ℕ
 beginning_text s turns = first_text (beginning s).links ++ nodes_line (codes "turns") turns
 
@@ -41,7 +42,7 @@ beginning_text s turns = first_text (beginning s).links ++ nodes_line (codes "tu
 abbrev pub IsAnswerLine : Option State → Question → List ℕ → Type 0
 IsAnswerLine s question out = (answer : List ℕ) × IsAnswer s (ask question) answer s × (out ≡ answer ++ codes "\n")
 
--- what the round left, as it is answered
+-- the result of the round, as the session answers it
 pub record AreSettledLines (s : Option State) (out : List ℕ) : Type 0 where
   pub links : List ℕ
   pub counts : List ℕ
@@ -51,7 +52,7 @@ pub record AreSettledLines (s : Option State) (out : List ℕ) : Type 0 where
   pub are_hops : IsAnswerLine s Hops hops
   pub text : out ≡ links ++ (counts ++ hops)
 
--- how a round began, its turns one by one, what it left, and the nodes that get new hops
+-- the story of a round: its first links, its turns, its result, and the nodes that get new hops
 pub record IsTurnByTurn (s : State) (rerouted out : List ℕ) : Type 0 where
   pub begins : BeginsTheRound s
   pub turns : List ℕ
@@ -60,18 +61,18 @@ pub record IsTurnByTurn (s : State) (rerouted out : List ℕ) : Type 0 where
   pub settled : AreSettledLines (Some s) left
   pub text : out ≡ beginning_text s turns ++ (left ++ nodes_line (codes "pushes") rerouted)
 
--- what is told behind the net of a round: the whole where it is short
+-- the part after the line of nodes and destination: the whole story if the round is short
 abbrev pub IsToldRound : State → List ℕ → List ℕ → Type 0
 IsToldRound s rerouted out = MatchBool (is_short s) (IsTurnByTurn s rerouted out) (out ≡ codes "omitted\n")
 
--- what is told behind an answer, by the state after it: of a round, if the line began one
+-- the part after an answer, for the state after it: the story of a round if the line began one
 abbrev pub IsRoundStory : Bool → Option State → List ℕ → List ℕ → Type 0
 IsRoundStory true (Some s) rerouted told =
     (out : List ℕ) × IsToldRound s rerouted out × (told ≡ net_text s.nodes s.dest ++ out)
 IsRoundStory true None rerouted told = told ≡ []
 IsRoundStory false s rerouted told = told ≡ []
 
--- a request that begins a round where it is accepted: a network or a change
+-- a request that begins a round if it is accepted: a network or a change
 abbrev pub makes_round : PlainRequest → Bool
 makes_round (walk_from x) = false
 makes_round (ask question) = false
@@ -83,7 +84,7 @@ HasBegun s request began =
     ((number : ℕ) × IsRefused s request number × (began ≡ false))
     ⊎ ((new : State) × IsAccepted s request new × (began ≡ makes_round request))
 
--- whether a line as it is read began one
+-- the same for a line that was read with this result
 abbrev pub HasLineBegun : Option State → Result PlainRequest LineFault → Bool → Type 0
 HasLineBegun s (Ok request) began = HasBegun s request began
 HasLineBegun s (Err fault) began = began ≡ false
@@ -92,7 +93,7 @@ HasLineBegun s (Err fault) began = began ≡ false
 abbrev pub answer_text : ℕ → List ℕ → List ℕ
 answer_text number answer = codes "line " ++ (decimal number ++ (codes "\n" ++ (answer ++ codes "\n")))
 
--- what is told of a line that is not blank: its answer, what it asks, and its round, if it began one
+-- the story of a line that is not blank: its answer, what it asks, and its round if it began one
 pub record IsAnswered (s : Option State) (number : ℕ) (asked : Result PlainRequest LineFault) (block : List ℕ) (next : Option State) : Type 0 where
   pub answer : List ℕ
   pub is_answer : IsLineAnswer s asked answer next
@@ -104,11 +105,11 @@ pub record IsAnswered (s : Option State) (number : ℕ) (asked : Result PlainReq
   pub of_round : IsRoundStory began next rerouted told
   pub text : block ≡ answer_text number answer ++ (asked_text asked ++ told)
 
--- what is told of a line, and the state after it: a blank line has no answer
+-- the story of a line, and the state after it: nothing for a blank line
 abbrev pub IsBlock : Option State → ℕ → List ℕ → List ℕ → Option State → Type 0
 IsBlock s number line block next = MatchBool (is_blank line) ((block ≡ []) × (next ≡ s)) (IsAnswered s number (reading line) block next)
 
--- what is told of lines, of which the first has this number
+-- the story of lines, the first of which has this number
 abbrev pub AreBlocks : Option State → ℕ → List (List ℕ) → List ℕ → Type 0
 AreBlocks s number [] out = out ≡ []
 AreBlocks s number (line ∷ rest) out =

@@ -1,4 +1,4 @@
-//! What a story tells of a request: what it asks.
+//! The line of a story that says what a request asks.
 
 ghost use Rattle.std.specs.Prelude.{◌≡◌, ◌++◌, Ok, OnOk, codes, decimal, string_bytes};
 ghost use Rattle.fr_lines.specs.Requests.{plain};
@@ -11,7 +11,7 @@ use fr_lines::{Question, Request};
 use std::alloc::AllocError;
 use std::fmt::Write;
 
-/// Adds what a line asks, by words and numbers.
+/// Appends the line that says what a request asks.
 pub fn push_asked(story: &mut String, request: &Request) -> Result<(), AllocError>
     ensures { OnOk result (string_bytes story.new ≡ string_bytes story.old ++ asked_text (Ok (plain request.now))) }
 {
@@ -63,7 +63,7 @@ fn push_edits(story: &mut String, edits: &[Edit]) -> Result<(), AllocError>
     Ok(())
 }
 
-/// Adds an edit after a space.
+/// Appends a space and an edit.
 fn push_edit(story: &mut String, edit: Edit) -> Result<(), AllocError>
     ensures { OnOk result (string_bytes story.new ≡ string_bytes story.old ++ (codes " " ++ edit_text edit)) }
 {
@@ -75,7 +75,7 @@ fn push_edit(story: &mut String, edit: Edit) -> Result<(), AllocError>
     }
 }
 
-/// Adds a word and two numbers.
+/// Appends a word and two numbers.
 fn push_pair(story: &mut String, word: &str, u: u32, v: u32) -> Result<(), AllocError>
     ensures { OnOk result (string_bytes story.new ≡ string_bytes story.old ++ pair_text word.now u v) }
 {
@@ -84,7 +84,7 @@ fn push_pair(story: &mut String, word: &str, u: u32, v: u32) -> Result<(), Alloc
     push_number(story, v)
 }
 
-/// Adds a word and a number.
+/// Appends a word and a number.
 fn push_single(story: &mut String, word: &str, number: u32) -> Result<(), AllocError>
     ensures { OnOk result (string_bytes story.new ≡ string_bytes story.old ++ (word.now ++ (codes " " ++ decimal number))) }
 {
@@ -92,7 +92,7 @@ fn push_single(story: &mut String, word: &str, number: u32) -> Result<(), AllocE
     push_number(story, number)
 }
 
-/// Adds a number after a space.
+/// Appends a space and a number.
 fn push_number(story: &mut String, number: u32) -> Result<(), AllocError>
     ensures { OnOk result (string_bytes story.new ≡ string_bytes story.old ++ (codes " " ++ decimal number)) }
 {

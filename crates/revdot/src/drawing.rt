@@ -13,18 +13,18 @@ use fr_route::Session;
 use std::alloc::{AllocError, Global};
 use std::io::{Read, Write};
 
-/// What is drawn of the network that an input leaves.
+/// What to draw of the network that an input leaves.
 #[derive(Clone, Copy)]
 pub enum Picture {
-    /// The network as it stands.
+    /// The network after the last line.
     Network,
-    /// Each turn of the last round, and then the network as it stands.
+    /// Each turn of the last round, and then the network after it.
     Turns,
 }
 
-/// Reads the whole input, asks a session each of its lines, writes the picture of the network that they leave, or
-/// nothing where there is none, and flushes once. At most one byte past the limit of 16,777,216 bytes is read. A fault
-/// other than `Write` has written nothing.
+/// Reads the whole input, answers its lines in a session, writes the picture of the resulting network (nothing without
+/// a network), and flushes once. It reads at most one byte more than the limit of 16,777,216 bytes. If it fails with
+/// any fault but `Write`, it has written nothing.
 pub fn draw<R: Read, W: Write>(
     alloc: Global,
     reader: &mut R,

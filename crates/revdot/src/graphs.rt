@@ -1,4 +1,4 @@
-//! A graph as a text in Graphviz's language.
+//! A graph as a text in the DOT language of Graphviz.
 
 ghost use Rattle.std.specs.Prelude.{◌≡◌, ◌++◌, OnOk, string_bytes};
 ghost use Rattle.std.specs.List.{flat_map};
@@ -38,13 +38,13 @@ pub enum LinkLook {
 pub struct DrawnNode {
     /// Its number.
     pub node: u32,
-    /// How often it has turned, which stands below its number.
+    /// How often it has turned. The drawing has this below the number.
     pub count: u64,
     /// How it is drawn.
     pub look: NodeLook,
 }
 
-/// A link of a graph. It is laid out from its tail down to its head.
+/// A link of a graph. It is drawn from its tail down to its head.
 #[derive(Clone, Copy)]
 pub struct DrawnLink {
     /// The upper end.
@@ -57,16 +57,16 @@ pub struct DrawnLink {
     pub back: bool,
 }
 
-/// What stands below a graph: which turn it shows, counted from 1, and of which node.
+/// The text below a graph of a turn.
 #[derive(Clone, Copy)]
 pub struct Title {
-    /// The number of the turn.
+    /// The number of the turn, counted from 1.
     pub turn: u32,
     /// The node that turns.
     pub node: u32,
 }
 
-/// Adds a graph to a text.
+/// Appends a graph.
 pub fn push_graph(
     text: &mut String,
     title: Option<Title>,
@@ -84,7 +84,7 @@ pub fn push_graph(
     text.push_str("}\n")
 }
 
-/// The first lines of each graph: what all nodes and all links have.
+/// The first lines of each graph: the attributes of all nodes and links.
 fn opening_text() -> &'static str
     ensures { result.now ≡ opening }
 {
@@ -133,7 +133,7 @@ fn push_label(text: &mut String, node: u32, count: u64) -> Result<(), AllocError
     Ok(())
 }
 
-/// What makes the text behind it small, on a line of its own.
+/// Begins a new line in a small font.
 #[tactic(auto, unfolding(crate::specs::Graphs::small))]
 fn small_text() -> &'static str
     ensures { result.now ≡ small }
@@ -152,7 +152,7 @@ fn look_of_node(look: NodeLook) -> &'static str
     }
 }
 
-/// The destination stands below all other nodes.
+/// The line that places the destination below all other nodes.
 fn push_lowest(text: &mut String, dest: u32) -> Result<(), AllocError>
     ensures { OnOk result (string_bytes text.new ≡ string_bytes text.old ++ lowest_line dest) }
 {

@@ -1,5 +1,5 @@
-//! The program `revdot`: draws the network that the lines of standard input leave, in Graphviz's language, or tells
-//! their story in a page for a browser.
+//! The program `revdot`. It draws the network that the lines of standard input leave, in the DOT language of Graphviz,
+//! or writes a page for a browser with the story of these lines.
 #![tactic(auto)]
 
 mod asked;
@@ -25,7 +25,7 @@ use std::rt::Env;
 use std::{env, io};
 use viewer::{FIRST_PART, LAST_PART};
 
-/// What the program is for, and how it is called.
+/// The help text.
 const HELP: &str = "\
 Draws the network that the lines of standard input leave, as a graph in Graphviz's language.
 
@@ -45,11 +45,11 @@ enum Task {
     Draw(Picture),
     /// Write the page.
     Page,
-    /// Say what it is for.
+    /// Print the help text.
     Help,
-    /// Say its version.
+    /// Print the version.
     Version,
-    /// Refuse this word, or one that is no UTF-8.
+    /// Refuse this word, or a word that is not UTF-8.
     Refuse(Option<String>),
 }
 
@@ -74,7 +74,7 @@ fn main(rt: HostRuntime) -> ExitCode {
     }
 }
 
-/// How the writing of a text that was asked for ended.
+/// The result of printing a text.
 fn told(written: io::Result<()>) -> Result<(), RunFault> {
     match written {
         Ok(()) => Ok(()),
@@ -90,8 +90,8 @@ fn refuse<R: Eprint>(rt: &R, word: Option<String>) {
     };
 }
 
-/// The task of the command line: without a word the network as it stands. The first word that is help, the version or
-/// wrong decides, and else the last word.
+/// The task of the command line; without words, to draw the network. The first word that asks for help or the version,
+/// or is unknown, decides. Otherwise the last word decides.
 fn task_of<R: Env + Alloc<A = Global>>(rt: &R) -> Result<Task, RunFault> {
     let words = match env::args(rt) {
         Ok(words) => words,

@@ -1,4 +1,4 @@
-//! From an input to a page that tells its story.
+//! From an input to a page with its story.
 
 ghost use Rattle.std.specs.Prelude.{IfOk, IfErr, OnOk, string_bytes};
 ghost use Rattle.fr_bytes.specs.Bytes.{ReadsAtMostOneTooMany};
@@ -10,11 +10,13 @@ use fr_bytes::{RunFault, read_input, write_out};
 use std::alloc::{AllocError, Global};
 use std::io::{Read, Write};
 
-/// Reads the whole input, asks a session each of its lines, writes the page of the input, which is its story between
-/// the two parts of the viewer, and flushes once. At most one byte past the limit of 16,777,216 bytes is read. A fault
-/// other than `Write` has written nothing. The text is made before any of it is written; a round of up to 256 nodes
-/// and 4,096 turns is made once more, each turn in the time of the nodes and links, and a longer one, or one of more
-/// nodes, is told by its size.
+/// Reads the whole input, answers its lines in a session, writes the page of the input (its story between the two parts
+/// of the viewer), and flushes once. It reads at most one byte more than the limit of 16,777,216 bytes. If it fails
+/// with any fault but `Write`, it has written nothing.
+///
+/// The whole text is made before any of it is written. A round of at most 4,096 turns, on a network of at most 256
+/// nodes, is made again turn by turn; each turn takes time linear in the nodes and links. Of any other round the page
+/// has only the size.
 pub fn page<R: Read, W: Write>(
     alloc: Global,
     reader: &mut R,

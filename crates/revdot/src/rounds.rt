@@ -1,4 +1,4 @@
-//! What a story tells of a round: how it began, its turns one by one, what it left, and the nodes that get new hops.
+//! The part of a story about a round: its first links, its turns, its result, and the nodes that get new hops.
 
 ghost use Rattle.std.specs.Prelude.{◌≡◌, ◌++◌, ℕ, List, true, IfOk, OnOk, codes, decimal, length, string_bytes};
 ghost use Rattle.revdot.specs.Replays.{IsReplay, moment_of};
@@ -12,13 +12,13 @@ use fr_route::{Router, Session};
 use std::alloc::{AllocError, Global};
 use std::fmt::Write;
 
-/// The most nodes of a network whose rounds are told turn by turn.
+/// The greatest number of nodes of a network whose rounds are told turn by turn.
 const MOST_NODES: u32 = 256;
 
-/// The most turns of a round that is told turn by turn.
+/// The greatest number of turns of a round that is told turn by turn.
 const MOST_TURNS: u64 = 4_096;
 
-/// Adds what is told of the last round of a session, which gave these nodes new hops.
+/// Appends the story of the last round of a session. The round gave the nodes of `rerouted` new hops.
 pub fn push_round(
     story: &mut String,
     alloc: Global,
@@ -40,7 +40,7 @@ pub fn push_round(
     push_nodes_line(story, "pushes", rerouted)
 }
 
-/// Adds how many nodes there are, and which is the destination.
+/// Appends the number of nodes and the destination.
 fn push_net(story: &mut String, nodes: u32, dest: u32) -> Result<(), AllocError>
     ensures { OnOk result (string_bytes story.new ≡ string_bytes story.old ++ net_text nodes dest) }
 {
@@ -54,7 +54,7 @@ fn is_short_round(router: &Router) -> bool
     router.net().nodes() <= MOST_NODES && router.report().turned <= MOST_TURNS
 }
 
-/// Adds the links as they began a round, and its turns.
+/// Appends the links before a round, and the turns of the round.
 fn push_beginning(story: &mut String, alloc: Global, router: &Router) -> Result<(), AllocError>
     ensures { OnOk result ((turns : List ℕ) × AreAllTurns most_told_turns router.now.nodes router.now.dest (beginning router.now) turns
         × (string_bytes story.new ≡ string_bytes story.old ++ beginning_text router.now turns)) }
@@ -65,7 +65,7 @@ fn push_beginning(story: &mut String, alloc: Global, router: &Router) -> Result<
     push_nodes_line(story, "turns", &turns)
 }
 
-/// Adds the links as they began a round.
+/// Appends the links before a round.
 fn push_first(story: &mut String, links: &[(u32, u32)]) -> Result<(), AllocError>
     ensures { OnOk result (string_bytes story.new ≡ string_bytes story.old ++ first_text links.now) }
 {
@@ -89,7 +89,7 @@ fn push_link(story: &mut String, link: (u32, u32)) -> Result<(), AllocError>
     write!(story, " {}>{}", link.0, link.1)
 }
 
-/// Adds a line: a word, and these nodes.
+/// Appends a line: a word and these nodes.
 fn push_nodes_line(story: &mut String, word: &str, nodes: &[u32]) -> Result<(), AllocError>
     ensures { OnOk result (string_bytes story.new ≡ string_bytes story.old ++ nodes_line word.now nodes.now) }
 {
@@ -107,7 +107,7 @@ fn push_nodes(story: &mut String, nodes: &[u32]) -> Result<(), AllocError>
     Ok(())
 }
 
-/// The nodes that turn in a round, one by one.
+/// The nodes that turn in a round, one after the other.
 fn turns_of(alloc: Global, router: &Router, mut replay: Replay) -> Result<Vec<u32>, AllocError>
     requires replay { IsReplay router.now replay }
     requires first { moment_of replay ≡ beginning router.now }
@@ -124,7 +124,7 @@ fn turns_of(alloc: Global, router: &Router, mut replay: Replay) -> Result<Vec<u3
     Ok(turns)
 }
 
-/// Adds the links, the counts and the hops that a round left, as a session answers them.
+/// Appends the links, the counts and the hops after a round, as a session answers them.
 fn push_settled_lines(
     story: &mut String,
     alloc: Global,
@@ -138,7 +138,7 @@ fn push_settled_lines(
     push_answer_to(story, alloc, session, Question::Hops)
 }
 
-/// Adds the answer of a session to a question.
+/// Appends the answer of a session to a question.
 fn push_answer_to(
     story: &mut String,
     alloc: Global,

@@ -9,7 +9,7 @@ use crate::graphs::{DrawnLink, DrawnNode, LinkLook, NodeLook, push_graph};
 use fr_route::{Hop, Router};
 use std::alloc::{AllocError, Global};
 
-/// Adds the graph of a settled network to a text.
+/// Appends the graph of a settled network.
 pub fn push_settled(text: &mut String, alloc: Global, router: &Router) -> Result<(), AllocError>
     ensures { OnOk result ((graph : List ℕ) × IsGraphOf router.now graph × (string_bytes text.new ≡ string_bytes text.old ++ graph)) }
 {
@@ -19,7 +19,7 @@ pub fn push_settled(text: &mut String, alloc: Global, router: &Router) -> Result
     push_graph(text, None, router.dest(), &nodes, &links)
 }
 
-/// Where each node sends on to.
+/// The hop of each node.
 fn hops_of(alloc: Global, router: &Router) -> Result<Vec<Hop>, AllocError>
     ensures { IfOk result (λ hops. AreHops router.now router.now.nodes hops.items) }
 {
@@ -47,7 +47,7 @@ fn settled_nodes(alloc: Global, router: &Router, hops: &[Hop]) -> Result<Vec<Dra
     Ok(nodes)
 }
 
-/// How a node is drawn, by where it sends on to.
+/// The look of a node with this hop.
 fn look_by_hop(hop: Hop) -> NodeLook
     ensures { result ≡ node_look hop }
 {
@@ -77,7 +77,7 @@ fn settled_links(alloc: Global, router: &Router, hops: &[Hop]) -> Result<Vec<Dra
     Ok(links)
 }
 
-/// How a link to `head` is drawn, by where its tail sends on to.
+/// The look of a link to `head` whose tail has this hop.
 fn look_of_link(hop: Hop, head: u32) -> LinkLook
     ensures { result ≡ link_look hop head }
 {

@@ -1,4 +1,4 @@
-//! The session that the lines of an input leave.
+//! The session after the lines of an input.
 
 ghost use Rattle.std.specs.Prelude.{◌≡◌, ◌∷◌, [], ℕ, IfOk, List, OnOk};
 ghost use Rattle.fr_route.specs.Answers.{AreAnswers};
@@ -8,7 +8,7 @@ use fr_bytes::Lines;
 use fr_route::Session;
 use std::alloc::{AllocError, Global};
 
-/// A session that was asked each line of the input. No thread is started.
+/// A session that has answered each line of the input. It starts no thread.
 pub fn session_after(alloc: Global, input: &[u8]) -> Result<Session, AllocError>
     ensures { IfOk result (IsLeftBy input.now) }
 {
@@ -19,7 +19,7 @@ pub fn session_after(alloc: Global, input: &[u8]) -> Result<Session, AllocError>
     Ok(session)
 }
 
-/// Asks a session a line, and drops the answer.
+/// Answers a line in a session, and drops the answer.
 fn ask(alloc: Global, session: &mut Session, line: &[u8]) -> Result<(), AllocError>
     ensures { OnOk result ((answer : List ℕ) × AreAnswers session.old (line.now ∷ []) answer session.new) }
 {

@@ -15,7 +15,7 @@ use fr_route::{Refusal, Session, is_blank};
 use std::alloc::{AllocError, Global};
 use std::fmt::Write;
 
-/// Adds the story of an input. No thread is started.
+/// Appends the story of an input. It starts no thread.
 pub fn push_story(story: &mut String, alloc: Global, input: &[u8]) -> Result<(), AllocError>
     ensures { OnOk result ((told : List ℕ) × IsStory input.now told × (string_bytes story.new ≡ string_bytes story.old ++ told)) }
 {
@@ -28,7 +28,7 @@ pub fn push_story(story: &mut String, alloc: Global, input: &[u8]) -> Result<(),
     Ok(())
 }
 
-/// Adds what is told of a line, which is nothing where it is blank.
+/// Appends the story of a line: nothing if the line is blank.
 fn push_line(
     story: &mut String,
     alloc: Global,
@@ -50,7 +50,7 @@ fn push_line(
     }
 }
 
-/// Adds the number of a line that is no request, and its answer.
+/// Appends the number of a line that is not a request, and its answer.
 fn push_refusal(story: &mut String, number: u64, refusal: Refusal) -> Result<(), AllocError>
     ensures { OnOk result (string_bytes story.new
         ≡ string_bytes story.old ++ answer_text number (refusal_text (number_of refusal))) }
@@ -58,7 +58,7 @@ fn push_refusal(story: &mut String, number: u64, refusal: Refusal) -> Result<(),
     writeln!(story, "line {number}\nrefused {}", refusal.number())
 }
 
-/// Adds the number of a line, the answer to its request, what it asks, and its round, if it began one.
+/// Appends the number of a line, the answer to its request, what it asks, and its round if it began one.
 fn push_answered(
     story: &mut String,
     alloc: Global,

@@ -11,10 +11,10 @@ use crate::turns::Replay;
 use fr_route::Router;
 use std::alloc::{AllocError, Global};
 
-/// The most turns that are drawn.
+/// The greatest number of turns that are drawn.
 const MAX_TURNS: u32 = 1_000;
 
-/// Adds a graph for each turn of the last round, and then one of the settled network.
+/// Appends a graph for each turn of the last round, and then one of the settled network.
 pub fn push_strip(text: &mut String, alloc: Global, router: &Router) -> Result<(), AllocError>
     ensures { OnOk result ((strip : List ℕ) × IsStripOf router.now strip × (string_bytes text.new ≡ string_bytes text.old ++ strip)) }
 {
@@ -22,7 +22,7 @@ pub fn push_strip(text: &mut String, alloc: Global, router: &Router) -> Result<(
     push_settled(text, alloc, router)
 }
 
-/// Adds a graph for each turn of the last round.
+/// Appends a graph for each turn of the last round.
 fn push_turns(text: &mut String, alloc: Global, router: &Router) -> Result<(), AllocError>
     ensures { OnOk result ((turns : List ℕ) × AreAllTurns most_turns router.now.nodes router.now.dest (beginning router.now) turns
         × (string_bytes text.new ≡ string_bytes text.old ++ turns_text router.now (beginning router.now) 1 turns)) }
@@ -42,7 +42,7 @@ fn push_turns(text: &mut String, alloc: Global, router: &Router) -> Result<(), A
     Ok(())
 }
 
-/// Adds the graph of the next turn of a round.
+/// Appends the graph of the next turn of a round.
 fn push_turn(
     text: &mut String,
     alloc: Global,
@@ -100,7 +100,7 @@ fn look_at_turn(y: u32, dest: u32, x: u32) -> NodeLook
     }
 }
 
-/// The links at the turn of `x`: where they stand in the end, and how they point.
+/// The links at the turn of `x`. They are placed as the settled links, and have their directions before the turn.
 fn turn_links(
     alloc: Global,
     settled: &[(u32, u32)],

@@ -13,14 +13,14 @@ use fr_graph::Net;
 use fr_route::Router;
 use std::alloc::{AllocError, Global};
 
-/// The last round of a router, gone through again turn by turn.
+/// The last round of a router, replayed turn by turn.
 #[derive(Drop)]
 pub struct Replay {
-    /// The links as the round left them.
+    /// The links after the round.
     pub settled: Vec<(u32, u32)>,
-    /// The same links, as they point before the next turn.
+    /// The same links with their directions before the next turn.
     pub links: Vec<(u32, u32)>,
-    /// How often each node has turned before.
+    /// How often each node has turned before the next turn.
     pub counts: Vec<u64>,
 }
 
@@ -42,7 +42,7 @@ impl Replay {
         })
     }
 
-    /// The next node to turn: the least that can.
+    /// The next node to turn: the one with the lowest number that can.
     pub fn next_to_turn(&self, alloc: Global, router: &Router) -> Result<Option<u32>, AllocError>
         requires { IsReplay router.now self.now }
         ensures next { IfOk result (λ next. MatchOption next
@@ -78,7 +78,7 @@ fn links_of(alloc: Global, net: &Net) -> Result<Vec<(u32, u32)>, AllocError>
     net.links().collect(alloc)
 }
 
-/// How the settled links pointed when the round began.
+/// The directions of the settled links before the round.
 fn first_links(
     alloc: Global,
     settled: &[(u32, u32)],
@@ -94,7 +94,7 @@ fn first_links(
     Ok(links)
 }
 
-/// How a settled link pointed when the round began.
+/// The direction of a settled link before the round.
 fn first_link(counts: &[u64], link: (u32, u32)) -> (u32, u32)
     requires tail { link.0 < length counts.now }
     requires head { link.1 < length counts.now }
@@ -116,7 +116,7 @@ struct Ends {
     heads: Vec<bool>,
 }
 
-/// The ends of the links among so many nodes.
+/// The ends of these links, for this many nodes.
 fn ends_of(alloc: Global, nodes: u32, links: &[(u32, u32)]) -> Result<Ends, AllocError>
     requires { AreBelow nodes links.now }
     ensures { IfOk result (λ ends. HaveEnds nodes ends.tails.items ends.heads.items links.now) }
@@ -130,7 +130,7 @@ fn ends_of(alloc: Global, nodes: u32, links: &[(u32, u32)]) -> Result<Ends, Allo
     Ok(Ends { tails, heads })
 }
 
-/// The next node to turn: the least that can.
+/// The next node to turn: the one with the lowest number that can.
 fn next_to_turn(
     alloc: Global,
     nodes: u32,
@@ -154,7 +154,7 @@ fn next_to_turn(
     Ok(None)
 }
 
-/// Turns a node: each of its links points away from it then.
+/// Turns a node. Afterwards each of its links points away from it.
 fn turn_node(links: &mut [(u32, u32)], x: u32)
     ensures { links.new ≡ turn_of x links.old }
 {

@@ -1,5 +1,5 @@
-//! The program `revroute`: answers the lines of standard input on standard output, all of them at its end or each as it comes, or plays
-//! full reversal step by step.
+//! The program `revroute`. It answers the lines of standard input on standard output, all of them at the end or each as
+//! it comes, or plays full reversal step by step.
 #![tactic(auto)]
 
 use fr_command::{RunFault, Task, TaskFault, play_drawn, run, run_end, serve, task_end, task_of};
@@ -27,7 +27,7 @@ fn main(rt: HostRuntime) -> ExitCode {
     }
 }
 
-/// Ends for words that are no task: with the text that they ask for, or with what is wrong.
+/// Ends the program if the words ask for no task: prints the text that they ask for, or what is wrong with them.
 fn tell<R: Print + Eprint>(rt: &R, fault: &TaskFault) -> ExitCode {
     let (status, text) = task_end(fault);
     if status != 0 {
@@ -38,14 +38,14 @@ fn tell<R: Print + Eprint>(rt: &R, fault: &TaskFault) -> ExitCode {
     ExitCode::from(status)
 }
 
-/// Ends for a fault, which is told on standard error.
+/// Ends the program with a fault, which it reports on standard error.
 fn end<R: Eprint>(rt: &R, fault: &RunFault) -> ExitCode {
     let (status, text) = run_end(fault);
     let _ = rt.eprintln(text);
     ExitCode::from(status)
 }
 
-/// The words of the command line, the program's name first. One that is no UTF-8 is a wrong word.
+/// The words of the command line, with the program's name first. A word that is not UTF-8 is a usage fault.
 fn words_of<R: Env + Alloc<A = Global>>(rt: &R) -> Result<Vec<String>, TaskFault> {
     match env::args(rt) {
         Ok(words) => words.collect(rt.alloc()).map_err(|_| TaskFault::Memory),

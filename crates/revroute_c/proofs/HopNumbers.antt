@@ -23,7 +23,7 @@ hop_numbers s hops are = record {
       );
 }
 
--- they are written where the place begins with them
+-- they are written if the place begins with them
 pub numbers_written : (hops : List Hop) (before front : List ℕ) → front ≡ map number_of hops → length hops ≤ length before
     → IsWritten (map number_of hops) before (front ++ drop (length hops) before)
 numbers_written hops before front is low =

@@ -1,4 +1,4 @@
--- What a handle owns, whose pointer is null or leads to a value in a block of its own. Assumes `Logic`.
+-- What a handle owns: its pointer is null, or points to a value in a block of its own. Assumes `Logic`.
 use Rattle.std.proofs.Common.{◌≡◌, ◌≢◌, ℕ, List, ◌∷◌, refl, sym, subst, ◌∙◌}
 use seplogic.Ra.Ura.{Ura}
 use mir.Raw.{raw as bare}
@@ -38,13 +38,13 @@ module _ {M : Type 1} {𝓤 : Ura M} (𝓛 : Logic 𝓤) (S : RattleType) (a : G
       (guard_i 𝓤 (Testable p) (sem 𝓛 (boxed S a p s)))
 
 module _ (S : RattleType) (none : S.Denot) where
-  -- it may go to another thread, where the value may, since its block may be freed there
+  -- it may go to another thread if the value may, because its block may be released there
   pub owned_keyless : IsSend S → (p : Ptr) (s : S.Denot) → Keyless (owned_at S none p s)
   owned_keyless sends null_ptr s = λ _. tt
   owned_keyless sends (block_ptr b o) s = λ alloc. (part_keyless S sends full_share s b o, frees.frees alloc (bare (lone S.mir)) (block_ptr b o))
 
   module _ {M : Type 1} {𝓤 : Ura M} {𝓛 : Logic 𝓤} {K : Type 0} {Γ : List (Item 𝓤)} {G : Goal 𝓤 𝓛.H} where
-    -- by the pointer's form: at null there is no value, and else it is boxed
+    -- by cases on the pointer: at null there is no value, otherwise it is in a box
     pub either_owned : K → (p : Ptr) (s : S.Denot) → (p ≡ null_ptr → s ≡ none → Seq K 𝓛 Γ G)
         → ((b o : ℕ) (a : Global) → p ≡ block_ptr b o → Testable (block_ptr b o) → Seq K 𝓛 (‵ (boxed S a (block_ptr b o) s) ∷ Γ) G)
         → Seq K 𝓛 (‵ (owned_at S none p s) ∷ Γ) G

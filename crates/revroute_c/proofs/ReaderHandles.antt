@@ -18,7 +18,7 @@ use Rattle.revroute_c.specs.Readers.{no_reader}
 use Rattle.revroute_c.specs.declared.reader_handle.ReaderHandle.{ReaderHandle}
 use Rattle.revroute_c.specs.contracts.reader_handle.ReaderHandle as handle
 
--- the handle with this pointer, and this reader behind it
+-- the handle with this pointer and this reader
 abbrev pub handle_of : Ptr → Knowledge → ReaderHandle
 handle_of p k = record { at = p; reading = k }
 

@@ -1,4 +1,4 @@
--- The closed walk that refuses edits or a network, and where there is none.
+-- The cycle for which edits or a network are refused, and when there is none. This project's own.
 use Rattle.std.specs.Prelude.{◌≡◌, ℕ, ◌<◌, ◌≤◌, ◌⊎◌, List, length, map, Option, Some, None}
 use Rattle.fr_graph.specs.Batches.{AreMade, IsRefusedAt}
 use Rattle.fr_graph.specs.Faults.{IsFaultless, IsFirstFault}
@@ -10,7 +10,7 @@ use Rattle.fr_route.specs.States.{State, net_at}
 use Rattle.revroute_c.specs.Records.{AreKnown, edit_of}
 use Rattle.revroute_c.specs.declared.records.LinkEdit.{LinkEdit}
 
--- the fault is the closed walk by these nodes, the first again at the end
+-- the fault is the cycle of these nodes, with the first one again at the end
 abbrev pub IsWalkOf : NetFault → List ℕ → Type 0
 IsWalkOf TooMany nodes = ⊥
 IsWalkOf (Range x) nodes = ⊥
@@ -20,7 +20,7 @@ IsWalkOf (Cycle walk) nodes = nodes ≡ walk.items
 IsWalkOf NoLink nodes = ⊥
 IsWalkOf Memory nodes = ⊥
 
--- the fault is no closed walk
+-- the fault is not a cycle
 abbrev pub IsNoWalk : NetFault → Type 0
 IsNoWalk TooMany = Unit {0}
 IsNoWalk (Range x) = Unit {0}
@@ -30,33 +30,34 @@ IsNoWalk (Cycle walk) = ⊥
 IsNoWalk NoLink = Unit {0}
 IsNoWalk Memory = Unit {0}
 
--- these nodes are a closed walk for which an edit of the network is refused, the first that is
+-- these nodes are a cycle for which an edit of the network is refused, the first edit that is refused
 pub record IsWalkOfEdit (net : Network) (edits : List LinkEdit) (nodes : List ℕ) : Type 0 where
   pub at : ℕ
   pub fault : NetFault
   pub refused : IsRefusedAt net (map edit_of edits) at fault
   pub walk : IsWalkOf fault nodes
 
--- and for which a change is refused
+-- these nodes are a cycle for which a change of a session is refused
 abbrev pub IsWalkOfChange : Option State → List LinkEdit → List ℕ → Type 0
 IsWalkOfChange None edits nodes = ⊥
 IsWalkOfChange (Some s) edits nodes = AreKnown edits × (length edits ≤ most_edits) × IsWalkOfEdit (net_at s) edits nodes
 
--- the edits are made, or the first of them that is refused has another fault
+-- the edits are made, or the first one that is refused has another fault
 abbrev pub EndWithoutWalk : Network → List LinkEdit → Type 0
 EndWithoutWalk net edits =
     ((after : Network) × AreMade net (map edit_of edits) after)
     ⊎ ((at : ℕ) × (fault : NetFault) × IsRefusedAt net (map edit_of edits) at fault × IsNoWalk fault)
 
--- no closed walk refuses a change: an edit is of an unknown kind, there are too many, or they end without one
+-- a change is not refused for a cycle: an edit has an unknown kind, there are too many edits, or they end without a
+-- cycle
 abbrev pub HasNoWalkOfChange : Option State → List LinkEdit → Type 0
 HasNoWalkOfChange None edits = ⊥
 HasNoWalkOfChange (Some s) edits = ¬ AreKnown edits ⊎ (most_edits < length edits) ⊎ EndWithoutWalk (net_at s) edits
 
--- these nodes are a closed walk for which a network is refused
+-- these nodes are a cycle for which a network is refused
 abbrev pub IsWalkOfNetwork : ℕ → List (ℕ × ℕ) → List ℕ → Type 0
 IsWalkOfNetwork n links nodes = (fault : NetFault) × IsFirstFault n links fault × IsWalkOf fault nodes
 
--- no closed walk refuses it: its links have no fault, or another one
+-- a network is not refused for a cycle: its links have no fault, or another one
 abbrev pub HasNoWalkOfNetwork : ℕ → List (ℕ × ℕ) → Type 0
 HasNoWalkOfNetwork n links = IsFaultless n links ⊎ ((fault : NetFault) × IsFirstFault n links fault × IsNoWalk fault)

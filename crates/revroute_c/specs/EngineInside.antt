@@ -1,4 +1,4 @@
--- What an `Engine` keeps.
+-- The value of an `Engine` in contracts. For proofs only.
 use Rattle.revroute_c.specs.Engines.{Held, held}
 use Rattle.revroute_c.specs.declared.engine.Engine.TheInside.{Inside}
 

@@ -1,4 +1,5 @@
--- What a handle holds, and what it ends as, where its engine was lent.
+-- The value of a handle, and when it is unchanged. This project's own. For proofs only: its value after its engine was
+-- lent for changes.
 use Rattle.std.specs.Prelude.{◌≡◌, Option}
 use denote.RawPtr.{null_ptr}
 use Rattle.std.specs.Borrow.{Fml, MutBor, LendsIf}
@@ -7,24 +8,25 @@ use Rattle.revroute_c.specs.contracts.engine.Engine.{the_row as engine_row}
 use Rattle.revroute_c.specs.declared.handle.Handle.{Handle}
 use Rattle.revroute_c.specs.contracts.handle.Handle.{the_row}
 
--- what stands behind a handle
+-- the value of a handle
 abbrev pub held_by : Handle → Held
 held_by h = held h.session h.rerouted h.table h.begun
 
--- the handle is null, and nothing stands behind it
+-- the handle is null, and has the value of null
 pub record IsNull (h : Handle) : Type 0 where
   pub at : h.at ≡ null_ptr
   pub held : held_by h ≡ no_engine
 
--- the handle is as it was, and so is what stands behind it
+-- the handle and its value are unchanged
 pub record IsUnchanged (old new : Handle) : Type 0 where
   pub at : new.at ≡ old.at
   pub held : held_by new ≡ held_by old
 
--- the same handle, with this engine behind it
+-- the same handle with this engine
 abbrev pub with_engine : Handle → Held → Handle
 with_engine h e = record h { session = e.session; rerouted = e.rerouted; table = e.table; begun = e.begun }
 
--- the handle ends with the last engine behind the reference, and is else as it was, as it all is where nothing was lent
+-- the handle ends with the last value of the lent engine, and is otherwise unchanged; it is unchanged if nothing was
+-- lent
 abbrev pub LendsEngine : MutBor Handle → Option (MutBor Held) → Fml
 LendsEngine h r = LendsIf the_row engine_row h r (with_engine h.now) h.now

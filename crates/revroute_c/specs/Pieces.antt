@@ -1,4 +1,4 @@
--- Lines whose bytes come in pieces.
+-- Lines whose bytes come in pieces. This project's own.
 use Rattle.std.specs.Prelude.{◌≡◌, ◌≢◌, ◌==◌, ℕ, ◌+◌, ◌<◌, ◌≤◌, ◌⊎◌, ◌++◌, [], List, length, take, position}
 use Rattle.std.specs.Prelude.{Some, None, Option, true}
 use Rattle.fr_bytes.specs.Bytes.{most_bytes}
@@ -12,8 +12,8 @@ use Rattle.revroute_c.specs.Replies.{least_room, IsAnswered, IsAnswerLength, Out
 use Rattle.revroute_c.specs.Statuses.{REVROUTE_ANSWERED, REVROUTE_BLANK, REVROUTE_TOO_SHORT}
 use Rattle.revroute_c.specs.Statuses.{REVROUTE_NO_MEMORY, REVROUTE_BEGUN, REVROUTE_TOO_LONG}
 
--- the line that has begun ends in this piece: it is then this line, no longer than may be, and so many bytes of the
--- piece are in it, with the newline
+-- The line that has begun ends in this piece. It is then this line, within the limit, and `count` bytes of the piece
+-- belong to it, with the newline.
 pub record EndsLine (begun piece line : List ℕ) (count : ℕ) : Type 0 where
   pub end : ℕ
   pub at : position (λ x. x == 10) piece ≡ Some end
@@ -21,49 +21,48 @@ pub record EndsLine (begun piece line : List ℕ) (count : ℕ) : Type 0 where
   pub short : length line ≤ most_bytes
   pub count_is : count ≡ end + 1
 
--- the line that has begun ends in this piece, and is blank then
+-- the line that has begun ends in this piece, and is blank
 abbrev pub EndsBlank : List ℕ → List ℕ → Type 0
 EndsBlank begun piece = (line : List ℕ) × (count : ℕ) × EndsLine begun piece line count × (is_blank line ≡ true)
 
--- a line ends in the piece, and has an answer of this length, which leaves the session as it was
+-- a line ends in the piece, and its answer has this length and does not change the session
 pub record EndsWithAnswer (old : Option State) (begun piece : List ℕ) (size : ℕ) : Type 0 where
   pub line : List ℕ
   pub count : ℕ
   pub ends : EndsLine begun piece line count
   pub answer : IsAnswerLength old line size
 
--- the room that is wanted in place of so much: the least room, or else that of the answer
+-- the room that is needed if there is too little: the least room, or the length of the answer
 abbrev pub IsWantedAtEnd : Option State → List ℕ → List ℕ → ℕ → ℕ → Type 0
 IsWantedAtEnd old begun piece room size =
     ((room < least_room) × (size ≡ least_room))
     ⊎ EndsWithAnswer old begun piece size
 
--- the line that has begun would be too long with what the piece has of it
+-- the line that has begun would be too long with its bytes in the piece
 abbrev pub IsTooLong : List ℕ → List ℕ → Type 0
 IsTooLong begun piece =
     (most_bytes < length begun + length piece)
     × ((end : ℕ) → position (λ x. x == 10) piece ≡ Some end → most_bytes < length begun + end)
 
--- a line ends with so many bytes of the piece, and is answered
+-- a line ends after `taken` bytes of the piece, and is answered
 pub record AnswersEnd (piece : List ℕ) (old new : Held) (taken : ℕ) (o : Outcome) : Type 0 where
   pub line : List ℕ
   pub ends : EndsLine old.begun piece line taken
   pub answered : IsAnswered old.session line new.session o
   -- the engine then has the nodes that the line reroutes
   pub told : IsLineTold old.session (reading line) new.session old.rerouted new.rerouted
-  -- and they are pushed to the readers
+  -- they are pushed to the readers
   pub published : PublishesTo old.table (published_of new)
 
--- a call takes so many bytes of the piece, and answers the line that ends there
--- the engine goes from `old` to `new`
+-- a call takes `taken` bytes of the piece, and answers the line that ends there; the engine changes from `old` to `new`
 pub record TakesPiece (piece : List ℕ) (old new : Held) (taken : ℕ) (o : Outcome) : Type 0 where
   pub answered : o.status ≡ REVROUTE_ANSWERED → AnswersEnd piece old new taken o
   pub blank : o.status ≡ REVROUTE_BLANK → (line : List ℕ) × EndsLine old.begun piece line taken
       × (is_blank line ≡ true) × (o.size ≡ 0)
-  -- whether there is memory or not
+  -- with memory or without
   pub blank_line : EndsBlank old.begun piece → least_room ≤ length o.before → o.status ≡ REVROUTE_BLANK
   pub ended : o.status ≤ REVROUTE_BLANK → new.begun ≡ []
-  -- no line ends in the piece, which is held behind what had begun
+  -- no line ends in the piece, which is kept after what had begun
   pub kept : o.status ≡ REVROUTE_BEGUN → (position (λ x. x == 10) piece ≡ None) × (new.begun ≡ old.begun ++ piece)
       × (taken ≡ length piece) × (o.size ≡ 0)
   pub within : o.status ≡ REVROUTE_BEGUN → length new.begun ≤ most_bytes

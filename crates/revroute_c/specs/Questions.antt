@@ -1,4 +1,4 @@
--- What a question is answered.
+-- The answers to questions. This project's own.
 use Rattle.std.specs.Prelude.{◌≡◌, ℕ, ◌<◌, ◌≤◌, ◌⊎◌, [], ◌∷◌, List, length, slice_get, Option, Some, None}
 use Rattle.fr_route.specs.Routes.{IsHop, IsRoute}
 use Rattle.fr_route.specs.States.{State, IsCutOff}
@@ -6,8 +6,8 @@ use Rattle.fr_tables.specs.declared.hop.Hop.{Hop}
 use Rattle.fr_tables.specs.declared.hop.Hop.TheVariants.{Here, To, CutOff}
 use Rattle.revroute_c.specs.Replies.{IsWritten}
 
--- the values that are no node, above all nodes: the node is the destination, it is cut off, there is no such node, and
--- there is no network
+-- the values that are not nodes, greater than all nodes: the node is the destination, the node is cut off, there is no
+-- such node, there is no network
 abbrev pub here : ℕ
 here = 4294967295
 
@@ -26,21 +26,21 @@ number_of Here = here
 number_of (To y) = y
 number_of CutOff = cut_off
 
--- the number that tells where x sends on to
+-- the hop of x as a number
 abbrev pub IsHopNumber : State → ℕ → ℕ → Type 0
 IsHopNumber s x number = (hop : Hop) × (IsHop s x hop × (number ≡ number_of hop))
 
--- and the number that answers for any x, whatever the session holds
+-- the answer for any x and any session
 abbrev pub TellsHop : Option State → ℕ → ℕ → Type 0
 TellsHop None x number = number ≡ no_network
 TellsHop (Some s) x number = ((s.nodes ≤ x) × (number ≡ no_node)) ⊎ ((x < s.nodes) × IsHopNumber s x number)
 
--- the numbers that tell where each node sends on to, in order
+-- the hops of all nodes as numbers, in the order of the nodes
 pub record AreHopNumbers (s : State) (numbers : List ℕ) : Type 0 where
   pub one_each : length numbers ≡ s.nodes
   pub each : (x number : ℕ) → slice_get numbers x ≡ Some number → IsHopNumber s x number
 
--- these numbers stand at the front of the place
+-- these numbers are at the front of the place
 abbrev pub AreHopsWritten : State → List ℕ → List ℕ → Type 0
 AreHopsWritten s before after = (numbers : List ℕ) × (AreHopNumbers s numbers × IsWritten numbers before after)
 
@@ -54,12 +54,12 @@ abbrev pub AreCounts : Option State → List ℕ → Type 0
 AreCounts None numbers = ⊥
 AreCounts (Some s) numbers = numbers ≡ s.counts
 
--- these nodes are the route from x, which is the first of them
+-- these nodes are the route from x, beginning with x
 abbrev pub IsRouteFrom : Option State → ℕ → List ℕ → Type 0
 IsRouteFrom None x nodes = ⊥
 IsRouteFrom (Some s) x nodes = (x < s.nodes) × ((rest : List ℕ) × IsRoute s.links s.dest x rest × (nodes ≡ x ∷ rest))
 
--- tail and head of each link, one link after the other
+-- the tail and the head of each link, one link after the other
 abbrev pub ends : List (ℕ × ℕ) → List ℕ
 ends [] = []
 ends (l ∷ ls) = l.0 ∷ l.1 ∷ ends ls
@@ -69,6 +69,6 @@ abbrev pub AreEnds : Option State → List ℕ → Type 0
 AreEnds None numbers = ⊥
 AreEnds (Some s) numbers = numbers ≡ ends s.links
 
--- there is no route from x to the destination: x is no node, or it is cut off
+-- x has no route to the destination: it is not a node, or it is cut off
 abbrev pub HasNoRoute : State → ℕ → Type 0
 HasNoRoute s x = (s.nodes ≤ x) ⊎ IsCutOff s.dest s.links x

@@ -1,19 +1,19 @@
--- What opens a reader of a session.
+-- Opening a reader of a session. This project's own.
 use Rattle.std.specs.Prelude.{◌≡◌, Some, IfSome}
 use Rattle.fr_shared.specs.Knowledge.{Knowledge}
 use Rattle.fr_published.specs.Published.{HasHopsOf}
 use Rattle.revroute_c.specs.Engines.{Held}
 
--- the engine is as it was, but it may have a table for readers now. A table that it had is unchanged
+-- the engine is unchanged, except that the table for its readers may be new
 pub record OpensTable (old new : Held) : Type 0 where
   pub session : new.session ≡ old.session
   pub rerouted : new.rerouted ≡ old.rerouted
   pub begun : new.begun ≡ old.begun
   pub table : IfSome old.table (λ k. new.table ≡ Some k)
-  -- a table that it has now has the hops of the session
+  -- if there is a table now, it has the hops of the session
   pub has : IfSome new.table (HasHopsOf new.session)
 
--- the reader is of the engine's table, knows all pushes to it, and reads the hops of the session
+-- the reader reads the engine's table, knows all pushes to it, and reads the hops of the session
 pub record ReadsTableOf (engine : Held) (reading : Knowledge) : Type 0 where
   pub table : engine.table ≡ Some reading
   pub hops : HasHopsOf engine.session reading

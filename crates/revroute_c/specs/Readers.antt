@@ -1,4 +1,4 @@
--- What a null handle of a reader stands for, and what the calls of readers answer.
+-- The value of a null reader, and the answers of readers. This project's own.
 use Rattle.std.specs.Prelude.{◌≡◌, ℕ, suc, ◌<◌, ◌≤◌, ◌⊎◌, List, [], ◌∷◌, length}
 use Rattle.fr_tables.specs.Tables.{end_of}
 use Rattle.fr_tables.specs.declared.hop.Hop.{Hop}
@@ -11,7 +11,7 @@ use Rattle.revroute_c.specs.Questions.{no_node, number_of}
 use Rattle.revroute_c.specs.Replies.{Outcome, IsWritten}
 use Rattle.revroute_c.specs.Statuses.{REVROUTE_ANSWERED, REVROUTE_TOO_SHORT, REVROUTE_NO_NETWORK, REVROUTE_NO_ROUTE}
 
--- what a null handle stands for
+-- the value of a null handle
 abbrev pub no_reader : Knowledge
 no_reader = record {
   table = record { words = 0; slots = 0; views_name = 0; atom = 0; block = 0; offset = 0; slot_names = [] };
@@ -19,54 +19,54 @@ no_reader = record {
   known = [];
 }
 
--- the reader is of the same table, and what it knows goes on from what it knew
+-- the reader reads the same table, and what it knows extends what it knew
 pub record ReadsOn (old new : Knowledge) : Type 0 where
   pub same : new ≡ record old { known = new.known }
   pub grows : StartsWith new.known old.known
 
--- the number that tells where a node sends on to, as this reader has read it
+-- the hop of a node as a number, as this reader has read it
 abbrev pub IsHopRead : Knowledge → Knowledge → ℕ → ℕ → Type 0
 IsHopRead old new node number = (hop : Hop) × HasRead old new node hop × (number ≡ number_of hop)
 
--- and the number that answers for any node
+-- the answer for any node
 abbrev pub TellsHopRead : Knowledge → Knowledge → ℕ → ℕ → Type 0
 TellsHopRead old new node number =
     ((old.nodes ≤ node) × (number ≡ no_node) × (new ≡ old))
     ⊎ ((node < old.nodes) × IsHopRead old new node number)
 
--- a reader that knew of `old` has walked from a node by these nodes after it, and knows of `new`: the last read is of the
--- last node, and it is what ended the walk
+-- a reader that knew `old` has walked from a node along these nodes, and now knows `new`; the last load was of the last
+-- node, and ended the walk
 pub record HasWalkedBy (old new : Knowledge) (node : ℕ) (nodes : List ℕ) (end : WalkEnd) : Type 0 where
   pub goes : GoesBy old.nodes old.known node nodes new.known
   pub ends : IsEnd end (last_table new) (end_of node nodes)
 
--- the same, and the node and the nodes after it are at the front of the place
+-- the same, and the node and those after it are at the front of the place
 pub record WalksInto (old new : Knowledge) (node : ℕ) (nodes : List ℕ) (end : WalkEnd) (o : Outcome) : Type 0 where
   pub walked : HasWalkedBy old new node nodes end
   pub written : IsWritten (node ∷ nodes) o.before o.after
 
--- the walk ends at the destination, and `size` says how many nodes it has
+-- the walk ends at the destination, and `size` is the number of its nodes
 abbrev pub Arrives : Knowledge → Knowledge → ℕ → Outcome → Type 0
 Arrives old new node o =
     (nodes : List ℕ) × WalksInto old new node nodes Arrived o × (o.size ≡ length (node ∷ nodes))
 
--- the walk fills the place, and its last node sends on to one more; or there is no room for its first node
+-- the walk fills the place before its end, or there is no room for its first node
 abbrev pub Fills : Knowledge → Knowledge → ℕ → Outcome → Type 0
 Fills old new node o =
     ((o.before ≡ []) × (o.after ≡ []) × (new ≡ old))
     ⊎ ((nodes : List ℕ) × WalksInto old new node nodes Longer o × (length (node ∷ nodes) ≡ length o.before))
 
--- the walk ends at a node that is cut off, or its first number is no node
+-- the walk ends at a node that is cut off, or its first number is not a node
 abbrev pub IsLost : Knowledge → Knowledge → ℕ → Outcome → Type 0
 IsLost old new node o =
     ((old.nodes ≤ node) × (o.after ≡ o.before) × (new ≡ old))
     ⊎ ((node < old.nodes) × (nodes : List ℕ) × WalksInto old new node nodes CutOff o)
 
--- what a call answers that walks from a node
+-- the result of a call that walks from a node
 pub record TellsWalk (old new : Knowledge) (node : ℕ) (o : Outcome) : Type 0 where
   pub answered : o.status ≡ REVROUTE_ANSWERED → (node < old.nodes) × Arrives old new node o
   pub too_short : o.status ≡ REVROUTE_TOO_SHORT → (node < old.nodes) × Fills old new node o
-  -- one more than the place has room for
+  -- `size` is one more than there is room for
   pub more : o.status ≡ REVROUTE_TOO_SHORT → o.size ≡ suc (length o.before)
   pub no_route : o.status ≡ REVROUTE_NO_ROUTE → IsLost old new node o
   pub no_network : o.status ≡ REVROUTE_NO_NETWORK → (o.after ≡ o.before) × (new ≡ old)

@@ -1,4 +1,4 @@
--- What a call of the library answers.
+-- The results of the library's calls. This project's own.
 use Rattle.std.specs.Prelude.{◌≡◌, ℕ, ◌<◌, ◌≤◌, ◌⊎◌, ◌++◌, false, true, List, length, drop, Option}
 use Rattle.fr_lines.specs.Requests.{reading}
 use Rattle.fr_route.specs.Answers.{IsLineAnswer}
@@ -13,7 +13,7 @@ use Rattle.revroute_c.specs.Statuses.{REVROUTE_ANSWERED, REVROUTE_BLANK, REVROUT
 abbrev pub least_room : ℕ
 least_room = 64
 
--- what a call leaves: its status, the caller's place before and after it, and the length that it writes to `size`
+-- the result of a call: its status, the caller's place before and after it, and the length that it writes to `size`
 pub record Outcome : Type 0 where
   pub status : ℕ
   pub before : List ℕ
@@ -23,28 +23,28 @@ pub record Outcome : Type 0 where
 abbrev pub outcome : ℕ → List ℕ → List ℕ → ℕ → Outcome
 outcome status before after size = record { status = status; before = before; after = after; size = size }
 
--- the items stand at the front of the place, and the rest of it is as it was
+-- the items are at the front of the place, and the rest of it is unchanged
 abbrev pub IsWritten : {X : Type 0} → List X → List X → List X → Type 0
 IsWritten items before after = (length items ≤ length before) × (after ≡ items ++ drop (length items) before)
 
--- such numbers are at the front of the place, and this is how many
+-- numbers with the property `Are` are at the front of the place, and `size` is how many there are
 abbrev pub IsGiven : (List ℕ → Type 0) → Outcome → Type 0
 IsGiven Are o = (numbers : List ℕ) × Are numbers × IsWritten numbers o.before o.after × (o.size ≡ length numbers)
 
--- there are so many such numbers
+-- `size` is how many numbers with the property `Are` there are
 abbrev pub IsLength : (List ℕ → Type 0) → ℕ → Type 0
 IsLength Are size = (numbers : List ℕ) × Are numbers × (size ≡ length numbers)
 
--- a call writes such numbers to the front of the place
+-- a call that writes numbers with the property `Are` to the front of the place
 pub record GivesList (Are : List ℕ → Type 0) (o : Outcome) : Type 0 where
   pub written : o.status ≡ REVROUTE_ANSWERED → IsGiven Are o
-  -- the place has less room than the numbers take, and `size` says how much that is
+  -- the numbers do not fit into the place, and `size` is how many there are
   pub too_short : o.status ≡ REVROUTE_TOO_SHORT → (length o.before < o.size) × IsLength Are o.size
   pub unchanged : ¬ (o.status ≡ REVROUTE_ANSWERED) → o.after ≡ o.before
   -- the status says why there are no such numbers
   pub none : REVROUTE_TOO_SHORT < o.status → o.size ≡ 0
 
--- the line is answered, the session is then in this state, the answer stands in the place, and this is its length
+-- the line is answered: the session is then in this state, the answer is in the place, and `size` is its length
 pub record IsAnswered (old : Option State) (line : List ℕ) (new : Option State) (o : Outcome) : Type 0 where
   pub asks : is_blank line ≡ false
   pub text : List ℕ
@@ -52,39 +52,38 @@ pub record IsAnswered (old : Option State) (line : List ℕ) (new : Option State
   pub written : IsWritten text o.before o.after
   pub size_is : o.size ≡ length text
 
--- the line has an answer of this length, which leaves the session as it was
+-- the answer to the line has this length and does not change the session
 pub record IsAnswerLength (old : Option State) (line : List ℕ) (size : ℕ) : Type 0 where
   pub asks : is_blank line ≡ false
   pub text : List ℕ
   pub answer : IsLineAnswer old (reading line) text old
   pub size_is : size ≡ length text
 
--- the room that is wanted in place of so much: the least room, or else that of the answer
+-- the room that is needed if there is too little: the least room, or the length of the answer
 abbrev pub IsWanted : Option State → List ℕ → ℕ → ℕ → Type 0
 IsWanted old line room size =
     ((room < least_room) × (size ≡ least_room))
     ⊎ ((least_room ≤ room) × IsAnswerLength old line size)
 
--- a call answers the line in the caller's place
--- the engine goes from `old` to `new`
+-- a call answers the line in the caller's place; the engine changes from `old` to `new`
 pub record AnswersLine (line : List ℕ) (old new : Held) (o : Outcome) : Type 0 where
   pub answered : o.status ≡ REVROUTE_ANSWERED → IsAnswered old.session line new.session o
   -- the engine then has the nodes that the line reroutes
   pub told : o.status ≡ REVROUTE_ANSWERED → IsLineTold old.session (reading line) new.session old.rerouted new.rerouted
   pub blank : o.status ≡ REVROUTE_BLANK → (is_blank line ≡ true) × (o.size ≡ 0)
-  -- whether there is memory or not
+  -- with memory or without
   pub blank_line : is_blank line ≡ true → least_room ≤ length o.before → o.status ≡ REVROUTE_BLANK
   pub too_short : o.status ≡ REVROUTE_TOO_SHORT → (length o.before < o.size)
       × IsWanted old.session line (length o.before) o.size
   pub no_memory : o.status ≡ REVROUTE_NO_MEMORY → o.size ≡ 0
-  -- and they are pushed to the readers
+  -- they are pushed to the readers
   pub published : o.status ≡ REVROUTE_ANSWERED → PublishesTo old.table (published_of new)
   pub unchanged : ¬ (o.status ≡ REVROUTE_ANSWERED) → (published_of new ≡ published_of old) × (o.after ≡ o.before)
   pub room : length o.before < least_room → o.status ≡ REVROUTE_TOO_SHORT
   pub status : o.status ≤ REVROUTE_NO_MEMORY
 
--- a call answers the line, and leaves the one that has begun
+-- a call answers the line, and does not touch the line that has begun
 pub record AnswersApart (line : List ℕ) (old new : Held) (o : Outcome) : Type 0 where
   pub answers : AnswersLine line old new o
-  -- the bytes of a line that has begun stay
+  -- the bytes of a line that has begun are unchanged
   pub begun : new.begun ≡ old.begun

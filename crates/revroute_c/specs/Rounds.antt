@@ -1,4 +1,5 @@
--- What the calls answer that begin a round, and why they are refused. The requests are those of the lines.
+-- The results of the calls that begin a round, and why they are refused. The requests are those of the lines. This
+-- project's own.
 use Rattle.std.specs.Prelude.{◌≡◌, ℕ, ◌<◌, ◌≤◌, ◌⊎◌, List, [], ◌∷◌, length, map, position, slice_get}
 use Rattle.std.specs.Prelude.{Option, Some, None}
 use Rattle.fr_graph.specs.Batches.{IsRefusedAt}
@@ -19,7 +20,7 @@ use Rattle.revroute_c.specs.declared.records.LinkEdit.{LinkEdit}
 use Rattle.revroute_c.specs.declared.records.Refusal.{Refusal}
 use Rattle.revroute_c.specs.declared.records.Round.{Round}
 
--- what a call leaves that may begin a round: its status, and the caller's round and refusal before and after it
+-- the result of a call that may begin a round: its status, and the caller's round and refusal before and after it
 pub record RoundOutcome : Type 0 where
   pub status : ℕ
   pub round_before : Round
@@ -36,8 +37,8 @@ round_outcome status round round' refusal refusal' = record {
   refusal_after = refusal';
 }
 
--- the request is accepted; then the engine has the state after it, and the nodes that it tells of, and this is what its
--- round reports
+-- The request is accepted. The engine then has the state after it and the nodes that it reroutes, and `round` is the
+-- report of its round.
 pub record IsNewRound (request : PlainRequest) (old new : Held) (round : Round) : Type 0 where
   pub after : State
   pub accepted : IsAccepted old.session request after
@@ -47,25 +48,24 @@ pub record IsNewRound (request : PlainRequest) (old new : Held) (round : Round) 
   pub published : PublishesTo old.table (published_of new)
   pub report : IsReport after round.turned round.cut_off
 
--- a call makes the request, with one round after it, or refuses it for such a reason
--- the engine goes from `old` to `new`
+-- a call makes the request, with one round after it, or refuses it for a reason; the engine changes from `old` to `new`
 pub record BeginsRound
     (request : PlainRequest) (IsRefused : Refusal → Type 0) (old new : Held) (o : RoundOutcome) : Type 0 where
   pub answered : o.status ≡ REVROUTE_ANSWERED → IsNewRound request old new o.round_after
   pub refused : o.status ≡ REVROUTE_REFUSED → IsRefused o.refusal_after
   pub unchanged : ¬ (o.status ≡ REVROUTE_ANSWERED) → (new ≡ old) × (o.round_after ≡ o.round_before)
   pub unrefused : ¬ (o.status ≡ REVROUTE_REFUSED) → o.refusal_after ≡ o.refusal_before
-  -- the bytes of a line that has begun stay
+  -- the bytes of a line that has begun are unchanged
   pub begun : new.begun ≡ old.begun
 
--- the first step of a walk
+-- the first step along a cycle
 abbrev pub first_step : List ℕ → ℕ × ℕ
 first_step [] = (0, 0)
 first_step (u ∷ []) = (0, 0)
 first_step (u ∷ v ∷ vs) = (u, v)
 
--- the nodes that a fault of links names: the number that is no node, or the node of a link with itself, or the two
--- nodes of a link
+-- the nodes that a fault of links names: the number that is not a node, the node of a link to itself, or the two nodes
+-- of a link
 abbrev pub nodes_named : NetFault → ℕ × ℕ
 nodes_named TooMany = (0, 0)
 nodes_named (Range x) = (x, x)
@@ -75,7 +75,7 @@ nodes_named (Cycle walk) = first_step walk.items
 nodes_named NoLink = (0, 0)
 nodes_named Memory = (0, 0)
 
--- and those of a fault of an edit, which are the edit's own where there is no link, or a closed walk would follow it
+-- the nodes that a fault of an edit names: those of the edit if there is no link, or if it would close a cycle
 abbrev pub nodes_of_edit : LinkEdit → NetFault → ℕ × ℕ
 nodes_of_edit e (Cycle walk) = (e.u, e.v)
 nodes_of_edit e NoLink = (e.u, e.v)
@@ -85,16 +85,16 @@ nodes_of_edit e fault = nodes_named fault
 abbrev pub refusal_at : ℕ → NetFault → ℕ × ℕ → Refusal
 refusal_at at fault nodes = record { number = fault_number fault; u = nodes.0; v = nodes.1; at = at }
 
--- why no network is taken: its links have this first fault, or else the destination is no node
+-- why a network is refused: its links have this first fault, or the destination is not a node
 abbrev pub IsNewFault : ℕ → ℕ → List (ℕ × ℕ) → NetFault → Type 0
 IsNewFault n d links fault = IsFirstFault n links fault ⊎ (IsFaultless n links × (n ≤ d) × (fault ≡ Range d))
 
--- a network is refused
+-- the refusal of a network
 abbrev pub IsNewRefused : ℕ → ℕ → List (ℕ × ℕ) → Refusal → Type 0
 IsNewRefused n d links r =
     (fault : NetFault) × IsNewFault n d links fault × (r ≡ refusal_at 0 fault (nodes_named fault))
 
--- an edit of a network is the first that is refused
+-- the refusal of the first edit that cannot be made
 pub record IsEditRefused (net : Network) (edits : List LinkEdit) (r : Refusal) : Type 0 where
   pub at : ℕ
   pub fault : NetFault
@@ -103,23 +103,23 @@ pub record IsEditRefused (net : Network) (edits : List LinkEdit) (r : Refusal) :
   pub edit_is : slice_get edits at ≡ Some edit
   pub is : r ≡ refusal_at at fault (nodes_of_edit edit fault)
 
--- edits of known kinds are refused: there are more than the limit admits, or else one of them is
+-- the refusal of edits of known kinds: there are more than the limit, or one of them cannot be made
 abbrev pub AreRefused : Network → List LinkEdit → Refusal → Type 0
 AreRefused net edits r =
     ((most_edits < length edits) × (r ≡ refusal_at (length edits) TooMany (0, 0)))
     ⊎ ((length edits ≤ most_edits) × IsEditRefused net edits r)
 
--- the first edit of an unknown kind is refused
+-- the refusal of the first edit with an unknown kind
 abbrev pub IsUnknownRefused : List LinkEdit → Refusal → Type 0
 IsUnknownRefused edits r = (at : ℕ) × (position is_unknown edits ≡ Some at)
     × (r ≡ record { number = 2; u = 0; v = 0; at = at })
 
--- a change is refused: an edit is of an unknown kind, or else the network of the session refuses one
+-- the refusal of a change: an edit has an unknown kind, or the network of the session refuses one
 abbrev pub IsChangeRefused : Option State → List LinkEdit → Refusal → Type 0
 IsChangeRefused None edits r = IsUnknownRefused edits r
 IsChangeRefused (Some s) edits r = IsUnknownRefused edits r ⊎ (AreKnown edits × AreRefused (net_at s) edits r)
 
--- a destination is refused, which is no node
+-- the refusal of a destination that is not a node
 abbrev pub IsMoveRefused : Option State → ℕ → Refusal → Type 0
 IsMoveRefused None d r = ⊥
 IsMoveRefused (Some s) d r = (s.nodes ≤ d) × (r ≡ refusal_at 0 (Range d) (d, d))

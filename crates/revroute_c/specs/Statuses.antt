@@ -1,7 +1,7 @@
--- The statuses by which the calls say how they ended, as the header names them.
+-- The statuses of the calls, as the header names them. This project's own.
 use Rattle.std.specs.Prelude.{ℕ}
 
--- what was asked for is written
+-- the result is written
 abbrev pub REVROUTE_ANSWERED : ℕ
 REVROUTE_ANSWERED = 0
 
@@ -9,7 +9,7 @@ REVROUTE_ANSWERED = 0
 abbrev pub REVROUTE_BLANK : ℕ
 REVROUTE_BLANK = 1
 
--- the place has too little room
+-- there is too little room
 abbrev pub REVROUTE_TOO_SHORT : ℕ
 REVROUTE_TOO_SHORT = 2
 
@@ -21,7 +21,7 @@ REVROUTE_NO_MEMORY = 3
 abbrev pub REVROUTE_NO_NETWORK : ℕ
 REVROUTE_NO_NETWORK = 4
 
--- there is no route to the destination
+-- the node has no route to the destination
 abbrev pub REVROUTE_NO_ROUTE : ℕ
 REVROUTE_NO_ROUTE = 5
 
@@ -29,11 +29,11 @@ REVROUTE_NO_ROUTE = 5
 abbrev pub REVROUTE_REFUSED : ℕ
 REVROUTE_REFUSED = 6
 
--- no closed walk refuses that
+-- there is no refusal for a cycle
 abbrev pub REVROUTE_NO_WALK : ℕ
 REVROUTE_NO_WALK = 7
 
--- no line has ended
+-- no line has ended yet
 abbrev pub REVROUTE_BEGUN : ℕ
 REVROUTE_BEGUN = 8
 
@@ -41,6 +41,6 @@ REVROUTE_BEGUN = 8
 abbrev pub REVROUTE_TOO_LONG : ℕ
 REVROUTE_TOO_LONG = 9
 
--- the table is none of this network
+-- the table is not one for this network
 abbrev pub REVROUTE_NO_TABLE : ℕ
 REVROUTE_NO_TABLE = 10

@@ -1,4 +1,5 @@
--- Where a table of a caller's differs from the settled hops. Its hops are numbers, as those that questions answer.
+-- Where the caller's table differs from the settled hops. Its hops are numbers, as in answers to questions. This
+-- project's own.
 use Rattle.std.specs.Prelude.{◌≢◌, ℕ, ◌⊎◌, ◌==◌, if◌then◌else◌, List, length, map, Option, Some, None}
 use Rattle.fr_route.specs.Reroutes.{ArePushes}
 use Rattle.fr_route.specs.States.{State}
@@ -11,12 +12,12 @@ use Rattle.revroute_c.specs.Questions.{cut_off, here}
 abbrev pub hop_of : ℕ → Hop
 hop_of number = if number == here then Here else (if number == cut_off then CutOff else To number)
 
--- the nodes whose hop is another one than in this table, in push order
+-- the nodes whose hop differs from that in the table, in push order
 abbrev pub ArePushesOf : Option State → List ℕ → List ℕ → Type 0
 ArePushesOf None table nodes = ⊥
 ArePushesOf (Some s) table nodes = ArePushes s (map hop_of table) nodes
 
--- the table has too few or too many hops, or one of them names no node
+-- the table has too few or too many hops, or one of them does not name a node
 abbrev pub IsNoTable : Option State → List ℕ → Type 0
 IsNoTable None table = ⊥
 IsNoTable (Some s) table = (length table ≢ s.nodes) ⊎ ((x : ℕ) × IsFirstOutside (map hop_of table) x)

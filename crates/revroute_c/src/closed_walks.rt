@@ -1,4 +1,5 @@
-//! The closed walk that refuses a change or a network, found again.
+//! The cycle for which a change or a network is refused, found again. C calls it a closed walk: its first node comes
+//! again at the end.
 
 ghost use Rattle.std.specs.Prelude.{◌≡◌, ◌≢◌, ◌≤◌, ◌⊎◌, ◌↔◌, map, None};
 ghost use Rattle.fr_graph.specs.declared.fault.NetFault.TheVariants.{Memory};
@@ -15,7 +16,7 @@ use fr_graph::{EditFault, MAX_EDITS, NetFault};
 use fr_route::Session;
 use std::alloc::Global;
 
-/// Writes the closed walk for which these edits are refused, if there is one. `size` has to be 0.
+/// Writes the cycle for which these edits are refused, if there is one. `size` must be 0.
 pub(crate) fn walk_of_change(
     session: &Session,
     alloc: Global,
@@ -41,7 +42,7 @@ pub(crate) fn walk_of_change(
     }
 }
 
-/// Writes the closed walk for which a network is refused, if there is one. `size` has to be 0.
+/// Writes the cycle for which a network is refused, if there is one. `size` must be 0.
 pub(crate) fn walk_of_network(
     alloc: Global,
     count: u32,
@@ -61,7 +62,7 @@ pub(crate) fn walk_of_network(
     }
 }
 
-/// Writes the closed walk of a fault, if it is one. `size` has to be 0.
+/// Writes the cycle of a fault, if the fault is a cycle. `size` must be 0.
 fn hand_out_walk(fault: &NetFault, nodes: &mut [u32], size: &mut usize) -> u32
     requires { size.old ≡ 0 }
     ensures gives { GivesList (IsWalkOf fault.now) (outcome result nodes.old nodes.new size.new) }

@@ -1,4 +1,4 @@
-//! What stands behind a handle.
+//! What the handle of a session points to.
 
 ghost use Rattle.std.specs.Prelude.{◌≡◌};
 ghost use Rattle.revroute_c.specs.Engines.{no_engine};
@@ -8,8 +8,8 @@ use fr_route::Session;
 use std::alloc::Global;
 use std::marker::Model;
 
-/// What stands behind a handle: the session, with the nodes that its last accepted round rerouted and the table of its
-/// readers, and the bytes of a line that has begun.
+/// What the handle of a session points to: the session, the nodes that its last accepted round rerouted, the table of
+/// its readers, and the bytes of a line that has begun.
 #[derive(Drop)]
 pub(crate) struct Engine {
     pub(crate) published: PublishedSession,
@@ -27,7 +27,7 @@ impl Model for Engine {
 }
 
 impl Engine {
-    /// An engine that holds nothing yet, and takes no memory.
+    /// An engine without a network, which holds no memory.
     pub(crate) fn new(alloc: Global) -> Engine
         ensures { result ≡ no_engine }
     {
@@ -37,7 +37,7 @@ impl Engine {
         }
     }
 
-    /// The session, to be asked.
+    /// The session, for questions.
     pub(crate) fn session(&self) -> &Session
         ensures { result.now ≡ self.now.session }
     {

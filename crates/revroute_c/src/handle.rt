@@ -1,4 +1,4 @@
-//! What C holds of a session.
+//! The handle that C has of a session.
 
 ghost use Rattle.std.specs.Prelude.{◌≡◌, ℕ, List, MatchOption, Option, None};
 ghost use Rattle.std.specs.Borrow.{sem};
@@ -15,8 +15,8 @@ use std::marker::{Model, Send};
 use std::mem::replace;
 use std::ptr::null_mut;
 
-/// What C holds of a session: a pointer that only this library reads. Null stands for a session that holds no
-/// network, so that C makes a handle by writing null.
+/// The handle that C has of a session: a pointer that only this library reads. Null is a session without a network, so
+/// C makes a new handle by writing null.
 #[repr(C)]
 #[derive(Drop)]
 pub struct Handle {
@@ -31,13 +31,13 @@ impl Model for Handle {
     ghost also_owns = { λ handle. holds handle.at (held handle.session handle.rerouted handle.table handle.begun) };
 }
 
-// What a handle owns is the engine, and that may go to another thread.
+// A handle owns its engine, which may go to another thread.
 unsafe impl Send for Handle {}
 
 impl Handle {
     ghost use Rattle.revroute_c.specs.Lending.{LendsEngine, held_by};
 
-    /// The null handle, of a session that holds no network.
+    /// The null handle, of a session without a network.
     fn empty() -> Handle
         ensures held { held_by result ≡ no_engine }
         ensures null { result.at ≡ null_ptr }
@@ -55,7 +55,7 @@ impl Handle {
         }
     }
 
-    /// The engine of a handle, where it is not null.
+    /// The engine of a handle, unless the handle is null.
     fn into_loose(self, alloc: Global) -> Option<Loose<Engine, Global>>
         ensures { MatchOption result (held_by self ≡ no_engine) (λ loose. held_by self ≡ loose.value) }
     {
@@ -70,7 +70,7 @@ impl Handle {
         }
     }
 
-    /// Takes the engine out of a handle, which is then null; there is none if it was null before.
+    /// Takes the engine out of a handle, which is then null. `None` if it was null before.
     pub(crate) fn taken(handle: &mut Handle, alloc: Global) -> Option<Box<Engine>>
         ensures held { MatchOption result (held_by handle.old ≡ no_engine)
             (λ engine. held_by handle.old ≡ engine.value) }
@@ -84,7 +84,7 @@ impl Handle {
         }
     }
 
-    /// The engine of a handle, where it stands; none where the handle is null.
+    /// The engine of a handle, in place. `None` if the handle is null.
     pub(crate) fn engine_mut(&mut self) -> Option<&mut Engine>
         ensures* writes_back { sem 𝓛 (LendsEngine self.entry result) }
         ensures value { MatchOption result ((self.old.at ≡ null_ptr) × (held_by self.old ≡ no_engine))
@@ -105,10 +105,10 @@ impl Handle {
     }
 }
 
-/// Asks that values of a type may go to another thread.
+/// Compiles only if values of type `T` may go to another thread.
 fn may_be_sent<T: Send>() {}
 
-/// A handle may go to another thread: the check of this function shows it.
+/// Shows that a handle may go to another thread. It only has to pass the check.
 fn handle_may_be_sent() {
     may_be_sent::<Handle>();
 }

@@ -1,7 +1,7 @@
-//! The engine for programs in C, and for whatever calls C: a session behind a handle, with no thread and no lock.
+//! The engine for programs in C, and for all that can call C: a session behind a handle, without threads and locks.
 //!
-//! `embed/c/revroute.h` declares these calls, and says what a caller owes. A slice is a pointer and a length there. The
-//! allocator takes no bytes, so C passes nothing for it.
+//! `embed/c/revroute.h` declares these calls, and says what a caller must ensure. A slice is a pointer and a length
+//! there. The allocator has no bytes, so C passes nothing for it.
 #![tactic(auto)]
 
 ghost use Rattle.std.specs.Prelude.{◌≡◌, ◌≢◌, ◌≤◌, ◌<◌, ◌⊎◌, ◌↔◌, [], None, length, map, IfSome};
@@ -57,16 +57,16 @@ use statuses::{ANSWERED, BLANK, NO_MEMORY, NO_NETWORK, REFUSED, TOO_SHORT};
 use std::alloc::Global;
 use tables::pushes_in;
 
-/// Answers a line, given without its line end. A null handle stands for a session that holds no network yet. The
-/// answer goes to the front of the buffer, without a line end, and its length to `size`.
+/// Answers a line, given without its newline. A null handle is a session without a network. Writes the answer, without
+/// a newline, to the front of the buffer, and its length to `size`. Returns `ANSWERED`, or:
 ///
-/// - `BLANK`: the line is blank and has no answer. `size` is 0. A blank line takes no memory.
-/// - `TOO_SHORT`: the buffer has too little room. `size` is the length of the answer. For a buffer of less than
+/// - `BLANK`: the line is blank and has no answer. `size` is 0. A blank line allocates nothing.
+/// - `TOO_SHORT`: the buffer is too short. `size` is the length of the answer. For a buffer of less than
 ///   [`LEAST_ROOM`] bytes it is [`LEAST_ROOM`]; this is tested first.
-/// - `NO_MEMORY`: an allocation was refused.
+/// - `NO_MEMORY`: an allocation was refused. `size` is 0.
 ///
-/// After each of these the session is unchanged, and so are the handle's own bytes: null stays null, and owns
-/// nothing. It costs what [`Session::answer_line_telling_alone`](fr_route::Session::answer_line_telling_alone) does.
+/// In these three cases the session is unchanged, and so are the handle's own bytes: a null handle stays null and owns
+/// nothing. The cost is that of [`Session::answer_line_telling_alone`](fr_route::Session::answer_line_telling_alone).
 #[unsafe(no_mangle)]
 pub extern "C" fn revroute_answer(
     alloc: Global,
@@ -93,16 +93,16 @@ pub extern "C" fn revroute_answer(
     }
 }
 
-/// Takes the front of a piece, up to and with its first newline, and answers the line that ends there. The line is
-/// what had begun and this front. How many bytes were taken goes to `taken`.
+/// Takes a piece of input up to its first newline, and answers the line that ends there. The line is what had begun
+/// before, and this part of the piece. Writes to `taken` how many bytes were taken. Returns as [`revroute_answer`]
+/// does, or:
 ///
-/// - `BEGUN`: the piece has no newline. All of it is kept behind what had begun.
-/// - `TOO_LONG`: the line has more than 16,777,216 bytes. No line of more is answered or kept.
-/// - All else is as for [`revroute_answer`]. A blank line that ends takes no memory.
+/// - `BEGUN`: the piece has no newline. All of it is kept after what had begun.
+/// - `TOO_LONG`: the line has more than 16,777,216 bytes. Such a line is never answered or kept.
 ///
-/// After `TOO_LONG`, `TOO_SHORT` and `NO_MEMORY` nothing was taken, and everything is unchanged, the handle's own
-/// bytes too: the caller can hand in the piece again. `O(b)` for b bytes taken, and at a newline what
-/// [`revroute_answer`] costs.
+/// A blank line that ends allocates nothing. After `TOO_LONG`, `TOO_SHORT` and `NO_MEMORY` nothing was taken and
+/// everything is unchanged, also the handle's own bytes, so the caller can pass the piece again. O(b) for b bytes
+/// taken, and at a newline the cost of [`revroute_answer`].
 #[unsafe(no_mangle)]
 pub extern "C" fn revroute_take(
     alloc: Global,
@@ -128,7 +128,8 @@ pub extern "C" fn revroute_take(
     }
 }
 
-/// Ends the line that has begun, as the end of an input does, and answers it as [`revroute_answer`] does, at its cost.
+/// Ends the line that has begun, as the end of an input does, and answers it as [`revroute_answer`] does, at the same
+/// cost.
 #[unsafe(no_mangle)]
 pub extern "C" fn revroute_finish(
     alloc: Global,
@@ -153,15 +154,15 @@ pub extern "C" fn revroute_finish(
     }
 }
 
-/// Puts a network in place of the last one, as a line `["net",..]` does, and begins a round. Its nodes are 0 to
-/// `nodes - 1`. `round` gets the number of turns and the number of nodes that are cut off.
+/// Replaces the network, as a line `["net",..]` does, and begins a round. The nodes are 0 to `nodes - 1`. Writes the
+/// number of turns and the number of nodes that are cut off to `round`. Returns `ANSWERED`, or:
 ///
-/// - `REFUSED`: there are too many nodes or links, or they are no network, or else the destination is no node.
+/// - `REFUSED`: there are too many nodes or links, the links have another fault, or the destination is not a node.
 ///   `refusal` gets the number that lines use for the reason, and the nodes of the first fault.
 /// - `NO_MEMORY`: an allocation was refused.
 ///
-/// After both the session, the handle's own bytes and `round` are unchanged. `O(n + m)`, and what
-/// [`Router::open_alone`](fr_route::Router::open_alone) costs.
+/// In these two cases the session, the handle's own bytes and `round` are unchanged. O(n + m), and the cost of
+/// [`Router::open_alone`](fr_route::Router::open_alone).
 #[unsafe(no_mangle)]
 pub extern "C" fn revroute_open(
     alloc: Global,
@@ -185,17 +186,17 @@ pub extern "C" fn revroute_open(
     }
 }
 
-/// Makes edits one after the other, with one round after the last, as a line `["batch",..]` does. One edit has the
-/// same effect as a line with that change.
+/// Makes edits in order, with one round after the last, as a line `["batch",..]` does. One edit has the same effect as
+/// a line with that change. Returns `ANSWERED`, or:
 ///
-/// - `REFUSED`: an edit is of an unknown kind, which is tested first; or there are more than 1,024 edits; or else one
-///   of them cannot be made. `refusal` gets the number that lines use for the reason, the place of the edit and its
-///   nodes.
+/// - `REFUSED`: an edit has an unknown kind, which is tested first; or there are more than 1,024 edits; or one of them
+///   cannot be made. `refusal` gets the number that lines use for the reason, the place of the edit and its nodes.
 /// - `NO_NETWORK`: there is no network yet.
-/// - All else is as for [`revroute_open`].
+/// - `NO_MEMORY`: an allocation was refused.
 ///
-/// It costs what [`Router::change_telling_alone`](fr_route::Router::change_telling_alone) does. Where an edit is
-/// refused, the evidence costs `O(n + m)` more.
+/// In these cases the session, the handle's own bytes and `round` are unchanged. The cost is that of
+/// [`Router::change_telling_alone`](fr_route::Router::change_telling_alone). If an edit is refused, finding the
+/// evidence costs O(n + m) more.
 #[unsafe(no_mangle)]
 pub extern "C" fn revroute_change(
     alloc: Global,
@@ -223,8 +224,8 @@ pub extern "C" fn revroute_change(
     }
 }
 
-/// Moves the destination, and begins a round, as a line `["dest",..]` does. `REFUSED` says that it is no node. All
-/// else, and the cost, is as for [`revroute_change`].
+/// Moves the destination and begins a round, as a line `["dest",..]` does. Returns `REFUSED` if the new destination is
+/// not a node. The other results and the cost are those of [`revroute_change`].
 #[unsafe(no_mangle)]
 pub extern "C" fn revroute_move(
     alloc: Global,
@@ -246,10 +247,10 @@ pub extern "C" fn revroute_move(
     }
 }
 
-/// Writes the closed walk for which [`revroute_change`] refuses these edits into the front of the place, and its
-/// length to `size`. The first node comes again at the end. `NO_WALK` says that no closed walk refuses them.
-/// `TOO_SHORT`, `NO_NETWORK` and `NO_MEMORY` are as for [`revroute_links`]. Nothing changes. `O(n + m)`, and what the
-/// edits cost.
+/// Writes the cycle for which [`revroute_change`] refuses these edits to the front of `nodes`, and its length to
+/// `size`. The first node comes again at the end. Returns `NO_WALK` if the edits are not refused for a cycle.
+/// `TOO_SHORT`, `NO_NETWORK` and `NO_MEMORY` are as for [`revroute_links`]. Nothing changes. O(n + m), and the cost of
+/// the edits.
 #[unsafe(no_mangle)]
 pub extern "C" fn revroute_closed_walk(
     alloc: Global,
@@ -273,8 +274,8 @@ pub extern "C" fn revroute_closed_walk(
     }
 }
 
-/// Does the same for the links with which [`revroute_open`] refuses a network of so many nodes. It needs no session.
-/// `O(n + m)`.
+/// Does the same for the links with which [`revroute_open`] refuses a network with this number of nodes. It needs no
+/// session. O(n + m).
 #[unsafe(no_mangle)]
 pub extern "C" fn revroute_closed_walk_of(
     alloc: Global,
@@ -293,7 +294,7 @@ pub extern "C" fn revroute_closed_walk_of(
     walk_of_network(alloc, nodes, links, walk, size)
 }
 
-/// Gives back all memory of the session. The handle is null again. `O(1)`.
+/// Releases all memory of the session. The handle is then null. O(1).
 #[unsafe(no_mangle)]
 pub extern "C" fn revroute_close(alloc: Global, handle: &mut Handle)
     ensures session { handle.new.session ≡ None }
@@ -305,8 +306,8 @@ pub extern "C" fn revroute_close(alloc: Global, handle: &mut Handle)
     drop(Handle::taken(handle, alloc));
 }
 
-/// Writes the version of the engine to the front of the buffer, and its length to `size`. `TOO_SHORT` says that the
-/// buffer has less room than that, and is unchanged. `O(1)`.
+/// Writes the version of the engine to the front of the buffer, and its length to `size`. Returns `TOO_SHORT` if the
+/// buffer is too short; then it is unchanged. O(1).
 #[unsafe(no_mangle)]
 pub extern "C" fn revroute_version(text: &mut [u8], size: &mut usize) -> u32
     ensures written { result ≡ REVROUTE_ANSWERED → IsWritten VERSION.now text.old text.new }
@@ -317,8 +318,8 @@ pub extern "C" fn revroute_version(text: &mut [u8], size: &mut usize) -> u32
     hand_out(VERSION.as_bytes(), text, size)
 }
 
-/// Where a node sends on to: a node, or one of the named values, which are above all nodes. It answers for any number
-/// and any session. `O(1)`.
+/// Returns the next hop of a node, or one of the named values, which are greater than all nodes. It accepts any number
+/// and any session. O(1).
 #[unsafe(no_mangle)]
 pub extern "C" fn revroute_next_hop(handle: &mut Handle, node: u32) -> u32
     ensures hop { TellsHop handle.old.session node result }
@@ -330,9 +331,9 @@ pub extern "C" fn revroute_next_hop(handle: &mut Handle, node: u32) -> u32
     }
 }
 
-/// Writes where each node sends on to, in the order of the nodes, into the front of the place, and how many hops
-/// these are to `size`. `TOO_SHORT` says that the place has less room. `NO_NETWORK` says that there is no network
-/// yet; `size` is then 0. After both the place is unchanged. `O(n)`.
+/// Writes the next hop of each node, in the order of the nodes, to the front of `hops`, and the number of hops to
+/// `size`. Returns `TOO_SHORT` if there is too little room, and `NO_NETWORK`, with `size` 0, if there is no network
+/// yet. In both cases `hops` is unchanged. O(n).
 #[unsafe(no_mangle)]
 pub extern "C" fn revroute_next_hops(handle: &mut Handle, hops: &mut [u32], size: &mut usize) -> u32
     ensures same { IsUnchanged handle.old handle.new }
@@ -348,10 +349,10 @@ pub extern "C" fn revroute_next_hops(handle: &mut Handle, hops: &mut [u32], size
     }
 }
 
-/// Writes the nodes that the last accepted round rerouted into the front of the place, in push order, and how many
-/// these are to `size`. A new network reroutes the nodes whose hop is another one than in the network before. A
-/// number that is no node of one of the two networks counts as cut off there. `TOO_SHORT` says that the place has
-/// less room, and is unchanged. `O(r)` for r nodes.
+/// Writes the nodes that the last accepted round rerouted to the front of `nodes`, in push order, and their number to
+/// `size`. A new network reroutes the nodes whose hop differs from that in the network before. A number that is not a
+/// node of one of the two networks counts as cut off there. Returns `TOO_SHORT` if there is too little room; then
+/// `nodes` is unchanged. O(r) for r rerouted nodes.
 #[unsafe(no_mangle)]
 pub extern "C" fn revroute_rerouted(handle: &mut Handle, nodes: &mut [u32], size: &mut usize) -> u32
     ensures same { IsUnchanged handle.old handle.new }
@@ -364,16 +365,16 @@ pub extern "C" fn revroute_rerouted(handle: &mut Handle, nodes: &mut [u32], size
     }
 }
 
-/// Writes the nodes whose hop differs from that in a table of the caller's into the front of the place, in push
-/// order, and how many these are to `size`. The table has a hop for each node, as [`revroute_next_hops`] writes them.
-/// It may have loops.
+/// Writes the nodes whose hop differs from that in the caller's table to the front of `nodes`, in push order, and their
+/// number to `size`. The table has a hop for each node, as [`revroute_next_hops`] writes them. It may have loops.
+/// Returns `ANSWERED`, or:
 ///
-/// - `TOO_SHORT`: the place has less room.
-/// - `NO_TABLE`: the table has not one hop for each node, or one of its hops names no node.
+/// - `TOO_SHORT`: there is too little room.
+/// - `NO_TABLE`: the table does not have one hop for each node, or one of its hops does not name a node.
 /// - `NO_NETWORK`: there is no network yet.
 /// - `NO_MEMORY`: an allocation was refused.
 ///
-/// `size` is 0 after the last three. After each of the four the place is unchanged. Nothing else changes. `O(n)`.
+/// `size` is 0 in the last three cases. In all four cases `nodes` is unchanged. The session never changes. O(n).
 #[unsafe(no_mangle)]
 pub extern "C" fn revroute_pushes(
     alloc: Global,
@@ -397,7 +398,7 @@ pub extern "C" fn revroute_pushes(
 }
 
 /// Writes how often each node turned in the last round, in the order of the nodes. All else is as for
-/// [`revroute_next_hops`]. `O(n)`.
+/// [`revroute_next_hops`]. O(n).
 #[unsafe(no_mangle)]
 pub extern "C" fn revroute_counts(handle: &mut Handle, counts: &mut [u64], size: &mut usize) -> u32
     ensures same { IsUnchanged handle.old handle.new }
@@ -412,15 +413,15 @@ pub extern "C" fn revroute_counts(handle: &mut Handle, counts: &mut [u64], size:
     }
 }
 
-/// Writes the nodes of the route from a node to the destination, with both ends, into the front of the place, and how
-/// many these are to `size`.
+/// Writes the nodes of the route from a node to the destination, both included, to the front of `nodes`, and their
+/// number to `size`. Returns `ANSWERED`, or:
 ///
-/// - `TOO_SHORT`: the place has less room.
-/// - `NO_ROUTE`: the node is cut off, or the number is no node.
+/// - `TOO_SHORT`: there is too little room.
+/// - `NO_ROUTE`: the node is cut off, or the number is not a node.
 /// - `NO_NETWORK`: there is no network yet.
 /// - `NO_MEMORY`: an allocation was refused.
 ///
-/// `size` is 0 after the last three. After each of the four the place is unchanged. `O(r)` for r nodes of the route.
+/// `size` is 0 in the last three cases. In all four cases `nodes` is unchanged. O(r) for a route of r nodes.
 #[unsafe(no_mangle)]
 pub extern "C" fn revroute_route(
     alloc: Global,
@@ -442,14 +443,14 @@ pub extern "C" fn revroute_route(
     }
 }
 
-/// Writes tail and head of each link, one link after the other, into the front of the place, and how many numbers
-/// these are to `size`: two for each link. The links come in rising order of tail, then head.
+/// Writes the tail and the head of each link, one link after the other, to the front of `place`, and how many numbers
+/// these are to `size`: two for each link. The links are ordered by tail and then by head. Returns `ANSWERED`, or:
 ///
-/// - `TOO_SHORT`: the place has less room.
+/// - `TOO_SHORT`: there is too little room.
 /// - `NO_NETWORK`: there is no network yet.
 /// - `NO_MEMORY`: an allocation was refused.
 ///
-/// `size` is 0 after the last two. After each of the three the place is unchanged. `O(n + m)`.
+/// `size` is 0 in the last two cases. In all three cases `place` is unchanged. O(n + m).
 #[unsafe(no_mangle)]
 pub extern "C" fn revroute_links(
     alloc: Global,
@@ -469,8 +470,8 @@ pub extern "C" fn revroute_links(
     }
 }
 
-/// What the last round reported: the number of turns goes to `turned`, and the number of nodes that are cut off to
-/// `cut_off`. `NO_NETWORK` says that there is no network yet; both are then 0. `O(1)`.
+/// Writes the report of the last round: the number of turns to `turned`, and the number of nodes that are cut off to
+/// `cut_off`. Returns `NO_NETWORK`, with 0 in both, if there is no network yet. O(1).
 #[unsafe(no_mangle)]
 pub extern "C" fn revroute_report(handle: &mut Handle, turned: &mut u64, cut_off: &mut u64) -> u32
     ensures same { IsUnchanged handle.old handle.new }
@@ -487,8 +488,8 @@ pub extern "C" fn revroute_report(handle: &mut Handle, turned: &mut u64, cut_off
     }
 }
 
-/// How many nodes and links there are, to `nodes` and `links`. `NO_NETWORK` says that there is no network yet; both are
-/// then 0. `O(1)`.
+/// Writes the number of nodes to `nodes` and the number of links to `links`. Returns `NO_NETWORK`, with 0 in both, if
+/// there is no network yet. O(1).
 #[unsafe(no_mangle)]
 pub extern "C" fn revroute_size(handle: &mut Handle, nodes: &mut u32, links: &mut usize) -> u32
     ensures same { IsUnchanged handle.old handle.new }
@@ -506,13 +507,14 @@ pub extern "C" fn revroute_size(handle: &mut Handle, nodes: &mut u32, links: &mu
     }
 }
 
-/// Opens a reader of the session's hops, which knows all pushes made so far, and puts it into `reader`. One that was
-/// there is closed. From then on each accepted round pushes the changed hops, in push order, before its call returns.
-/// The session can be one that holds no network yet; each node is cut off then. Readers outlive the session, and read
-/// the last hops then.
+/// Opens a reader of the session's hops, which knows all pushes made so far, and puts it into `reader`. A reader that
+/// was there is closed. From then on, each accepted round pushes the changed hops, in push order, before its call
+/// returns. The session may be one without a network; then each node is cut off. A reader can be used after its session
+/// is closed, and reads the last hops then.
 ///
-/// `NO_MEMORY`: an allocation was refused. The reader is unchanged, and the session answers as before, though it may have
-/// the table of its readers now. `O(4,096 + n)` for the first reader of a session, and `O(1)` for each later one.
+/// Returns `NO_MEMORY` if an allocation was refused. Then the reader is unchanged and the session answers as before,
+/// although the table for its readers may be there now. O(4,096 + n) for the first reader of a session, and O(1) for
+/// each later one.
 #[unsafe(no_mangle)]
 pub extern "C" fn revroute_reader_open(
     alloc: Global,
@@ -538,13 +540,13 @@ pub extern "C" fn revroute_reader_open(
     }
 }
 
-/// Opens one more reader of the same table, for another thread, and puts it into `other`. One that was there is closed.
-/// It knows what `reader` knows.
+/// Opens one more reader of the same table, for another thread, and puts it into `other`. A reader that was there is
+/// closed. The new reader knows what `reader` knows. Returns `ANSWERED`, or:
 ///
 /// - `NO_NETWORK`: `reader` is null.
 /// - `NO_MEMORY`: an allocation was refused.
 ///
-/// After both `other` is unchanged. `O(1)`.
+/// In both cases `other` is unchanged. O(1).
 #[unsafe(no_mangle)]
 pub extern "C" fn revroute_reader_copy(
     alloc: Global,
@@ -567,9 +569,9 @@ pub extern "C" fn revroute_reader_copy(
     ANSWERED
 }
 
-/// Where a node sends on to, as [`revroute_next_hop`] answers it, by one load. It waits for nobody, and other threads
-/// may use the session and other readers meanwhile. A number that is no node of the network is cut off, and a number
-/// of 4,096 or more is no node. A null reader answers that there is no network. `O(1)`.
+/// Returns the next hop of a node, as [`revroute_next_hop`] does, by one load. It does not wait, and other threads may
+/// use the session and other readers meanwhile. A number below 4,096 that is not a node of the network is cut off; a
+/// number of 4,096 or more is not a node. For a null reader it returns that there is no network. O(1).
 #[unsafe(no_mangle)]
 pub extern "C" fn revroute_reader_next_hop(reader: &mut ReaderHandle, node: u32) -> u32
     ensures null { reader.old.at ≡ null_ptr → (result ≡ no_network) × (reader.new.reading ≡ reader.old.reading) }
@@ -582,16 +584,17 @@ pub extern "C" fn revroute_reader_next_hop(reader: &mut ReaderHandle, node: u32)
     }
 }
 
-/// Walks hop by hop from a node, and writes it and the nodes after it into the front of the place, and how many these
-/// are to `size`. The walk makes one load a node. While hops are pushed, each of them can be of a later table.
+/// Walks hop by hop from a node. Writes this node and those after it to the front of `nodes`, and their number to
+/// `size`. The walk makes one load for each node. While hops are pushed, each load can read a later table. Returns
+/// `ANSWERED` if the walk reaches the destination, or:
 ///
-/// - `TOO_SHORT`: the place is full before the walk has ended. `size` is one more than it has room for.
-/// - `NO_ROUTE`: the last node is cut off, or the first number is 4,096 or more. While hops are pushed, a walk can end so
-///   although its first node has a route before and after.
+/// - `TOO_SHORT`: `nodes` is full before the walk has ended. `size` is one more than there is room for.
+/// - `NO_ROUTE`: the last node is cut off, or the first number is 4,096 or more. While hops are pushed, a walk can end
+///   like this although its first node has a route before and after.
 /// - `NO_NETWORK`: the reader is null.
 ///
-/// `size` is 0 after the last two. In each case the front of the place has the nodes walked so far, and the rest of it is
-/// unchanged. It takes no memory, and waits for nobody. `O(r)` for r nodes of the walk.
+/// `size` is 0 in the last two cases. In each case the front of `nodes` has the nodes walked so far, and the rest is
+/// unchanged. It does not allocate or wait. O(r) for a walk of r nodes.
 #[unsafe(no_mangle)]
 pub extern "C" fn revroute_reader_route(
     reader: &mut ReaderHandle,
@@ -614,8 +617,8 @@ pub extern "C" fn revroute_reader_route(
     }
 }
 
-/// Closes a reader. The handle is null again. The table goes with its session and its last reader. `O(1)`, and
-/// `O(4,096)` for the last one.
+/// Closes a reader. The handle is then null. The table is released once its session and its last reader are closed.
+/// O(1), and O(4,096) when the table is released.
 #[unsafe(no_mangle)]
 pub extern "C" fn revroute_reader_close(alloc: Global, reader: &mut ReaderHandle)
     ensures none { reader.new.reading ≡ no_reader }

@@ -1,4 +1,4 @@
-//! Lines whose bytes come in pieces that are cut anywhere.
+//! Lines whose bytes come in pieces that can end anywhere.
 
 ghost use Rattle.std.specs.Prelude.{◌≡◌, ◌≢◌, ◌≤◌, ◌<◌, ◌+◌, ◌++◌, ◌⊎◌, ◌↔◌, [], true, length};
 ghost use Rattle.fr_bytes.specs.Bytes.{most_bytes};
@@ -16,7 +16,7 @@ use fr_route::is_blank;
 use std::alloc::Global;
 use std::mem::replace;
 
-/// How a call ended that was handed a piece, and how many bytes of it were taken.
+/// The result of a call with a piece: its status, and how many bytes of the piece were taken.
 #[derive(Drop)]
 pub(crate) struct Taken {
     status: u32,
@@ -24,7 +24,7 @@ pub(crate) struct Taken {
 }
 
 impl Taken {
-    /// Hands out the count, and answers the status.
+    /// Writes the count to `taken`, and returns the status.
     pub(crate) fn tell(self, taken: &mut usize) -> u32
         ensures status { result ≡ self.status }
         ensures count { taken.new ≡ self.count }
@@ -34,8 +34,8 @@ impl Taken {
     }
 }
 
-/// Takes the front of a piece, up to its first byte 10 and with it, and answers the line that ends there; without
-/// one, all of the piece is kept behind what has begun. `size` has to be 0.
+/// Takes a piece up to its first newline, and answers the line that ends there. Without a newline, the whole piece is
+/// kept after what had begun. `size` must be 0.
 pub(crate) fn take_front(
     engine: &mut Engine,
     alloc: Global,
@@ -50,7 +50,7 @@ pub(crate) fn take_front(
 {
     let kept = engine.begun.len();
     let end = front_size(piece);
-    // Before the line is held, so that a blank one takes no memory.
+    // This comes before the line is kept, so that a blank line allocates nothing.
     if end < piece.len() && is_blank_with(&engine.begun, &piece[..end]) {
         engine.begun.clear();
         return Taken {
@@ -82,7 +82,7 @@ pub(crate) fn take_front(
     }
 }
 
-/// The same in a new session, which the null handle holds from then on if it holds anything.
+/// Does the same in a new session. The null handle gets the session if it holds anything then.
 pub(crate) fn take_anew(
     handle: &mut Handle,
     alloc: Global,
@@ -117,7 +117,7 @@ pub(crate) fn take_anew(
     taken
 }
 
-/// Ends the line that has begun, and answers it. Nothing has begun then, unless the answer found no room.
+/// Ends the line that has begun, and answers it. The line stays if it cannot be answered.
 pub(crate) fn finish_line(
     engine: &mut Engine,
     alloc: Global,
@@ -143,7 +143,7 @@ pub(crate) fn finish_line(
     status
 }
 
-/// Whether what has begun and this end of it make a blank line, which is no longer than may be.
+/// Whether what has begun and this end of it are a blank line within the limit.
 fn is_blank_with(begun: &[u8], end: &[u8]) -> bool
     ensures { (result ≡ true)
         ↔ ((is_blank_line (begun.now ++ end.now) ≡ true) × (length (begun.now ++ end.now) ≤ most_bytes)) }
@@ -152,7 +152,7 @@ fn is_blank_with(begun: &[u8], end: &[u8]) -> bool
     fits && is_blank(begun) && is_blank(end)
 }
 
-/// Keeps bytes without a line end behind what has begun.
+/// Keeps bytes without a newline after what has begun.
 fn hold(begun: &mut Vec<u8>, bytes: &[u8]) -> u32
     ensures held { result ≡ BEGUN → begun.new.items ≡ begun.old.items ++ bytes.now }
     ensures within { result ≡ BEGUN → length begun.new.items ≤ most_bytes }

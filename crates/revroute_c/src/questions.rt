@@ -1,4 +1,4 @@
-//! Questions: they change nothing.
+//! Questions, which change nothing.
 
 ghost use Rattle.std.specs.Prelude.{◌≡◌, ◌<◌, ◌≤◌, ◌⊎◌, ◌↔◌, length, map, None, IfOk, IfSome};
 ghost use Rattle.fr_route.specs.States.{IsReport};
@@ -11,16 +11,16 @@ use crate::statuses::{ANSWERED, NO_MEMORY, NO_NETWORK, NO_ROUTE, TOO_SHORT};
 use fr_route::{Hop, Router, Session, Walked};
 use std::alloc::{AllocError, Global};
 
-/// In place of a hop: the node is the destination.
+/// In place of a next hop: the node is the destination.
 pub(crate) const HERE: u32 = u32::MAX;
 
-/// In place of a hop: the node is cut off.
+/// In place of a next hop: the node is cut off.
 pub(crate) const CUT_OFF: u32 = u32::MAX - 1;
 
-/// In place of a hop: there is no such node.
+/// In place of a next hop: there is no such node.
 pub(crate) const HOP_OF_NO_NODE: u32 = u32::MAX - 2;
 
-/// In place of a hop: there is no network yet.
+/// In place of a next hop: there is no network yet.
 pub(crate) const HOP_OF_NO_NETWORK: u32 = u32::MAX - 3;
 
 /// A hop as a number.
@@ -34,7 +34,7 @@ fn number(hop: Hop) -> u32
     }
 }
 
-/// Where node `x` sends on to, as a number; `x` has to be a node.
+/// The hop of node `x` as a number. The node must be in the network.
 fn hop_number(router: &Router, x: u32) -> u32
     requires { x < router.now.nodes }
     ensures { IsHopNumber router.now x result }
@@ -42,7 +42,7 @@ fn hop_number(router: &Router, x: u32) -> u32
     number(router.next_hop(x))
 }
 
-/// Writes hops as numbers into a place for just these.
+/// Writes hops as numbers to a place of exactly their length.
 fn fill_hops(hops: &[Hop], place: &mut [u32])
     requires { length place.old ≡ length hops.now }
     ensures { place.new ≡ map number_of hops.now }
@@ -52,7 +52,7 @@ fn fill_hops(hops: &[Hop], place: &mut [u32])
     }
 }
 
-/// Writes where each node sends on to into the front of a place, if that has room.
+/// Writes the hop of each node to the front of a place, if there is room.
 fn hand_out_hops(router: &Router, place: &mut [u32], size: &mut usize) -> u32
     ensures gives { GivesList (λ numbers. length numbers ≡ router.now.nodes)
         (outcome result place.old place.new size.new) }
@@ -68,7 +68,7 @@ fn hand_out_hops(router: &Router, place: &mut [u32], size: &mut usize) -> u32
     ANSWERED
 }
 
-/// Where a node sends on to, as a number, whatever the session holds.
+/// The hop of any node in any session, as a number.
 pub(crate) fn hop_in(session: &Session, node: u32) -> u32
     ensures { TellsHop session.now node result }
 {
@@ -81,7 +81,7 @@ pub(crate) fn hop_in(session: &Session, node: u32) -> u32
     hop_number(router, node)
 }
 
-/// Writes where each node sends on to, if there is a network. `size` has to be 0.
+/// Writes the hop of each node, if there is a network. `size` must be 0.
 pub(crate) fn hops_in(session: &Session, hops: &mut [u32], size: &mut usize) -> u32
     requires { size.old ≡ 0 }
     ensures gives { GivesList (AreAsManyAsNodes session.now) (outcome result hops.old hops.new size.new) }
@@ -95,7 +95,7 @@ pub(crate) fn hops_in(session: &Session, hops: &mut [u32], size: &mut usize) -> 
     }
 }
 
-/// Writes how often each node turned in the last round, if there is a network. `size` has to be 0.
+/// Writes how often each node turned in the last round, if there is a network. `size` must be 0.
 pub(crate) fn counts_in(session: &Session, counts: &mut [u64], size: &mut usize) -> u32
     requires { size.old ≡ 0 }
     ensures gives { GivesList (AreCounts session.now) (outcome result counts.old counts.new size.new) }
@@ -108,7 +108,7 @@ pub(crate) fn counts_in(session: &Session, counts: &mut [u64], size: &mut usize)
     }
 }
 
-/// Writes the nodes of the route from a node to the destination, if there is one. `size` has to be 0.
+/// Writes the nodes of the route from a node to the destination, if there is one. `size` must be 0.
 pub(crate) fn route_in(
     session: &Session,
     alloc: Global,
@@ -135,7 +135,7 @@ pub(crate) fn route_in(
     }
 }
 
-/// Writes what the last round reported, if there is a network. Both numbers have to be 0.
+/// Writes the report of the last round, if there is a network. Both numbers must be 0.
 pub(crate) fn report_in(session: &Session, turned: &mut u64, cut_off: &mut u64) -> u32
     requires { (turned.old ≡ 0) × (cut_off.old ≡ 0) }
     ensures report { result ≡ ANSWERED → IfSome session.now (λ s. IsReport s turned.new cut_off.new) }
@@ -152,7 +152,7 @@ pub(crate) fn report_in(session: &Session, turned: &mut u64, cut_off: &mut u64) 
     ANSWERED
 }
 
-/// Writes how many nodes and links there are, if there is a network. Both numbers have to be 0.
+/// Writes the numbers of nodes and links, if there is a network. Both numbers must be 0.
 pub(crate) fn size_in(session: &Session, nodes: &mut u32, links: &mut usize) -> u32
     requires { (nodes.old ≡ 0) × (links.old ≡ 0) }
     ensures size { result ≡ ANSWERED → IfSome session.now (λ s. (nodes.new ≡ s.nodes) × (links.new ≡ length s.links)) }
@@ -168,7 +168,7 @@ pub(crate) fn size_in(session: &Session, nodes: &mut u32, links: &mut usize) -> 
     ANSWERED
 }
 
-/// Writes tail and head of each link, if there is a network. `size` has to be 0.
+/// Writes the tail and the head of each link, if there is a network. `size` must be 0.
 pub(crate) fn links_in(session: &Session, alloc: Global, place: &mut [u32], size: &mut usize) -> u32
     requires { size.old ≡ 0 }
     ensures gives { GivesList (AreEnds session.now) (outcome result place.old place.new size.new) }
@@ -184,7 +184,7 @@ pub(crate) fn links_in(session: &Session, alloc: Global, place: &mut [u32], size
     }
 }
 
-/// Tail and head of each link, one link after the other.
+/// The tail and the head of each link, one link after the other.
 fn ends_in(router: &Router, alloc: Global) -> Result<Vec<u32>, AllocError>
     ensures { IfOk result (λ found. found.items ≡ ends router.now.links) }
 {

@@ -1,4 +1,4 @@
-//! What C holds of a reader.
+//! The handle that C has of a reader.
 
 ghost use Rattle.std.specs.Prelude.{◌≡◌, ◌≢◌, MatchOption};
 ghost use Rattle.std.specs.Borrow.{sem};
@@ -15,8 +15,8 @@ use std::marker::{Model, Send};
 use std::mem::replace;
 use std::ptr::null_mut;
 
-/// What C holds of a reader: a pointer that only this library reads. Null stands for no reader, so that C makes a
-/// handle by writing null.
+/// The handle that C has of a reader: a pointer that only this library reads. Null is no reader, so C makes a handle by
+/// writing null.
 #[repr(C)]
 #[derive(Drop)]
 pub struct ReaderHandle {
@@ -28,13 +28,13 @@ impl Model for ReaderHandle {
     ghost also_owns = { λ handle. owned_at reader_row no_reader handle.at handle.reading };
 }
 
-// What a handle owns is the reader, and that may go to another thread.
+// A handle owns its reader, which may go to another thread.
 unsafe impl Send for ReaderHandle {}
 
 impl ReaderHandle {
     ghost use Rattle.revroute_c.specs.ReaderLending.{LendsReader, read_by};
 
-    /// The null handle, of no reader.
+    /// The null handle, without a reader.
     fn empty() -> ReaderHandle
         ensures held { read_by result ≡ no_reader }
         ensures null { result.at ≡ null_ptr }
@@ -52,7 +52,7 @@ impl ReaderHandle {
         }
     }
 
-    /// The reader of a handle, where it is not null.
+    /// The reader of a handle, unless the handle is null.
     fn into_loose(self, alloc: Global) -> Option<Loose<Reader, Global>>
         ensures { MatchOption result (read_by self ≡ no_reader) (λ loose. read_by self ≡ loose.value) }
     {
@@ -67,7 +67,7 @@ impl ReaderHandle {
         }
     }
 
-    /// Takes the reader out of a handle, which is then null; there is none if it was null before.
+    /// Takes the reader out of a handle, which is then null. `None` if it was null before.
     pub(crate) fn taken(handle: &mut ReaderHandle, alloc: Global) -> Option<Box<Reader>>
         ensures held { MatchOption result (read_by handle.old ≡ no_reader)
             (λ reader. read_by handle.old ≡ reader.value) }
@@ -81,7 +81,7 @@ impl ReaderHandle {
         }
     }
 
-    /// The reader behind a handle; none where the handle is null.
+    /// The reader of a handle, in place. `None` if the handle is null.
     pub(crate) fn reader_mut(&mut self) -> Option<&mut Reader>
         ensures* writes_back { sem 𝓛 (LendsReader self.entry result) }
         ensures value { MatchOption result ((self.old.at ≡ null_ptr) × (read_by self.old ≡ no_reader))
@@ -93,7 +93,7 @@ impl ReaderHandle {
         unsafe { Some(&mut *self.at.cast::<Reader>()) }
     }
 
-    /// Puts a reader into a handle. The one that was there, if any, is closed.
+    /// Puts a reader into a handle. A reader that was there is closed.
     pub(crate) fn put(handle: &mut ReaderHandle, alloc: Global, reader: Box<Reader>)
         ensures { read_by handle.new ≡ reader.value }
     {
@@ -102,10 +102,10 @@ impl ReaderHandle {
     }
 }
 
-/// Asks that values of a type may go to another thread.
+/// Compiles only if values of type `T` may go to another thread.
 fn may_be_sent<T: Send>() {}
 
-/// A handle may go to another thread: the check of this function shows it.
+/// Shows that a handle may go to another thread. It only has to pass the check.
 fn reader_handle_may_be_sent() {
     may_be_sent::<ReaderHandle>();
 }

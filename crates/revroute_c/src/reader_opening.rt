@@ -1,4 +1,4 @@
-//! How a session opens readers.
+//! Opening readers of a session.
 
 ghost use Rattle.std.specs.Prelude.{◌≡◌, IfOk, OnErr};
 ghost use Rattle.revroute_c.specs.Lending.{held_by, IsNull};
@@ -20,7 +20,7 @@ pub(crate) fn reader_in(engine: &mut Engine, alloc: Global) -> Result<Box<Reader
     Ok(Box::new(alloc, reader)?)
 }
 
-/// A reader of the hops of a new session, which the null handle holds from then on.
+/// Makes a reader of the hops of a new session, which the null handle gets.
 pub(crate) fn reader_anew(handle: &mut Handle, alloc: Global) -> Result<Box<Reader>, AllocError>
     requires { IsNull handle.old }
     ensures opens { OpensTable (held_by handle.old) (held_by handle.new) }

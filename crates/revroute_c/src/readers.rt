@@ -1,4 +1,4 @@
-//! Readers: what other threads ask while the session is changed.
+//! Readers, which other threads use while the session changes.
 
 ghost use Rattle.std.specs.Prelude.{◌≡◌, ◌⊎◌, IfOk};
 ghost use Rattle.fr_shared.specs.Words.{hop_of};
@@ -20,7 +20,7 @@ pub(crate) fn copied(reader: &mut Reader, alloc: Global) -> Result<Box<Reader>, 
     Ok(Box::new(alloc, other)?)
 }
 
-/// Where a node sends on to, as a number.
+/// The hop of a node as a number.
 pub(crate) fn hop_read(reader: &mut Reader, node: u32) -> u32
     ensures { TellsHopRead reader.old reader.new node result }
 {
@@ -30,7 +30,7 @@ pub(crate) fn hop_read(reader: &mut Reader, node: u32) -> u32
     number_in(reader.word(node))
 }
 
-/// The number of the hop that a word holds. Faster than by the hop itself.
+/// The hop that a word holds, as a number. This is faster than through a `Hop`.
 fn number_in(word: u64) -> u32
     ensures { result ≡ number_of (hop_of word) }
 {
@@ -43,7 +43,7 @@ fn number_in(word: u64) -> u32
     }
 }
 
-/// Walks from a node hop by hop, and writes it and the nodes after it to the front of the place. `size` has to be 0.
+/// Walks from a node hop by hop, and writes it and the nodes after it to the front of the place. `size` must be 0.
 pub(crate) fn walk_read(reader: &mut Reader, node: u32, place: &mut [u32], size: &mut usize) -> u32
     requires { size.old ≡ 0 }
     ensures reads_on { ReadsOn reader.old reader.new }

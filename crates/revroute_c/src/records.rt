@@ -1,4 +1,4 @@
-//! What C hands in of links and edits, and what it gets back of a round.
+//! The structs of C: links, edits, the report of a round, refusals.
 
 ghost use Rattle.std.specs.Prelude.{◌≡◌, map, position, IfOk};
 ghost use Rattle.revroute_c.specs.Records.{edit_of, is_unknown, link_of};
@@ -11,9 +11,9 @@ use std::alloc::{AllocError, Global};
 #[repr(C)]
 #[derive(Clone, Copy)]
 pub struct Link {
-    /// From which node it points.
+    /// The node from which it points.
     pub tail: u32,
-    /// And to which.
+    /// The node to which it points.
     pub head: u32,
 }
 
@@ -23,13 +23,13 @@ pub struct Link {
 pub struct LinkEdit {
     /// What it does: one of [`CUT`], [`ADD`] and [`JOIN`].
     pub kind: u32,
-    /// The one node.
+    /// One node.
     pub u: u32,
     /// The other node.
     pub v: u32,
 }
 
-/// What a round comes to.
+/// The report of a round.
 #[repr(C)]
 #[derive(Clone, Copy)]
 pub struct Round {
@@ -43,23 +43,23 @@ pub struct Round {
 #[repr(C)]
 #[derive(Clone, Copy)]
 pub struct Refusal {
-    /// The number by which lines name the reason.
+    /// The number that lines use for the reason.
     pub number: u32,
-    /// The one node of the evidence.
+    /// One node of the evidence.
     pub u: u32,
-    /// The other node, or the same.
+    /// The other node, or the same one.
     pub v: u32,
-    /// Which edit is refused, counted from 0.
+    /// The place of the refused edit, counted from 0.
     pub at: usize,
 }
 
-/// The link is taken out, whichever way it points.
+/// The link is removed, whichever way it points.
 const CUT: u32 = 0;
 
 /// The link from `u` to `v` is added.
 const ADD: u32 = 1;
 
-/// The nodes are joined by a link, whichever way it can point.
+/// The nodes are joined by a link, in a direction that closes no cycle.
 const JOIN: u32 = 2;
 
 /// The links as pairs of tail and head.
@@ -73,7 +73,7 @@ pub(crate) fn pairs_of(alloc: Global, links: &[Link]) -> Result<Vec<(u32, u32)>,
     Ok(pairs)
 }
 
-/// Where the first edit stands whose kind is none of the three, if there is one.
+/// The place of the first edit with an unknown kind, if there is one.
 pub(crate) fn first_unknown(edits: &[LinkEdit]) -> Option<usize>
     ensures { result ≡ position is_unknown edits.now }
 {
@@ -92,7 +92,7 @@ pub(crate) fn unknown_at(at: usize) -> Refusal
     }
 }
 
-/// The edits of a network that these are; each has to be of a known kind.
+/// The edits of a network. Each kind must be known.
 pub(crate) fn edits_of(alloc: Global, edits: &[LinkEdit]) -> Result<Vec<Edit>, AllocError>
     ensures { IfOk result (λ made. made.items ≡ map edit_of edits.now) }
 {
@@ -103,7 +103,7 @@ pub(crate) fn edits_of(alloc: Global, edits: &[LinkEdit]) -> Result<Vec<Edit>, A
     Ok(made)
 }
 
-/// The edit of a network that this is; what is no cut and no addition joins.
+/// The edit of a network. A kind that is not `CUT` or `ADD` counts as `JOIN`.
 fn network_edit(edit: LinkEdit) -> Edit
     ensures { result ≡ edit_of edit }
 {
@@ -115,7 +115,7 @@ fn network_edit(edit: LinkEdit) -> Edit
     }
 }
 
-/// What a round reports, as C gets it.
+/// The report of a round, for C.
 pub(crate) fn round_of(report: Report) -> Round
     ensures turned { result.turned ≡ report.turned }
     ensures cut_off { result.cut_off ≡ report.cut }

@@ -1,4 +1,4 @@
-//! Answers in the buffer of a caller.
+//! Answers in the caller's buffer.
 
 ghost use Rattle.std.specs.Prelude.{◌≡◌, ◌≢◌, ◌≤◌, ◌<◌, ◌⊎◌, false, length};
 ghost use Rattle.fr_route.specs.Blank.{is_blank};
@@ -11,11 +11,11 @@ use crate::statuses::{ANSWERED, BLANK, NO_MEMORY, TOO_SHORT};
 use fr_route::AnswerFault;
 use std::alloc::Global;
 
-/// The least room for an answer, in bytes: each answer that changes the session fits into it. So where a text is too
-/// long for a buffer of this room, it changes nothing.
+/// The least room for an answer, in bytes. Each answer that changes the session fits into it. So if an answer is too
+/// long for a buffer of this length, nothing has changed.
 pub(crate) const LEAST_ROOM: usize = 64;
 
-/// Writes items to the front of a buffer that has room for them, and tells how many they are in any case.
+/// Writes items to the front of a buffer if there is room, and their number to `size` in any case.
 pub(crate) fn hand_out<T: Copy>(items: &[T], buffer: &mut [T], size: &mut usize) -> u32
     ensures written { result ≡ ANSWERED → IsWritten items.now buffer.old buffer.new }
     ensures too_short { result ≡ TOO_SHORT → (length buffer.old < length items.now) × (buffer.new ≡ buffer.old) }
@@ -30,8 +30,8 @@ pub(crate) fn hand_out<T: Copy>(items: &[T], buffer: &mut [T], size: &mut usize)
     ANSWERED
 }
 
-/// Answers a line that is not blank, in a buffer of at least [`LEAST_ROOM`] bytes. `size` has to be 0, and stays so
-/// where there is no memory.
+/// Answers a line that is not blank, in a buffer of at least [`LEAST_ROOM`] bytes. `size` must be 0, and stays 0 if
+/// there is no memory.
 pub(crate) fn reply(
     engine: &mut Engine,
     alloc: Global,
@@ -52,7 +52,7 @@ pub(crate) fn reply(
     }
 }
 
-/// The same in a new session, which the null handle holds from then on if the line is answered.
+/// Does the same in a new session. The null handle gets the session if the line is answered.
 pub(crate) fn reply_anew(
     handle: &mut Handle,
     alloc: Global,

@@ -1,4 +1,4 @@
-//! Calls with numbers that begin a round: a network, edits, another destination.
+//! The calls with numbers that begin a round: a network, edits, another destination.
 
 ghost use Rattle.std.specs.Prelude.{◌≡◌, ◌≢◌, ◌≤◌, ◌⊎◌, ◌↔◌, length, map, None, IfOk, IfErr};
 ghost use Rattle.fr_graph.specs.Batches.{AreMade, IsBatchFault};
@@ -21,7 +21,7 @@ use fr_graph::{EditFault, MAX_EDITS, MAX_LINKS, Net, NetFault};
 use fr_route::{Change, RouteFault, Router, fault_number};
 use std::alloc::Global;
 
-/// The first step of a walk.
+/// The first step along a cycle.
 fn step_of(walk: &[u32]) -> (u32, u32)
     ensures { result ≡ first_step walk.now }
 {
@@ -66,7 +66,7 @@ fn refusal_for(at: usize, fault: &NetFault, nodes: (u32, u32)) -> Refusal
     }
 }
 
-/// The network of these links.
+/// The network with these links.
 pub(crate) fn network_of(alloc: Global, nodes: u32, links: &[Link]) -> Result<Net, NetFault>
     ensures ok { IfOk result (IsNetworkOf nodes (map link_of links.now)) }
     ensures refused { IfErr result (λ fault. fault ≢ Memory → IsFirstFault nodes (map link_of links.now) fault) }
@@ -87,7 +87,7 @@ pub(crate) struct NewNetwork<'a> {
 }
 
 impl<'a> NewNetwork<'a> {
-    /// The router of the network; a destination that is no node is out of range.
+    /// The router of the network. Fails with `Range` if the destination is not a node.
     fn opened(&self, alloc: Global) -> Result<Router, NetFault>
         ensures accepted { IfOk result (IsAccepted None
             (new_network self.now.nodes self.now.dest (map link_of self.now.links.now))) }
@@ -106,7 +106,7 @@ impl<'a> NewNetwork<'a> {
     }
 }
 
-/// Takes a network in place of the last one, and tells which nodes have another hop then.
+/// Replaces the network, and lists the nodes whose hop has changed.
 pub(crate) fn open_in(
     engine: &mut Engine,
     alloc: Global,
@@ -135,7 +135,7 @@ pub(crate) fn open_in(
     ANSWERED
 }
 
-/// The same in a new session, which the null handle holds from then on if the network is taken.
+/// Does the same in a new session. The null handle gets the session if the network is accepted.
 pub(crate) fn open_anew(
     handle: &mut Handle,
     alloc: Global,
@@ -161,7 +161,7 @@ pub(crate) fn open_anew(
     status
 }
 
-/// The network with these edits made, each of a known kind; or the first that is refused.
+/// The network with these edits made, or the first edit that is refused. Each kind must be known.
 pub(crate) fn edited(net: &Net, alloc: Global, edits: &[LinkEdit]) -> Result<Net, EditFault>
     ensures few { IfOk result (λ _. length edits.now ≤ most_edits) }
     ensures made { IfOk result (AreMade net.now (map edit_of edits.now)) }
@@ -172,7 +172,7 @@ pub(crate) fn edited(net: &Net, alloc: Global, edits: &[LinkEdit]) -> Result<Net
     net.with_edits(alloc, &made)
 }
 
-/// Tells which of these edits a network refuses first, and why, where it refuses them.
+/// Writes which of these edits is refused first, and why. One of them must be refused.
 fn tell_refused(net: &Net, alloc: Global, edits: &[LinkEdit], refusal: &mut Refusal) -> u32
     requires few { length edits.now ≤ most_edits }
     requires refused { (refused : EditFault) × IsBatchFault net.now (map edit_of edits.now) refused }
@@ -195,7 +195,7 @@ fn tell_refused(net: &Net, alloc: Global, edits: &[LinkEdit], refusal: &mut Refu
     }
 }
 
-/// Makes edits of known kinds, with one round behind them, and tells which nodes it reroutes.
+/// Makes edits of known kinds, with one round after the last, and lists the nodes that it reroutes.
 pub(crate) fn change_in(
     engine: &mut Engine,
     alloc: Global,
@@ -234,7 +234,7 @@ pub(crate) fn change_in(
     }
 }
 
-/// Moves the destination, with one round behind it, and tells which nodes it reroutes.
+/// Moves the destination, with one round after it, and lists the nodes that it reroutes.
 pub(crate) fn move_in(
     engine: &mut Engine,
     alloc: Global,

@@ -1,12 +1,12 @@
-//! How a call ends: the statuses of the header, by its numbers.
+//! The results of calls, with the numbers of the header.
 
-/// What was asked for is written.
+/// The result is written.
 pub(crate) const ANSWERED: u32 = 0;
 
 /// The line is blank, and has no answer.
 pub(crate) const BLANK: u32 = 1;
 
-/// The place has too little room, and nothing has changed.
+/// There is too little room, and nothing has changed.
 pub(crate) const TOO_SHORT: u32 = 2;
 
 /// An allocation was refused, and nothing has changed.
@@ -15,20 +15,20 @@ pub(crate) const NO_MEMORY: u32 = 3;
 /// There is no network yet.
 pub(crate) const NO_NETWORK: u32 = 4;
 
-/// There is no route to the destination.
+/// The node has no route to the destination.
 pub(crate) const NO_ROUTE: u32 = 5;
 
 /// The call is refused, and nothing has changed.
 pub(crate) const REFUSED: u32 = 6;
 
-/// No closed walk refuses that.
+/// The edits or the network are not refused for a cycle.
 pub(crate) const NO_WALK: u32 = 7;
 
 /// No line has ended, and the bytes are kept.
 pub(crate) const BEGUN: u32 = 8;
 
-/// The line is longer than a line may be.
+/// The line is longer than the limit.
 pub(crate) const TOO_LONG: u32 = 9;
 
-/// The table has not one hop for each node, or one of its hops names no node.
+/// The table does not have one hop for each node, or one of its hops does not name a node.
 pub(crate) const NO_TABLE: u32 = 10;

@@ -1,4 +1,4 @@
-//! Where a table of a caller's differs from the settled hops.
+//! Where the caller's table differs from the settled hops.
 
 ghost use Rattle.std.specs.Prelude.{◌≡◌, ◌≤◌, ◌⊎◌, ◌↔◌, map, None, IfOk};
 ghost use Rattle.revroute_c.specs.Replies.{outcome, GivesList};
@@ -33,7 +33,7 @@ fn table_of(alloc: Global, numbers: &[u32]) -> Result<Vec<Hop>, AllocError>
     Ok(table)
 }
 
-/// Writes which nodes have another hop than in a table of the caller's, in push order. `size` has to be 0.
+/// Writes the nodes whose hop differs from that in the caller's table, in push order. `size` must be 0.
 pub(crate) fn pushes_in(
     session: &Session,
     alloc: Global,

@@ -1,13 +1,13 @@
-//! What came of a case, as text.
+//! The answer to a case, as text.
 
 use std::alloc::Global;
 use std::fmt::{Debug, Display, Write};
 
-/// A text that grows piece by piece. Where a piece finds no memory, or what is given is no case, the whole text says so, and no
-/// caller has to.
+/// A text that grows piece by piece. If an allocation is refused, or the input is not a case, the whole text says so.
+/// Callers need not handle it.
 #[derive(Drop)]
 pub struct Answer {
-    /// Gives the memory that a case needs.
+    /// The allocator for a case.
     pub alloc: Global,
     text: String,
     is_whole: bool,
@@ -15,7 +15,7 @@ pub struct Answer {
 }
 
 impl Answer {
-    /// No text yet.
+    /// An empty text.
     pub fn new(alloc: Global) -> Answer {
         Answer {
             alloc,
@@ -36,40 +36,40 @@ impl Answer {
         }
     }
 
-    /// Says that what is given is no case.
+    /// Notes that the input is not a case.
     pub fn refuse(&mut self) {
         self.is_of_case = false;
     }
 
-    /// Says whether there was memory for what a case needs.
+    /// Notes whether an allocation was refused.
     pub fn note(&mut self, had_memory: bool) {
         if !had_memory {
             self.is_whole = false;
         }
     }
 
-    /// Puts words behind it.
+    /// Appends words.
     pub fn say(&mut self, words: &str) {
         if self.text.push_str(words).is_err() {
             self.is_whole = false;
         }
     }
 
-    /// Puts a value behind it, as `Debug` writes it.
+    /// Appends a value, as `Debug` writes it.
     pub fn put<T: Debug>(&mut self, value: &T) {
         if write!(self.text, "{value:?}").is_err() {
             self.is_whole = false;
         }
     }
 
-    /// Puts a value behind it, as `Display` writes it.
+    /// Appends a value, as `Display` writes it.
     pub fn show<T: Display>(&mut self, value: &T) {
         if write!(self.text, "{value}").is_err() {
             self.is_whole = false;
         }
     }
 
-    /// Puts a comma behind it, before what comes next.
+    /// Appends a comma before the next item.
     pub fn comma(&mut self) {
         if !self.text.is_empty() {
             self.say(", ");

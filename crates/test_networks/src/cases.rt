@@ -1,5 +1,5 @@
-//! What is given in a case: words, numbers, links, and lists of them. Where something else is given, the answer is told, and 0, no
-//! word or an empty list stands for it.
+//! The input of a case: words, numbers, links, and lists of them. If an item is of another kind, the answer says so,
+//! and 0, no word or an empty list is used for it.
 
 use crate::answers::Answer;
 use fr_net::MAX_NODES;
@@ -94,7 +94,7 @@ fn push_link(answer: &mut Answer, links: &mut Vec<(u32, u32)>, link: &Value) {
     }
 }
 
-/// The links of a chain of so many nodes, each from `first` on with a link to the next.
+/// The links of a chain of so many nodes: each node from `first` on has a link to the next.
 fn chain(answer: &mut Answer, nodes: &Value, first: &Value) -> Vec<(u32, u32)> {
     let mut links = Vec::new(answer.alloc);
     for x in number(answer, first)..number(answer, nodes).saturating_sub(1) {
@@ -103,7 +103,7 @@ fn chain(answer: &mut Answer, nodes: &Value, first: &Value) -> Vec<(u32, u32)> {
     links
 }
 
-/// The first `count` links from a node to a lower one, in rising order of tail, then head.
+/// The first `count` links that lead from a node to a lower one, ordered by tail and then by head.
 fn down(answer: &mut Answer, count: &Value) -> Vec<(u32, u32)> {
     let count = length(answer, count);
     let mut links = Vec::new(answer.alloc);
@@ -113,7 +113,7 @@ fn down(answer: &mut Answer, count: &Value) -> Vec<(u32, u32)> {
     links
 }
 
-/// Adds the links from `tail` to lower nodes, as long as there are fewer than `count`.
+/// Adds the links from `tail` to lower nodes, up to `count` links in all.
 fn push_down(answer: &mut Answer, links: &mut Vec<(u32, u32)>, count: usize, tail: u32) {
     for head in 0..tail {
         if links.len() == count {

@@ -1,4 +1,4 @@
-//! Networks that links are cut out of, added to and joined by, told as text.
+//! Edits of networks (cut, add, join) as text.
 
 use crate::answers::Answer;
 use crate::cases::{items, length, number, word};
@@ -7,7 +7,7 @@ use fr_net::laws::join_law;
 use fr_net::{Edit, EditFault, Net, NetFault, NotEdited};
 use serde_json::Value;
 
-/// Answers what is asked of edits of a network. Whether it is that.
+/// Answers a question about edits of a network. Returns whether it is such a question.
 pub fn answer_about(answer: &mut Answer, net: &mut Net, asked: &str, given: &[Value]) -> bool {
     match (asked, given) {
         ("edits", [edits]) => several(answer, net, edits),
@@ -18,7 +18,7 @@ pub fn answer_about(answer: &mut Answer, net: &mut Net, asked: &str, given: &[Va
     true
 }
 
-/// The edit of two nodes that a word names.
+/// The edit of two nodes with this word.
 fn edit_of(answer: &mut Answer, named: &str, u: &Value, v: &Value) -> Edit {
     let (u, v) = (number(answer, u), number(answer, v));
     match named {
@@ -83,7 +83,7 @@ fn one(answer: &mut Answer, net: &Net, named: &str, u: &Value, v: &Value) {
     tell(answer, edited);
 }
 
-/// What is made of edits, one after the other, or the place of the first that is refused and why.
+/// The network after edits in order, or the place of the first one that is refused and why.
 fn several(answer: &mut Answer, net: &Net, given: &Value) {
     let edits = edits(answer, given);
     match net.with_edits(answer.alloc, &edits) {
@@ -92,15 +92,15 @@ fn several(answer: &mut Answer, net: &Net, given: &Value) {
     }
 }
 
-/// Tells the place of an edit that is refused, and why.
+/// Writes the place of a refused edit, and why it is refused.
 fn tell_refused(answer: &mut Answer, refused: EditFault) {
     answer.put(&refused.at);
     answer.say(" ");
     tell_fault(answer, refused.fault);
 }
 
-/// What is answered where edits may leave so many links, the links that are left, and whether the rows are those of a network
-/// that is made of them.
+/// Writes the result if edits may leave so many links, the links that are left, and whether the rows are those of a
+/// network made from these links.
 fn in_place(answer: &mut Answer, net: &mut Net, given: &Value, most: &Value) {
     let most = length(answer, most);
     let edits = edits(answer, given);
@@ -109,7 +109,7 @@ fn in_place(answer: &mut Answer, net: &mut Net, given: &Value, most: &Value) {
     tell_anew(answer, net);
 }
 
-/// Makes edits where the network stands, if they leave at most so many links, and tells what was answered.
+/// Makes edits in place, if they leave at most so many links, and writes the result.
 fn edit_if_few(answer: &mut Answer, net: &mut Net, edits: &[Edit], most: usize) {
     let way = |made: &Net| {
         let links = made.link_count();
@@ -125,7 +125,7 @@ fn edit_if_few(answer: &mut Answer, net: &mut Net, edits: &[Edit], most: usize) 
     }
 }
 
-/// Tells how many links edits leave, behind a word.
+/// Writes how many links edits leave, after a word.
 fn tell_links_left(answer: &mut Answer, word: &str, links: usize) {
     answer.say(word);
     answer.put(&links);

@@ -1,4 +1,4 @@
-//! What faults say of themselves.
+//! The texts of faults.
 
 use crate::answers::Answer;
 use crate::cases::{length, number, numbers, word};
@@ -6,7 +6,7 @@ use fr_core::{CheckFault, Why};
 use fr_net::{EditFault, LineFault, NetFault};
 use serde_json::Value;
 
-/// Answers what a fault says, if a fault is given. Whether it is.
+/// Answers what a fault says of itself. Returns whether a fault is given.
 pub fn answer(answer: &mut Answer, asked: &str, given: &[Value]) -> bool {
     match (asked, given) {
         ("net_fault", [named, numbers @ ..]) => tell_net_fault(answer, named, numbers),
@@ -23,7 +23,7 @@ fn tell_net_fault(answer: &mut Answer, named: &Value, numbers: &[Value]) {
     answer.show(&fault);
 }
 
-/// A fault of links, with what it names: nodes, or the nodes of a walk.
+/// A fault of links, with its nodes or the nodes of its cycle.
 fn net_fault(answer: &mut Answer, named: &Value, given: &[Value]) -> NetFault {
     match (word(answer, named), given) {
         ("TooMany", []) => return NetFault::TooMany,

@@ -1,4 +1,5 @@
-//! Counts: which are lawful, where `finish`, `finish_turns`, `finish_from` and `finish_soon` end, which nodes are sinks, and where a link points.
+//! Counts: which are lawful, the results of `finish`, `finish_turns`, `finish_from` and `finish_soon`, which nodes are
+//! sinks, and in which direction a link points.
 
 ghost use Rattle.std.specs.Prelude.{◌≡◌, ℕ, ◌<◌, IsTrue, All, false};
 ghost use Rattle.std.specs.List.{Contains};
@@ -16,7 +17,7 @@ use fr_core::{
 use fr_net::{First, Net, Turns};
 use serde_json::Value;
 
-/// Answers where a link points, if it is asked. Whether it is.
+/// Answers in which direction a link points. Returns whether that is the question.
 pub fn answer(answer: &mut Answer, asked: &str, given: &[Value]) -> bool {
     match (asked, given) {
         ("sense", [first, x, w]) => put_sense(answer, first, x, w),
@@ -25,7 +26,8 @@ pub fn answer(answer: &mut Answer, asked: &str, given: &[Value]) -> bool {
     true
 }
 
-/// Answers what is asked of the counts of a network. Whether it is that. The destination is node 0, but where steps name another.
+/// Answers a question about the counts of a network. Returns whether it is such a question. The destination is node 0,
+/// unless steps name another.
 pub fn answer_about(answer: &mut Answer, net: &Net, asked: &str, given: &[Value]) -> bool {
     match (asked, given) {
         ("finish_turns", []) => finished(answer, net, true),
@@ -48,7 +50,7 @@ fn put_sense(answer: &mut Answer, first: &Value, x: &Value, w: &Value) {
     }
 }
 
-/// Whether a destination is a node, and counts are lawful.
+/// Whether a destination is a node and counts are lawful.
 fn is_lawful(net: &Net, dest: u32, counts: &[u64]) -> bool
     ensures node { IsTrue result → dest < net.now.nodes }
     ensures lawful { IsTrue result → AreLawful net.now.nodes dest net.now.links counts.now }
@@ -64,7 +66,7 @@ fn tell_lawful(answer: &mut Answer, net: &Net, given: &Value) {
     answer.put(&is_lawful(net, 0, &counts));
 }
 
-/// How many turns `finish_turns` makes from the counts 0, and the counts, if they are asked for.
+/// How many turns `finish_turns` makes from the counts 0, and the counts if the case asks for them.
 fn finished(answer: &mut Answer, net: &Net, with_counts: bool) {
     match none(answer, net.nodes()) {
         Some(mut turns) if is_lawful(net, 0, turns.counts()) => {
@@ -78,7 +80,7 @@ fn finished(answer: &mut Answer, net: &Net, with_counts: bool) {
     }
 }
 
-/// How many turns `finish` makes from these counts, and where it ends.
+/// How many turns `finish` makes from these counts, and its result.
 fn finished_counts(answer: &mut Answer, net: &Net, given: &Value) {
     let mut counts = counts(answer, given);
     if !is_lawful(net, 0, &counts) {
@@ -89,7 +91,7 @@ fn finished_counts(answer: &mut Answer, net: &Net, given: &Value) {
     answer.put(&counts);
 }
 
-/// Takes steps with a table of the turns of a network, which has none at first.
+/// Takes steps with a table of the turns of a network, which is empty at first.
 fn finishes(answer: &mut Answer, net: &Net, steps: &Value) {
     if let Some(mut turns) = none(answer, net.nodes()) {
         take_all(answer, net, &mut turns, steps);
@@ -111,7 +113,7 @@ fn take(answer: &mut Answer, net: &Net, turns: &mut Turns, step: &Value) {
     }
 }
 
-/// Tells the counts or how many turns there are, or takes all turns back.
+/// Writes the counts or the number of turns, or clears the table.
 fn tell_or_clear(answer: &mut Answer, turns: &mut Turns, asked: &Value) {
     match word(answer, asked) {
         "counts" => {
@@ -127,7 +129,7 @@ fn tell_or_clear(answer: &mut Answer, turns: &mut Turns, asked: &Value) {
     }
 }
 
-/// Goes on to the settled counts, and tells whether it came there.
+/// Continues to the settled counts, and writes whether it reached them.
 fn go_on(
     answer: &mut Answer,
     net: &Net,
@@ -154,7 +156,7 @@ fn go_on(
     tell_state(answer, net, dest, turns.counts());
 }
 
-/// Tells whether counts are lawful, and whether they are the settled ones.
+/// Writes whether counts are lawful, and whether they are the settled ones.
 fn tell_state(answer: &mut Answer, net: &Net, dest: u32, counts: &[u64]) {
     answer.say(if !is_lawful(net, dest, counts) {
         "not lawful"
@@ -165,12 +167,12 @@ fn tell_state(answer: &mut Answer, net: &Net, dest: u32, counts: &[u64]) {
     });
 }
 
-/// Whether these are nodes, and all that can turn are among them, as `finish_from` and `finish_soon` require.
+/// Whether these are nodes that include all that can turn, as `finish_from` and `finish_soon` require.
 fn hold_all(net: &Net, dest: u32, counts: &[u64], from: &[u32]) -> bool
     requires { AreLawful net.now.nodes dest net.now.links counts.now }
     ensures { IsTrue result → HoldsAllThatCanTurn net.now.nodes dest net.now.links counts.now from.now }
 {
-    // By the law a node that can turn is one of the network.
+    // By this law, a node that can turn is in the network.
     net.network_law();
     are_nodes(net, from) && miss_none(net, dest, counts, from)
 }
@@ -207,14 +209,14 @@ fn misses(net: &Net, dest: u32, counts: &[u64], from: &[u32], x: u32) -> bool
     can_turn(net, dest, counts, x) && !is_among(from, x)
 }
 
-/// Whether a number stands in a list.
+/// Whether a number is in a list.
 fn is_among(list: &[u32], x: u32) -> bool
     ensures { IsTrue result → Contains list.now x }
 {
     list.contains(&x)
 }
 
-/// Tells the nodes that are sinks at these counts, with destination 0.
+/// Writes the nodes that are sinks at these counts, with destination 0.
 fn sinks(answer: &mut Answer, net: &Net, given: &Value) {
     let counts = counts(answer, given);
     if !is_lawful(net, 0, &counts) {

@@ -6,7 +6,8 @@ use fr_core::{Entry, Reply, check_run};
 use fr_net::Net;
 use serde_json::Value;
 
-/// Answers what is asked of a history, the counts that it leads to, or the first entry that is not legal. Whether it is that.
+/// Answers the counts that a history leads to, or its first entry that is not legal. Returns whether that is the
+/// question.
 pub fn answer_about(answer: &mut Answer, net: &Net, asked: &str, given: &[Value]) -> bool {
     match (asked, given) {
         ("history", [dest, entries]) => history(answer, net, dest, entries),

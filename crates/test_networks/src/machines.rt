@@ -1,4 +1,4 @@
-//! The machine under schedules and stepped by hand.
+//! The machine, under schedules and stepped by hand.
 
 ghost use Rattle.std.specs.Prelude.{IfOk};
 ghost use Rattle.fr_core.specs.Runs.{IsRunTo};
@@ -10,8 +10,8 @@ use fr_net::Net;
 use serde_json::Value;
 use std::alloc::Global;
 
-/// Answers what is asked of a machine on a network, with its destination, the targets of each worker, and the worker of each step.
-/// Whether it is that.
+/// Answers a question about a machine on a network, with its destination, the targets of each worker, and the worker of
+/// each step. Returns whether it is such a question.
 pub fn answer_about(answer: &mut Answer, net: &Net, asked: &str, given: &[Value]) -> bool {
     match (asked, given) {
         ("play", [dest, targets, order]) => played(answer, net, dest, targets, order),
@@ -52,7 +52,7 @@ fn push(answer: &mut Answer, targets: &mut Vec<Target>, given: &Value) {
     }
 }
 
-/// The target that a word names.
+/// The target with this word.
 fn target_of(answer: &mut Answer, named: &Value, x: &Value) -> Target {
     let x = number(answer, x);
     match word(answer, named) {
@@ -74,7 +74,7 @@ fn played(answer: &mut Answer, net: &Net, dest: &Value, given: &Value, order: &V
     }
 }
 
-/// Tells entries, or that there are none.
+/// Writes entries, or that there are none.
 fn tell_entries(answer: &mut Answer, entries: &[Entry]) {
     if entries.is_empty() {
         answer.say("no entry");
@@ -84,7 +84,7 @@ fn tell_entries(answer: &mut Answer, entries: &[Entry]) {
     }
 }
 
-/// Tells an entry: the worker, the node and the reply.
+/// Writes an entry: the worker, the node and the reply.
 fn tell_entry(answer: &mut Answer, entry: &Entry) {
     answer.comma();
     answer.put(&entry.worker);
@@ -94,7 +94,7 @@ fn tell_entry(answer: &mut Answer, entry: &Entry) {
     answer.put(&entry.reply);
 }
 
-/// The counts to which a machine comes that is stepped by hand, and those to which its entries lead where they are checked.
+/// The counts of a machine after steps by hand, and those to which its entries lead when they are checked.
 fn by_hand(answer: &mut Answer, net: &Net, dest: &Value, given: &Value, order: &Value) {
     let dest = number(answer, dest);
     let order = numbers(answer, order);
@@ -110,8 +110,8 @@ fn by_hand(answer: &mut Answer, net: &Net, dest: &Value, given: &Value, order: &
     }
 }
 
-/// Steps a machine by hand: each number is the worker of the next step, and one that is no worker is passed over. The entries
-/// that came, and the counts that they are a run to.
+/// Steps a machine by hand. Each number is the worker of the next step; a number that is not a worker is skipped. The
+/// entries, and the counts that they are a run to.
 fn step_by_hand(
     alloc: Global,
     net: &Net,
@@ -135,7 +135,8 @@ fn step_by_hand(
     Ok((entries, counts))
 }
 
-/// What each step decides, with the counts after it, and the number of workers. A step of a number that is no worker is passed over.
+/// What each step decides, with the counts after it, and the number of workers. A number that is not a worker is
+/// skipped.
 fn steps(answer: &mut Answer, net: &Net, dest: &Value, given: &Value, order: &Value) {
     let dest = number(answer, dest);
     let order = numbers(answer, order);
@@ -157,7 +158,7 @@ fn step_all(answer: &mut Answer, mut machine: Machine, order: &[u32]) {
     answer.put(&machine.workers());
 }
 
-/// Tells what a step decides, and the counts after it.
+/// Writes what a step decides, and the counts after it.
 fn tell_step(answer: &mut Answer, decided: Option<Entry>, counts: &[u64]) {
     answer.comma();
     match decided {

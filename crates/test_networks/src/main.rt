@@ -1,7 +1,8 @@
-//! Tests of networks, request lines, the finisher, the machine and its checker (fr_net, fr_core), and of tables of hops (fr_tables), by
-//! public calls alone. Each line of standard input is a case: an array of JSON whose first item is a word that says what is asked. The program writes the
-//! line as it stood, and below it, indented, what came of it; a line that begins with `#` is a title. The cases stand in the
-//! file `stdin`, and in `stdout` with the answers that are wanted, which come from outside.
+//! Tests of networks, request lines, the finisher, the machine and its checker (fr_net, fr_core), and of tables of hops
+//! (fr_tables), by public calls only. Each line of standard input is a case: a JSON array whose first item is a word
+//! for the question. The program writes the line, and below it, indented, the answer. A line that begins with `#` is a
+//! title. The cases are in the file `stdin`. The file `stdout` has the cases with the expected answers, which were not
+//! written by this program.
 #![tactic(auto)]
 
 mod answers;
@@ -25,7 +26,7 @@ use std::alloc::Global;
 use std::io;
 
 fn main(rt: HostRuntime) -> io::Result<()> {
-    // The lines of cases are all read by this one, one after the other.
+    // This reader reads all lines of cases, one after the other.
     let mut reader = LineReader::new();
     for line in rt.lines(rt.alloc()) {
         let line = line?;
@@ -37,7 +38,7 @@ fn main(rt: HostRuntime) -> io::Result<()> {
     Ok(())
 }
 
-/// Writes what came of a case.
+/// Writes the answer to a case.
 fn tell<R: Alloc<A = Global> + Print>(
     rt: &R,
     reader: &mut LineReader,
@@ -63,7 +64,8 @@ fn answer_case(answer: &mut Answer, reader: &mut LineReader, case: &Value) {
     }
 }
 
-/// Answers what a word asks of what is given with it. Each subject has words of its own; most ask it of a network, which is given first.
+/// Answers the question of a word about the items after it. Each subject has words of its own. Most questions are about
+/// a network, which comes first.
 fn answer_word(answer: &mut Answer, reader: &mut LineReader, asked: &str, given: &[Value]) {
     let is_known = networks::answer(answer, asked, given)
         || tables::answer(answer, asked, given)
@@ -81,7 +83,7 @@ fn answer_word(answer: &mut Answer, reader: &mut LineReader, asked: &str, given:
     }
 }
 
-/// Answers what a word asks of a network.
+/// Answers the question of a word about a network.
 fn answer_about(answer: &mut Answer, mut net: Net, asked: &str, given: &[Value]) {
     let is_known = networks::answer_about(answer, &net, asked, given)
         || finishing::answer_about(answer, &net, asked, given)

@@ -1,4 +1,4 @@
-//! Networks, told as text: made of links, copied, and turned by counts.
+//! Networks as text: made from links, copied, and turned by counts.
 
 ghost use Rattle.std.specs.Prelude.{◌≡◌, ◌<◌, All, IfOk, IsTrue, length};
 ghost use Rattle.fr_graph.specs.Counts.{IsKept};
@@ -10,7 +10,7 @@ use fr_net::{Net, NetFault, Turns};
 use serde_json::Value;
 use std::alloc::{AllocError, Global};
 
-/// Answers what is asked of links that may be those of a network. Whether it is that.
+/// Answers a question about links that may be those of a network. Returns whether it is such a question.
 pub fn answer(answer: &mut Answer, asked: &str, given: &[Value]) -> bool {
     match (asked, given) {
         ("made", [nodes, links]) => made(answer, nodes, links),
@@ -21,7 +21,7 @@ pub fn answer(answer: &mut Answer, asked: &str, given: &[Value]) -> bool {
     true
 }
 
-/// Answers what is asked of a network. Whether it is that.
+/// Answers a question about a network. Returns whether it is such a question.
 pub fn answer_about(answer: &mut Answer, net: &Net, asked: &str, given: &[Value]) -> bool {
     match (asked, given) {
         ("rows", []) => rows(answer, net),
@@ -38,7 +38,7 @@ pub fn network(answer: &mut Answer, nodes: &Value, given: &Value) -> Result<Net,
     Net::new(answer.alloc, nodes, &links)
 }
 
-/// Tells the links of a network, or the fault.
+/// Writes the links of a network, or the fault.
 pub fn tell(answer: &mut Answer, made: Result<Net, NetFault>) {
     match made {
         Ok(net) => tell_links(answer, &net),
@@ -53,7 +53,7 @@ fn listed(alloc: Global, net: &Net) -> Result<Vec<(u32, u32)>, AllocError>
     net.links().collect(alloc)
 }
 
-/// Tells the links of a network.
+/// Writes the links of a network.
 pub fn tell_links(answer: &mut Answer, net: &Net) {
     match listed(answer.alloc, net) {
         Ok(links) => answer.put(&links),
@@ -61,7 +61,8 @@ pub fn tell_links(answer: &mut Answer, net: &Net) {
     }
 }
 
-/// Tells a fault. Of a closed walk only its steps are told, of two nodes the lower one first: contracts say that they are true.
+/// Writes a fault. Of a cycle it writes only the steps, and of two nodes the lower one first. The contracts say that
+/// the fault is true.
 pub fn tell_fault(answer: &mut Answer, fault: NetFault) {
     match fault {
         NetFault::Twice(u, v) => answer.put(&NetFault::Twice(u.min(v), u.max(v))),
@@ -78,7 +79,7 @@ fn made(answer: &mut Answer, nodes: &Value, links: &Value) {
     tell(answer, made);
 }
 
-/// How many links are given, and how many a network of them has, which it lists in their order; or the fault.
+/// How many links are given, and how many a network of them has, which lists them in order; or the fault.
 fn counted(answer: &mut Answer, nodes: &Value, given: &Value) {
     let nodes = number(answer, nodes);
     let links = links(answer, given);
@@ -90,7 +91,7 @@ fn counted(answer: &mut Answer, nodes: &Value, given: &Value) {
     }
 }
 
-/// Tells how many links a network has, and whether it lists these.
+/// Writes how many links a network has, and whether it lists these links.
 fn tell_count(answer: &mut Answer, net: &Net, links: &[(u32, u32)]) {
     answer.put(&net.link_count());
     let shown = net.links();
@@ -102,20 +103,20 @@ fn tell_count(answer: &mut Answer, net: &Net, links: &[(u32, u32)]) {
     });
 }
 
-/// Tells the rows of a network, which have laws.
+/// Writes the rows of a network, after calls of its laws.
 fn rows(answer: &mut Answer, net: &Net) {
     rows_law();
     tell_rows(answer, net);
 }
 
-/// Tells the rows of a network, by each call that shows them.
+/// Writes the rows of a network, by each call that returns them.
 fn tell_rows(answer: &mut Answer, net: &Net) {
     for x in 0..net.nodes() {
         tell_row(answer, net, x);
     }
 }
 
-/// Tells the row of a node.
+/// Writes the row of a node.
 fn tell_row(answer: &mut Answer, net: &Net, x: u32)
     requires { x < net.now.nodes }
 {
@@ -130,7 +131,7 @@ fn tell_row(answer: &mut Answer, net: &Net, x: u32)
     }
 }
 
-/// Tells whether a network has the rows of another one.
+/// Writes whether a network has the same rows as another one.
 fn tell_alike(answer: &mut Answer, net: &Net, other: &Net) {
     let mut rows = Answer::new(answer.alloc);
     tell_rows(&mut rows, net);
@@ -143,7 +144,7 @@ fn tell_alike(answer: &mut Answer, net: &Net, other: &Net) {
     });
 }
 
-/// Tells whether a network has the rows of one that is made of its links.
+/// Writes whether a network has the rows of a network that is made from its links.
 pub fn tell_anew(answer: &mut Answer, net: &Net) {
     match anew(answer, net) {
         Ok(made) => tell_alike(answer, net, &made),
@@ -156,7 +157,7 @@ fn anew(answer: &Answer, net: &Net) -> Result<Net, NetFault> {
     Net::new(answer.alloc, net.nodes(), &links)
 }
 
-/// The links of a copy, and whether it has the rows of the network.
+/// The links of a copy, and whether its rows are those of the network.
 fn copied(answer: &mut Answer, net: &Net) {
     match net.copied(answer.alloc) {
         Ok(copy) => {
@@ -167,7 +168,7 @@ fn copied(answer: &mut Answer, net: &Net) {
     }
 }
 
-/// The links that counts give, one for each node: in a network beside the first one, and in that one itself.
+/// The links that counts give, one for each node: in a new network, and in the same network.
 fn turned(answer: &mut Answer, given: &Value, given_counts: &Value) {
     let links = links(answer, given);
     let counts = counts(answer, given_counts);
@@ -177,7 +178,7 @@ fn turned(answer: &mut Answer, given: &Value, given_counts: &Value) {
     }
 }
 
-/// Tells the links that counts give, if each link stays or is reversed at them.
+/// Writes the links that counts give, if each link is kept or reversed by them.
 fn turned_if_kept(answer: &mut Answer, net: Net, counts: Vec<u64>) {
     match listed(answer.alloc, &net) {
         Ok(listed) if counts.len() == net.nodes() as usize && are_kept(&listed, &counts) => {
@@ -187,7 +188,7 @@ fn turned_if_kept(answer: &mut Answer, net: Net, counts: Vec<u64>) {
     }
 }
 
-/// Tells the links that counts give, beside the network and in its place.
+/// Writes the links that counts give, in a new network and in the same one.
 fn tell_turned(answer: &mut Answer, mut net: Net, counts: Vec<u64>)
     requires one_each { length counts.items ≡ net.nodes }
     requires kept { All (IsKept counts.items) net.links }
@@ -205,7 +206,7 @@ fn tell_turned(answer: &mut Answer, mut net: Net, counts: Vec<u64>)
     tell_anew(answer, &net);
 }
 
-/// Whether each link stays or is reversed at these counts, as `turned_by` and `turn` require.
+/// Whether each link is kept or reversed by these counts, as `turned_by` and `turn` require.
 fn are_kept(links: &[(u32, u32)], counts: &[u64]) -> bool
     ensures { IsTrue result → All (IsKept counts.now) links.now }
 {

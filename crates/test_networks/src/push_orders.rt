@@ -1,11 +1,11 @@
-//! Tables of hops: loops, orders of pushes, and what stands after each push (fr_tables).
+//! Tables of hops: loops, push orders, and the table after each push (fr_tables).
 
 use crate::answers::Answer;
 use crate::cases::{items, number, numbers};
 use fr_tables::{Hop, TableFault, find_loop, push_order};
 use serde_json::Value;
 
-/// Answers what is asked of tables of hops. Whether it is that.
+/// Answers a question about tables of hops. Returns whether it is such a question.
 pub fn answer(answer: &mut Answer, asked: &str, given: &[Value]) -> bool {
     match (asked, given) {
         ("push_order", [old, new]) => order(answer, old, new),
@@ -48,7 +48,7 @@ fn found(answer: &mut Answer, given: &Value) {
     tell_loop(answer, &table);
 }
 
-/// Pushes hops in the order that is given, and tells after each push whether a loop stands.
+/// Pushes hops in the given order, and writes after each push whether the table has a loop.
 fn pushed(answer: &mut Answer, old: &Value, new: &Value, order: &Value) {
     let mut old = table(answer, old);
     let new = table(answer, new);
@@ -66,7 +66,7 @@ fn push(answer: &mut Answer, table: &mut [Hop], new: &[Hop], x: usize) {
     tell_loop(answer, table);
 }
 
-/// Tells how long a loop is, if there is one: contracts say that it is one.
+/// Writes the length of a loop, if there is one. The contracts say that it is a loop.
 fn tell_loop(answer: &mut Answer, table: &[Hop]) {
     match find_loop(answer.alloc, table) {
         Ok(None) => answer.say("no loop"),
@@ -80,7 +80,7 @@ fn tell_length(answer: &mut Answer, nodes: &[u32]) {
     answer.put(&nodes.len());
 }
 
-/// Tells a fault, of a loop its length, and what it says of itself.
+/// Writes a fault and its text; of a loop it writes the length.
 fn tell_fault(answer: &mut Answer, fault: &TableFault) {
     match fault {
         TableFault::Loop(nodes) => tell_length(answer, nodes),

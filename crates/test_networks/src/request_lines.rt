@@ -1,11 +1,11 @@
-//! Lines, and the requests that they are, each read alone and by a reader of many lines.
+//! Lines and their requests. Each line is read alone, and by a reader of many lines.
 
 use crate::answers::Answer;
 use crate::cases::{count, items, length, word};
 use fr_net::{LineReader, read_line};
 use serde_json::Value;
 
-/// Answers what is asked of lines. Whether it is that.
+/// Answers a question about lines. Returns whether it is such a question.
 pub fn answer(answer: &mut Answer, reader: &mut LineReader, asked: &str, given: &[Value]) -> bool {
     let mut kept = Answer::new(answer.alloc);
     match (asked, given) {
@@ -49,7 +49,7 @@ fn byte(answer: &mut Answer, value: &Value) -> u8 {
     0
 }
 
-/// Tells what a line is, read alone, and elsewhere what it is for the reader.
+/// Writes the request of a line that is read alone to `alone`, and the request that the reader returns to `kept`.
 fn tell(alone: &mut Answer, kept: &mut Answer, reader: &mut LineReader, line: &[u8]) {
     alone.comma();
     match read_line(alone.alloc, line) {
@@ -59,7 +59,7 @@ fn tell(alone: &mut Answer, kept: &mut Answer, reader: &mut LineReader, line: &[
     tell_kept(kept, reader, line);
 }
 
-/// Tells what a line is for the reader.
+/// Writes the request that the reader of many lines returns.
 fn tell_kept(kept: &mut Answer, reader: &mut LineReader, line: &[u8]) {
     kept.comma();
     match reader.read(kept.alloc, line) {
@@ -68,21 +68,21 @@ fn tell_kept(kept: &mut Answer, reader: &mut LineReader, line: &[u8]) {
     }
 }
 
-/// Tells what each beginning of a line is, from one byte to all but one.
+/// Writes the request of each beginning of a line, from one byte to all but one.
 fn tell_fronts(alone: &mut Answer, kept: &mut Answer, reader: &mut LineReader, line: &[u8]) {
     for end in 1..line.len() {
         tell(alone, kept, reader, &line[..end]);
     }
 }
 
-/// Tells what the reader says, if it is something else.
+/// Writes what the reader returns, if it is something else.
 fn tell_same(answer: &mut Answer, kept: &Answer) {
     let same = answer.text() == kept.text();
     answer.say(", by the reader ");
     answer.say(if same { "the same" } else { kept.text() });
 }
 
-/// A line that opens so often, holds 0, and closes as often.
+/// A line with so many opening brackets, a 0, and as many closing brackets.
 fn nested(answer: &mut Answer, opening: &Value, closing: &Value, depth: &Value) -> Answer {
     let depth = length(answer, depth);
     let mut line = Answer::new(answer.alloc);

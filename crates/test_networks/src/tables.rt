@@ -5,7 +5,7 @@ use crate::cases::{count, counts, items, number, word};
 use fr_net::{MAX_NODES, Turns};
 use serde_json::Value;
 
-/// Answers what is asked of tables of turns. Whether it is that.
+/// Answers a question about tables of turns. Returns whether it is such a question.
 pub fn answer(answer: &mut Answer, asked: &str, given: &[Value]) -> bool {
     match (asked, given) {
         ("turns", [nodes, steps]) => turns(answer, nodes, steps),
@@ -15,7 +15,7 @@ pub fn answer(answer: &mut Answer, asked: &str, given: &[Value]) -> bool {
     true
 }
 
-/// A table in which none of so many nodes has turned.
+/// A table for so many nodes in which none has turned.
 pub fn none(answer: &mut Answer, nodes: u32) -> Option<Turns> {
     if nodes > MAX_NODES {
         answer.refuse();
@@ -40,7 +40,7 @@ fn take_all(answer: &mut Answer, turns: &mut Turns, steps: &Value) {
     }
 }
 
-/// Takes one step, which tells the table or changes it.
+/// Takes one step, which writes the table or changes it.
 fn take(answer: &mut Answer, turns: &mut Turns, step: &Value) {
     match items(answer, step) {
         [asked] => tell_or_clear(answer, turns, asked),
@@ -57,7 +57,7 @@ fn tell_or_clear(answer: &mut Answer, turns: &mut Turns, asked: &Value) {
     }
 }
 
-/// Tells the counts, the nodes that have turned, and how many turns there are.
+/// Writes the counts, the nodes that have turned, and how many turns there are.
 fn tell(answer: &mut Answer, turns: &Turns) {
     answer.comma();
     answer.put(&turns.counts());
@@ -67,7 +67,7 @@ fn tell(answer: &mut Answer, turns: &Turns) {
     answer.put(&turns.total());
 }
 
-/// Changes a table, if it can be changed so.
+/// Changes a table, if that change is possible.
 fn change(answer: &mut Answer, turns: &mut Turns, asked: &Value, given: &Value) {
     match word(answer, asked) {
         "add" => add(answer, turns, given),
@@ -102,7 +102,7 @@ fn copy(answer: &mut Answer, turns: &mut Turns, given: &Value) {
     turns.copy_from(&counts);
 }
 
-/// The counts of a table that is made of counts.
+/// The counts of a table that is made from counts.
 fn turns_of(answer: &mut Answer, given: &Value) {
     let counts = counts(answer, given);
     if counts.len() > MAX_NODES as usize {

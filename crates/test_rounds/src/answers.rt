@@ -1,10 +1,10 @@
-//! What came of a case, as text.
+//! The answer to a case, as text.
 
 use fr_net::Net;
 use std::alloc::{AllocError, Global};
 use std::fmt::{Debug, Write};
 
-/// A text that grows piece by piece. Where a piece finds no memory, the whole text says so, and no caller has to.
+/// A text that grows piece by piece. If an allocation is refused, the whole text says so. Callers need not handle it.
 #[derive(Drop)]
 pub struct Answer {
     text: String,
@@ -12,7 +12,7 @@ pub struct Answer {
 }
 
 impl Answer {
-    /// No text yet.
+    /// An empty text.
     pub fn new(alloc: Global) -> Answer {
         Answer {
             text: String::new(alloc),
@@ -29,14 +29,14 @@ impl Answer {
         }
     }
 
-    /// Puts words behind it.
+    /// Appends words.
     pub fn say(&mut self, words: &str) {
         if self.text.push_str(words).is_err() {
             self.is_whole = false;
         }
     }
 
-    /// Puts a label and a value behind it.
+    /// Appends a label and a value.
     pub fn put<T: Debug>(&mut self, label: &str, value: &T) {
         self.say(label);
         if write!(self.text, "{value:?}").is_err() {
@@ -44,7 +44,7 @@ impl Answer {
         }
     }
 
-    /// Puts the links of a network behind it.
+    /// Appends the links of a network.
     pub fn put_links(&mut self, alloc: Global, net: &Net) {
         let links: Result<Vec<(u32, u32)>, AllocError> = net.links().collect(alloc);
         match links {

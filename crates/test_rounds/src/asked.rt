@@ -1,4 +1,4 @@
-//! Which word of a case asks for what.
+//! The words of the cases, and their questions.
 
 use crate::answers::Answer;
 use crate::fault::Fault;
@@ -9,7 +9,7 @@ use std::alloc::Global;
 use std::sync::Wait;
 use std::thread::Threads;
 
-/// What a case can ask for. The last nine are threads and gates, which are no data.
+/// What a case can ask for. The last nine are about threads and gates, which are not data.
 #[derive(Clone, Copy)]
 enum Asked {
     Open,
@@ -60,7 +60,7 @@ const WORDS: [(&str, Asked); 21] = [
     ("tried again", Asked::TriedAgain),
 ];
 
-/// Puts what comes of the case of a line.
+/// Appends the answer to the case of a line.
 pub fn answer<R: Threads + Wait + Sync + Alloc<A = Global>>(
     rt: &R,
     text: &mut Answer,
@@ -72,7 +72,7 @@ pub fn answer<R: Threads + Wait + Sync + Alloc<A = Global>>(
     }
 }
 
-/// Puts what comes of a case.
+/// Appends the answer to a case.
 fn put_answer<R: Threads + Wait + Sync + Alloc<A = Global>>(
     rt: &R,
     text: &mut Answer,

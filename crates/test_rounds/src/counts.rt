@@ -1,4 +1,4 @@
-//! The settled counts of networks that stay as they are.
+//! The settled counts of networks that do not change.
 
 ghost use Rattle.std.specs.Prelude.{◌≡◌, ◌<◌, ◌↔◌, IfOk, IfSome, IsTrue, replicate};
 ghost use Rattle.fr_crew.specs.Settlements.{HoldsSinks};
@@ -46,7 +46,7 @@ fn is_first_sink(net: &Net, none: &Turns, x: u32) -> bool
     is_sink(net, none.counts(), x)
 }
 
-/// The sinks of a network, in rising order.
+/// The sinks of a network, in increasing order.
 fn sinks(alloc: Global, net: &Net, dest: u32) -> Result<Vec<u32>, Fault>
     ensures { IfOk result (λ sinks. HoldsSinks net.now dest sinks.items) }
 {
@@ -61,7 +61,7 @@ fn sinks(alloc: Global, net: &Net, dest: u32) -> Result<Vec<u32>, Fault>
     Ok(sinks)
 }
 
-/// The sinks, where the word of a case asks for them, or none where it asks for all nodes.
+/// The sinks if the word of a case asks for them, or `None` if it asks for all nodes.
 fn candidates(alloc: Global, net: &Net, dest: u32, word: &str) -> Result<Option<Vec<u32>>, Fault>
     ensures { IfOk result (λ listed. IfSome listed (λ sinks. HoldsSinks net.now dest sinks.items)) }
 {
@@ -72,7 +72,7 @@ fn candidates(alloc: Global, net: &Net, dest: u32, word: &str) -> Result<Option<
     }
 }
 
-/// The settled counts by a crew, from the nodes that the word says.
+/// The settled counts by a crew, beginning with the nodes of the word.
 fn counted<R: Threads + Wait + Sync + Alloc<A = Global>, G: Gate + Sync>(
     rt: &R,
     net: &Net,
@@ -92,8 +92,8 @@ fn counted<R: Threads + Wait + Sync + Alloc<A = Global>, G: Gate + Sync>(
     Ok(settled_counts(&crew, net, dest, from.as_deref(), none)?)
 }
 
-/// `["counts", nodes, destination, links, "sinks" or "all", workers, budget]`: the settled counts, from the sinks or from all nodes,
-/// and the links, which stay.
+/// `["counts", nodes, destination, links, "sinks" or "all", workers, budget]`: the settled counts, beginning with the
+/// sinks or with all nodes, and the links, which do not change.
 pub fn counts<R: Threads + Wait + Sync + Alloc<A = Global>>(
     rt: &R,
     text: &mut Answer,
@@ -121,7 +121,7 @@ pub fn counts_alone(alloc: Global, text: &mut Answer, asked: &[Value]) -> Result
     Ok(())
 }
 
-/// The settled counts by this thread, from the nodes that the word says.
+/// The settled counts by this thread, beginning with the nodes of the word.
 fn counted_alone(alloc: Global, net: &Net, dest: u32, word: &str) -> Result<Turns, Fault> {
     let from = candidates(alloc, net, dest, word)?;
     let none = none_yet(alloc, net)?;
@@ -134,7 +134,8 @@ fn put_counts(alloc: Global, text: &mut Answer, turns: &Turns, net: &Net) {
     text.put_links(alloc, net);
 }
 
-/// `["calls of one", nodes, destination, links, "sinks" or "all", budget]`: how many calls one worker makes, and the settled counts.
+/// `["calls of one", nodes, destination, links, "sinks" or "all", budget]`: how many calls one worker makes, and the
+/// settled counts.
 pub fn calls_of_one<R: Threads + Wait + Sync + Alloc<A = Global>>(
     rt: &R,
     text: &mut Answer,

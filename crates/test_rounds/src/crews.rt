@@ -18,7 +18,7 @@ pub fn plan(workers: u32, budget: u64) -> Result<Plan, Fault> {
     }
 }
 
-/// The same for a plan that a case names.
+/// The plan that a case gives.
 pub fn named_plan(workers: &Value, budget: &Value) -> Result<Plan, Fault> {
     plan(small_number(workers)?, number(budget)?)
 }
@@ -35,7 +35,7 @@ fn listed_plan(listed: &[Value]) -> Result<Option<Plan>, Fault> {
     }
 }
 
-/// `["plan", workers, seed, budget]`: what the plan tells, if there is one.
+/// `["plan", workers, seed, budget]`: the numbers of the plan, if there is one.
 pub fn plan_of(text: &mut Answer, asked: &[Value]) -> Result<(), Fault> {
     match listed_plan(asked)? {
         Some(plan) => put_plan(text, &plan),
@@ -60,7 +60,7 @@ pub fn same_plans(text: &mut Answer, asked: &[Value]) -> Result<(), Fault> {
     Ok(())
 }
 
-/// How the crew of a case settles its network: nodes, destination, links, workers and budget.
+/// The result of the crew of a case: nodes, destination, links, workers and budget.
 fn settled<R: Threads + Wait + Sync + Alloc<A = Global>>(
     rt: &R,
     asked: &[Value],
@@ -86,8 +86,8 @@ pub fn settle_all<R: Threads + Wait + Sync + Alloc<A = Global>>(
     Ok(())
 }
 
-/// `["end", nodes, destination, links, workers, budget]`: the settled network alone, since who made how many turns depends on the order
-/// of the workers' steps.
+/// `["end", nodes, destination, links, workers, budget]`: only the settled network, because the number of turns of each
+/// worker depends on the order of the workers' steps.
 pub fn settle_to_end<R: Threads + Wait + Sync + Alloc<A = Global>>(
     rt: &R,
     text: &mut Answer,
@@ -109,7 +109,7 @@ fn put_end(alloc: Global, text: &mut Answer, it: &Settled) {
     text.put_links(alloc, &it.net);
 }
 
-/// The nodes below `nodes`, each from `first` on with a link to the next.
+/// The nodes below `nodes`, where each node from `first` on has a link to the next.
 pub fn long_chain(alloc: Global, nodes: u32, first: u32) -> Result<Net, Fault> {
     let mut links = Vec::new(alloc);
     for x in first..nodes.saturating_sub(1) {
@@ -118,8 +118,8 @@ pub fn long_chain(alloc: Global, nodes: u32, first: u32) -> Result<Net, Fault> {
     Ok(Net::new(alloc, nodes, &links)?)
 }
 
-/// A chain of so many nodes that is settled but for its first link, which points away from node 0. Each node turns once, as soon as the
-/// one before it has turned.
+/// A chain of so many nodes that is settled except for its first link, which points away from node 0. Each node turns
+/// once, as soon as the one before it has turned.
 pub fn wave(alloc: Global, nodes: u32) -> Result<Net, Fault> {
     let mut links = Vec::new(alloc);
     links.push((0, 1))?;
@@ -129,7 +129,7 @@ pub fn wave(alloc: Global, nodes: u32) -> Result<Net, Fault> {
     Ok(Net::new(alloc, nodes, &links)?)
 }
 
-/// `["long chain", nodes, first, workers, budget]`: who makes how many turns of the chain of all nodes from the first on.
+/// `["long chain", nodes, first, workers, budget]`: who makes how many turns on a chain of the nodes from `first` on.
 pub fn settle_chain<R: Threads + Wait + Sync + Alloc<A = Global>>(
     rt: &R,
     text: &mut Answer,
@@ -143,7 +143,7 @@ pub fn settle_chain<R: Threads + Wait + Sync + Alloc<A = Global>>(
     settle_from_zero(rt, text, net, &plan, &OpenGate)
 }
 
-/// Settles a network whose destination is node 0, and puts how many turns all workers made, and how many the finisher.
+/// Settles a network with destination 0, and appends how many turns all workers made, and how many the finisher made.
 pub fn settle_from_zero<R: Threads + Wait + Sync + Alloc<A = Global>, G: Gate + Sync>(
     rt: &R,
     text: &mut Answer,

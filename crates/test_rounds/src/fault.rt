@@ -9,10 +9,10 @@ use thiserror::Error;
 /// Why a case has no answer.
 #[derive(Clone, Copy, Debug, Drop, Error)]
 pub enum Fault {
-    /// The line is no list in JSON that asks for something.
+    /// The line is not a JSON list with a question.
     #[error("no such case")]
     NoCase,
-    /// The links make no network.
+    /// The links are not those of a network.
     #[error("no network")]
     NoNetwork,
     /// The crew could not settle the network.

@@ -1,5 +1,5 @@
-//! Gates that hold workers, and one that listens: two threads really run, the gate is called around each call, and no answer depends on
-//! who is slow.
+//! Gates that hold workers, and one that listens. They test that two threads really run, that the gate is called before
+//! and after each call, and that no answer depends on the speed of a worker.
 
 use crate::answers::Answer;
 use crate::crews::{long_chain, named_plan, plan, put_turns, settle_from_zero, wave};
@@ -19,7 +19,7 @@ const LIMIT: u64 = 1_000_000_000;
 /// Two ways from node 0 to node 3.
 const SQUARE: [(u32, u32); 4] = [(0, 1), (0, 2), (1, 3), (2, 3)];
 
-/// Waits until so many are counted, and says whether that came before the limit.
+/// Waits until so many calls are counted, and returns whether that happened before the limit.
 fn reaches(counted: &AtomicU64, count: u64) -> bool {
     for _ in 0..LIMIT {
         if counted.load(Ordering::SeqCst) >= count {
@@ -36,8 +36,8 @@ enum Held {
     Odd,
 }
 
-/// A gate that holds workers until a call of another worker is answered. It counts how often that was, how often a worker was held
-/// to the limit, and the calls.
+/// A gate that holds workers until a call of another worker is answered. It counts the calls, how often a worker was
+/// held, and how often a worker was held up to the limit.
 #[derive(Drop)]
 struct HoldingGate {
     held: Held,
@@ -113,8 +113,8 @@ impl Gate for SlowGate {
     fn after(&self, _worker: u32, _call: u64) {}
 }
 
-/// A gate that holds worker 0 until the first call of worker 1 is answered, and worker 1 behind that call until worker 0 comes to its
-/// second one.
+/// A gate that holds worker 0 until the first call of worker 1 is answered, and holds worker 1 after that call until
+/// worker 0 comes to its second one.
 #[derive(Drop)]
 struct CrossingGate {
     answered: AtomicU64,
@@ -142,8 +142,8 @@ impl Gate for CrossingGate {
     }
 }
 
-/// A gate by which so many workers make their first calls in turn, worker 1 first and worker 0 last, and so many calls each. It lets all
-/// later calls pass. Once a worker has waited to the limit, nobody waits any more.
+/// A gate that makes so many workers take turns with their first calls, worker 1 first and worker 0 last, for so many
+/// calls each. It lets all later calls pass. Once a worker has waited up to the limit, nobody waits any more.
 #[derive(Drop)]
 struct TakingTurnsGate {
     workers: u64,
@@ -162,7 +162,7 @@ impl TakingTurnsGate {
         }
     }
 
-    /// How many calls come before this one, if it is one of those that are made in turn.
+    /// How many calls come before this one, if it is one of the first calls.
     fn calls_before(&self, worker: u32, call: u64) -> Option<u64> {
         if call > self.calls {
             return None;
@@ -176,7 +176,7 @@ impl TakingTurnsGate {
             .checked_add(of_others)
     }
 
-    /// Whether no worker waited to the limit.
+    /// Whether no worker waited up to the limit.
     fn was_kept(&self) -> bool {
         self.reached.load(Ordering::SeqCst) == 0
     }
@@ -198,7 +198,7 @@ impl Gate for TakingTurnsGate {
     }
 }
 
-/// What a gate was told of the calls of one worker.
+/// What a gate has seen of the calls of one worker.
 #[derive(Drop)]
 struct Calls {
     before: AtomicU64,
@@ -206,20 +206,21 @@ struct Calls {
 }
 
 impl Calls {
-    /// Takes note that this call comes: whether it is the next one, and the one before it has been answered.
+    /// Notes that this call begins. Returns whether it is the next one, and the one before it has been answered.
     fn begins(&self, call: u64) -> bool {
         let passed = self.before.fetch_add(1, Ordering::SeqCst);
         call.checked_sub(1) == Some(passed) && self.after.load(Ordering::SeqCst) == passed
     }
 
-    /// Takes note that this call was answered: whether it is the one that came last.
+    /// Notes that this call was answered. Returns whether it is the one that began last.
     fn ends(&self, call: u64) -> bool {
         let passed = self.after.fetch_add(1, Ordering::SeqCst);
         call.checked_sub(1) == Some(passed) && self.before.load(Ordering::SeqCst) == call
     }
 }
 
-/// A gate that listens: whether each worker's calls are told one after the other, counted from 1, each before it and then after it.
+/// A gate that listens: whether it is called for each worker's calls in order, counted from 1, before and after each
+/// call.
 #[derive(Drop)]
 struct ListeningGate {
     workers: Vec<Calls>,
@@ -247,7 +248,7 @@ impl ListeningGate {
         }
     }
 
-    /// How many calls were told before them.
+    /// How many calls were announced to the gate before they were made.
     fn calls(&self) -> u64 {
         let mut calls = 0u64;
         for worker in &self.workers {
@@ -256,7 +257,7 @@ impl ListeningGate {
         calls
     }
 
-    /// Whether all was in order, and each call that was told before it was told after it.
+    /// Whether all calls were in order, and each one that began was also answered.
     fn was_in_order(&self) -> bool {
         self.out_of_order.load(Ordering::SeqCst) == 0
             && self.workers.iter().all(|worker| {
@@ -281,8 +282,8 @@ impl Gate for ListeningGate {
     }
 }
 
-/// `["told", nodes, destination, links, workers, budget]`: whether a gate was told each call of each worker in order, before it and after
-/// it, and by one worker how many there were.
+/// `["told", nodes, destination, links, workers, budget]`: whether the gate was called for each worker in order, before
+/// and after each call; for one worker also how many calls there were.
 pub fn told<R: Threads + Wait + Sync + Alloc<A = Global>>(
     rt: &R,
     text: &mut Answer,
@@ -299,7 +300,8 @@ pub fn told<R: Threads + Wait + Sync + Alloc<A = Global>>(
     Ok(())
 }
 
-/// Puts what a gate was told behind a text: how many calls there are by more workers than one depends on the order of their steps.
+/// Appends what the listening gate found. The number of calls by several workers depends on the order of their steps,
+/// so it is left out.
 fn put_told(text: &mut Answer, plan: &Plan, gate: &ListeningGate) {
     text.put("in order ", &gate.was_in_order());
     if plan.workers() == 1 {
@@ -307,7 +309,7 @@ fn put_told(text: &mut Answer, plan: &Plan, gate: &ListeningGate) {
     }
 }
 
-/// Two workers settle the square beside this gate.
+/// Two workers settle the square with this gate.
 fn settled_square<R: Threads + Wait + Sync + Alloc<A = Global>>(
     rt: &R,
     gate: &HoldingGate,
@@ -317,8 +319,8 @@ fn settled_square<R: Threads + Wait + Sync + Alloc<A = Global>>(
     Ok(settle(rt, rt.alloc(), net, 0, &plan, gate)?)
 }
 
-/// `["held", worker, other]`: one of two workers is held until the first call of the other is answered. Whether the gate was passed,
-/// and the counts of the square.
+/// `["held", worker, other]`: one of two workers is held until the first call of the other is answered. Whether the
+/// gate was passed, and the counts of the square.
 pub fn one_held<R: Threads + Wait + Sync + Alloc<A = Global>>(
     rt: &R,
     text: &mut Answer,
@@ -334,8 +336,8 @@ pub fn one_held<R: Threads + Wait + Sync + Alloc<A = Global>>(
     Ok(())
 }
 
-/// `["chain held", workers, worker, other, call]`: the long chain, where one worker is held until this call of the other is answered. Who made
-/// how many turns, and whether the gate was passed.
+/// `["chain held", workers, worker, other, call]`: the long chain, where one worker is held until this call of the
+/// other is answered. Who made how many turns, and whether the gate was passed.
 pub fn chain_held<R: Threads + Wait + Sync + Alloc<A = Global>>(
     rt: &R,
     text: &mut Answer,
@@ -352,8 +354,8 @@ pub fn chain_held<R: Threads + Wait + Sync + Alloc<A = Global>>(
     Ok(())
 }
 
-/// `["in turn", workers, calls]`: the wave through 1,024 nodes, where the workers make so many calls each in turn. Who made how many turns, and
-/// whether no worker had to wait for one that made fewer calls.
+/// `["in turn", workers, calls]`: the wave through 1,024 nodes, where the workers take turns for so many calls each.
+/// Who made how many turns, and whether no worker had to wait for one that made fewer calls.
 pub fn in_turn<R: Threads + Wait + Sync + Alloc<A = Global>>(
     rt: &R,
     text: &mut Answer,
@@ -369,7 +371,7 @@ pub fn in_turn<R: Threads + Wait + Sync + Alloc<A = Global>>(
     Ok(())
 }
 
-/// The long chain, where the odd of eight workers are held until the tenth call of worker 0 is answered.
+/// The long chain, where the odd ones of eight workers are held until the tenth call of worker 0 is answered.
 pub fn odd_held<R: Threads + Wait + Sync + Alloc<A = Global>>(
     rt: &R,
     text: &mut Answer,
@@ -389,8 +391,8 @@ pub fn slow<R: Threads + Wait + Sync + Alloc<A = Global>>(
     settle_from_zero(rt, text, long_chain(rt.alloc(), 1024, 0)?, &plan, &gate)
 }
 
-/// The chain of three nodes by two workers: the node that worker 1 finds held is made a candidate again, and turned, before worker 1
-/// goes on. Who made how many turns.
+/// The chain of three nodes by two workers: the node that worker 1 finds held is made a candidate again, and turned,
+/// before worker 1 goes on. Who made how many turns.
 pub fn tried_again<R: Threads + Wait + Sync + Alloc<A = Global>>(
     rt: &R,
     text: &mut Answer,

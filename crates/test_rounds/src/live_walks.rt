@@ -21,7 +21,7 @@ pub fn walk(alloc: Global, text: &mut Answer, asked: &[Value]) -> Result<(), Fau
     Ok(())
 }
 
-/// Puts what comes of a walk.
+/// Appends the result of a walk.
 pub fn put_walk(text: &mut Answer, walked: &Result<LiveWalk, LiveFault>) {
     match walked {
         Ok(walk) => {

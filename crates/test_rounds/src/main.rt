@@ -1,7 +1,7 @@
-//! What rounds and crews (fr_round, fr_crew) answer, by their public calls alone. Each line of standard input is a title, which begins
-//! with `#`, or a case: a list in JSON whose first item says what is asked. Each line is printed as it stands, and below a case
-//! what came of it, behind two blanks. The answers that are wanted come from outside, and so does the order in which threads
-//! run: what depends on it is not printed.
+//! Tests of rounds and crews (fr_round, fr_crew), by public calls only. Each line of standard input is a title, which
+//! begins with `#`, or a case: a JSON list whose first item names the question. Each line is printed, and below a case
+//! its answer, indented by two blanks. The expected answers were not written by this program. What depends on the order
+//! in which threads run is not printed.
 #![tactic(auto)]
 
 mod answers;
@@ -30,7 +30,7 @@ fn main(rt: HostRuntime) -> io::Result<()> {
     Ok(())
 }
 
-/// Prints a line, and what comes of it, unless it is a title.
+/// Prints a line, and its answer unless it is a title.
 fn tell<R: Threads + Wait + Sync + Alloc<A = Global> + Print>(
     rt: &R,
     line: &str,

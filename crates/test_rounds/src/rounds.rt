@@ -1,4 +1,4 @@
-//! Rounds of two workers, whose calls stand in the case.
+//! Rounds of two or three workers, whose calls are in the case.
 
 ghost use Rattle.std.specs.Prelude.{◌≡◌, ◌≤◌, ◌<◌, length, IfOk, IfSome};
 ghost use Rattle.std.specs.List.{AllByRecursion as Each};
@@ -13,12 +13,12 @@ use fr_round::{Closed, OpenFault, OpenWhy, Refusal, Round, Worker};
 use serde_json::Value;
 use std::alloc::{AllocError, Global};
 
-/// An open round is shared by threads, and a worker goes to one.
+/// Threads share an open round, and a worker may go to one of them.
 fn is_shared<T: Sync>(_value: &T) {}
 
 fn is_sent<T: Send>(_value: &T) {}
 
-/// Which of two workers are handed back, and in which order.
+/// Which of two workers are given back, and in which order.
 #[derive(Clone, Copy)]
 enum Back {
     Both,
@@ -92,7 +92,8 @@ pub fn opened_by_three(alloc: Global, net: Net) -> Result<(Round, (Worker, Worke
     Ok((round, two, third))
 }
 
-/// `["open", nodes, links, destination, workers]`: what an open round tells, or why it is not opened and which links are handed back.
+/// `["open", nodes, links, destination, workers]`: the state of an open round, or why it is not opened and which links
+/// are given back.
 pub fn open(alloc: Global, text: &mut Answer, asked: &[Value]) -> Result<(), Fault> {
     let [nodes, links, dest, workers] = asked else {
         return Err(Fault::NoCase);
@@ -112,7 +113,7 @@ fn put_fault(alloc: Global, text: &mut Answer, fault: &OpenFault) {
     text.put_links(alloc, &fault.net);
 }
 
-/// Puts what an open round tells, and each of its workers.
+/// Appends the state of an open round and of each of its workers.
 fn put_round(text: &mut Answer, round: &Round, workers: &[Worker])
     requires { Each (IsOwn round.now) workers.now }
 {
@@ -125,7 +126,7 @@ fn put_round(text: &mut Answer, round: &Round, workers: &[Worker])
     }
 }
 
-/// Puts the number of a worker, its turns, and the count of each node that it has seen.
+/// Appends the number of a worker, its turns, and the count of each node that it has seen.
 fn put_worker(text: &mut Answer, round: &Round, worker: &Worker)
     requires { IsOwn round.now worker.now }
 {
@@ -138,7 +139,7 @@ fn put_worker(text: &mut Answer, round: &Round, worker: &Worker)
     }
 }
 
-/// The workers that a case has come back.
+/// The workers that a case gives back.
 fn who_comes(value: &Value) -> Result<Back, Fault> {
     let table = [
         ("both", Back::Both),
@@ -149,14 +150,15 @@ fn who_comes(value: &Value) -> Result<Back, Fault> {
     named(word(value)?, &table)
 }
 
-/// What a worker does: it makes a call, or says which count of a node it has seen.
+/// What a worker does: it makes a call, or returns which count of a node it has seen.
 #[derive(Clone, Copy)]
 enum Deed {
     Call(Target),
     Seen(u32),
 }
 
-/// `["calls", nodes, links, [[worker, "turn", "look" or "seen", node], ..], back]`: the replies, and what the round closes with.
+/// `["calls", nodes, links, [[worker, "turn", "look" or "seen", node], ..], back]`: the replies, and the result of
+/// closing the round.
 pub fn calls(alloc: Global, text: &mut Answer, asked: &[Value]) -> Result<(), Fault> {
     let [nodes, links, calls, handed] = asked else {
         return Err(Fault::NoCase);
@@ -169,7 +171,8 @@ pub fn calls(alloc: Global, text: &mut Answer, asked: &[Value]) -> Result<(), Fa
     Ok(())
 }
 
-/// `["one worker", nodes, links, ["turn", "look" or "seen", node], ..]`: the replies to the one worker of a round, and what that closes with.
+/// `["one worker", nodes, links, ["turn", "look" or "seen", node], ..]`: the replies to the only worker of a round, and
+/// the result of closing it.
 pub fn one_worker(alloc: Global, text: &mut Answer, asked: &[Value]) -> Result<(), Fault> {
     let [nodes, links, calls @ ..] = asked else {
         return Err(Fault::NoCase);
@@ -182,7 +185,7 @@ pub fn one_worker(alloc: Global, text: &mut Answer, asked: &[Value]) -> Result<(
     Ok(())
 }
 
-/// What the one worker does.
+/// What the only worker does.
 fn deeds_in(alloc: Global, given: &[Value]) -> Result<Vec<Deed>, Fault> {
     let mut deeds = Vec::new(alloc);
     for value in given {
@@ -191,7 +194,7 @@ fn deeds_in(alloc: Global, given: &[Value]) -> Result<Vec<Deed>, Fault> {
     Ok(deeds)
 }
 
-/// Has a worker do these, and puts what comes of each.
+/// Makes a worker do all of these, and appends each result.
 fn put_deeds(text: &mut Answer, round: &Round, worker: &mut Worker, deeds: &[Deed])
     requires { IsOwn round.now worker.old }
     ensures { IsOwn round.now worker.new }
@@ -210,7 +213,7 @@ fn calls_in(alloc: Global, value: &Value) -> Result<Vec<(u64, Deed)>, Fault> {
     Ok(calls)
 }
 
-/// Makes the calls, and puts each reply.
+/// Makes the calls, and appends each reply.
 fn put_replies(
     text: &mut Answer,
     round: &Round,
@@ -253,7 +256,7 @@ fn deed_in(given: &[Value]) -> Result<Deed, Fault> {
     )
 }
 
-/// Has a worker do that, and puts what comes of it.
+/// Makes a worker do that, and appends the result.
 fn put_deed(text: &mut Answer, round: &Round, worker: &mut Worker, deed: Deed)
     requires { IsOwn round.now worker.old }
     ensures { IsOwn round.now worker.new }
@@ -264,7 +267,7 @@ fn put_deed(text: &mut Answer, round: &Round, worker: &mut Worker, deed: Deed)
     }
 }
 
-/// Puts the count of a node that a worker has seen.
+/// Appends the count of a node that a worker has seen.
 fn put_seen(text: &mut Answer, round: &Round, worker: &Worker, x: u32)
     requires { IsOwn round.now worker.now }
 {
@@ -284,7 +287,7 @@ fn reply(round: &Round, worker: &mut Worker, target: Target) -> Result<Reply, Re
     }
 }
 
-/// Puts the reply to a call, or why it was refused.
+/// Appends the reply to a call, or why it was refused.
 fn put_reply(text: &mut Answer, replied: Result<Reply, Refusal>) {
     match replied {
         Ok(reply) => text.put("", &reply),
@@ -293,7 +296,7 @@ fn put_reply(text: &mut Answer, replied: Result<Reply, Refusal>) {
     text.say("; ");
 }
 
-/// Ends a round where these workers come back.
+/// Closes a round with these workers.
 fn closed(alloc: Global, round: Round, a: Worker, b: Worker, back: Back) -> Result<Closed, Fault>
     requires { IsOwn round a × IsOwn round b × (round.setup.workers ≡ 2) }
 {
@@ -301,7 +304,7 @@ fn closed(alloc: Global, round: Round, a: Worker, b: Worker, back: Back) -> Resu
     Ok(round.close(workers))
 }
 
-/// The workers that come back to their round.
+/// The workers that are given back to their round.
 fn handed_back(
     alloc: Global,
     round: &Round,
@@ -320,13 +323,13 @@ fn handed_back(
     })
 }
 
-/// Puts what a round has closed with.
+/// Appends the result of closing a round.
 pub fn put_closed(text: &mut Answer, closed: &Closed) {
     text.put("counts ", &closed.counts);
     text.put(", turned ", &closed.turned);
 }
 
-/// Ends a round where both workers come back.
+/// Closes a round with both workers.
 pub fn closed_by_both(alloc: Global, round: Round, a: Worker, b: Worker) -> Result<Closed, Fault>
     requires { IsOwn round a × IsOwn round b × (round.setup.workers ≡ 2) }
 {

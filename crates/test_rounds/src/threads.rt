@@ -18,7 +18,7 @@ use std::thread::{Threads, join};
 /// The chain whose links all point away from the destination, node 0.
 const CHAIN: [(u32, u32); 4] = [(0, 1), (1, 2), (2, 3), (3, 4)];
 
-/// Calls on the node until a call turns it, and answers its count.
+/// Calls on the node until a call turns it, and returns its count.
 fn turn_until(round: &Round, mut worker: Worker, x: u32) -> (Worker, u64)
     requires { IsOwn round.now worker }
     ensures { IsOwn round.now result.0 }
@@ -53,8 +53,8 @@ fn two_threads<R: Threads + Sync>(
     )
 }
 
-/// Two threads on the first three nodes of the chain, each with a node that it turns once it can: the counts that they tell, and what
-/// the round closes with.
+/// Two threads on the first three nodes of the chain, each with a node that it turns once it can: the counts that they
+/// return, and the result of closing the round.
 pub fn two_turn<R: Threads + Sync + Alloc<A = Global>>(
     rt: &R,
     text: &mut Answer,
@@ -82,7 +82,7 @@ fn turn_all(round: &Round, mut worker: Worker) -> Worker
     worker
 }
 
-/// Whether each of these nodes of the chain is a neighbour of the next.
+/// Whether each of these nodes of the chain is a neighbour of the next one.
 fn are_neighbours(nodes: &[u32]) -> bool {
     for pair in nodes.windows(2) {
         if pair[0].abs_diff(pair[1]) != 1 {
@@ -92,7 +92,7 @@ fn are_neighbours(nodes: &[u32]) -> bool {
     true
 }
 
-/// Whether a walk from node 4 of the chain goes from neighbour to neighbour and ends as it says.
+/// Whether a walk from node 4 of the chain goes from neighbour to neighbour and ends as it claims.
 fn is_along_the_chain(walk: &LiveWalk, limit: usize) -> bool {
     let nodes = walk.nodes.as_slice();
     nodes.first() == Some(&4)
@@ -112,7 +112,7 @@ fn walks_right(alloc: Global, round: &Round, worker: &mut Worker) -> bool
     }
 }
 
-/// Walks again and again from node 4, and answers whether each walk is one along the chain.
+/// Walks again and again from node 4, and returns whether each walk is one along the chain.
 fn walk_often(alloc: Global, round: &Round, mut worker: Worker) -> (Worker, bool)
     requires { IsOwn round.now worker }
     ensures { IsOwn round.now result.0 }
@@ -178,7 +178,7 @@ fn all_turns(turned: &[(u32, u64)]) -> u64 {
     sum
 }
 
-/// Ends the round where all three workers come back.
+/// Closes the round with all three workers.
 fn closed_by_three(
     alloc: Global,
     round: Round,
@@ -191,8 +191,8 @@ fn closed_by_three(
     Ok(round.close(workers))
 }
 
-/// Walks beside two threads that turn the chain: whether all were right, the last walk, the turns of the two and of all, and the counts
-/// at the end.
+/// Walks while two threads turn the chain: whether all walks were right, the last walk, the turns of the two threads
+/// and of all, and the counts at the end.
 pub fn walk_beside_two<R: Threads + Sync + Alloc<A = Global>>(
     rt: &R,
     text: &mut Answer,
@@ -209,7 +209,7 @@ pub fn walk_beside_two<R: Threads + Sync + Alloc<A = Global>>(
     Ok(())
 }
 
-/// Puts all turns and the counts with which the round has closed.
+/// Appends all turns and the counts with which the round was closed.
 fn put_three(text: &mut Answer, closed: &Closed) {
     text.put(" of ", &all_turns(&closed.turned));
     text.put(", counts ", &closed.counts);

@@ -1,4 +1,4 @@
-//! What the items of a case say.
+//! The items of a case.
 
 use crate::fault::Fault;
 use fr_net::Net;
@@ -20,7 +20,7 @@ pub fn word(value: &Value) -> Result<&str, Fault> {
     }
 }
 
-/// What a table gives for a word.
+/// What a table has for a word.
 pub fn named<T: Copy>(word: &str, table: &[(&str, T)]) -> Result<T, Fault> {
     for (name, meant) in table {
         if *name == word {
@@ -37,7 +37,7 @@ pub fn number(value: &Value) -> Result<u64, Fault> {
     }
 }
 
-/// A number of 32 bits, as nodes and workers have it.
+/// A number of 32 bits, as for nodes and workers.
 pub fn small_number(value: &Value) -> Result<u32, Fault> {
     match u32::try_from(number(value)?) {
         Ok(small) => Ok(small),
@@ -60,7 +60,7 @@ fn pairs(alloc: Global, value: &Value) -> Result<Vec<(u32, u32)>, Fault> {
     Ok(pairs)
 }
 
-/// The network of a number of nodes and a list of links.
+/// The network with a number of nodes and a list of links.
 pub fn network(alloc: Global, nodes: &Value, links: &Value) -> Result<Net, Fault> {
     let nodes = small_number(nodes)?;
     let links = pairs(alloc, links)?;

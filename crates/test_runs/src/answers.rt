@@ -1,4 +1,4 @@
-//! Which word asks for what.
+//! The words of the cases, and their questions.
 
 use crate::cases::Case;
 use crate::gates::tell_held;
@@ -14,7 +14,7 @@ use serde_json::Value;
 use std::sync::Wait;
 use std::thread::Threads;
 
-/// Tells what came of a case. `None` where there is no such case.
+/// Prints the answer to a case. `None` if there is no such case.
 pub fn tell_answer<R: Threads + Wait + Sync + AllocGlobal + Print>(
     rt: &R,
     word: &str,
@@ -45,7 +45,7 @@ fn tell_run<R: Threads + Wait + Sync + AllocGlobal + Print>(rt: &R, input: &str)
     Some(())
 }
 
-/// `["made", [byte, count], [byte, count]]`: a run of an input of one byte so often, and then of another.
+/// `["made", [byte, count], [byte, count]]`: a run of an input of so many copies of one byte, and then of another one.
 fn tell_made<R: Threads + Wait + Sync + AllocGlobal + Print>(
     rt: &R,
     case: &Case<'_>,
@@ -85,7 +85,8 @@ fn tell_batch<R: Threads + Wait + Sync + AllocGlobal + Print>(
     Some(())
 }
 
-/// `["chain", nodes, first]`: the first line of a run of a chain from a node on, and whether runs under other plans write the same.
+/// `["chain", nodes, first]`: the first line of a run of a chain from a node on, and whether runs under other plans
+/// write the same.
 fn tell_chain<R: Threads + Wait + Sync + AllocGlobal + Print>(
     rt: &R,
     case: &Case<'_>,
@@ -118,7 +119,7 @@ fn tell_drawn_play<R: Threads + Wait + Sync + AllocGlobal + Print>(
     plays::tell_drawn(rt, draw, seed, &case.input(rt.alloc()))
 }
 
-/// `["drawn changes", seed, steps]`: whether drawn changes of a router come to what they have to.
+/// `["drawn changes", seed, steps]`: whether drawn changes of a router have the results that they must have.
 fn tell_drawn_changes<R: Threads + Wait + Sync + AllocGlobal + Print>(
     rt: &R,
     case: &Case<'_>,
@@ -127,7 +128,7 @@ fn tell_drawn_changes<R: Threads + Wait + Sync + AllocGlobal + Print>(
     changes::tell_drawn(rt, seed, steps, &case.input(rt.alloc()))
 }
 
-/// `["reads fail", most, task..]`: a task on the lines, with readers of which so many reads go well.
+/// `["reads fail", most, task..]`: a task on the lines, with readers of which only so many reads succeed.
 fn tell_reads<R: Threads + Wait + Sync + AllocGlobal + Print>(
     rt: &R,
     case: &Case<'_>,

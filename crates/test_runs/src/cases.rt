@@ -1,4 +1,4 @@
-//! Cases: how they are found among the lines of the file, and how their words are read.
+//! Finding the cases among the lines of the file, and reading their words.
 
 use crate::answers::tell_answer;
 use crate::inputs::unescaped;
@@ -10,18 +10,18 @@ use std::alloc::Global;
 use std::sync::Wait;
 use std::thread::Threads;
 
-/// A case: what is asked, the lines that belong to it, and the line that ended them.
+/// A case: its question, its lines, and the line that ended them.
 #[derive(Clone, Copy)]
 pub struct Case<'a> {
     asked: &'a Value,
-    /// The lines as they stand.
+    /// The lines, unchanged.
     pub lines: &'a str,
-    /// The line behind them.
+    /// The line after them.
     end: &'a str,
 }
 
 impl<'a> Case<'a> {
-    /// What is asked at a place: the word that says what, or what belongs to it.
+    /// The item of the case at a place: the word of the question, or one of its arguments.
     pub fn value(&self, place: usize) -> Option<&'a Value> {
         self.asked.get(place)
     }
@@ -36,7 +36,7 @@ impl<'a> Case<'a> {
         self.asked.get(place)?.as_u64()
     }
 
-    /// The number at a place, where it is below 2^32.
+    /// The number at a place, if it is below 2^32.
     pub fn small(&self, place: usize) -> Option<u32> {
         u32::try_from(self.number(place)?).ok()
     }
@@ -55,14 +55,14 @@ impl<'a> Case<'a> {
     }
 }
 
-/// A case whose lines are still to come, if there is one: its first line, without the colon, and the lines so far.
+/// A case whose lines are still being read, if there is one: its first line without the colon, and the lines so far.
 #[derive(Drop)]
 struct Begun {
     first: String,
     lines: String,
 }
 
-/// Tells what came of each case of the file.
+/// Prints the answer to each case of the file.
 pub fn tell_all<R: Threads + Wait + Sync + AllocGlobal + Print>(rt: &R, file: &[u8]) {
     let mut begun = Begun {
         first: String::new(rt.alloc()),
@@ -98,7 +98,7 @@ fn take<R: Threads + Wait + Sync + AllocGlobal + Print>(rt: &R, begun: &mut Begu
     }
 }
 
-/// Tells what came of a case, of which the first line is printed.
+/// Prints the answer to a case whose first line is already printed.
 fn tell_case<R: Threads + Wait + Sync + AllocGlobal + Print>(
     rt: &R,
     first: &str,
@@ -121,8 +121,8 @@ fn tell_case<R: Threads + Wait + Sync + AllocGlobal + Print>(
     }
 }
 
-/// Tells what came of a case with its lines; of some cases line for line, of others behind them all. `None` where there is no such
-/// case.
+/// Prints the answer to a case with its lines; for some cases line by line, for others after all of them. `None` if
+/// there is no such case.
 fn tell_asked<R: Threads + Wait + Sync + AllocGlobal + Print>(
     rt: &R,
     case: &Case<'_>,
@@ -145,7 +145,7 @@ fn tell_asked<R: Threads + Wait + Sync + AllocGlobal + Print>(
     }
 }
 
-/// Prints the lines of a case, if it has any, and the one that ends them.
+/// Prints the lines of a case, if it has any, and the line that ends them.
 fn echo_lines<R: Print>(rt: &R, case: &Case<'_>) {
     for line in case.lines.lines() {
         echo(rt, line);

@@ -1,4 +1,4 @@
-//! Changes of a router that are drawn, each of which has to come to what a router comes to that opens anew.
+//! Drawn changes of a router. After each one the router must be equal to one that is opened anew.
 
 use crate::routers::state_text;
 use crate::telling::{put, put_word, tell};
@@ -9,8 +9,8 @@ use rand_core::utils::NextWord;
 use rand_pcg::Lcg64Xsh32;
 use std::alloc::{AllocError, Global};
 
-/// Makes so many changes, drawn from a seed, of a router that opens on the network of a line, and tells whether each comes to what it
-/// has to. The network has nine nodes.
+/// Makes so many changes, drawn from a seed, of a router on the network of a line, and prints whether each has the
+/// result that it must have. The network has nine nodes.
 pub fn tell_drawn<R: AllocGlobal + Print>(rt: &R, seed: u64, steps: u32, line: &str) -> Option<()> {
     let mut generator = Lcg64Xsh32::seed_from_u64(seed);
     let mut router = opened(rt.alloc(), line)?;
@@ -25,7 +25,7 @@ pub fn tell_drawn<R: AllocGlobal + Print>(rt: &R, seed: u64, steps: u32, line: &
     Some(())
 }
 
-/// The router that opens on the network of a line.
+/// The router on the network of a line.
 fn opened(alloc: Global, line: &str) -> Option<Router> {
     match read_line(alloc, line.as_bytes()) {
         Ok(Request::Network { nodes, dest, links }) => {
@@ -35,7 +35,8 @@ fn opened(alloc: Global, line: &str) -> Option<Router> {
     }
 }
 
-/// A change of a network of nine nodes, by the next words of a generator: mostly an edit, else a batch of three or a new destination.
+/// A change of a network of nine nodes, from the next words of a generator: most often an edit, otherwise a batch of
+/// three edits or a new destination.
 fn drawn_change(alloc: Global, generator: &mut Lcg64Xsh32) -> Result<Change, AllocError> {
     let kind = generator.next_word() % 8;
     let (u, v) = (generator.next_word() % 9, generator.next_word() % 9);
@@ -56,8 +57,8 @@ fn drawn_change(alloc: Global, generator: &mut Lcg64Xsh32) -> Result<Change, All
     })
 }
 
-/// Whether a change of a router leaves the state of one that opens on what the change makes of the network, and where there is none is
-/// refused and leaves the state as it was.
+/// Whether a change leaves the router in the state of one that is opened on the changed network; or, if the change is
+/// impossible, it is refused and leaves the state unchanged.
 fn changes_as_opened(alloc: Global, router: &mut Router, change: Change) -> bool {
     let anew = opened_anew(alloc, router, &change);
     let wanted = match &anew {
@@ -68,7 +69,7 @@ fn changes_as_opened(alloc: Global, router: &mut Router, change: Change) -> bool
     end.is_ok() == anew.is_some() && state_text(alloc, router) == wanted
 }
 
-/// The router that opens on what a change makes of another one's network, if it can be made.
+/// The router on the changed network of another router, if the change is possible.
 fn opened_anew(alloc: Global, router: &Router, change: &Change) -> Option<Router> {
     let dest = match change {
         Change::Destination { dest } => *dest,
@@ -78,7 +79,7 @@ fn opened_anew(alloc: Global, router: &Router, change: &Change) -> Option<Router
     Router::open_alone(alloc, net, dest).ok()
 }
 
-/// What a change makes of a network, if it can be made.
+/// The changed network, if the change is possible.
 fn changed(alloc: Global, net: &Net, change: &Change) -> Option<Net> {
     match change {
         Change::Cut { u, v } => net.with_cut(alloc, *u, *v).ok(),

@@ -64,8 +64,8 @@ impl Gate for HoldingGate {
     }
 }
 
-/// Tells what a run by two workers writes where the first call of one is held until the first of another is answered, and
-/// whether that came to pass.
+/// Prints what a run by two workers writes if the first call of one is held until the first call of the other is
+/// answered, and whether that happened.
 pub fn tell_held<R: Threads + Wait + Sync + AllocGlobal + Print>(
     rt: &R,
     input: &str,

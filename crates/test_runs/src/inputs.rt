@@ -1,4 +1,4 @@
-//! Inputs that are made: of a line of the cases, of one byte after another, of a batch or a chain of so many links.
+//! Inputs that are made: from a line of the cases, from repeated bytes, a batch or a chain of so many links.
 
 use crate::telling::put_word;
 use serde_json::Value;
@@ -7,7 +7,7 @@ use std::fmt::Write as FmtWrite;
 use std::io;
 use std::io::Read;
 
-/// The line of an input that a line of a case says: what a JSON text says, and else the line as it stands.
+/// The line of an input for a line of a case: the text of a JSON string, or else the line itself.
 pub fn unescaped(alloc: Global, line: &str) -> String {
     let mut text = String::new(alloc);
     if line.starts_with('"') {
@@ -20,7 +20,7 @@ pub fn unescaped(alloc: Global, line: &str) -> String {
     text
 }
 
-/// Gives one byte so often, and then another so often, as many at a time as there is room for.
+/// Provides so many copies of one byte, and then of another one, as many at a time as there is room for.
 #[derive(Drop)]
 pub struct MadeReader {
     pub first: (u8, usize),
@@ -41,7 +41,7 @@ impl Read for MadeReader {
     }
 }
 
-/// A network and a batch of so many edits, which cut the link from 1 to 0 and add it again by turns.
+/// A network and a batch of so many edits, which alternately cut the link from 1 to 0 and add it again.
 pub fn by_turns(alloc: Global, count: u32) -> String {
     let mut input = String::new(alloc);
     put_word(&mut input, "[\"net\",2,0,[[1,0]]]\n[\"batch\",[");
@@ -60,7 +60,8 @@ pub fn by_turns(alloc: Global, count: u32) -> String {
     input
 }
 
-/// A network of so many nodes with the destination 0 and a link from each node from `first` on to the next, and the questions.
+/// A network of so many nodes with destination 0 and a link from each node from `first` on to the next one, and the
+/// questions.
 pub fn long_chain(alloc: Global, nodes: u32, first: u32) -> String {
     let mut input = String::new(alloc);
     put_net(&mut input, nodes);
@@ -72,12 +73,12 @@ pub fn long_chain(alloc: Global, nodes: u32, first: u32) -> String {
     input
 }
 
-/// Adds how the line of a network begins.
+/// Appends the beginning of the line of a network.
 fn put_net(input: &mut String, nodes: u32) {
     let _ = write!(input, "[\"net\",{nodes},0,[");
 }
 
-/// Adds a link.
+/// Appends a link.
 fn put_link(input: &mut String, tail: u32, head: u32) {
     let _ = write!(input, "[{tail},{head}]");
 }

@@ -1,12 +1,13 @@
-//! Tests of routers, sessions, runs, plays and command lines (fr_route and the crates above it), by public calls alone. The cases come
-//! from standard input, and what came of each goes to standard output; the file `stdout` has what is wanted.
+//! Tests of routers, sessions, runs, plays and command lines (fr_route and the crates above it), by public calls only.
+//! The cases come from standard input, and their answers go to standard output. The file `stdout` has what is expected.
 //!
-//! A case is a line with a JSON array, whose first item says what is asked; where the line ends with a colon, the lines up to
-//! one that begins with `end` belong to it. It is printed as it stands, and behind it, indented by two blanks, what came of it.
-//! Blank lines, and titles, which begin with `#`, are printed as well.
+//! A case is a line with a JSON array whose first item names the question. If the line ends with a colon, the lines up
+//! to one that begins with `end` belong to the case. The case is printed, and after it its answer, indented by two
+//! blanks. Blank lines and titles, which begin with `#`, are printed as well.
 //!
-//! The lines of a case are an input as they stand, each with its byte 10, but for two things: a line that begins with `"` is a JSON text,
-//! of which the line is made, so that white space shows; and behind `end without newline` the last byte 10 is missing.
+//! The lines of a case are an input, each with its byte 10, with two exceptions. A line that begins with `"` is a JSON
+//! string, and the line of the input is its text, so that white space is visible. After `end without newline`, the last
+//! byte 10 is missing.
 #![tactic(auto)]
 
 mod answers;

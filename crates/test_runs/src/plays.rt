@@ -1,4 +1,4 @@
-//! Whether a play makes the schedule that is drawn.
+//! Whether a play follows the schedule that is drawn.
 
 use crate::outcomes::tell_outcome;
 use crate::tasks::outcome_of;
@@ -13,8 +13,8 @@ use std::alloc::Global;
 use std::sync::Wait;
 use std::thread::Threads;
 
-/// Tells whether a play on the network of a line begins with the entries of the schedule that is drawn here from the same seed. Node
-/// 0 is the destination, and all other nodes have links.
+/// Prints whether a play on the network of a line begins with the entries of the schedule that is drawn here from the
+/// same seed. Node 0 is the destination, and all other nodes have links.
 pub fn tell_drawn<R: Threads + Wait + Sync + AllocGlobal + Print>(
     rt: &R,
     draw: Draw,
@@ -31,7 +31,7 @@ pub fn tell_drawn<R: Threads + Wait + Sync + AllocGlobal + Print>(
     Some(())
 }
 
-/// How the text of a play has to begin: up to the links.
+/// How the text of a play must begin, up to the links.
 fn begin_of_play(alloc: Global, draw: Draw, seed: u64, line: &str) -> Option<String> {
     let entries = entries_on_line(alloc, draw, seed, line)?;
     let mut text = String::new(alloc);
@@ -60,7 +60,7 @@ fn entries_on(alloc: Global, draw: Draw, seed: u64, net: &Net) -> Option<Vec<Ent
     play(alloc, net, 0, targets, &schedule).ok()
 }
 
-/// The schedule that is drawn here. Where it finds no room, it lacks something, which shows when it is played.
+/// The schedule that is drawn here. If an allocation is refused, it is too short, and the play then differs.
 fn schedule(alloc: Global, draw: Draw, seed: u64) -> Vec<u32> {
     let mut generator = Lcg64Xsh32::seed_from_u64(seed);
     let mut schedule = Vec::new(alloc);
@@ -79,7 +79,7 @@ fn targets(alloc: Global, draw: Draw, nodes: u32) -> Vec<Vec<Target>> {
     targets
 }
 
-/// So many turns: of the nodes 1, 2 and so on, and again from the first.
+/// So many turns of the nodes 1, 2 and so on, and again from the first.
 fn turns(alloc: Global, steps: u32, nodes: u32) -> Vec<Target> {
     let mut turns = Vec::new(alloc);
     let others = nodes.saturating_sub(1).max(1);

@@ -1,4 +1,4 @@
-//! A router that opens on a network and is changed.
+//! A router that is opened on a network and changed.
 
 use crate::telling::{echo, put, put_word, tell, tell_value};
 use fr_crew::{OpenGate, Plan};
@@ -8,8 +8,8 @@ use std::alloc::{AllocError, Global};
 use std::sync::Wait;
 use std::thread::Threads;
 
-/// Opens a router on the network of the first line, tells its state, and for each further line, which asks for a change, what that comes
-/// to and the state behind it.
+/// Opens a router on the network of the first line and prints its state. For each further line, which asks for a
+/// change, prints the result and the state after it.
 pub fn tell_router<R: Threads + Wait + Sync + AllocGlobal + Print>(rt: &R, lines: &str) {
     let (Some(plan), Some((first, rest))) = (Plan::new(2, 0, 1_000), lines.split_once('\n')) else {
         return;
@@ -22,7 +22,7 @@ pub fn tell_router<R: Threads + Wait + Sync + AllocGlobal + Print>(rt: &R, lines
     }
 }
 
-/// The router that opens on the network of a line.
+/// The router on the network of a line.
 fn opened<R: Threads + Wait + Sync + AllocGlobal>(
     rt: &R,
     line: &str,
@@ -47,7 +47,7 @@ fn opened_on<R: Threads + Wait + Sync + AllocGlobal>(
     Router::open(rt, rt.alloc(), net, dest, plan, &OpenGate)
 }
 
-/// Tells the state of a router, and each change with what it comes to.
+/// Prints the state of a router, and each change with its result.
 fn tell_changes<R: Threads + Wait + Sync + AllocGlobal + Print>(
     rt: &R,
     router: &mut Router,
@@ -61,7 +61,7 @@ fn tell_changes<R: Threads + Wait + Sync + AllocGlobal + Print>(
     }
 }
 
-/// Tells what a change comes to, and the state behind it.
+/// Prints the result of a change, and the state after it.
 fn tell_change<R: Threads + Wait + Sync + AllocGlobal + Print>(
     rt: &R,
     router: &mut Router,
@@ -90,13 +90,13 @@ fn change_of(alloc: Global, line: &str) -> Option<Change> {
     }
 }
 
-/// Tells the state of a router.
+/// Prints the state of a router.
 fn tell_state<R: AllocGlobal + Print>(rt: &R, router: &Router) {
     tell(rt, &state_text(rt.alloc(), router));
 }
 
-/// The state of a router: what the last round reported, the destination, the links, the counts, where each node sends on to, and
-/// the way from the last node.
+/// The state of a router: the report of the last round, the destination, the links, the counts, the hop of each node,
+/// and the route from the last node.
 pub fn state_text(alloc: Global, router: &Router) -> String {
     let mut text = String::new(alloc);
     put(&mut text, &router.report());

@@ -1,4 +1,4 @@
-//! What a run comes to under one plan and under others, on which no answer depends.
+//! The result of a run under one plan and under others. No answer depends on the plan.
 
 use crate::outcomes::{Outcome, tell_outcome};
 use crate::telling::tell;
@@ -27,7 +27,7 @@ pub const PLANS: &[(u32, u64)] = &[
 /// The same for long inputs.
 pub const FEW_PLANS: &[(u32, u64)] = &[(1, 0), (1, 20_000), (2, 20_000), (8, 20_000)];
 
-/// What a run comes to under a plan.
+/// The result of a run under a plan.
 pub fn run_by<T: Threads + Wait + Sync + AllocGlobal, R: Read, G: Gate + Sync>(
     rt: &T,
     reader: &mut R,
@@ -39,7 +39,7 @@ pub fn run_by<T: Threads + Wait + Sync + AllocGlobal, R: Read, G: Gate + Sync>(
     Outcome { out, end }
 }
 
-/// What a run of a reader comes to by one worker that makes no call, with the gate open.
+/// The result of a run of a reader by one worker that makes no call, with the gate open.
 pub fn run_alone<T: Threads + Wait + Sync + AllocGlobal, R: Read>(
     rt: &T,
     reader: &mut R,
@@ -53,7 +53,8 @@ pub fn run_of<T: Threads + Wait + Sync + AllocGlobal>(rt: &T, input: &str) -> Ou
     run_alone(rt, &mut input.as_bytes())
 }
 
-/// Tells whether the run of an input comes to this under each of the plans, or the first under which it comes to something else.
+/// Prints whether the run of an input has this result under each of the plans, or the first one under which it has
+/// another result.
 pub fn tell_plans<R: Threads + Wait + Sync + AllocGlobal + Print>(
     rt: &R,
     input: &str,
@@ -68,7 +69,8 @@ pub fn tell_plans<R: Threads + Wait + Sync + AllocGlobal + Print>(
     tell(rt, "by all plans");
 }
 
-/// Whether the run of an input by so many workers, each with so many calls, comes to this. What else it comes to is told.
+/// Whether the run of an input by so many workers, each with so many calls, has this result. Any other result is
+/// printed.
 fn comes_to<R: Threads + Wait + Sync + AllocGlobal + Print>(
     rt: &R,
     input: &str,

@@ -1,4 +1,4 @@
-//! A session that is asked lines, and one beside it that is asked the requests that are read from them.
+//! A session that answers lines, and another one that answers the requests of these lines.
 
 use crate::inputs::unescaped;
 use crate::telling::{echo, tell, tell_value};
@@ -8,7 +8,7 @@ use fr_route::{AnswerFault, Session};
 use std::sync::Wait;
 use std::thread::Threads;
 
-/// Tells each line with its answer.
+/// Prints each line with its answer.
 pub fn tell_session<R: Threads + Wait + Sync + AllocGlobal + Print>(rt: &R, lines: &str) {
     let mut by_line = Session::new();
     let mut by_request = Session::new();
@@ -18,7 +18,7 @@ pub fn tell_session<R: Threads + Wait + Sync + AllocGlobal + Print>(rt: &R, line
     }
 }
 
-/// Tells the answer to a line, and the one to its request where that is another.
+/// Prints the answer to a line, and the answer to its request if that is another one.
 fn tell_line<R: Threads + Wait + Sync + AllocGlobal + Print>(
     rt: &R,
     by_line: &mut Session,
@@ -38,7 +38,7 @@ fn tell_line<R: Threads + Wait + Sync + AllocGlobal + Print>(
     }
 }
 
-/// The answer to the request that is read from a line, or none where it is no request.
+/// The answer to the request of a line, or `None` if the line is not a request.
 fn answer_request<R: Threads + Wait + Sync + AllocGlobal>(
     rt: &R,
     session: &mut Session,

@@ -1,4 +1,4 @@
-//! Readers and writers that fail, and what runs, services and plays make of them.
+//! Readers and writers that fail, and how runs, services and plays handle them.
 
 use crate::outcomes::{Outcome, tell_outcome};
 use crate::tasks::{outcome_of, perform};
@@ -10,8 +10,8 @@ use std::io::{Read, Write};
 use std::sync::Wait;
 use std::thread::Threads;
 
-/// Gives one byte at a time. Once so many reads went well one fails, and later ones go well again, so that a loop shows that
-/// goes on.
+/// Provides one byte at a time. After so many successful reads one fails, and later ones succeed again, so that a loop
+/// that continues is noticed.
 #[derive(Drop)]
 struct SlowReader<'a> {
     rest: &'a [u8],
@@ -30,7 +30,8 @@ impl<'a> Read for SlowReader<'a> {
     }
 }
 
-/// Tells what a task comes to where so many reads go well, from none to below `most`, wherever that is another than for one less.
+/// Prints the result of a task for each number of successful reads from 0 to `most - 1`, if it differs from the result
+/// for one read less.
 pub fn tell_slow_reads<R: Threads + Wait + Sync + AllocGlobal + Print>(
     rt: &R,
     task: Task,
@@ -52,7 +53,7 @@ pub fn tell_slow_reads<R: Threads + Wait + Sync + AllocGlobal + Print>(
     }
 }
 
-/// Whether an outcome is the last that was told.
+/// Whether an outcome is the last one that was printed.
 fn is_told(last: &Option<Outcome>, outcome: &Outcome) -> bool {
     match last {
         Some(last) => last == outcome,
@@ -60,7 +61,8 @@ fn is_told(last: &Option<Outcome>, outcome: &Outcome) -> bool {
     }
 }
 
-/// Takes three bytes at most. Once so many calls went well one fails or takes none, and later ones go well again.
+/// Accepts at most three bytes. After so many successful calls one fails or accepts no byte, and later ones succeed
+/// again, so that a loop that continues is noticed.
 #[derive(Drop)]
 struct NarrowWriter {
     out: Vec<u8>,
@@ -83,8 +85,8 @@ impl NarrowWriter {
         }
     }
 
-    /// Whether all was written and then flushed where all went well, and else a beginning, with no flush after the failure. Where a flush
-    /// failed that is made once, at the end, the beginning is all of it.
+    /// Whether everything was written and then flushed if all calls succeeded; otherwise a beginning was written, with
+    /// no flush after the failure. If a flush at the end failed, everything was written.
     fn fits(&self, end: &Result<u64, RunFault>, whole: &Outcome, flushes_once: bool) -> bool {
         match end {
             Err(RunFault::Write) if self.flush_failed && flushes_once => {
@@ -127,7 +129,7 @@ impl Write for NarrowWriter {
     }
 }
 
-/// A task with its input, and what it comes to where no call fails.
+/// A task with its input, and its result if no call fails.
 #[derive(Drop)]
 struct Undisturbed<'a> {
     task: Task,
@@ -148,7 +150,7 @@ impl<'a> Undisturbed<'a> {
         }
     }
 
-    /// Whether the task stops as it has to with a writer, and has done all where that is wanted.
+    /// Whether the task stops with a writer as it must, and has done everything if that is expected.
     fn stops<R: Threads + Wait + Sync + AllocGlobal>(
         &self,
         rt: &R,
@@ -161,8 +163,8 @@ impl<'a> Undisturbed<'a> {
     }
 }
 
-/// Tells what a task writes and answers, and whether it stops as it has to with writers of which so many calls go well, from
-/// none to below `most`; where at least `enough` go well it has to have done all.
+/// Prints what a task writes and returns, and whether it stops as it must with writers of which so many calls succeed,
+/// from 0 to `most - 1`. If at least `enough` calls succeed, it must have done everything.
 pub fn tell_narrow_writes<R: Threads + Wait + Sync + AllocGlobal + Print>(
     rt: &R,
     task: Task,

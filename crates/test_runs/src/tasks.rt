@@ -1,4 +1,4 @@
-//! Runs, services and plays by any reader and writer.
+//! Runs, services and plays with any reader and writer.
 
 use crate::cases::Case;
 use crate::outcomes::Outcome;
@@ -8,7 +8,7 @@ use std::io::{Read, Write};
 use std::sync::Wait;
 use std::thread::Threads;
 
-/// The task that a case says from a place on: a run or a service on one thread, or a play by the numbers of a draw.
+/// The task of a case, from a place on: a run or a service on one thread, or a play with the numbers of a draw.
 pub fn task_at(case: &Case<'_>, place: usize) -> Option<Task> {
     match case.text(place)? {
         "run" => Some(Task::Run(Plan::new(1, 0, 0)?)),
@@ -18,7 +18,7 @@ pub fn task_at(case: &Case<'_>, place: usize) -> Option<Task> {
     }
 }
 
-/// The draw whose numbers stand behind a place: of workers, the seed, and of steps.
+/// The draw with the numbers after a place: of workers, the seed, and of steps.
 pub fn draw_at(case: &Case<'_>, place: usize) -> Option<Draw> {
     if place > 1_000 {
         return None;
@@ -30,7 +30,7 @@ pub fn draw_at(case: &Case<'_>, place: usize) -> Option<Draw> {
     )
 }
 
-/// Does a task, with the gate open. What a service answers is told as 0.
+/// Does a task with the gate open. The result of a service is 0.
 pub fn perform<T: Threads + Wait + Sync + AllocGlobal, R: Read, W: Write>(
     rt: &T,
     task: Task,
@@ -44,7 +44,7 @@ pub fn perform<T: Threads + Wait + Sync + AllocGlobal, R: Read, W: Write>(
     }
 }
 
-/// What a task comes to with a writer that takes all.
+/// The result of a task with a writer that accepts everything.
 pub fn outcome_of<T: Threads + Wait + Sync + AllocGlobal, R: Read>(
     rt: &T,
     task: Task,

@@ -1,19 +1,19 @@
-//! What is printed, and texts that are made of one thing after another. Where a text finds no room, it lacks something, which shows
-//! when it is compared.
+//! Printing, and texts that are made piece by piece. If an allocation is refused, a text is too short, and the
+//! comparison then fails.
 
 use std::fmt::{Debug, Write};
 
-/// Prints a line of the cases as it stands.
+/// Prints a line of the cases.
 pub fn echo<R: Print>(rt: &R, line: &str) {
     let _ = rt.println(line);
 }
 
-/// Prints a line of what came of a case.
+/// Prints a line of the answer to a case.
 pub fn tell<R: Print>(rt: &R, line: &str) {
     let _ = println!(rt; "  {line}");
 }
 
-/// Prints a value in one line of what came of a case.
+/// Prints a value as one line of the answer to a case.
 pub fn tell_value<R: Print, T: Debug>(rt: &R, value: &T) {
     let _ = println!(rt; "  {value:?}");
 }
@@ -30,13 +30,13 @@ pub fn tell_lines<R: Print>(rt: &R, text: &[u8]) {
     }
 }
 
-/// Adds a value to a text, with a blank before it where it is not the first.
+/// Appends a value, after a blank unless it is the first one.
 pub fn put<T: Debug>(text: &mut String, value: &T) {
     put_word(text, if text.is_empty() { "" } else { " " });
     let _ = write!(text, "{value:?}");
 }
 
-/// Adds a word to a text.
+/// Appends a word.
 pub fn put_word(text: &mut String, word: &str) {
     let _ = text.push_str(word);
 }

@@ -1,4 +1,4 @@
-//! What the words of a command line come to, and what faults are told as.
+//! The tasks of command lines, and the texts of faults.
 
 use crate::cases::Case;
 use crate::telling::{tell, tell_lines, tell_value};
@@ -8,8 +8,9 @@ use serde_json::Value;
 use std::alloc::Global;
 use std::fmt::Display;
 
-/// `["words", [word, ..]]`: the task that the words ask for, or the status, what was asked for, and the text.
-/// `["words", [word, ..], begin, middle, end]`: the same, but whether the text begins, goes on and ends so.
+/// `["words", [word, ..]]`: the task that the words ask for, or the status, what they ask for, and the text. `["words",
+/// [word, ..], begin, middle, end]`: the same, but whether the text begins with `begin`, contains `middle` and ends
+/// with `end`.
 pub fn tell_words<R: AllocGlobal + Print>(rt: &R, case: &Case<'_>) -> Option<()> {
     let words = texts_of(rt.alloc(), case.value(1)?.as_array()?);
     match task_of(rt.alloc(), &words) {
@@ -28,7 +29,7 @@ fn texts_of(alloc: Global, list: &[Value]) -> Vec<&str> {
     texts
 }
 
-/// Tells how the program ends for a fault.
+/// Prints how the program ends with a fault.
 fn tell_end<R: Print>(rt: &R, fault: &TaskFault, case: &Case<'_>) {
     let (status, text) = task_end(fault);
     tell_value(rt, &status);
@@ -48,7 +49,7 @@ fn tell_end<R: Print>(rt: &R, fault: &TaskFault, case: &Case<'_>) {
     }
 }
 
-/// Tells whether a part of a text stands where it is wanted, if one is.
+/// Prints whether a part is in the expected place of the text, if a part is expected.
 fn tell_part<R: Print>(rt: &R, what: &str, part: &str, stands: bool) {
     if !part.is_empty() {
         tell_pair(rt, if stands { what } else { "lacks" }, part);
@@ -59,7 +60,7 @@ fn tell_pair<R: Print>(rt: &R, what: &str, part: &str) {
     let _ = println!(rt; "  {what}: {part}");
 }
 
-/// `["faults"]`: how runs end, and then faults of routers, of sessions and of command lines.
+/// `["faults"]`: how runs end, and then the faults of routers, of sessions and of command lines.
 pub fn tell_faults<R: Print>(rt: &R) -> Option<()> {
     tell_value(rt, &run_end(&RunFault::Read));
     tell_value(rt, &run_end(&RunFault::Write));

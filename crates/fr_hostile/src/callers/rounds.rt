@@ -2,6 +2,7 @@
 
 ghost use Rattle.std.specs.Prelude.{IfOk};
 ghost use Rattle.fr_graph.specs.Counts.{AreLawful};
+ghost use Rattle.fr_round.specs.Histories.{StartsWith};
 ghost use Rattle.fr_round.specs.Knowledge.{IsOwn};
 
 use fr_core::Reply;
@@ -32,4 +33,16 @@ pub fn round_of_two(alloc: Global, net: Net, dest: u32, x: u32) -> Result<Closed
     let _first = turn_soon(&round, &mut workers[0], x, 1);
     let _second = turn_soon(&round, &mut workers[1], x, 1);
     Ok(round.close(workers))
+}
+
+/// Looks at node `x` by the second worker after the first one has called: a join or a message has made one thread go on
+/// after the other. The second worker then knows that call, so its reply is no older.
+pub fn look_after(round: &Round, first: &mut Worker, second: &mut Worker, x: u32) -> Result<Reply, Refusal>
+    requires first { IsOwn round.now first.old }
+    requires second { IsOwn round.now second.old }
+    ensures { StartsWith second.new.known first.old.known }
+{
+    let past = round.past(first);
+    round.learn(second, past);
+    round.look(second, x)
 }

@@ -4,7 +4,7 @@ use Rattle.std.proofs.KnownBytes.{Consumes-trans}
 use Rattle.fr_bytes.specs.Bytes.{most_bytes}
 use Rattle.fr_bytes.proofs.input.read_by_pieces.Goals as goal
 
--- the bytes that came last are not kept, but read
+-- the last bytes were read, but are not kept
 pub returns-then-is_err-clause-limit : goal.returns-then-is_err-clause-limit
 returns-then-is_err-clause-limit g c =
     let last : List ℕ = take c.in_ok-count.count c.read_piece.new.piece in
@@ -12,7 +12,7 @@ returns-then-is_err-clause-limit g c =
     (omega (arith, c.in_ok-count.ensures.bound, length-take c.min-room.result c.reads.piece)) in
     (c.reads.input.items ++ last, Consumes-trans _ _ _ _ _ c.reads.invariant.taken c.in_ok-count.ensures.bytes, few)
 
--- and there were some
+-- there were some
 pub returns-then-is_err-clause-fault : goal.returns-then-is_err-clause-fault
 returns-then-is_err-clause-fault g c =
     let last : List ℕ = take c.in_ok-count.count c.read_piece.new.piece in

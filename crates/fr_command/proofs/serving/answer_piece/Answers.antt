@@ -8,7 +8,7 @@ use Rattle.fr_command.specs.InPieces.{IsPieceFault}
 use Rattle.fr_command.proofs.Served.{says_nothing, says_on, says_kept, says_begins, fails_later}
 use Rattle.fr_command.proofs.serving.answer_piece.Goals as goal
 
--- what is left of a piece
+-- the rest of a piece
 rest_is : (piece : List ℕ) (done : ℕ) → take (length piece - done) (drop done piece) ≡ drop done piece
 rest_is piece done = take_all (length piece - done) (drop done piece) (omega (arith, length-drop done piece))
 

@@ -8,7 +8,7 @@ use Rattle.fr_bytes.proofs.Results.{on_err}
 use Rattle.fr_command.proofs.Served.{text_begun, end_begun}
 use Rattle.fr_command.proofs.serving.write_answer.Goals as goal
 
--- a beginning of an answer that there is
+-- a beginning of an answer, if there is one
 begins_answer : {Z : Type 0} (answer : Option (String Z)) (text : String Z) (out : List ℕ) → answer ≡ Some text
     → IsBeginning out (string_bytes text ++ 10 ∷ []) → IsBeginning out (text_of answer)
 begins_answer answer text out is begins = rw is begins

@@ -16,7 +16,7 @@ below net u v table shown = joined_below net.nodes net.links u v shown.is_net sh
 apart : (net : Network) (u v : ℕ) (table : Table) → ShowsLink net u v table → u ≢ v
 apart net u v table shown = joined_apart net.nodes net.links u v shown.is_net shown.joins
 
--- the row of v stays while that of u is cut
+-- the row of v is unchanged while that of u is written
 beside : (c : After-cut_entry) → row_of c.cut_entry.new.rows c.args.v ≡ row c.requires.0.nodes c.requires.0.links c.args.v
 beside c =
     let net = c.requires.0 in

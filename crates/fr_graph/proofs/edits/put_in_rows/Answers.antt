@@ -8,7 +8,7 @@ use Rattle.fr_graph.specs.declared.first.First.TheVariants.{Outward}
 use Rattle.fr_graph.proofs.edits.put_in_rows.Goals as goal
 use Rattle.fr_graph.proofs.edits.put_in_rows.Goals.{After-put_entry}
 
--- the row of the head stays while that of the tail is written
+-- the row of the head is unchanged while that of the tail is written
 beside : (c : After-put_entry) → row_of c.put_entry.new.rows c.args.head ≡ row c.requires.shown.0.nodes c.requires.shown.0.links c.args.head
 beside c =
     let net = c.requires.shown.0 in

@@ -5,7 +5,7 @@ use Rattle.fr_graph.specs.Halves.{AreHalvesOf, ShowsRow, entry_of}
 use Rattle.fr_graph.proofs.network.rows_of.Goals as goal
 use Rattle.fr_graph.proofs.network.rows_of.Goals.{In_ok-entries_of}
 
--- the links stand in the rows between the starts
+-- the links are in the rows between the starts
 shows : (c : In_ok-entries_of) (n : ℕ) (links : List (ℕ × ℕ)) → AreHalvesOf n links c.args.halves.now c.args.starts.items
     → (x : ℕ) → x < n → ShowsRow n links c.args.starts.items c.in_ok-entries_of.field-0.items x
 shows c n links of = rw c.in_ok-entries_of.ensures (rows_shown n links c.args.halves.now c.args.starts.items of)
@@ -21,7 +21,7 @@ packed-requires c =
       inside = λ x. omega (arith, starts.inside x, ap length c.in_ok-entries_of.ensures, length-map c.args.halves.now entry_of);
     }
 
--- what is said of the table by two clauses
+-- two clauses together describe the table
 told : {X E : Type 0} {P Q R : X → Type 0} (made : Result X E) → IfOk made P → IfOk made Q → ((x : X) → P x → Q x → R x) → IfOk made R
 told (Ok x) p q both = both x p q
 told (Err e) p q both = tt

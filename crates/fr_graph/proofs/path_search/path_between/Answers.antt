@@ -11,7 +11,7 @@ use Rattle.fr_graph.proofs.path_search.path_between.Goals as goal
 use Rattle.fr_graph.proofs.path_search.path_between.Goals.{Joined-goes_next, In-Some, else-goes_next, else-has_unread-2, else-loop-behind-test}
 use Rattle.fr_graph.proofs.path_search.path_between.Goals.{then-goes_next, then-has_unread-2, then-loop-behind-test+else-has_unread}
 
--- a side that says that it has no unread node has read all its rows
+-- a side without unread nodes has read all its rows
 none_left : {has : Bool} {read nodes : ℕ} → has ≡ false → IsTrue has ↔ (read < nodes) → nodes ≤ read
 none_left {has} {read} {nodes} none says = elim (cases_lt read nodes) [ inl left ↦ cc (says.1 left, none) | inr read_all ↦ read_all ]
 
@@ -51,7 +51,7 @@ read_next-met_along-requires-clause-side c = own_side c.loop-behind.invariant.ah
 pub read_next-met_along-requires-else-goes_next-clause-side : goal.read_next-met_along-requires-else-goes_next-clause-side
 read_next-met_along-requires-else-goes_next-clause-side c = own_side c.loop-behind.invariant.behind
 
--- both sides once the one or the other has read a row
+-- both sides after one of them has read a row
 ahead_then : (c : Joined-goes_next) → IsSide (net_in c.args.rows.now) c.args.heights.now.heights Outward c.args.from
     (slice_index c.args.heights.now.heights c.args.to) c.if-goes_next.met c.if-goes_next.ahead
 ahead_then c =

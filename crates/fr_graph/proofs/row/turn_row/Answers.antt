@@ -18,7 +18,7 @@ loop-entry-preserved c =
     ∙ map_over_more (turned_entry c.args.counts.now c.args.x) c.args.row.now now i
     (get_or now i d) inside c.loop-entry.invariant (get_or_default now i d (get_or now i d) here)
 
--- the elements ahead are as they stood
+-- the elements ahead are unchanged
 ahead : (f : ℕ × First → ℕ × First) (row : List (ℕ × First)) (i : ℕ) (d : ℕ × First) → i < length row
     → get_or (map f (take i row) ++ drop i row) i d ≡ get_or row i d
 ahead f row i d inside =

@@ -11,7 +11,7 @@ use Rattle.fr_graph.specs.declared.first.First.TheVariants.{Outward}
 use Rattle.fr_graph.proofs.turned.turn_node.Goals as goal
 use Rattle.fr_graph.proofs.turned.turn_node.Goals.{After-row, After-row-place-end, else-counts-w-eq0, then-counts-w-eq0}
 
--- once its own row is turned
+-- after its own row is turned
 own_turned : (c : After-row-place-end) (net : Network) (seen : ℕ → Bool) → seen c.args.x ≡ false
     → ArePartTurned net c.args.counts.now (is_done c.args.counts.now seen) c.args.rows.now
     → ArePartTurned net c.args.counts.now (is_halfway c.args.counts.now seen c.args.x 0) c.turn_row.new.self
@@ -19,7 +19,7 @@ own_turned c net seen unseen part =
     rw c.turn_row.ensures (own_row_turned net c.args.counts.now seen c.args.x c.args.rows.now unseen c.requires.turned
     (omega (arith, c.requires.node, part.counted)) part)
 
--- the loop goes over as many places as the row has
+-- the loop runs over as many places as the row has
 end_is : (c : After-row-place-end) (net : Network) (seen : ℕ → Bool) → seen c.args.x ≡ false
     → ArePartTurned net c.args.counts.now (is_done c.args.counts.now seen) c.args.rows.now
     → length c.row-place-end.result.now ≡ length (row net.nodes net.links c.args.x)

@@ -7,7 +7,7 @@ use Rattle.fr_graph.specs.TurnedRows.{ArePartTurned, is_done}
 use Rattle.fr_graph.proofs.turned.turn_rows.Goals as goal
 use Rattle.fr_graph.proofs.turned.turn_rows.Goals.{After-counts}
 
--- the next node of the list was not seen to before
+-- the next node of the list was not handled before
 unseen : (c : After-counts) → stands_before c.nodes-x-items.result.now c.loop-x.x-index (get_or c.nodes-x-items.result.now c.loop-x.x-index 0) ≡ false
 unseen c =
     let nodes = c.nodes-x-items.result.now in

@@ -2,7 +2,7 @@ use Rattle.std.proofs.Common.{length, ◌≡◌}
 use Rattle.fr_lines.specs.LineLexemes.{unspaced}
 use Rattle.fr_lines.proofs.fronts.behind_some_space.Given as goal
 
--- white space stood before the rest
+-- there is only white space before the rest
 abbrev pub invariant-spaces : goal.invariant-spaces
 invariant-spaces l = unspaced l.text ≡ unspaced l.rest
 

@@ -4,7 +4,7 @@ use Rattle.fr_lines.specs.LineLexemes.{Begins, Each}
 use Rattle.fr_lines.proofs.ByteLines.{each_before_comma}
 use Rattle.fr_lines.proofs.lists.items_to_end.Given as goal
 
--- the items so far stood before the rest, each with its comma
+-- the items so far are before the rest, each with its comma
 abbrev pub invariant-items : goal.invariant-items
 invariant-items g l = Begins l.text (each_before_comma g.T.Item.lexemes l.items.items) l.rest × Each g.T.Item.IsSmall l.items.items
 

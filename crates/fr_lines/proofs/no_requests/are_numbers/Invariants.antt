@@ -4,7 +4,7 @@ use Rattle.fr_lines.specs.LineLexemes.{Begins, Each, IsSmall, number_lexemes}
 use Rattle.fr_lines.proofs.ByteLines.{each_before_comma}
 use Rattle.fr_lines.proofs.no_requests.are_numbers.Given as goal
 
--- numbers stood before the rest, each with its comma
+-- there are numbers before the rest, each with its comma
 abbrev pub invariant-numbers : goal.invariant-numbers
 invariant-numbers l = (ns : List ℕ) × Each IsSmall ns × Begins l.items (each_before_comma number_lexemes ns) l.rest
 

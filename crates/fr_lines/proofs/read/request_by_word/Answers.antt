@@ -7,7 +7,7 @@ use Rattle.fr_lines.specs.declared.requests.LineFault.TheVariants.{NotRequest}
 use Rattle.fr_lines.specs.declared.requests.Request.{Request}
 use Rattle.fr_lines.proofs.read.request_by_word.Goals as goal
 
--- what the function of the word tells is told of the line
+-- the result of the word's function is that of the line
 told : (o : Option PlainRequest) (r : Result Request LineFault) → IfOk r (λ request. o ≡ Some (plain request))
     → IfErr r (λ fault. ok_or o NotRequest ≡ Err fault) → Tells (ok_or o NotRequest) r
 told o (Ok request) ok refused = (ap (λ p. ok_or p NotRequest) ok, tt)

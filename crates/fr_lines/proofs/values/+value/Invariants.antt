@@ -15,7 +15,7 @@ decreases-items l = 2 * l.depth + 1
 abbrev pub decreases-members : goal.decreases-members
 decreases-members l = 2 * l.depth + 1
 
--- the values so far, and those ahead, are the items of the array; `most` is enough turns for those ahead
+-- the values so far and those ahead are the items of the array, and `most` is enough turns for those ahead
 abbrev pub invariant-items-items : goal.invariant-items-items
 invariant-items-items l =
     (most : ℕ) × (length l.reader ≤ most)

@@ -5,7 +5,7 @@ use Rattle.fr_round.specs.declared.view.View.{View}
 use Rattle.fr_round.specs.Setups.{setup_of}
 use Rattle.fr_round.specs.Knowledge.{Knowledge}
 use Rattle.fr_round.specs.Closing.{number_and_known, number_and_turns}
-use Rattle.fr_round.proofs.Seating.{joins}
+use Rattle.fr_round.proofs.Seating.{joins, kept_join}
 use Rattle.fr_round.proofs.Gathering.{taking_none, taking_more, taking_room, taking_all, each_in}
 use Rattle.fr_round.proofs.closing.take_over.Goals as goal
 
@@ -49,8 +49,9 @@ join_seat-requires c =
           ∙ own,
       e.1,
       q.closing.some,
-      joins (setup_of c.args.table.now.shared.key)
-          c.loop-worker.seat.id c.loop-worker.seat.me.0 w.id w.me.0 closes idle not_opening e.2,
+      kept_join (setup_of c.args.table.now.shared.key) c.loop-worker.seat.id c.loop-worker.seat.me.0 w.id w.me.0 _ _
+          (λ list. joins (setup_of c.args.table.now.shared.key) list c.loop-worker.seat.id c.loop-worker.seat.me.0 w.id w.me.0
+          closes idle not_opening e.2),
     )
 
 pub loop-worker-preserved : goal.loop-worker-preserved

@@ -1,4 +1,4 @@
-use Rattle.fr_round.proofs.Standing.{first_holds, one_history, only_first, steps_keep}
+use Rattle.fr_round.proofs.Standing.{first_holds, one_history, only_first, steps_grow, steps_keep}
 use Rattle.fr_round.proofs.laws.round_law.Goals as goal
 
 pub returns-clause-run : goal.returns-clause-run
@@ -12,3 +12,6 @@ returns-clause-only c = only_first
 
 pub returns-clause-kept : goal.returns-clause-kept
 returns-clause-kept c = steps_keep
+
+pub returns-clause-grows : goal.returns-clause-grows
+returns-clause-grows c = steps_grow

@@ -6,7 +6,7 @@ use Rattle.fr_round.specs.Setups.{setup_of}
 use Rattle.fr_round.specs.Rule.{KeepsRule, opening_view}
 use Rattle.fr_round.specs.Knowledge.{new_workers}
 use Rattle.fr_round.specs.declared.terms.Terms.{Terms}
-use Rattle.fr_round.proofs.Seating.{first_keeps, splits}
+use Rattle.fr_round.proofs.Seating.{first_keeps, kept_split, splits}
 use Rattle.fr_round.proofs.opening.make_table.Goals as goal
 
 pub of_words-requires : goal.of_words-requires
@@ -14,7 +14,7 @@ of_words-requires c =
     let g = c.args.terms.now in
     subst (λ (ws : List ℕ). KeepsRule {S = Unit {0}} (setup_of g) (opening ws [] (opening_view (setup_of g))))
     (sym (c.as_slice.ensures.value
-    ∙ (c.in_ok-words.ensures ∙ ap (λ (n : ℕ). replicate n 0) c.nodes-nodes.ensures.value))) (first_keeps (setup_of g) [] c.requires.net)
+    ∙ (c.in_ok-words.ensures ∙ ap (λ (n : ℕ). replicate n 0) c.nodes-nodes.ensures.value))) (first_keeps (setup_of g) [] c.requires.net).0
 
 pub loop-number-init : goal.loop-number-init
 loop-number-init c =
@@ -41,8 +41,8 @@ split_seat-seat-requires c =
     ap (λ (z : Terms). z.workers) d.table.key in let t = c.loop-number-test.true in omega arith in (
       d.seat_table,
       few,
-      splits (setup_of c.in_ok-table.table.shared.key) c.loop-number.opening.id v
-          (ap (λ (u : View). u.opens) d.view) (ap (λ (u : View). u.works) d.view) (ap (λ (u : View). u.closes) d.view) more,
+      kept_split (setup_of c.in_ok-table.table.shared.key) c.loop-number.opening.id v _ _
+          (λ list. splits (setup_of c.in_ok-table.table.shared.key) list c.loop-number.opening.id v (ap (λ (u : View). u.opens) d.view) (ap (λ (u : View). u.works) d.view) (ap (λ (u : View). u.closes) d.view) more),
     )
 
 pub returns-clause-table : goal.returns-clause-table

@@ -14,7 +14,7 @@ use Rattle.fr_route.proofs.outcome.put_in_place.Goals.{After-turn}
 turned : (c : After-turn) → c.turn.new.self ≡ net_of c.args.net.now.nodes (links_at c.args.net.now.links c.args.outcome.now.turns)
 turned c = c.turn.ensures.is
 
--- the hops are made anew in the state after the round
+-- the hops are updated in the state after the round
 reached : (c : After-turn) → state_with c.turn.new.self c.args.outcome.now.dest c.args.outcome.now.turns ≡ settled_state
     c.args.net.now c.args.outcome.now.dest c.args.outcome.now.turns
 reached c = ap (λ (m : Network). state_with m c.args.outcome.now.dest c.args.outcome.now.turns) (turned c)

@@ -7,7 +7,7 @@ use Rattle.fr_graph.specs.Turn.{IsSink}
 use Rattle.test_rounds.proofs.counts.sinks.Goals as goal
 use Rattle.test_rounds.proofs.counts.sinks.Goals.{then-is_first_sink+in_ok-push, else-is_first_sink}
 
--- the nodes found are below n, and hold each sink below x
+-- the nodes found are below n, and include each sink below x
 abbrev HoldBelow : ℕ → List (ℕ × ℕ) → ℕ → List ℕ → Type 0
 HoldBelow n links x found = All (λ (y : ℕ). y < n) found × ((y : ℕ) → y < x → IsSink links y → Contains found y)
 

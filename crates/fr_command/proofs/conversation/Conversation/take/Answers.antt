@@ -20,7 +20,7 @@ nothing_behind : (xs ys : List ℕ) → xs ++ ys ≡ [] → ys ≡ []
 nothing_behind [] ys nothing = nothing
 nothing_behind (x ∷ xs) ys nothing = cc
 
--- where it was not found to end in the piece, what is blank and may be held goes on behind it
+-- if a blank line was not found to end in the piece, and fits, it goes on after the piece
 blank_goes_on : (begun piece : List ℕ) (end : ℕ) (found : Bool) → end ≡ position_or_len ends_line piece → found ≡ false
     → ((end < length piece) × (is_blank (begun ++ take end piece) ≡ true) × (length (begun ++ take end piece) ≤ most_bytes) → found ≡ true)
     → length begun + length (take end piece) ≤ most_bytes → is_blank (begun ++ before_first ends_line piece) ≡ true → lines_of piece ≡ piece ∷ []
@@ -34,7 +34,7 @@ blank_goes_on begun piece end found is missed all short blank = ⊎_elim
     (λ none. one_line piece (omega (arith, is, none)))
     (cases_lt end (length piece))
 
--- a line that could not go on was not taken
+-- a line that could not be kept was not taken
 not_held : (begun piece : List ℕ) (end : ℕ) (found : Bool) (fault : RunFault) → end ≡ position_or_len ends_line piece → found ≡ false
     → ((end < length piece) × (is_blank (begun ++ take end piece) ≡ true) × (length (begun ++ take end piece) ≤ most_bytes) → found ≡ true)
     → IsHoldFault begun (take end piece) fault → IsTakeFault (begun ++ before_first ends_line piece) piece fault

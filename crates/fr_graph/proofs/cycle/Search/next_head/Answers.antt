@@ -33,7 +33,7 @@ passed : (c : After-index_mut) (k : ℕ) (d : ℕ × First) → c.index-top.resu
     → IsPassed c.args.self.now.marks.items (get_or (row_of c.args.rows.now c.index-top.result.now.node) k d)
 passed c = rw (c.row-row.ensures, c.deref.ensures.value) at c.first_not_done-place.ensures.passed
 
--- the search once the row of the last node was read on
+-- the search after more of the row of the last node was read
 abbrev after : (c : After-index_mut) → Search
 after c = record {
   marks = c.args.self.now.marks;

@@ -17,7 +17,7 @@ top c =
 leads : (c : In-Some) → LeadsTo (net_in c.args.rows.now).links (nodes_of c.next_head.new.self.path.items) c.in-Some.head
 leads c = rw c.next_head.ensures.same.path c.in-Some.ensures.next.leads
 
--- the path has as many nodes as before, once it was read on
+-- the path has as many nodes as before
 as_long : (c : After-next_head) → length c.next_head.new.self.path.items ≡ length c.args.self.now.path.items
 as_long c = nodes_counted c.next_head.new.self.path.items c.args.self.now.path.items c.next_head.ensures.same.path
 

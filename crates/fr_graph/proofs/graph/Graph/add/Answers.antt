@@ -8,7 +8,7 @@ use Rattle.fr_graph.specs.PathSearch.{IsMeeting}
 use Rattle.fr_graph.proofs.graph.Graph.add.Goals as goal
 use Rattle.fr_graph.proofs.graph.Graph.add.Goals.{After-make_room, In-Some}
 
--- the graph shows the network that was tested
+-- the graph has the network that was tested
 same : (c : After-make_room) → IsSame c.args.self.now c.make_room.new.self
 same c = same_through c.args.self.now c.path_back.new.self c.make_room.new.self c.in_ok-meeting.ensures.same c.make_room.ensures.same
 

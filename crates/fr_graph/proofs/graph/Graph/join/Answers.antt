@@ -9,7 +9,7 @@ use Rattle.fr_graph.specs.Network.{Network}
 use Rattle.fr_graph.proofs.graph.Graph.join.Goals as goal
 use Rattle.fr_graph.proofs.graph.Graph.join.Goals.{After-make_room, else-branch, then-branch}
 
--- the graph shows the network that was tested
+-- the graph has the network that was tested
 same : (c : After-make_room) → IsSame c.args.self.now c.make_room.new.self
 same c = same_through c.args.self.now c.leads_back.new.self c.make_room.new.self c.in_ok-leads_back.ensures.same c.make_room.ensures.same
 

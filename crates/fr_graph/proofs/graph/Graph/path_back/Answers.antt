@@ -19,7 +19,7 @@ no_path_up : (links : List (ℕ × ℕ)) (heights : List ℕ) (x y : ℕ) → Ar
 no_path_up links heights x y falling below path =
     omega (arith, path_falls links heights (λ u v stands. omega (arith, falling u v stands)) x path.0 path.1.0, ap (slice_index heights) path.1.1)
 
--- a node has a height and a row all the same
+-- a node still has a height and a row
 has_height : (before after : Graph) (x : ℕ) → IsSame before after → x < before.nodes → x < length after.heights.heights
 has_height before after x same node = omega (arith, node, same.graph.height_each, ap (λ (m : Network). m.nodes) same.same)
 
@@ -73,7 +73,7 @@ path_between-requires-clause-rows c =
       falling = subst (λ (m : Network). AreFalling after.heights.heights m.links) (sym (net_shown after is)) (is.fit c.in_ok-renew_heights.ensures.known);
     }
 
--- what the search found, in the network that the graph shows
+-- what the search found, in the network of the graph
 found : (c : In_ok-meeting) → IsPathAnswer (shown c.renew_heights.new.self) c.renew_heights.new.self.heights.heights c.args.v c.args.u c.in_ok-meeting.field-0
 found c =
     let after = c.renew_heights.new.self in

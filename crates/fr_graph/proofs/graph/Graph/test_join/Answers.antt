@@ -9,7 +9,7 @@ use Rattle.fr_graph.specs.Limits.{IsWithinLimits}
 use Rattle.fr_graph.proofs.graph.Graph.test_join.Goals as goal
 use Rattle.fr_graph.proofs.graph.Graph.test_join.Goals.{Else-self-ge-MAX_LINKS, In_default}
 
--- the links with the one between them are no more than there may be, and none of them leaves the nodes
+-- with the link between the two nodes the links are within the limit, and all join nodes
 limits : (c : Else-self-ge-MAX_LINKS) → IsWithinLimits c.args.self.now.nodes (added (shown c.args.self.now).links c.args.u c.args.v)
 limits c =
     let g = shown c.args.self.now in

@@ -28,7 +28,7 @@ returns-in-Some-clause-refused c _ =
     let found : 2 ≤ count_by (is_at c.in-Some.u c.in-Some.v) halves = rw c.deref.ensures.value at c.in-Some.ensures.found in
     (ends.limits, ends.range, ends.clear, twice_stands c.args.links.now halves c.in-Some.u c.in-Some.v c.in_ok-halves.ensures.same ends.clear found)
 
--- the halves are those of the links
+-- the half-links are those of the links
 halves_are : (c : After-deref-2) → AreHalvesOf c.args.nodes c.args.links.now c.in_ok-halves.halves.items c.in_ok-halves.starts.items
 halves_are c =
     let ends = c.in_ok-test_ends.ensures in
@@ -71,7 +71,7 @@ returns-in-Walk-clause-refused c _ =
       cycle_stands (net_in c.in_ok-rows.rows).links listed c.in-Walk.walk.items (λ u v. (same b.In_ok-rows u v).1) found,
     )
 
--- no closed walk follows the links, and the nodes stand in an order along which all of them lead back
+-- the links contain no cycle, and the order lists the head of each link before its tail
 found : (c : In-Order) → IsAcyclic (net_in c.in_ok-rows.rows).links × HasHeadsFirst c.args.nodes (net_in c.in_ok-rows.rows).links c.in-Order.order.items
 found c = rw c.in-Order.is at c.in_ok-walk.ensures
 

@@ -20,7 +20,7 @@ turned c = turned_faultless c.args.self.now.nodes c.args.self.now.links c.args.t
 nodes_are : (c : After-self) → c.self.inside.graph.nodes ≡ c.args.self.now.nodes
 nodes_are c = ap (λ (m : Network). m.nodes) c.self.view_is
 
--- the rows before the first node, and after the last
+-- the rows before the first node, and after the last one
 before : (c : After-self) → ArePartTurned c.args.self.now c.args.turns.now none_done c.self.inside.graph.rows
 before c =
     rows_begin c.args.self.now c.args.turns.now c.self.inside.graph.rows (clear c).is_net c.requires.one_each

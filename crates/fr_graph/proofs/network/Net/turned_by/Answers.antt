@@ -2,7 +2,7 @@ use Rattle.std.proofs.Common.{◌∙◌, ◌≡◌}
 use Rattle.fr_graph.proofs.network.Net.turned_by.Goals as goal
 use Rattle.fr_graph.proofs.network.Net.turned_by.Goals.{In_ok-turns}
 
--- the turns are those that the counts tell
+-- the turns are those of the counts
 turns : (c : In_ok-turns) → c.in_ok-turns.turns ≡ c.args.counts.now
 turns c = c.in_ok-turns.ensures ∙ c.in_ok-to_vec.ensures.items_if_clones_equal (λ x y e. e)
 

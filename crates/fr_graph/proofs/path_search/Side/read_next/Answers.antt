@@ -21,7 +21,7 @@ height-own-requires c = omega (arith, next_below c.index-node.result.now c.requi
 pub row-row-requires : goal.row-row-requires
 row-row-requires c = next_below c.index-node.result.now c.requires.side c.requires.unread c.index-node.ensures
 
--- the row that is read is that of a node
+-- the current row is that of a node
 row_is : (c : After-row-row) → c.row-row.result.now ≡ row (net_in c.args.rows.now).nodes (net_in c.args.rows.now).links c.index-node.result.now
 row_is c = c.row-row.ensures ∙ c.requires.rows.shown.rows.shown c.index-node.result.now
     (next_below c.index-node.result.now c.requires.side c.requires.unread c.index-node.ensures)
@@ -46,7 +46,7 @@ height-height-requires c =
       c.requires.rows.one_each,
     )
 
--- the entry that is read
+-- the current entry
 abbrev entry : (c : After-goes_on) → ℕ × First
 entry c = get_or c.row-row.result.now c.loop-neighbour.neighbour-index (0, Outward)
 
@@ -62,7 +62,7 @@ below c =
 unread : (c : After-goes_on) → c.loop-neighbour.self.read < length c.loop-neighbour.self.nodes.items
 unread c = omega (arith, c.loop-neighbour.invariant.same_read, c.loop-neighbour.invariant.more.longer, c.requires.unread)
 
--- where the side goes on, it leads on to the node of the entry, which lies within the limit
+-- if the side goes on, it leads on to the node of the entry, which is within the limit
 step : (c : After-goes_on) → c.goes_on.result ≡ true → LeadsOn c.args.self.now.first (net_in c.args.rows.now).links c.index-node.result.now (entry c).0
 step c is =
     let net = net_in c.args.rows.now in
@@ -73,7 +73,7 @@ step c is =
     entry_leads_by_height f net.nodes c.args.heights.now.heights net.links x c.row-row.result.now
     c.loop-neighbour.neighbour-index (0, Outward) c.requires.rows.falling (row_is (goal.at.After-goes_on c).After-row-row) c.loop-neighbour-test.true lies
 
--- the node whose row is read stands at its place
+-- the node of the current row is at its place
 at_read : (c : After-goes_on) → get_or c.loop-neighbour.self.nodes.items c.loop-neighbour.self.read 0 ≡ c.index-node.result.now
 at_read c =
     let inv = c.loop-neighbour.invariant in
@@ -89,7 +89,7 @@ near c is =
     let inv = c.loop-neighbour.invariant in
     rw (inv.side.first_is, inv.side.limit_is, c.height-height.ensures) at (c.goes_on.ensures.within is)
 
--- where it does not, it leaves the node aside, if the link leads on
+-- otherwise it skips the node, if the link leads on
 aside : (c : After-goes_on) → ¬ (c.goes_on.result ≡ true) → (entry c).1 ≡ c.args.self.now.first
     → IsMetOrAside c.args.self.now.first (record c.loop-neighbour.self { edge = c.nearer-edge.result }) c.loop-neighbour.met
     (entry c).0 (height_of c (entry c).0)

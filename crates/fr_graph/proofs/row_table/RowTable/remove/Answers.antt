@@ -47,7 +47,7 @@ slice_bounds-shift_out-end c =
     let inside : c.index.result.now.end ≤ length c.deref_mut.result.now = omega (arith, h, ap length c.deref_mut.ensures.value) in
     search (rules, inside)
 
--- how long the part is that moves
+-- the length of the part that moves
 part : (c : After-deref_mut) → length
     (slice_range c.deref_mut.result.now (c.index.result.now.start + c.args.place)
     c.index.result.now.end) ≡ c.index.result.now.end - (c.index.result.now.start + c.args.place)
@@ -84,7 +84,7 @@ overflow_add-self c =
       c.self.inside.places.small,
     )
 
--- the fields as they are then
+-- the fields afterwards
 abbrev after : (c : After-from) → Inside
 after c = record {
   places = with_item c.self.inside.places c.args.x (record { start = c.index.result.now.start; end = c.index.result.now.end - 1 });

@@ -41,7 +41,7 @@ reverse_entry-requires-clause-stands c = rw (part (goal.at.reverse_entry-require
 written : (c : After-reverse_entry) → c.reverse_entry.new.row ≡ map (reversed_at c.args.w) (row_of c.args.self.now c.args.x)
 written c = c.reverse_entry.ensures ∙ ap (map (reversed_at c.args.w)) (part (goal.at.After-reverse_entry c).After-deref_mut).is_row
 
--- the fields as they are then
+-- the fields afterwards
 abbrev after : (c : After-reverse_entry) → Inside
 after c = record {
   places = c.self.inside.places;

@@ -38,7 +38,7 @@ turn_row-requires-clause-below c = rw (part (goal.at.turn_row-requires-clause-be
 written : (c : After-turn_row) → c.turn_row.new.row ≡ map (turned_entry c.args.counts.now c.args.x) (row_of c.args.self.now c.args.x)
 written c = c.turn_row.ensures ∙ ap (map (turned_entry c.args.counts.now c.args.x)) (part (goal.at.After-turn_row c).After-deref_mut).is_row
 
--- the fields as they are then
+-- the fields afterwards
 abbrev after : (c : After-turn_row) → Inside
 after c = record {
   places = c.self.inside.places;

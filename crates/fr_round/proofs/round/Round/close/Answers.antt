@@ -5,11 +5,11 @@ use Rattle.atomic_table.specs.Table.{Final, Seen}
 use Rattle.fr_round.specs.declared.view.View.{View}
 use Rattle.fr_round.specs.declared.terms.Terms.{Terms}
 use Rattle.fr_round.specs.Setups.{setup_of}
-use Rattle.fr_round.specs.Rule.{KeepsRule, opening_view}
+use Rattle.fr_round.specs.Rule.{KeepsRule, closing_view, opening_view}
 use Rattle.fr_round.specs.Knowledge.{OpenRound, Knowledge, IsOwn}
 use Rattle.fr_round.specs.Closing.{Closes, number_and_known, number_and_turns}
 use Rattle.fr_round.specs.RoundInside.{open_round_of}
-use Rattle.fr_round.proofs.Seating.{enters}
+use Rattle.fr_round.proofs.Seating.{enters, kept_enter}
 use Rattle.fr_round.proofs.Keeping.{each_weaker}
 use Rattle.fr_round.proofs.Gathering.{closes}
 use Rattle.fr_round.proofs.round.Round.close.Goals as goal
@@ -19,7 +19,9 @@ load_new_seat-seat-requires c =
     let w = c.self.inside in
     let i = c.self.invariant in
     let some : 0 < w.words.table.shared.table_id.words = let k = i.words in let d = i.dest in omega arith in
-    (some, enters (setup_of w.words.table.shared.key) w.words.table.shared.table_id.slots 0 (opening_view (setup_of w.words.table.shared.key)) refl)
+    let b = setup_of w.words.table.shared.key in
+    let slots = w.words.table.shared.table_id.slots in
+    (some, kept_enter b slots 0 (λ n w. w ≡ closing_view b) (λ list. enters b list slots 0 (opening_view b) refl))
 
 pub take_over-requires-clause-own : goal.take_over-requires-clause-own
 take_over-requires-clause-own c =

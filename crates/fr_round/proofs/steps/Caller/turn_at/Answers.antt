@@ -1,10 +1,13 @@
 use Rattle.std.proofs.Common.{◌≡◌, List, ap, arith, subst, sym, ℕ}
 use Rattle.std.specs.Prelude.{slice_index}
+use mathlib.Core.Option.{none}
+use Rattle.atomic_table.specs.Table.{step}
+use Rattle.fr_round.specs.Steps.{own_loaded}
 use Rattle.fr_round.specs.declared.view.Setup.{Setup}
 use Rattle.fr_round.specs.Setups.{setup_of}
 use Rattle.fr_round.specs.Calls.{AllMeet}
 use Rattle.fr_round.proofs.Calling.{all_were_seen}
-use Rattle.fr_round.proofs.Keeping.{loads_own}
+use Rattle.fr_round.proofs.Keeping.{allowed, loads_own}
 use Rattle.fr_round.proofs.steps.Caller.turn_at.Goals as goal
 
 pub exchange-requires-clause-met : goal.exchange-requires-clause-met
@@ -23,6 +26,8 @@ load-c-requires c =
     let nodes : c.args.self.now.seat.me.0.setup.nodes ≡ c.args.words.now.terms.net.nodes = ap (λ (b : Setup). b.nodes) q.caller.worker.setup in (
       q.caller.table.same,
       omega (arith, q.caller.table.one_each, q.node.inside),
-      loads_own (setup_of c.args.words.now.table.shared.key) c.args.words.now.table.shared.table_id.slots
-          c.args.self.now.seat.id c.args.self.now.seat.me c.args.x q.caller.worker.works (omega (arith, nodes, q.node.inside)),
+      allowed _ _ _ _ _ (λ n. n)
+          (own_loaded (step c.args.words.now.table.shared.table_id.slots c.args.x 0 0 none) c.args.self.now.seat.me)
+          (loads_own (setup_of c.args.words.now.table.shared.key) c.args.words.now.table.shared.table_id.slots
+          c.args.self.now.seat.id c.args.self.now.seat.me c.args.x q.caller.worker.works (omega (arith, nodes, q.node.inside))),
     )

@@ -6,7 +6,7 @@ use Rattle.fr_route.specs.States.{State}
 use Rattle.fr_route.proofs.router.Router.linked_cut_off.Goals as goal
 use Rattle.fr_route.proofs.router.Router.linked_cut_off.Goals.{After-alone_nodes}
 
--- what the round reports is the nodes without a link and those with one
+-- the round reports the nodes without a link and those with links
 parted : (c : After-alone_nodes) → c.self.inside.report.cut ≡ c.alone_nodes.result + length (cut_off_nodes (state_of c.self.inside))
 parted c =
     let report = c.self.inside.report in

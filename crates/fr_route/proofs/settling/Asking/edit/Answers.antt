@@ -35,7 +35,7 @@ use Rattle.fr_route.proofs.settling.Asking.edit.Goals.{After-as_slice-from, Afte
 items_put : (v : Vec Hop Global) (hops : List Hop) → length hops ≡ length v.items → (with_items v hops).items ≡ hops
 items_put v hops as_many = with_items_is v hops (omega (arith, as_many, v.ok.0))
 
--- the router is as it was when its network is edited
+-- the router is unchanged when its network is edited
 now_is : (g : Over) (c : After-router g) → state_of c.router.inside ≡ c.args.router.now
 now_is g c = c.router.view_is
 
@@ -49,7 +49,7 @@ from_movable g c = c.as_slice-from.ensures.value
 in_range : (g : Over) (c : After-router g) → c.args.revision.now.dest < (state_of c.router.inside).nodes
 in_range g c = subst (λ (now : State). c.args.revision.now.dest < now.nodes) (sym (now_is g c)) c.requires.node
 
--- the edits are made, and the outcome is that of the network which they make
+-- the edits are made, and the outcome is that of the resulting network
 edits_made : (g : Over) (c : In_ok-outcome g) → AreMade c.router.inside.net c.args.revision.now.edits.now c.edit_if.new.self
 edits_made g c = c.in_ok-outcome.ensures.ok.0
 
@@ -122,7 +122,7 @@ put_in_place-requires-clause-one_each g c =
     let made = edits_made g (goal.at.put_in_place-requires-clause-one_each g c).In_ok-outcome in
     rw c.deref_mut.ensures.value (c.router.invariant.hops.one_each ∙ sym (made_nodes c.router.inside.net c.args.revision.now.edits.now c.edit_if.new.self made))
 
--- the outcome leads to the destination that was asked for
+-- the outcome is for the requested destination
 same_dest : (g : Over) (c : In_ok-outcome g) → c.in_ok-outcome.outcome.dest ≡ c.args.revision.now.dest
 same_dest g c = (outcome_is g c).dest
 
@@ -167,7 +167,7 @@ put_in_order-requires-clause-table g c =
     (made_net s c.args.revision.now.edits.now net c.router.invariant.round made) (outcome_is g at.In_ok-outcome).counts in
     (settled_in_range after c.deref.result.now round hops, settled_loop_free after c.deref.result.now round hops)
 
--- whoever is told has the nodes with another hop
+-- the list has exactly the nodes whose hop has changed
 others_told : (g : Over) (c : After-put_in_place g) → IsListing c.args.told.now
     → AreOthers c.deref_mut.result.now c.put_in_place.new.hops (nodes_told c.put_in_place.new.told)
 others_told g c listing =

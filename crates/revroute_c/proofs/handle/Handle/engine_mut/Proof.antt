@@ -1,4 +1,4 @@
--- `engine_mut` tests the pointer, and lends the engine behind it where it is not null.
+-- `engine_mut` tests the pointer, and lends its engine if it is not null.
 use Rattle.std.proofs.Common.{◌≡◌, ℕ, List, [], ◌∷◌, refl, sym, lit<}
 use seplogic.Ra.Ura.{Ura}
 use mir.Syntax.{named}
@@ -71,7 +71,7 @@ module _ {M : Type 1} {𝓤 : Ura M} (𝓛 : Logic 𝓤) (at_mem : Memory → SP
   abbrev cell : Ptr → Fml
   cell p = cell_at full_share H'.mir (word p ∷ []) b o
 
-  -- what is left of the handle where its engine is lent
+  -- what is left of the handle while its engine is lent
   abbrev Rest : Global → ℕ → ℕ → Fml
   Rest a x y = fsep (ghosts.dealloc_token a (bare (lone S.mir)) (block_ptr x y)) (cell (block_ptr x y))
 

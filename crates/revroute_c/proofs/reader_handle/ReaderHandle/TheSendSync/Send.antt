@@ -1,4 +1,4 @@
--- A reader's handle may go to another thread, since a reader may.
+-- A reader's handle may go to another thread, because a reader may.
 use denote.Param.Send.{IsSend, owning_send, sendable}
 use Rattle.fr_shared.specs.contracts.reader.Reader.{the_row as S}
 use Rattle.fr_shared.proofs.reader.Reader.TheSendSync as reader

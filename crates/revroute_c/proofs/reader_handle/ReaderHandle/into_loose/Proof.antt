@@ -1,4 +1,4 @@
--- `into_loose` tests the pointer, and has the box where it is not null.
+-- `into_loose` tests the pointer, and has the box if it is not null.
 use Rattle.std.proofs.Common.{◌≡◌, List, [], ◌∷◌, ◌++◌, refl, sym, ap, ◌∙◌, subst, lit<}
 use mir.Val.{Val, vptr, vcons, vnil}
 use base.Logic.{SProp, ent, emp, id⊢}

@@ -1,4 +1,4 @@
--- `of` keeps the pointer, and what stands behind it.
+-- `of` keeps the pointer and what it points to.
 use Rattle.std.proofs.Common.{◌≡◌, List, [], ◌∷◌, ◌++◌, refl, sym, subst}
 use mir.Val.{Val, vptr}
 use base.Logic.{SProp, ent, emp, id⊢}
