@@ -1,15 +1,15 @@
-"""Planted faults: edits after which a check has to fail.
+"""Planted faults: edits that a check must find.
 
-A check keeps its faults in its folder faults/, in the form of the wrong bodies of wrong/. Each is a file NAME.edit with these lines:
+The faults of a check are the files NAME.edit in its folder faults/. They have the form of the wrong bodies in wrong/:
 
-    file: page/viewer/tail.html                 the file that is changed, from the top of the repository
-    old: push ? loopIn(hops) : []               a text of that file, where it has to be once
-    new: []                                     the text that takes its place
-    # body: never looks for loops               what is wrong then
-    # says: the loop of a planted order:        what the check has to say
+    file: page/viewer/tail.html           the file to change, from the top of the repository
+    old: push ? loopIn(hops) : []         a text that occurs once in that file
+    new: []                               the text that replaces it
+    # body: no look for loops             what is wrong then
+    # says: the loop of a planted order:  what the check must print
 
-'old:' and 'new:' may come again, and so may 'file:'. With the line '# everywhere' each text is replaced wherever it is. A check's command can-fail
-makes the edit in a copy, runs the check over the copy, and looks whether the check says so and fails.
+'old:' and 'new:' can be repeated, and so can 'file:'. With the line '# everywhere' a text may occur more than once, and each occurrence is replaced.
+The command can-fail of a check makes the edit in a copy of the repository and runs the check there. The check must fail, and print what '# says:' has.
 """
 
 import argparse
@@ -23,7 +23,7 @@ TOP = Path(__file__).resolve().parent.parent
 
 
 class BadEdit(Exception):
-    """An edit that cannot be made."""
+    """An edit cannot be made."""
 
 
 class Edit:
@@ -33,11 +33,11 @@ class Edit:
         self.path, self.lines = path, path.read_text(encoding="utf-8").splitlines()
 
     def said(self, word):
-        """The texts behind a word."""
+        """The texts after a word."""
         return [it.removeprefix(f"{word}: ") for it in self.lines if it.startswith(f"{word}: ")]
 
     def changes(self):
-        """The file, the old text and the new text of each change."""
+        """The file, the old text and the new text of each replacement."""
         file = old = ""
         for line in self.lines:
             word, _, text = line.partition(": ")
@@ -49,18 +49,18 @@ class Edit:
                 yield file, old, text
 
     def make_in(self, folder):
-        """Makes the edit in a copy of the files that it changes."""
+        """Makes the edit in a folder that has copies of the files."""
         for name, old, new in self.changes():
             file = Path(folder, name)
             text = file.read_text(encoding="utf-8")
             count = text.count(old)
             if count != 1 and not (count and "# everywhere" in self.lines):
-                raise BadEdit(f"{old.strip()[:60]!r} is {count} times in {name}")
+                raise BadEdit(f"{old.strip()[:60]!r} occurs {count} times in {name}")
             file.write_text(text.replace(old, new), encoding="utf-8")
 
 
 def edits(check, names):
-    """The planted faults of a check: all of them, or those that are named."""
+    """The planted faults of a check: all, or those that are named."""
     there = {it.stem: it for it in sorted((TOP / "checks" / check / "faults").glob("*.edit"))}
     if unknown := {*names} - {*there}:
         sys.exit(f"{check} has no fault {min(unknown)}")
@@ -68,7 +68,7 @@ def edits(check, names):
 
 
 def copy(folder, parts, built):
-    """Copies parts of the repository, with what was built in their folders out or without it."""
+    """Copies parts of the repository, with or without what was built in their folders out."""
     without = shutil.ignore_patterns("target", "__pycache__", *([] if built else ["out"]))
     for it in parts:
         if (TOP / it).is_dir():
@@ -78,13 +78,13 @@ def copy(folder, parts, built):
 
 
 def ran(words, **how):
-    """How a check ends, and what it prints."""
+    """Runs a check. Returns its status and its output."""
     it = subprocess.run([*map(str, words)], stdout=subprocess.PIPE, stderr=subprocess.STDOUT, text=True, errors="replace", **how)
     return it.returncode, it.stdout
 
 
 def is_found(check, name, says, words, **how):
-    """Whether a check, run by these words, fails and says what it has to; prints so."""
+    """Runs a check, and prints and returns whether it fails and prints what it must."""
     status, said = ran(words, **how)
     told = next((it for it in said.splitlines() if says in it), "")
     is_well = status == 1 and bool(told)
@@ -93,15 +93,15 @@ def is_found(check, name, says, words, **how):
 
 
 def is_green(check, words, **how):
-    """Whether a check passes where there is no fault; prints so."""
+    """Runs a check without a fault, and prints and returns whether it passes."""
     status, said = ran(words, **how)
     print(f"{check}: {'NOT ' if status else ''}green without a fault: {said[-300:].strip()}", flush=True)
     return not status
 
 
 def try_edit(edit, parts, words_over, built=False):
-    """Makes an edit in a copy of these parts of the repository, and looks whether its check finds it. `words_over` returns the words by which the
-    check is run over a copy."""
+    """Makes an edit in a copy of these parts of the repository, and returns whether the check finds it. `words_over` takes the copy and the edit, and
+    returns the command that runs the check."""
     check = edit.path.parents[1].name
     with tempfile.TemporaryDirectory(prefix=f"{check}-") as name:
         folder = Path(name)
@@ -115,12 +115,12 @@ def try_edit(edit, parts, words_over, built=False):
 
 
 def words(description):
-    """The words of a command can-fail: faults, which are all if none is named."""
+    """The parser for a command can-fail. Its arguments are faults; without any, all are tried."""
     words = argparse.ArgumentParser(description=description, formatter_class=argparse.RawDescriptionHelpFormatter)
     words.add_argument("faults", nargs="*", metavar="FAULT")
     return words
 
 
 def end(found):
-    """Ends a command can-fail: with 1 if a fault was not found."""
+    """Ends a command can-fail, with the status 1 if a fault was not found."""
     sys.exit(0 if all(found) else 1)

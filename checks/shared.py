@@ -1,23 +1,23 @@
-"""What several checks share: inputs with known answers, and what the example programs of embed/ print."""
+"""Inputs with known answers, and the output of the example programs in embed/, for several checks."""
 
 from pathlib import Path
 
 TOP = Path(__file__).resolve().parent.parent
 EXAMPLES = TOP / "examples"
 
-# What the program `example` of each language prints, in embed/.
+# The output of the program `example` in each language.
 EXAMPLE_IN_C = "turned 6 cut 0\nwalk 3 2 1 0\nturned 12 cut 3\nwalk 3 cut\n"
 EXAMPLE_IN_RUST = "[4, 3, 1, 0]\nReport { turned: 1, cut_off: 0 }\n[(3, To(2)), (1, To(3))]\n[4, 3, 2, 0]\n"
 EXAMPLE_IN_PYTHON = "[4, 3, 1, 0]\nReport(turned=1, cut_off=0)\n[(3, 2), (1, 3)]\n[4, 3, 2, 0]\n"
 
 
 def examples():
-    """The inputs of examples/ in the order of their names, each with the file of its answers."""
+    """The inputs in examples/, each with the file of its answers."""
     return [(it, it.with_suffix(".answers")) for it in sorted(EXAMPLES.glob("*.jsonl"))]
 
 
 def long_chain(nodes):
-    """A chain of so many nodes that points away from the destination, with each question, and the answers."""
+    """An input with a chain of this many nodes that points away from the destination, and each question; and the answers."""
     links = ",".join(f"[{x},{x + 1}]" for x in range(nodes - 1))
     given = f'["net",{nodes},0,[{links}]]\n["links"]\n["counts"]\n["hops"]\n["walk",{nodes - 1}]\n'
     wanted = [

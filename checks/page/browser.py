@@ -13,7 +13,7 @@ def found():
 
 
 class Browser:
-    """One browser with one page. What it writes on its console, and each exception, is kept in `messages`."""
+    """A browser with one page. `messages` has what the page writes on its console, and its exceptions."""
 
     def __init__(self, program):
         self.profile = tempfile.TemporaryDirectory(prefix='page-check-')
@@ -82,7 +82,7 @@ class Browser:
     def open(self, path, fragment=''):
         self.call('Page.navigate', url='about:blank')
         self.call('Page.navigate', url=f'file://{path}{fragment}')
-        # A blank page may still tell of its own end: the page that was asked for is there once its script has run.
+        # The blank page may still report that it is complete, so look at the address too.
         end = time.monotonic() + 30
         while not self.value("location.protocol === 'file:' && document.readyState === 'complete'"):
             if time.monotonic() > end:

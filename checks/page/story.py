@@ -1,22 +1,20 @@
-"""The story that a page tells of an input: a second reading of it, by other means than the program's.
+"""The story of an input, which `revdot --page` must write between the fixed parts of a page, made in another way than by revdot.
 
-Which lines are accepted is taken from the answers of `revroute run`. The turns are made here link by link; those of a
-larger network follow from the steps that lead to each node. The order of pushes is found by following the new hops. Every
-answer that this gives is compared with the one that came. The text is what `revdot --page` has to write between the fixed
-parts of a page.
+The answers of `revroute run` say which lines are accepted. The turns are made here link by link. For a larger network they follow from a search from
+the destination. The order of pushes follows from the new hops. Every answer that results is compared with the answer of `run`.
 """
 import collections
 import heapq
 import json
 
-# What is answered to a line that asks nothing.
+# The answers to a line without a request.
 NO_REQUEST = {'refused 1': 'no JSON', 'refused 2': 'no request'}
 NODES = 256
 TURNS = 4096
 
 
 class Network:
-    """Links that point from their tails to their heads, and full reversal among them: the least node that can turn does."""
+    """Links that point from their tails to their heads, and full reversal: the node with the least number that can turn does."""
 
     def __init__(self, nodes, destination, links):
         self.nodes, self.destination = nodes, destination
@@ -68,7 +66,7 @@ class Network:
                 and self.counts[node] < self.nodes)
 
     def settle(self):
-        """Makes a round, and answers the nodes that turned, one by one."""
+        """Makes a round, and returns the nodes that turned, in order."""
         self.counts = [0] * self.nodes
         turns = []
         sinks = [node for node in range(self.nodes) if self.can_turn(node)]
@@ -87,7 +85,7 @@ class Network:
         return turns
 
     def settle_by_steps(self):
-        """Makes a round at once. A node turns as often as the fewest steps from tail to head on any walk to it."""
+        """Makes a round by a search. A node turns as often as the fewest links that a walk to it from the destination follows forwards."""
         fewest, near = {self.destination: 0}, collections.deque([self.destination])
         while near:
             node = near.popleft()
@@ -116,7 +114,7 @@ class Network:
 
 
 def push_order(old, new):
-    """The nodes at which two tables differ, by how many of them each has on its new walk, and then by number."""
+    """The nodes at which two tables differ, by how many of them are on the new route of each, and then by number."""
     wave = {}
     for start in range(len(new)):
         walk = [start]
@@ -129,7 +127,7 @@ def push_order(old, new):
 
 
 def padded(table, nodes):
-    """A table with a hop for so many nodes: those beyond it have none."""
+    """A table with a hop for this many nodes. Nodes that are not in the table have none."""
     return table + ['cut'] * (nodes - len(table))
 
 
@@ -147,7 +145,7 @@ def request_lines(data):
 
 
 def asked(request):
-    """A request by its words and numbers."""
+    """The words and numbers of a request."""
     name, *items = request
     if name == 'net':
         return [name, *items[:2], *texts(items[2])]
@@ -155,7 +153,7 @@ def asked(request):
 
 
 def answered(network, request):
-    """What a question about this network is answered."""
+    """The answer to a question about this network."""
     if request[0] == 'links':
         return words('links', texts(network.links()))
     if request[0] == 'counts':
@@ -164,7 +162,7 @@ def answered(network, request):
 
 
 def round_of(network, old):
-    """The answer that a round has to get, and the lines after it. Before the round the table was `old`."""
+    """The answer to a round, and the lines of the story after it. Before the round the table was `old`."""
     first = {frozenset(link): link for link in network.links()}
     turns = network.settle() if network.nodes <= NODES else network.settle_by_steps()
     answer = f'turned {sum(network.counts)} cut {network.nodes - len(network.joined())}'
@@ -179,7 +177,7 @@ def round_of(network, old):
 
 
 def changed(network, request):
-    """The network that an accepted request leaves before its round."""
+    """The network after an accepted request, before its round."""
     name = request[0]
     if name == 'net':
         return Network(*request[1:])
@@ -191,7 +189,7 @@ def changed(network, request):
 
 
 def story(data, answers):
-    """The story of this input, of which these are the answers of `run`, one a line."""
+    """The story of this input. `answers` are the lines of `run`."""
     network, table, out = None, [], []
     for (number, line), answer in zip(request_lines(data), answers, strict=True):
         out += [f'line {number}', answer]
