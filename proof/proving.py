@@ -14,6 +14,8 @@ import crates
 
 # Proved libraries, each packed into one file. A library is a folder with sources in it, and rt ci refuses a source outside of a crate.
 PROVED = crates.BUILT / "proved"
+# What the checker printed as it proved a program, for proof/axioms.
+WORDS = crates.BUILT / "axioms"
 # Where they are unpacked, outside of the clone. It goes when the command ends.
 ROOM = tempfile.TemporaryDirectory(prefix="revroute-proved-")
 FAILED = 70
@@ -108,7 +110,7 @@ def said_by(run, progress):
 
 
 def prove(progress, name, words):
-    """Proves and builds one crate."""
+    """Proves and builds one crate, and returns what was said."""
     run = progress.running[name] = crates.rattle("build", *words, cwd=crates.CRATES / name)
     said = said_by(run, progress)
     del progress.running[name]
@@ -116,6 +118,7 @@ def prove(progress, name, words):
     if run.returncode or not proved:
         raise NotProved(name, said)
     progress.told(f"{name} is proved, {proved[1]} functions")
+    return said
 
 
 def prove_library(progress, name, jobs):
@@ -125,6 +128,21 @@ def prove_library(progress, name, jobs):
     prove(progress, name, [*crates.words(name, own_rlib, jobs), "--statements", "-o", str(own_rlib(name))])
     pack(name)
     stamp.write_text(crates.stamp(name))
+
+
+def keep_words(name, said):
+    """Keeps what the checker printed as it proved a program, by which files."""
+    WORDS.mkdir(parents=True, exist_ok=True)
+    made = WORDS / f"{name}.new"
+    made.write_text(f"{crates.stamp(name)}\n{said}")
+    made.replace(WORDS / name)
+
+
+def kept_words(name):
+    """What was kept of a program as it is now, or an empty text."""
+    kept = WORDS / name
+    stamp, _, said = kept.read_text().partition("\n") if kept.is_file() else ("", "", "")
+    return said if stamp == crates.stamp(name) else ""
 
 
 def is_kept(name):
@@ -219,9 +237,9 @@ def build(name, beside=None):
     else:
         rlib_of = libraries_beside(name, beside) if beside else libraries(progress, name, jobs)
         words = crates.words(name, rlib_of, min(jobs, useful_jobs(name)))
-        words += ["--toolchain", str(crates.kit() / "toolchain"), "--backend", "llvm", "-o", str(made)]
+        words += ["--toolchain", str(crates.kit() / "toolchain"), "--backend", "llvm", "--list-axioms", "-o", str(made)]
         try:
-            prove(progress, name, words)
+            keep_words(name, prove(progress, name, words))
         except NotProved as why:
             progress.failed(*why.args)
         if crates.is_program(name):

@@ -104,7 +104,7 @@ impl Join<View> for Receive {
     ghost spent = { spent_view };
 }
 
-/// The load with which it does so.
+/// The load after which it knows both lists.
 pub struct CatchUp;
 
 impl Play<(), View> for CatchUp {
