@@ -1,4 +1,4 @@
-/* A heap for a test: the library's calls of malloc, realloc and free, renamed by checks/embed/check, come here. */
+/* A heap for a test: the library's calls of malloc, realloc and free, renamed by embed/check, come here. */
 #ifndef REFUSING_HEAP_H
 #define REFUSING_HEAP_H
 

@@ -1,4 +1,4 @@
-/* The library with a fault in it: checks/embed/can-fail builds it with each FAULT, over the true calls, which are named engine_ there. */
+/* The library with a fault in it: embed/can-fail builds it with each FAULT, over the true calls, which are named engine_ there. */
 #include <revroute.h>
 #include <stdlib.h>
 #include <string.h>

@@ -1,4 +1,4 @@
-"""Without memory: each allocation of the library refused in turn, by the heap that checks/embed/check puts under it, and each of Python."""
+"""Without memory: each allocation of the library refused in turn, by the heap that embed/check puts under it, and each of Python."""
 
 import ctypes
 import unittest

@@ -1,4 +1,4 @@
-//! Without memory: each allocation of the library refused in turn, by the heap that checks/embed/check puts under it.
+//! Without memory: each allocation of the library refused in turn, by the heap that embed/check puts under it.
 #![cfg(refusing_heap)]
 
 use revroute::{Edit, Hop, Network, NoMemory, Refused, Report, Session, TableFault};
