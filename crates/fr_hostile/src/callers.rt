@@ -1,5 +1,5 @@
 //! A caller of each library, as its page `CALLING.md` shows it. The callers are proved from public contracts only, and
-//! nothing calls them. `examples/check` compares the pages with these files.
+//! nothing calls them. `checks/documents/check` compares the pages with these files.
 
 pub mod crews;
 pub mod histories;

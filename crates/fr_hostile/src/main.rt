@@ -1,7 +1,7 @@
 //! Makes each call that needs memory or threads, and writes its result to standard output. If a call fails because
 //! memory or a thread is missing, this is reported on standard error, and the call is made once more. So standard
 //! output is the same whenever only one allocation or one thread of the process is refused, whichever it is.
-//! hostile/check refuses each one in turn. The state after a failed call is checked as well.
+//! checks/hostile/check refuses each one in turn. The state after a failed call is checked as well.
 #![tactic(auto)]
 
 mod callers;

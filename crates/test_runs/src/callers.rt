@@ -1,5 +1,5 @@
 //! Callers of fr_command, as its page `CALLING.md` shows them. They are proved from public contracts only, and nothing
-//! calls them. `examples/check` compares the page with these files.
+//! calls them. `checks/documents/check` compares the page with these files.
 
 pub mod answers;
 pub mod conversations;

@@ -1,0 +1,126 @@
+"""Planted faults: edits that a check must find.
+
+The faults of a check are the files NAME.edit in its folder faults/. They have the form of the wrong bodies in wrong/:
+
+    file: page/viewer/tail.html           the file to change, from the top of the repository
+    old: push ? loopIn(hops) : []         a text that occurs once in that file
+    new: []                               the text that replaces it
+    # body: no look for loops             what is wrong then
+    # says: the loop of a planted order:  what the check must print
+
+'old:' and 'new:' can be repeated, and so can 'file:'. With the line '# everywhere' a text may occur more than once, and each occurrence is replaced.
+The command can-fail of a check makes the edit in a copy of the repository and runs the check there. The check must fail, and print what '# says:' has.
+"""
+
+import argparse
+import shutil
+import subprocess
+import sys
+import tempfile
+from pathlib import Path
+
+TOP = Path(__file__).resolve().parent.parent
+
+
+class BadEdit(Exception):
+    """An edit cannot be made."""
+
+
+class Edit:
+    """The lines of an edit."""
+
+    def __init__(self, path):
+        self.path, self.lines = path, path.read_text(encoding="utf-8").splitlines()
+
+    def said(self, word):
+        """The texts after a word."""
+        return [it.removeprefix(f"{word}: ") for it in self.lines if it.startswith(f"{word}: ")]
+
+    def changes(self):
+        """The file, the old text and the new text of each replacement."""
+        file = old = ""
+        for line in self.lines:
+            word, _, text = line.partition(": ")
+            if word == "file":
+                file = text
+            elif word == "old":
+                old = text
+            elif word == "new":
+                yield file, old, text
+
+    def make_in(self, folder):
+        """Makes the edit in a folder that has copies of the files."""
+        for name, old, new in self.changes():
+            file = Path(folder, name)
+            text = file.read_text(encoding="utf-8")
+            count = text.count(old)
+            if count != 1 and not (count and "# everywhere" in self.lines):
+                raise BadEdit(f"{old.strip()[:60]!r} occurs {count} times in {name}")
+            file.write_text(text.replace(old, new), encoding="utf-8")
+
+
+def edits(check, names):
+    """The planted faults of a check: all, or those that are named."""
+    there = {it.stem: it for it in sorted((TOP / "checks" / check / "faults").glob("*.edit"))}
+    if unknown := {*names} - {*there}:
+        sys.exit(f"{check} has no fault {min(unknown)}")
+    return [Edit(there[it]) for it in names or there]
+
+
+def copy(folder, parts, built):
+    """Copies parts of the repository, with or without what was built in their folders out."""
+    without = shutil.ignore_patterns("target", "__pycache__", *([] if built else ["out"]))
+    for it in parts:
+        if (TOP / it).is_dir():
+            shutil.copytree(TOP / it, folder / it, symlinks=True, ignore=without)
+        else:
+            shutil.copy2(TOP / it, folder / it)
+
+
+def ran(words, **how):
+    """Runs a check. Returns its status and its output."""
+    it = subprocess.run([*map(str, words)], stdout=subprocess.PIPE, stderr=subprocess.STDOUT, text=True, errors="replace", **how)
+    return it.returncode, it.stdout
+
+
+def is_found(check, name, says, words, **how):
+    """Runs a check, and prints and returns whether it fails and prints what it must."""
+    status, said = ran(words, **how)
+    told = next((it for it in said.splitlines() if says in it), "")
+    is_well = status == 1 and bool(told)
+    print(f"{check}: found: {name}: {told[:200]}" if is_well else f"{check}: NOT FOUND: {name}: status {status}, {said[-300:].strip()}", flush=True)
+    return is_well
+
+
+def is_green(check, words, **how):
+    """Runs a check without a fault, and prints and returns whether it passes."""
+    status, said = ran(words, **how)
+    print(f"{check}: {'NOT ' if status else ''}green without a fault: {said[-300:].strip()}", flush=True)
+    return not status
+
+
+def try_edit(edit, parts, words_over, built=False):
+    """Makes an edit in a copy of these parts of the repository, and returns whether the check finds it. `words_over` takes the copy and the edit, and
+    returns the command that runs the check."""
+    check = edit.path.parents[1].name
+    with tempfile.TemporaryDirectory(prefix=f"{check}-") as name:
+        folder = Path(name)
+        copy(folder, parts, built)
+        try:
+            edit.make_in(folder)
+        except (BadEdit, OSError) as error:
+            print(f"{check}: BAD EDIT: {edit.path.name}: {error}", flush=True)
+            return False
+        return is_found(check, edit.path.stem, edit.said("# says")[0], words_over(folder, edit))
+
+
+def words(description):
+    """The parser for a command can-fail. Its arguments are faults; without any, all are tried."""
+    words = argparse.ArgumentParser(description=description, formatter_class=argparse.RawDescriptionHelpFormatter)
+    words.add_argument("faults", nargs="*", metavar="FAULT")
+    return words
+
+
+def end(found):
+    """Ends a command can-fail, with the status 1 if a fault was not found."""
+    sys.exit(0 if all(found) else 1)

@@ -1,0 +1,211 @@
+"""The story of an input, which `revdot --page` must write between the fixed parts of a page, made in another way than by revdot.
+
+The answers of `revroute run` say which lines are accepted. The turns are made here link by link. For a larger network they follow from a search from
+the destination. The order of pushes follows from the new hops. Every answer that results is compared with the answer of `run`.
+"""
+import collections
+import heapq
+import json
+
+# The answers to a line without a request.
+NO_REQUEST = {'refused 1': 'no JSON', 'refused 2': 'no request'}
+NODES = 256
+TURNS = 4096
+
+
+class Network:
+    """Links that point from their tails to their heads, and full reversal: the node with the least number that can turn does."""
+
+    def __init__(self, nodes, destination, links):
+        self.nodes, self.destination = nodes, destination
+        self.heads = [set() for _ in range(nodes)]
+        self.tails = [set() for _ in range(nodes)]
+        for tail, head in links:
+            self.add(tail, head)
+
+    def add(self, tail, head):
+        self.heads[tail].add(head)
+        self.tails[head].add(tail)
+
+    def cut(self, tail, head):
+        if head not in self.heads[tail]:
+            tail, head = head, tail
+        self.heads[tail].remove(head)
+        self.tails[head].remove(tail)
+
+    def join(self, tail, head):
+        if self.leads(head, tail):
+            tail, head = head, tail
+        self.add(tail, head)
+
+    def leads(self, start, end):
+        seen, open_nodes = {start}, [start]
+        while open_nodes:
+            for head in self.heads[open_nodes.pop()] - seen:
+                seen.add(head)
+                open_nodes.append(head)
+        return end in seen
+
+    def edit(self, name, tail, head):
+        {'add': self.add, 'cut': self.cut, 'join': self.join}[name](tail, head)
+
+    def links(self):
+        return [(tail, head) for tail in range(self.nodes) for head in sorted(self.heads[tail])]
+
+    def joined(self):
+        seen, open_nodes = {self.destination}, [self.destination]
+        while open_nodes:
+            node = open_nodes.pop()
+            for other in (self.heads[node] | self.tails[node]) - seen:
+                seen.add(other)
+                open_nodes.append(other)
+        return seen
+
+    def can_turn(self, node):
+        return (node != self.destination and bool(self.tails[node]) and not self.heads[node]
+                and self.counts[node] < self.nodes)
+
+    def settle(self):
+        """Makes a round, and returns the nodes that turned, in order."""
+        self.counts = [0] * self.nodes
+        turns = []
+        sinks = [node for node in range(self.nodes) if self.can_turn(node)]
+        heapq.heapify(sinks)
+        while sinks:
+            node = heapq.heappop(sinks)
+            turns.append(node)
+            self.counts[node] += 1
+            others = self.tails[node]
+            self.heads[node], self.tails[node] = others, set()
+            for other in others:
+                self.heads[other].remove(node)
+                self.tails[other].add(node)
+                if self.can_turn(other):
+                    heapq.heappush(sinks, other)
+        return turns
+
+    def settle_by_steps(self):
+        """Makes a round by a search. A node turns as often as the fewest links that a walk to it from the destination follows forwards."""
+        fewest, near = {self.destination: 0}, collections.deque([self.destination])
+        while near:
+            node = near.popleft()
+            for others, step in ((self.tails[node], 0), (self.heads[node], 1)):
+                for other in others:
+                    if fewest[node] + step < fewest.get(other, self.nodes):
+                        fewest[other] = fewest[node] + step
+                        (near.append if step else near.appendleft)(other)
+        self.counts = [fewest.get(node, self.nodes if self.heads[node] or self.tails[node] else 0)
+                       for node in range(self.nodes)]
+        for tail, head in self.links():
+            if self.counts[tail] != self.counts[head]:
+                self.cut(tail, head)
+                self.add(head, tail)
+
+    def hops(self):
+        joined = self.joined()
+        return ['here' if node == self.destination else str(min(self.heads[node])) if node in joined else 'cut'
+                for node in range(self.nodes)]
+
+    def walk(self, node):
+        hops, route = self.hops(), [node]
+        while hops[route[-1]].isdigit():
+            route.append(int(hops[route[-1]]))
+        return words('walk', route) + (' cut' if hops[node] == 'cut' else '')
+
+
+def push_order(old, new):
+    """The nodes at which two tables differ, by how many of them are on the new route of each, and then by number."""
+    wave = {}
+    for start in range(len(new)):
+        walk = [start]
+        while walk[-1] not in wave and new[walk[-1]].isdigit():
+            walk.append(int(new[walk[-1]]))
+        for node in reversed(walk):
+            if node not in wave:
+                wave[node] = (old[node] != new[node]) + (wave[int(new[node])] if new[node].isdigit() else 0)
+    return sorted((node for node in wave if old[node] != new[node]), key=lambda node: (wave[node], node))
+
+
+def padded(table, nodes):
+    """A table with a hop for this many nodes. Nodes that are not in the table have none."""
+    return table + ['cut'] * (nodes - len(table))
+
+
+def words(name, items):
+    return ' '.join([name, *map(str, items)])
+
+
+def texts(links):
+    return [f'{tail}>{head}' for tail, head in links]
+
+
+def request_lines(data):
+    """The lines of an input that are not blank, each with its number."""
+    return [(number, line) for number, line in enumerate(data.split(b'\n'), 1) if line.strip(b' \t\r')]
+
+
+def asked(request):
+    """The words and numbers of a request."""
+    name, *items = request
+    if name == 'net':
+        return [name, *items[:2], *texts(items[2])]
+    return [name, *(word for edit in items[0] for word in edit)] if name == 'batch' else request
+
+
+def answered(network, request):
+    """The answer to a question about this network."""
+    if request[0] == 'links':
+        return words('links', texts(network.links()))
+    if request[0] == 'counts':
+        return words('counts', network.counts)
+    return words('hops', network.hops()) if request[0] == 'hops' else network.walk(request[1])
+
+
+def round_of(network, old):
+    """The answer to a round, and the lines of the story after it. Before the round the table was `old`."""
+    first = {frozenset(link): link for link in network.links()}
+    turns = network.settle() if network.nodes <= NODES else network.settle_by_steps()
+    answer = f'turned {sum(network.counts)} cut {network.nodes - len(network.joined())}'
+    lines = [f'net {network.nodes} {network.destination}']
+    if network.nodes > NODES or len(turns) > TURNS:
+        return answer, lines + ['omitted']
+    links, hops = network.links(), network.hops()
+    pushes = push_order(padded(old, len(hops)), padded(hops, len(old)))
+    return answer, lines + [words('first', texts(first[frozenset(link)] for link in links)), words('turns', turns),
+                            words('links', texts(links)), words('counts', network.counts), words('hops', hops),
+                            words('pushes', pushes)]
+
+
+def changed(network, request):
+    """The network after an accepted request, before its round."""
+    name = request[0]
+    if name == 'net':
+        return Network(*request[1:])
+    if name == 'dest':
+        network.destination = request[1]
+    for edit in request[1] if name == 'batch' else [request] if name in ('add', 'cut', 'join') else []:
+        network.edit(*edit)
+    return network
+
+
+def story(data, answers):
+    """The story of this input. `answers` are the lines of `run`."""
+    network, table, out = None, [], []
+    for (number, line), answer in zip(request_lines(data), answers, strict=True):
+        out += [f'line {number}', answer]
+        if answer in NO_REQUEST:
+            continue
+        request = json.loads(line)
+        out.append(words('asks', asked(request)))
+        if answer.startswith('refused'):
+            continue
+        network = changed(network, request)
+        if answer.startswith('turned'):
+            expected, lines = round_of(network, table)
+            table = network.hops()
+            out += lines
+        else:
+            expected = answered(network, request)
+        if answer != expected:
+            raise AssertionError(f'line {number}: answered {answer[:80]}, and the oracle says {expected[:80]}')
+    return ''.join(line + '\n' for line in out)

@@ -1,0 +1,30 @@
+"""Inputs with known answers, and the output of the example programs in embed/, for several checks."""
+
+from pathlib import Path
+
+TOP = Path(__file__).resolve().parent.parent
+EXAMPLES = TOP / "examples"
+
+# The output of the program `example` in each language.
+EXAMPLE_IN_C = "turned 6 cut 0\nwalk 3 2 1 0\nturned 12 cut 3\nwalk 3 cut\n"
+EXAMPLE_IN_RUST = "[4, 3, 1, 0]\nReport { turned: 1, cut_off: 0 }\n[(3, To(2)), (1, To(3))]\n[4, 3, 2, 0]\n"
+EXAMPLE_IN_PYTHON = "[4, 3, 1, 0]\nReport(turned=1, cut_off=0)\n[(3, 2), (1, 3)]\n[4, 3, 2, 0]\n"
+
+
+def examples():
+    """The inputs in examples/, each with the file of its answers."""
+    return [(it, it.with_suffix(".answers")) for it in sorted(EXAMPLES.glob("*.jsonl"))]
+
+
+def long_chain(nodes):
+    """An input with a chain of this many nodes that points away from the destination, and each question; and the answers."""
+    links = ",".join(f"[{x},{x + 1}]" for x in range(nodes - 1))
+    given = f'["net",{nodes},0,[{links}]]\n["links"]\n["counts"]\n["hops"]\n["walk",{nodes - 1}]\n'
+    wanted = [
+        f"turned {nodes * (nodes - 1) // 2} cut 0",
+        " ".join(["links", *(f"{x + 1}>{x}" for x in range(nodes - 1))]),
+        " ".join(["counts", *map(str, range(nodes))]),
+        " ".join(["hops here", *map(str, range(nodes - 1))]),
+        " ".join(["walk", *map(str, range(nodes - 1, -1, -1))]),
+    ]
+    return given.encode(), "".join(f"{it}\n" for it in wanted).encode()
