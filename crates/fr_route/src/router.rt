@@ -32,7 +32,7 @@ use std::thread::Threads;
 
 /// A settled network: links and counts as the last round left them, and where each node sends on to. Contracts see the
 /// state: how many nodes, the destination, the links in rising order, and the counts.
-#[derive(Debug, Drop)]
+#[derive(Debug)]
 pub struct Router {
     net: Net,
     dest: u32,
@@ -41,6 +41,26 @@ pub struct Router {
     hops: Vec<Hop>,
     room: PushRoom,
     report: Report,
+}
+
+// By hand, so that whoever drops a router proves this call, and not once more how each part of it is given back.
+impl Drop for Router {
+    fn drop(self) {
+        let Router {
+            net,
+            dest: _,
+            turns,
+            spare,
+            hops,
+            room,
+            report: _,
+        } = self;
+        drop(net);
+        drop(turns);
+        drop(spare);
+        drop(hops);
+        drop(room);
+    }
 }
 
 impl Model for Router {
