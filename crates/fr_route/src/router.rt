@@ -32,7 +32,7 @@ use std::thread::Threads;
 
 /// A settled network: the links and counts after the last round, and the next hop of each node. The value in contracts
 /// is the state: the number of nodes, the destination, the links in order, and the counts.
-#[derive(Debug, Drop)]
+#[derive(Debug)]
 pub struct Router {
     net: Net,
     dest: u32,
@@ -41,6 +41,26 @@ pub struct Router {
     hops: Vec<Hop>,
     room: PushRoom,
     report: Report,
+}
+
+// Written by hand: code that drops a router proves this one call. With a derived Drop it proves how each part is dropped.
+impl Drop for Router {
+    fn drop(self) {
+        let Router {
+            net,
+            dest: _,
+            turns,
+            spare,
+            hops,
+            room,
+            report: _,
+        } = self;
+        drop(net);
+        drop(turns);
+        drop(spare);
+        drop(hops);
+        drop(room);
+    }
 }
 
 impl Model for Router {
