@@ -6,3 +6,5 @@ pub mod Parting
 pub mod Jobs
 -- an entry of a log in the run
 pub mod Places
+-- where a run ends, by the logs alone
+pub mod Ends

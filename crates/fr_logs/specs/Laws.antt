@@ -19,3 +19,8 @@ abbrev pub EachHasPlace : Type 0
 EachHasPlace = (n d : ℕ) (first : List (ℕ × ℕ)) (counts : List ℕ) (logs : List (List Entry)) (r : AreOneRun n d first counts logs)
     (k : ℕ) (before : List Entry) (e : Entry) (after : List Entry) → slice_get logs k ≡ Some (before ++ e ∷ after)
     → HasPlace n d first r.history k before e after
+
+-- however logs are merged into a run, it leads to the same counts
+abbrev pub LogsShowTheEnd : Type 0
+LogsShowTheEnd = (n d : ℕ) (first : List (ℕ × ℕ)) (counts others : List ℕ) (logs : List (List Entry)) → AreOneRun n d first counts logs
+    → AreOneRun n d first others logs → counts ≡ others

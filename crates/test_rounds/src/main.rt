@@ -1,4 +1,4 @@
-//! What rounds and crews (fr_round, fr_crew) answer, by their public calls alone. Each line of standard input is a title, which begins
+//! What rounds, crews and logs (fr_round, fr_crew, fr_logs) answer, by their public calls alone. Each line of standard input is a title, which begins
 //! with `#`, or a case: a list in JSON whose first item says what is asked. Each line is printed as it stands, and below a case
 //! what came of it, behind two blanks. The answers that are wanted come from outside, and so does the order in which threads
 //! run: what depends on it is not printed.
@@ -8,9 +8,13 @@ mod answers;
 mod asked;
 mod counts;
 mod crews;
+mod drawn;
 mod fault;
 mod gates;
 mod live_walks;
+mod log_checks;
+mod logs;
+mod merging;
 mod rounds;
 mod threads;
 mod values;
