@@ -71,9 +71,9 @@ pub logs_show_the_end : LogsShowTheEnd
 logs_show_the_end n d first counts others logs r s =
     let m = length logs in
     let same : (k : ℕ) → k < m → part k r.history ≡ part k s.history = λ k below.
-        let e = slice_get-get_or logs k [] below in
-        sym (r.parts k (get_or logs k []) e) ∙ s.parts k (get_or logs k []) e in
+    let e = slice_get-get_or logs k [] below in
+    sym (r.parts k (get_or logs k []) e) ∙ s.parts k (get_or logs k []) e in
     let turns : (x : ℕ) → turn_count_of x r.history ≡ turn_count_of x s.history = λ x.
-        let f : Entry → ℕ = λ (e : Entry). cond (is_turned e.reply && (e.node == x)) 1 0 in
-        sym (sum_of_all f m r.history r.whole) ∙ (sum_of_parts f m r.history s.history same ∙ sum_of_all f m s.history s.whole) in
+    let f : Entry → ℕ = λ (e : Entry). cond (is_turned e.reply && (e.node == x)) 1 0 in
+    sym (sum_of_all f m r.history r.whole) ∙ (sum_of_parts f m r.history s.history same ∙ sum_of_all f m s.history s.whole) in
     ext_get_or 0 counts others (r.run.lawful.one_each ∙ sym s.run.lawful.one_each) (λ x below. omega (arith, r.run.turns x, s.run.turns x, turns x))

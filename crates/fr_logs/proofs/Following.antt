@@ -66,11 +66,11 @@ pub record IsFollowing (b : Setup) (first : Recording) (plan : List Target) (mad
 pub following_none : (b : Setup) (r : Recording) (plan : List Target) → length plan ≤ r.room → IsFollowing b r plan 0 r
 following_none b r plan room = record {
   followed = record {
-      keeps = record { table = refl; setup = refl; number = refl; seen = λ z. omega arith };
-      gained = [];
-      log = sym (append-nil (log_of r));
-      answers = refl;
-    };
+    keeps = record { table = refl; setup = refl; number = refl; seen = λ z. omega arith };
+    gained = [];
+    log = sym (append-nil (log_of r));
+    answers = refl;
+  };
   room = omega (arith, room);
 }
 
@@ -82,12 +82,12 @@ module _ (b : Setup) (first : Recording) (plan : List Target) (made : ℕ) (now 
   following_refused : IsRefused b t → IsFollowing b first plan (made + 1) now
   following_refused refused = record {
     followed = record {
-        keeps = f.followed.keeps;
-        gained = f.followed.gained;
-        log = f.followed.log;
-        answers = subst (λ (l : List Target). AnswersPlan b l f.followed.gained) (sym one_more)
-            (answers-refused b (take made plan) f.followed.gained t f.followed.answers refused);
-      };
+      keeps = f.followed.keeps;
+      gained = f.followed.gained;
+      log = f.followed.log;
+      answers = subst (λ (l : List Target). AnswersPlan b l f.followed.gained) (sym one_more)
+          (answers-refused b (take made plan) f.followed.gained t f.followed.answers refused);
+    };
     room = omega (arith, f.room);
   }
 
@@ -95,12 +95,12 @@ module _ (b : Setup) (first : Recording) (plan : List Target) (made : ℕ) (now 
   following_more reply next r =
       let e : Entry = entry now.worker.number (node_of t) reply in record {
         followed = record {
-            keeps = keeps_on first.worker now.worker next.worker f.followed.keeps r.keeps;
-            gained = f.followed.gained ++ e ∷ [];
-            log = r.log ∙ (ap (λ (l : List Entry). l ++ e ∷ []) f.followed.log ∙ append_assoc (log_of first) f.followed.gained (e ∷ []));
-            answers = subst (λ (l : List Target). AnswersPlan b l (f.followed.gained ++ e ∷ [])) (sym one_more)
-                (answers-more b (take made plan) f.followed.gained t e f.followed.answers r.accepted r.answers);
-          };
+          keeps = keeps_on first.worker now.worker next.worker f.followed.keeps r.keeps;
+          gained = f.followed.gained ++ e ∷ [];
+          log = r.log ∙ (ap (λ (l : List Entry). l ++ e ∷ []) f.followed.log ∙ append_assoc (log_of first) f.followed.gained (e ∷ []));
+          answers = subst (λ (l : List Target). AnswersPlan b l (f.followed.gained ++ e ∷ [])) (sym one_more)
+              (answers-more b (take made plan) f.followed.gained t e f.followed.answers r.accepted r.answers);
+        };
         room = omega (arith, f.room, r.room);
       }
 

@@ -31,9 +31,9 @@ new_workers-get : (r : OpenRound) (b : Setup) (k i : ℕ) (d : Knowledge) → i 
 new_workers-get r b zero i d below = absurd (omega (arith, below))
 new_workers-get r b (suc k) i d below = ⊎_elim
     (λ last. ap (λ (j : ℕ). get_or (new_workers r.table b k ++ new_worker r.table b k ∷ []) j d) (last ∙ sym (new_workers-length r b k))
-        ∙ (get_or-append_seam (new_workers r.table b k) (new_worker r.table b k) [] d ∙ ap (new_worker r.table b) (sym last)))
+    ∙ (get_or-append_seam (new_workers r.table b k) (new_worker r.table b k) [] d ∙ ap (new_worker r.table b) (sym last)))
     (λ other. let inside : i < k = below_last i k below other in
-        get_or-append (new_workers r.table b k) (new_worker r.table b k ∷ []) d i (omega (arith, inside, new_workers-length r b k)) ∙ new_workers-get r b k i d inside)
+    get_or-append (new_workers r.table b k) (new_worker r.table b k ∷ []) d i (omega (arith, inside, new_workers-length r b k)) ∙ new_workers-get r b k i d inside)
     (cases_eq i k)
   where
     below_last : (i k : ℕ) → i < suc k → ¬ (i ≡ k) → i < k
@@ -65,12 +65,12 @@ at_map f [] k x e = absurd cc
 at_map f (z ∷ xs) zero x e = let same : z ≡ x = cc in ap (λ (w : _). Some (f w)) same
 at_map f (z ∷ xs) (suc k) x e = at_map f xs k x e
 
-each_get : {X : Type 0} (P : X → Type 0) (xs : List X) (k : ℕ) (x : X) → Each P xs → slice_get xs k ≡ Some x → P x
+pub each_get : {X : Type 0} (P : X → Type 0) (xs : List X) (k : ℕ) (x : X) → Each P xs → slice_get xs k ≡ Some x → P x
 each_get P [] k x a e = absurd cc
 each_get P (z ∷ xs) zero x a e = let same : z ≡ x = cc in subst P same a.0
 each_get P (z ∷ xs) (suc k) x a e = each_get P xs k x a.1 e
 
-each_by_get : {X : Type 0} (P : X → Type 0) (xs : List X) → ((k : ℕ) (x : X) → slice_get xs k ≡ Some x → P x) → Each P xs
+pub each_by_get : {X : Type 0} (P : X → Type 0) (xs : List X) → ((k : ℕ) (x : X) → slice_get xs k ≡ Some x → P x) → Each P xs
 each_by_get P [] h = tt
 each_by_get P (x ∷ xs) h = (h zero x refl, each_by_get P xs (λ k y e. h (suc k) y e))
 
@@ -113,9 +113,9 @@ done round plans k job r is followed =
     let gained : log_of r ≡ followed.gained = followed.log ∙ ap (λ (l : List Entry). l ++ followed.gained) none in
     record {
       own = record {
-          table = followed.keeps.table ∙ ap (λ (w : Knowledge). w.table) is.worker;
-          setup = followed.keeps.setup ∙ ap (λ (w : Knowledge). w.setup) is.worker;
-        };
+        table = followed.keeps.table ∙ ap (λ (w : Knowledge). w.table) is.worker;
+        setup = followed.keeps.setup ∙ ap (λ (w : Knowledge). w.setup) is.worker;
+      };
       number = followed.keeps.number ∙ ap (λ (w : Knowledge). w.number) is.worker;
       answers = λ plan at.
           let same : job.plan.now ≡ plan = some_same job.plan.now plan (sym is.plan ∙ at) in
@@ -191,12 +191,12 @@ module _ (round : OpenRound) (plans : List (List Target)) (recorders : List Reco
   run_of_plans = record {
     logs = long;
     one_run = record {
-        history = l.closes.history;
-        run = l.closes.run;
-        parts = λ k log e. (log_at k log e).is_part;
-        whole = subst (λ (n : ℕ). Each (λ (e : Entry). e.worker < n) l.closes.history)
-            (as_many ∙ (sym long ∙ sym (length-map logged.logs.items (λ v. v.items)))) l.closes.opened;
-      };
+      history = l.closes.history;
+      run = l.closes.run;
+      parts = λ k log e. (log_at k log e).is_part;
+      whole = subst (λ (n : ℕ). Each (λ (e : Entry). e.worker < n) l.closes.history)
+          (as_many ∙ (sym long ∙ sym (length-map logged.logs.items (λ v. v.items)))) l.closes.opened;
+    };
     answers = λ k plan log at e.
         let i = log_at k log e in
         subst (λ (es : List Entry). AnswersPlan round.setup plan es) (sym i.is_log) ((all.each k i.r i.stands).answers plan at);
@@ -204,5 +204,5 @@ module _ (round : OpenRound) (plans : List (List Target)) (recorders : List Reco
         let i = log_at k log e in
         subst (λ (ts : List (ℕ × ℕ)). slice_get ts k ≡ Some (k, turn_count log)) (sym l.closes.pairs)
         (at_map number_and_turns (workers_of recorders) k i.r.worker (at_map (λ (r : Recording). r.worker) recorders k i.r i.stands)
-            ∙ (λ j. Some (i.number j, turn_count (sym i.is_log j))));
+        ∙ (λ j. Some (i.number j, turn_count (sym i.is_log j))));
   }

@@ -12,7 +12,7 @@ ghost use Rattle.fr_logs.specs.Recording.{log_of, IsCallFault, IsRefused, Refuse
 use crate::faults::CallFault;
 use fr_core::{Entry, Reply, Target};
 use fr_round::{Refusal, Round, Worker};
-use std::alloc::{AllocFailed, AllocError, Global};
+use std::alloc::{AllocError, AllocFailed, Global};
 use std::marker::Model;
 
 /// A worker with a log, in which it writes down each reply that it gets, in order. Contracts see what the worker knows

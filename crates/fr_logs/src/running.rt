@@ -138,8 +138,12 @@ pub fn run_logged<R: Threads + Sync>(
     plans: &[Vec<Target>],
 ) -> Result<Logged, RunFault>
     ensures net { IfOk result (λ logged. logged.closed.net ≡ net) }
-    ensures run { IfOk result (IsRunOfPlans (record { nodes = net.nodes; dest = dest; links = net.links;
-        workers = length plans.now }) (lists_of plans.now)) }
+    ensures run { IfOk result (IsRunOfPlans (record {
+      nodes = net.nodes;
+      dest = dest;
+      links = net.links;
+      workers = length plans.now;
+    }) (lists_of plans.now)) }
     ensures handed_back { IfErr result (λ fault. fault.net ≡ net) }
     ensures why { IfErr result (λ fault. IsWhyNotOpened net.nodes dest (length plans.now) fault.why) }
 {

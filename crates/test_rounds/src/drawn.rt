@@ -5,6 +5,7 @@ use fr_net::{Net, NetFault};
 use std::alloc::{AllocError, Global};
 
 /// A sequence of numbers, each of which follows from the one before it.
+#[derive(Drop)]
 pub struct Draws(u64);
 
 impl Draws {

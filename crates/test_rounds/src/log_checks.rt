@@ -2,18 +2,14 @@
 
 use crate::answers::Answer;
 use crate::fault::Fault;
-use crate::merging::{Seen, merge};
+use crate::merging::{Seen, merge_logs};
 use fr_core::{Entry, Reply, check_run, finish};
 use fr_net::Net;
 use fr_round::Closed;
 use std::alloc::{AllocError, Global};
 
 /// A log with the counts that were noted of each entry.
-pub fn log_with(
-    alloc: Global,
-    log: &[Entry],
-    counts: &[(u64, u64)],
-) -> Result<Vec<Seen>, Fault> {
+pub fn log_with(alloc: Global, log: &[Entry], counts: &[(u64, u64)]) -> Result<Vec<Seen>, Fault> {
     if log.len() != counts.len() {
         return Err(Fault::Memory);
     }
@@ -36,7 +32,7 @@ fn checked(
     counts: &[u64],
 ) -> Result<(bool, u64), AllocError> {
     net.network_law();
-    let merged = merge(alloc, net, logs)?;
+    let merged = merge_logs(alloc, net, logs)?;
     match check_run(alloc, net, 0, &merged) {
         Ok(mut found) => {
             let is_same = found.as_slice() == counts;
@@ -88,8 +84,8 @@ pub enum Altered {
     Held,
 }
 
-/// What an entry says once it is altered, if it is of this kind.
-fn altered(entry: Entry, kind: Altered) -> Option<Reply> {
+/// What an entry of this kind says once it is altered.
+fn reply_in_place(entry: Entry, kind: Altered) -> Option<Reply> {
     match (kind, entry.reply) {
         (Altered::Turn, Reply::Turned { count }) => Some(Reply::Turned {
             count: count.saturating_add(1),
@@ -102,7 +98,7 @@ fn altered(entry: Entry, kind: Altered) -> Option<Reply> {
 /// Alters the first entry of a log that is of this kind, and answers whether there is one.
 fn alter(log: &mut [Seen], kind: Altered) -> bool {
     for seen in log.iter_mut() {
-        if let Some(reply) = altered(seen.entry, kind) {
+        if let Some(reply) = reply_in_place(seen.entry, kind) {
             seen.entry.reply = reply;
             return true;
         }
@@ -125,7 +121,7 @@ fn finds_exchanged(
     Ok(!is_run)
 }
 
-/// Whether the checker finds an altered entry in each log that has one of this kind, and one log has.
+/// Whether the checker finds an entry of this kind that is altered, in the first log that has one. The logs are as before then.
 fn finds_altered(
     alloc: Global,
     net: &Net,
@@ -133,19 +129,16 @@ fn finds_altered(
     counts: &[u64],
     kind: Altered,
 ) -> Result<bool, AllocError> {
-    let mut is_found = false;
     for at in 0..logs.len() {
         let kept = logs[at].to_vec(alloc)?;
-        if alter(&mut logs[at], kind) {
-            is_found = true;
+        let is_altered = alter(&mut logs[at], kind);
+        if is_altered {
             let (is_run, _left) = checked(alloc, net, logs, counts)?;
-            if is_run {
-                return Ok(false);
-            }
+            logs[at] = kept;
+            return Ok(!is_run);
         }
-        logs[at] = kept;
     }
-    Ok(is_found)
+    Ok(false)
 }
 
 /// Puts whether the logs are a run to the counts at the end, how many turns are left there, and whether faults in them are found: two turns
@@ -163,7 +156,10 @@ pub fn put_checks(
     text.put(", left ", &left);
     text.put(", exchanged ", &finds_exchanged(alloc, net, logs, counts)?);
     for kind in kinds {
-        text.put(", altered ", &finds_altered(alloc, net, logs, counts, *kind)?);
+        text.put(
+            ", altered ",
+            &finds_altered(alloc, net, logs, counts, *kind)?,
+        );
     }
     Ok(())
 }

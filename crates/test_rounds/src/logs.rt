@@ -11,6 +11,7 @@ use crate::drawn::{Draws, network, plans};
 use crate::fault::Fault;
 use crate::log_checks::{Altered, log_with, put_checks};
 use crate::merging::Seen;
+use crate::rounds::opened;
 use crate::values::{number, small_number};
 use fr_core::{Entry, Reply, Target};
 use fr_logs::{Logged, Recorder, close_logged, run_logged};
@@ -121,7 +122,7 @@ fn do_each<R: Threads + Sync>(
 ) -> Result<Vec<Noted>, AllocError>
     requires { Each (λ job. IsOwnRecorder round.now job.noted.recorder) jobs.items }
     ensures own { IfOk result (λ all. Each (λ noted. IsOwnRecorder round.now noted.recorder) all.items) }
-    ensures len { IfOk result (λ all. vec_len all ≤ vec_len jobs) }
+    ensures few { IfOk result (λ all. vec_len all ≤ vec_len jobs.entry) }
 {
     thread::map_vec(
         rt,
@@ -134,13 +135,13 @@ fn do_each<R: Threads + Sync>(
 }
 
 /// What comes back of a round: what it closed with, and what was noted beside each log.
-struct Closed {
+struct Ended {
     logged: Logged,
     counts: Vec<Vec<(u64, u64)>>,
 }
 
 /// Ends a round with the logs.
-fn closed(alloc: Global, round: Round, all: Vec<Noted>) -> Result<Closed, Fault>
+fn close(alloc: Global, round: Round, all: Vec<Noted>) -> Result<Ended, Fault>
     requires own { Each (λ noted. IsOwnRecorder round noted.recorder) all.items }
     requires few { vec_len all ≤ round.setup.workers }
 {
@@ -151,7 +152,7 @@ fn closed(alloc: Global, round: Round, all: Vec<Noted>) -> Result<Closed, Fault>
         counts.push(noted.counts)?;
     }
     match close_logged(alloc, round, recorders) {
-        Ok(logged) => Ok(Closed { logged, counts }),
+        Ok(logged) => Ok(Ended { logged, counts }),
         Err(_) => Err(Fault::Memory),
     }
 }
@@ -162,11 +163,14 @@ fn noted_run<R: Threads + Sync>(
     alloc: Global,
     net: Net,
     plans: &[Vec<Target>],
-) -> Result<Closed, Fault> {
-    let (round, workers) = Round::open(alloc, net, 0, plans.len() as u32)?;
+) -> Result<Ended, Fault> {
+    let Ok(count) = u32::try_from(plans.len()) else {
+        return Err(Fault::NoCase);
+    };
+    let (round, workers) = opened(alloc, net, 0, count)?;
     let jobs = make_jobs(alloc, &round, workers, plans)?;
     let all = do_each(rt, &round, jobs)?;
-    closed(alloc, round, all)
+    close(alloc, round, all)
 }
 
 /// What a case draws: a network, and a plan for each worker.
@@ -175,7 +179,7 @@ struct Drawn {
     plans: Vec<Vec<Target>>,
 }
 
-fn drawn(alloc: Global, asked: &[Value]) -> Result<Drawn, Fault> {
+fn draw(alloc: Global, asked: &[Value]) -> Result<Drawn, Fault> {
     let [nodes, seed, workers, calls] = asked else {
         return Err(Fault::NoCase);
     };
@@ -200,8 +204,8 @@ pub fn logs<R: Threads + Sync + Alloc<A = Global>>(
     asked: &[Value],
 ) -> Result<(), Fault> {
     let alloc = rt.alloc();
-    let Drawn { net, plans } = drawn(alloc, asked)?;
-    let Closed { logged, counts } = noted_run(rt, alloc, net, &plans)?;
+    let Drawn { net, plans } = draw(alloc, asked)?;
+    let Ended { logged, counts } = noted_run(rt, alloc, net, &plans)?;
     let mut logs = Vec::new(alloc);
     for (log, counts) in logged.logs.iter().zip(counts.iter()) {
         logs.push(log_with(alloc, log, counts)?)?;
@@ -253,7 +257,7 @@ pub fn plans_followed<R: Threads + Sync + Alloc<A = Global>>(
     asked: &[Value],
 ) -> Result<(), Fault> {
     let alloc = rt.alloc();
-    let Drawn { net, plans } = drawn(alloc, asked)?;
+    let Drawn { net, plans } = draw(alloc, asked)?;
     let Ok(logged) = run_logged(rt, alloc, net, 0, &plans) else {
         return Err(Fault::Memory);
     };

@@ -42,6 +42,7 @@ fn places(alloc: Global, net: &Net, seen: &Seen) -> Result<Vec<(u32, u64)>, Allo
 }
 
 /// How far the logs are merged.
+#[derive(Drop)]
 struct Merge<'n> {
     alloc: Global,
     net: &'n Net,
@@ -149,7 +150,7 @@ impl<'n> Merge<'n> {
 
 /// The entries of all logs in one list, in which each log keeps its order. No worker's number and no time decides where an entry comes,
 /// but the counts that it names alone. Where these fit no place, the list is no run.
-pub fn merge(alloc: Global, net: &Net, logs: &[Vec<Seen>]) -> Result<Vec<Entry>, AllocError> {
+pub fn merge_logs(alloc: Global, net: &Net, logs: &[Vec<Seen>]) -> Result<Vec<Entry>, AllocError> {
     let mut merge = Merge::new(alloc, net, logs)?;
     let mut merged = Vec::new(alloc);
     let mut rests: Vec<&[Seen]> = Vec::new(alloc);

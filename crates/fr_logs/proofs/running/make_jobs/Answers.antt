@@ -15,13 +15,13 @@ pub loop-worker-init : goal.loop-worker-init
 loop-worker-init c =
     let r = c.args.round.now in record {
       count = omega (
-          arith,
-          c.in_ok-jobs.ensures.len,
-          c.into_iter-worker-iterator.result.rest.ok.0,
-          ap (λ (l : List Knowledge). length l) c.into_iter-worker-iterator.ensures.into_iter_gives.0,
-          ap (λ (l : List Knowledge). length l) c.requires,
-          new_workers-length r r.setup (length c.args.plans.now),
-        );
+        arith,
+        c.in_ok-jobs.ensures.len,
+        c.into_iter-worker-iterator.result.rest.ok.0,
+        ap (λ (l : List Knowledge). length l) c.into_iter-worker-iterator.ensures.into_iter_gives.0,
+        ap (λ (l : List Knowledge). length l) c.requires,
+        new_workers-length r r.setup (length c.args.plans.now),
+      );
       room = search rules;
       rest = search rules;
       passed = search rules;
