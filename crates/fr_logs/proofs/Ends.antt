@@ -1,5 +1,6 @@
 -- Where a run ends, by the logs alone.
-use Rattle.std.proofs.Common.{◌≡◌, ◌≢◌, ◌∙◌, ◌+◌, ◌<◌, ◌∷◌, [], ℕ, zero, suc, List, ap, arith, cond, length, ltb, refl, sum_by, sym, ⊎_elim}
+use Rattle.std.proofs.Common.{◌≡◌, ◌≢◌, ◌∙◌, ◌+◌, ◌<◌, ◌∷◌, [], ℕ, zero, suc, List, ap, arith, cond, length, ltb}
+use Rattle.std.proofs.Common.{refl, sum_by, sym, ⊎_elim}
 use Rattle.std.proofs.lemmas.Bool.{cases_eq, le-ltb, lt-ltb}
 use Rattle.std.proofs.lemmas.Bool.Decides.{nat_tests}
 use Rattle.std.proofs.lemmas.List.{ext_get_or}
@@ -50,14 +51,30 @@ module _ (f : Entry → ℕ) where
         ap (λ (l : List Entry). sum_by f l) (part_more m e h own),
         sum_by-cons f e (part m h),
       ))
-      (λ other. omega (arith, with_it, without, rest, same_test m e other, ap (λ (l : List Entry). sum_by f l) (part_same m e h other)))
+      (λ other. omega (
+        arith,
+        with_it,
+        without,
+        rest,
+        same_test m e other,
+        ap (λ (l : List Entry). sum_by f l)
+            (part_same m e h other),
+      ))
       (cases_eq e.worker m)
 
   sum_of_all : (m : ℕ) (h : List Entry) → Each (λ (e : Entry). e.worker < m) h → sum_by (up_to m) h ≡ sum_by f h
   sum_of_all m [] a = refl
-  sum_of_all m (e ∷ h) a = omega (arith, sum_by-cons (up_to m) e h, sum_by-cons f e h, counted m e a.0, sum_of_all m h a.1)
+  sum_of_all m (e ∷ h) a = omega (
+    arith,
+    sum_by-cons
+        (up_to m) e h,
+    sum_by-cons f e h,
+    counted m e a.0,
+    sum_of_all m h a.1,
+  )
 
-  sum_of_parts : (m : ℕ) (h g : List Entry) → ((k : ℕ) → k < m → part k h ≡ part k g) → sum_by (up_to m) h ≡ sum_by (up_to m) g
+  sum_of_parts : (m : ℕ) (h g : List Entry) → ((k : ℕ) → k < m → part k h ≡ part k g)
+      → sum_by (up_to m) h ≡ sum_by (up_to m) g
   sum_of_parts zero h g same = sum_of_none h ∙ sym (sum_of_none g)
   sum_of_parts (suc m) h g same = omega (
     arith,
@@ -75,5 +92,7 @@ logs_show_the_end n d first counts others logs r s =
     sym (r.parts k (get_or logs k []) e) ∙ s.parts k (get_or logs k []) e in
     let turns : (x : ℕ) → turn_count_of x r.history ≡ turn_count_of x s.history = λ x.
     let f : Entry → ℕ = λ (e : Entry). cond (is_turned e.reply && (e.node == x)) 1 0 in
-    sym (sum_of_all f m r.history r.whole) ∙ (sum_of_parts f m r.history s.history same ∙ sum_of_all f m s.history s.whole) in
-    ext_get_or 0 counts others (r.run.lawful.one_each ∙ sym s.run.lawful.one_each) (λ x below. omega (arith, r.run.turns x, s.run.turns x, turns x))
+    sym (sum_of_all f m r.history r.whole)
+    ∙ (sum_of_parts f m r.history s.history same ∙ sum_of_all f m s.history s.whole) in
+    ext_get_or 0 counts others (r.run.lawful.one_each ∙ sym s.run.lawful.one_each)
+    (λ x below. omega (arith, r.run.turns x, s.run.turns x, turns x))

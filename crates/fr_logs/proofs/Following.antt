@@ -1,5 +1,6 @@
 -- A plan is followed, target by target.
-use Rattle.std.proofs.Common.{◌≡◌, ◌∙◌, ◌≤◌, ◌<◌, ◌+◌, ◌++◌, ◌∷◌, [], ℕ, List, ap, arith, get_or, inl, inr, length, refl, subst, sym, take, ⊎_elim}
+use Rattle.std.proofs.Common.{◌≡◌, ◌∙◌, ◌≤◌, ◌<◌, ◌+◌, ◌++◌, ◌∷◌, [], ℕ, List, ap, arith, get_or, inl, inr, length}
+use Rattle.std.proofs.Common.{refl, subst, sym, take, ⊎_elim}
 use Rattle.std.specs.Prelude.{Err, IfErr, IfOk, Ok, Result}
 use Rattle.std.proofs.lemmas.List.{append-nil, append_assoc, take_all, take_more}
 use Rattle.fr_core.specs.Played.{answer_of}
@@ -16,7 +17,8 @@ use Rattle.fr_round.specs.Histories.{entry}
 use Rattle.fr_round.specs.Knowledge.{KeepsWorker, Knowledge}
 use Rattle.fr_logs.specs.declared.faults.CallFault.{CallFault}
 use Rattle.fr_logs.specs.declared.faults.CallFault.TheVariants.{Full, Refused}
-use Rattle.fr_logs.specs.Recording.{AnswersPlan, HasFollowed, IsCallFault, IsRefused, Recording, Records, RefusesTarget, log_of}
+use Rattle.fr_logs.specs.Recording.{AnswersPlan, HasFollowed, IsCallFault, IsRefused, Recording, Records}
+use Rattle.fr_logs.specs.Recording.{RefusesTarget, log_of}
 
 -- a call that is made was not refused
 pub turn_not_refused : (b : Setup) (x : ℕ) → IsTurnable b.nodes b.dest b.links x → ¬ IsRefused b (Turn x)
@@ -24,7 +26,8 @@ turn_not_refused b x may refused = ⊎_elim (λ past. absurd (omega (arith, past
     (λ r. ⊎_elim (λ is. may.not_destination is) (λ alone. alone may.linked.0 may.linked.1) r) refused
 
 pub look_not_refused : (b : Setup) (x : ℕ) → IsLookable b.nodes b.links x → ¬ IsRefused b (Look x)
-look_not_refused b x may refused = ⊎_elim (λ past. absurd (omega (arith, past, may.inside))) (λ alone. alone may.linked.0 may.linked.1) refused
+look_not_refused b x may refused = ⊎_elim (λ past. absurd (omega (arith, past, may.inside)))
+    (λ alone. alone may.linked.0 may.linked.1) refused
 
 -- a refused call is one on a target that is refused
 pub refused_target : (b : Setup) (t : Target) (why : Refusal) → RefusesTarget b t why → IsRefused b t
@@ -35,19 +38,30 @@ refused_target b (Look x) NoNode r = inl r
 refused_target b (Look x) Destination r = absurd r
 refused_target b (Look x) Alone r = inr r.1
 
-answers-refused : (b : Setup) (plan : List Target) (es : List Entry) (t : Target) → AnswersPlan b plan es → IsRefused b t → AnswersPlan b (plan ++ t ∷ []) es
+answers-refused : (b : Setup) (plan : List Target) (es : List Entry) (t : Target) → AnswersPlan b plan es
+    → IsRefused b t → AnswersPlan b (plan ++ t ∷ []) es
 answers-refused b [] es t is refused = inl (refused, is)
 answers-refused b (u ∷ us) es t a refused = ⊎_elim
     (λ p. inl (p.0, answers-refused b us es t p.1 refused))
     (λ p. inr (p.0, p.1, p.2, p.3, p.4, answers-refused b us p.1 t p.5 refused))
     a
 
-answers-more : (b : Setup) (plan : List Target) (es : List Entry) (t : Target) (e : Entry) → AnswersPlan b plan es → ¬ IsRefused b t
+answers-more : (b : Setup) (plan : List Target) (es : List Entry) (t : Target) (e : Entry) → AnswersPlan b plan es
+    → ¬ IsRefused b t
     → IsAnswerTo t (answer_of e) → AnswersPlan b (plan ++ t ∷ []) (es ++ e ∷ [])
-answers-more b [] es t e is accepted answer = inr (e, [], ap (λ (l : List Entry). l ++ e ∷ []) is, accepted, answer, refl)
+answers-more b [] es t e is accepted answer = inr
+    (e, [], ap (λ (l : List Entry). l ++ e ∷ []) is, accepted, answer, refl)
 answers-more b (u ∷ us) es t e a accepted answer = ⊎_elim
     (λ p. inl (p.0, answers-more b us es t e p.1 accepted answer))
-    (λ p. inr (p.0, p.1 ++ e ∷ [], ap (λ (l : List Entry). l ++ e ∷ []) p.2, p.3, p.4, answers-more b us p.1 t e p.5 accepted answer))
+    (λ p. inr (
+      p.0,
+      p.1 ++ e ∷ [],
+      ap (λ (l : List Entry). l ++ e ∷
+          []) p.2,
+      p.3,
+      p.4,
+      answers-more b us p.1 t e p.5 accepted answer,
+    ))
     a
 
 keeps_on : (a b c : Knowledge) → KeepsWorker a b → KeepsWorker b c → KeepsWorker a c
@@ -74,7 +88,8 @@ following_none b r plan room = record {
   room = omega (arith, room);
 }
 
-module _ (b : Setup) (first : Recording) (plan : List Target) (made : ℕ) (now : Recording) (f : IsFollowing b first plan made now)
+module _ (b : Setup) (first : Recording) (plan : List Target) (made : ℕ) (now : Recording)
+    (f : IsFollowing b first plan made now)
     (d t : Target) (inside : made < length plan) (here : get_or plan made d ≡ t) where
   one_more : take (made + 1) plan ≡ take made plan ++ t ∷ []
   one_more = take_more plan made d inside ∙ ap (λ (u : Target). take made plan ++ u ∷ []) here
@@ -91,13 +106,15 @@ module _ (b : Setup) (first : Recording) (plan : List Target) (made : ℕ) (now 
     room = omega (arith, f.room);
   }
 
-  following_more : (reply : Reply) (next : Recording) → Records b now t reply next → IsFollowing b first plan (made + 1) next
+  following_more : (reply : Reply) (next : Recording) → Records b now t reply next
+      → IsFollowing b first plan (made + 1) next
   following_more reply next r =
       let e : Entry = entry now.worker.number (node_of t) reply in record {
         followed = record {
           keeps = keeps_on first.worker now.worker next.worker f.followed.keeps r.keeps;
           gained = f.followed.gained ++ e ∷ [];
-          log = r.log ∙ (ap (λ (l : List Entry). l ++ e ∷ []) f.followed.log ∙ append_assoc (log_of first) f.followed.gained (e ∷ []));
+          log = r.log ∙ (ap (λ (l : List Entry). l ++ e ∷ []) f.followed.log
+              ∙ append_assoc (log_of first) f.followed.gained (e ∷ []));
           answers = subst (λ (l : List Target). AnswersPlan b l (f.followed.gained ++ e ∷ [])) (sym one_more)
               (answers-more b (take made plan) f.followed.gained t e f.followed.answers r.accepted r.answers);
         };
@@ -110,8 +127,11 @@ module _ (b : Setup) (first : Recording) (plan : List Target) (made : ℕ) (now 
   following_next (Ok reply) next ok err = following_more reply next ok
   following_next (Err Full) next ok err = absurd (omega (arith, err.0, inside, f.room))
   following_next (Err (Refused why)) next ok err =
-      subst (λ (r : Recording). IsFollowing b first plan (made + 1) r) (sym err.1) (following_refused (refused_target b t why err.0.1))
+      subst (λ (r : Recording). IsFollowing b first plan (made + 1) r) (sym err.1)
+      (following_refused (refused_target b t why err.0.1))
 
-pub following_all : (b : Setup) (first : Recording) (plan : List Target) (made : ℕ) (now : Recording) → IsFollowing b first plan made now
+pub following_all : (b : Setup) (first : Recording) (plan : List Target) (made : ℕ) (now : Recording)
+    → IsFollowing b first plan made now
     → length plan ≤ made → HasFollowed b first plan now
-following_all b first plan made now f end = subst (λ (l : List Target). HasFollowed b first l now) (take_all made plan end) f.followed
+following_all b first plan made now f end = subst (λ (l : List Target). HasFollowed b first l now)
+    (take_all made plan end) f.followed

@@ -1,5 +1,6 @@
 -- Jobs for plans, and what their threads give back.
-use Rattle.std.proofs.Common.{◌≡◌, ◌∙◌, ◌<◌, ◌⊎◌, ◌++◌, ◌∷◌, [], ℕ, zero, suc, List, Some, None, ap, arith, get_or, inl, inr, length, length-append, map, refl, subst, sym, ⊎_elim}
+use Rattle.std.proofs.Common.{◌≡◌, ◌∙◌, ◌<◌, ◌⊎◌, ◌++◌, ◌∷◌, [], ℕ, zero, suc, List, Some, None, ap, arith, get_or}
+use Rattle.std.proofs.Common.{inl, inr, length, length-append, map, refl, subst, sym, ⊎_elim}
 use Rattle.std.proofs.Math.ListN.{get_or-append}
 use Rattle.std.proofs.Math.Seq.{get_or-append_seam}
 use Rattle.std.proofs.lemmas.Bool.{cases_eq}
@@ -25,42 +26,65 @@ use Rattle.fr_logs.specs.Runs.{IsRunOfPlans}
 
 pub new_workers-length : (r : OpenRound) (b : Setup) (k : ℕ) → length (new_workers r.table b k) ≡ k
 new_workers-length r b zero = refl
-new_workers-length r b (suc k) = omega (arith, length-append (new_workers r.table b k) (new_worker r.table b k ∷ []), new_workers-length r b k)
+new_workers-length r b (suc k) = omega (
+  arith,
+  length-append (new_workers r.table b k)
+      (new_worker r.table b k ∷ []),
+  new_workers-length r b k,
+)
 
-new_workers-get : (r : OpenRound) (b : Setup) (k i : ℕ) (d : Knowledge) → i < k → get_or (new_workers r.table b k) i d ≡ new_worker r.table b i
+new_workers-get : (r : OpenRound) (b : Setup) (k i : ℕ) (d : Knowledge) → i < k
+    → get_or (new_workers r.table b k) i d ≡ new_worker r.table b i
 new_workers-get r b zero i d below = absurd (omega (arith, below))
 new_workers-get r b (suc k) i d below = ⊎_elim
-    (λ last. ap (λ (j : ℕ). get_or (new_workers r.table b k ++ new_worker r.table b k ∷ []) j d) (last ∙ sym (new_workers-length r b k))
-    ∙ (get_or-append_seam (new_workers r.table b k) (new_worker r.table b k) [] d ∙ ap (new_worker r.table b) (sym last)))
+    (λ last. ap (λ (j : ℕ). get_or (new_workers r.table b k ++ new_worker r.table b k ∷ []) j d)
+    (last ∙ sym (new_workers-length r b k))
+    ∙ (get_or-append_seam (new_workers r.table b k) (new_worker r.table b k) [] d
+    ∙ ap (new_worker r.table b) (sym last)))
     (λ other. let inside : i < k = below_last i k below other in
-    get_or-append (new_workers r.table b k) (new_worker r.table b k ∷ []) d i (omega (arith, inside, new_workers-length r b k)) ∙ new_workers-get r b k i d inside)
+    get_or-append (new_workers r.table b k) (new_worker r.table b k ∷ []) d i
+    (omega (arith, inside, new_workers-length r b k)) ∙ new_workers-get r b k i d inside)
     (cases_eq i k)
   where
     below_last : (i k : ℕ) → i < suc k → ¬ (i ≡ k) → i < k
     below_last i k below other = grind arith
 
 -- the worker that comes after so many
-pub new_worker_next : (r : OpenRound) (b : Setup) (k : ℕ) (done : List Knowledge) (w : Knowledge) (rest : List Knowledge)
+pub new_worker_next : (r : OpenRound) (b : Setup) (k : ℕ) (done : List Knowledge) (w : Knowledge)
+    (rest : List Knowledge)
     → done ++ w ∷ rest ≡ new_workers r.table b k → (w ≡ new_worker r.table b (length done)) × (length done < k)
 new_worker_next r b k done w rest is =
-    let below : length done < k = omega (arith, ap length is, length-append done (w ∷ rest), new_workers-length r b k) in
-    (sym (get_or-append_seam done w rest w) ∙ (ap (λ (l : List Knowledge). get_or l (length done) w) is ∙ new_workers-get r b k (length done) w below), below)
+    let below : length done < k = omega (
+      arith,
+      ap length is,
+      length-append done
+          (w ∷ rest),
+      new_workers-length r b k,
+    ) in (
+      sym (get_or-append_seam done w rest w)
+          ∙ (ap (λ (l : List Knowledge). get_or l (length done) w) is
+          ∙ new_workers-get r b k (length done) w below),
+      below,
+    )
 
 -- Elements of lists
 
-slice_get-snoc : {X : Type 0} (xs : List X) (x y : X) (k : ℕ) → slice_get (xs ++ x ∷ []) k ≡ Some y → (slice_get xs k ≡ Some y) ⊎ ((k ≡ length xs) × (x ≡ y))
+slice_get-snoc : {X : Type 0} (xs : List X) (x y : X) (k : ℕ) → slice_get (xs ++ x ∷ []) k ≡ Some y
+    → (slice_get xs k ≡ Some y) ⊎ ((k ≡ length xs) × (x ≡ y))
 slice_get-snoc [] x y zero e = inr (refl, cc)
 slice_get-snoc [] x y (suc k) e = absurd cc
 slice_get-snoc (z ∷ xs) x y zero e = inl e
 slice_get-snoc (z ∷ xs) x y (suc k) e = ⊎_elim (λ h. inl h) (λ h. inr (ap suc h.0, h.1)) (slice_get-snoc xs x y k e)
 
 -- an element of a mapped list is that of an element
-map_at : {X Y : Type 0} (f : X → Y) (xs : List X) (k : ℕ) (y : Y) → slice_get (map f xs) k ≡ Some y → (x : X) × (slice_get xs k ≡ Some x) × (f x ≡ y)
+map_at : {X Y : Type 0} (f : X → Y) (xs : List X) (k : ℕ) (y : Y) → slice_get (map f xs) k ≡ Some y
+    → (x : X) × (slice_get xs k ≡ Some x) × (f x ≡ y)
 map_at f [] k y e = absurd cc
 map_at f (x ∷ xs) zero y e = (x, refl, cc)
 map_at f (x ∷ xs) (suc k) y e = map_at f xs k y e
 
-pub at_map : {X Y : Type 0} (f : X → Y) (xs : List X) (k : ℕ) (x : X) → slice_get xs k ≡ Some x → slice_get (map f xs) k ≡ Some (f x)
+pub at_map : {X Y : Type 0} (f : X → Y) (xs : List X) (k : ℕ) (x : X) → slice_get xs k ≡ Some x
+    → slice_get (map f xs) k ≡ Some (f x)
 at_map f [] k x e = absurd cc
 at_map f (z ∷ xs) zero x e = let same : z ≡ x = cc in ap (λ (w : _). Some (f w)) same
 at_map f (z ∷ xs) (suc k) x e = at_map f xs k x e
@@ -70,20 +94,24 @@ each_get P [] k x a e = absurd cc
 each_get P (z ∷ xs) zero x a e = let same : z ≡ x = cc in subst P same a.0
 each_get P (z ∷ xs) (suc k) x a e = each_get P xs k x a.1 e
 
-pub each_by_get : {X : Type 0} (P : X → Type 0) (xs : List X) → ((k : ℕ) (x : X) → slice_get xs k ≡ Some x → P x) → Each P xs
+pub each_by_get : {X : Type 0} (P : X → Type 0) (xs : List X) → ((k : ℕ) (x : X) → slice_get xs k ≡ Some x → P x)
+    → Each P xs
 each_by_get P [] h = tt
 each_by_get P (x ∷ xs) h = (h zero x refl, each_by_get P xs (λ k y e. h (suc k) y e))
 
 -- Jobs
 
-pub no_job : (round : OpenRound) (plans : List (List Target)) (jobs : List Job) → jobs ≡ [] → (k : ℕ) (j : Job) → slice_get jobs k ≡ Some j → IsJob round plans k j
+pub no_job : (round : OpenRound) (plans : List (List Target)) (jobs : List Job) → jobs ≡ [] → (k : ℕ) (j : Job)
+    → slice_get jobs k ≡ Some j → IsJob round plans k j
 no_job round plans jobs none k j e = absurd (past (sym (ap (λ (l : List Job). slice_get l k) none) ∙ e))
   where
     past : None ≡ Some j → ⊥
     past e = cc
 
-pub next_job : (round : OpenRound) (plans : List (List Target)) (k : ℕ) (job : Job) (w : Knowledge) → w ≡ new_worker round.table round.setup k
-    → job.recorder ≡ record { worker = w; room = length job.plan.now } → slice_get plans k ≡ Some job.plan.now → IsJob round plans k job
+pub next_job : (round : OpenRound) (plans : List (List Target)) (k : ℕ) (job : Job) (w : Knowledge)
+    → w ≡ new_worker round.table round.setup k
+    → job.recorder ≡ record { worker = w; room = length job.plan.now } → slice_get plans k ≡ Some job.plan.now
+    → IsJob round plans k job
 next_job round plans k job w next made here = record {
   worker = ap (λ (r : Recording). r.worker) made ∙ next;
   plan = here;
@@ -98,7 +126,8 @@ one_job_more round plans jobs job each here k j e = ⊎_elim
     (λ h. subst (λ (p : ℕ × Job). IsJob round plans p.0 p.1) (λ i. (sym h.0 i, h.1 i)) here)
     (slice_get-snoc jobs job j k e)
 
-pub job_is_own : (round : OpenRound) (plans : List (List Target)) (k : ℕ) (job : Job) → IsJob round plans k job → IsOwnRecorder round job.recorder
+pub job_is_own : (round : OpenRound) (plans : List (List Target)) (k : ℕ) (job : Job) → IsJob round plans k job
+    → IsOwnRecorder round job.recorder
 job_is_own round plans k job is = record {
   table = ap (λ (w : Knowledge). w.table) is.worker;
   setup = ap (λ (w : Knowledge). w.setup) is.worker;
@@ -119,7 +148,8 @@ done round plans k job r is followed =
       number = followed.keeps.number ∙ ap (λ (w : Knowledge). w.number) is.worker;
       answers = λ plan at.
           let same : job.plan.now ≡ plan = some_same job.plan.now plan (sym is.plan ∙ at) in
-          subst (λ (p : List Target × List Entry). AnswersPlan round.setup p.0 p.1) (λ i. (same i, sym gained i)) followed.answers;
+          subst (λ (p : List Target × List Entry). AnswersPlan round.setup p.0 p.1)
+          (λ i. (same i, sym gained i)) followed.answers;
     }
   where
     some_same : (a b : List Target) → Some a ≡ Some b → a ≡ b
@@ -131,28 +161,34 @@ pub record CameOf (round : OpenRound) (jobs : List Job) (k : ℕ) (r : Recording
   pub read : job ≡ get_or jobs k job
   pub followed : HasFollowed round.setup job.recorder job.plan.now r
 
-pub all_done : (round : OpenRound) (plans : List (List Target)) (jobs : List Job) (rs : List Recording) → AreJobs round plans jobs
-    → length rs ≡ length jobs → ((k : ℕ) (d : Recording) → k < length jobs → CameOf round jobs k (get_or rs k d)) → AreDone round plans rs
+pub all_done : (round : OpenRound) (plans : List (List Target)) (jobs : List Job) (rs : List Recording)
+    → AreJobs round plans jobs
+    → length rs ≡ length jobs → ((k : ℕ) (d : Recording) → k < length jobs → CameOf round jobs k (get_or rs k d))
+    → AreDone round plans rs
 all_done round plans jobs rs are long each = record {
   as_many = long ∙ are.as_many;
   each = λ k r e.
       let inside : k < length jobs = omega (arith, long, slice_get_within rs k r e) in
       let came = each k r inside in
       let is = are.each k came.job (slice_get_read jobs (length jobs) k came.job refl inside came.read) in
-      subst (λ (r : Recording). IsDone round plans k r) (get_or_from_slice_get rs k r r e) (done round plans k came.job (get_or rs k r) is came.followed);
+      subst (λ (r : Recording). IsDone round plans k r) (get_or_from_slice_get rs k r r e)
+      (done round plans k came.job (get_or rs k r) is came.followed);
 }
 
 -- what follows from two clauses on the value in an `Ok`
-pub both_ok : {A E : Type 0} (r : Result A E) {P Q R : A → Type 0} → ((x : A) → P x → Q x → R x) → IfOk r P → IfOk r Q → IfOk r R
+pub both_ok : {A E : Type 0} (r : Result A E) {P Q R : A → Type 0} → ((x : A) → P x → Q x → R x) → IfOk r P
+    → IfOk r Q → IfOk r R
 both_ok (Ok x) f p q = f x p q
 both_ok (Err e) f p q = tt
 
 -- The run
 
-pub all_own : (round : OpenRound) (plans : List (List Target)) (recorders : List Recording) → AreDone round plans recorders → Each (IsOwnRecorder round) recorders
+pub all_own : (round : OpenRound) (plans : List (List Target)) (recorders : List Recording)
+    → AreDone round plans recorders → Each (IsOwnRecorder round) recorders
 all_own round plans recorders all = each_by_get (IsOwnRecorder round) recorders (λ k r e. (all.each k r e).own)
 
-module _ (round : OpenRound) (plans : List (List Target)) (recorders : List Recording) (logged : Logged) (all : AreDone round plans recorders)
+module _ (round : OpenRound) (plans : List (List Target)) (recorders : List Recording) (logged : Logged)
+    (all : AreDone round plans recorders)
     (l : IsLogged round (workers_of recorders) logged) (as_many : round.setup.workers ≡ length plans) where
   -- the recorder of a log
   record IsLogOf (k : ℕ) (log : List Entry) : Type 0 where
@@ -164,11 +200,13 @@ module _ (round : OpenRound) (plans : List (List Target)) (recorders : List Reco
 
   log_at : (k : ℕ) (log : List Entry) → slice_get (lists_of logged.logs.items) k ≡ Some log → IsLogOf k log
   log_at k log e =
-      let w = map_at (λ (k : Knowledge). part k.number l.closes.history) (workers_of recorders) k log (subst (λ (ls : List (List Entry)). slice_get ls k ≡ Some log) l.logs e) in
+      let w = map_at (λ (k : Knowledge). part k.number l.closes.history) (workers_of recorders) k log
+      (subst (λ (ls : List (List Entry)). slice_get ls k ≡ Some log) l.logs e) in
       let r = map_at (λ (r : Recording). r.worker) recorders k w.0 w.1 in
       let number : r.0.worker.number ≡ k = (all.each k r.0 r.1).number in
       let mine = each_get (IsPartOf l.closes.history) (workers_of recorders) k w.0 l.closes.parts w.1 in
-      let log_is : log ≡ part r.0.worker.number l.closes.history = sym w.2 ∙ ap (λ (v : Knowledge). part v.number l.closes.history) (sym r.2) in
+      let log_is : log ≡ part r.0.worker.number l.closes.history = sym w.2
+      ∙ ap (λ (v : Knowledge). part v.number l.closes.history) (sym r.2) in
       record {
         r = r.0;
         stands = r.1;
@@ -199,10 +237,12 @@ module _ (round : OpenRound) (plans : List (List Target)) (recorders : List Reco
     };
     answers = λ k plan log at e.
         let i = log_at k log e in
-        subst (λ (es : List Entry). AnswersPlan round.setup plan es) (sym i.is_log) ((all.each k i.r i.stands).answers plan at);
+        subst (λ (es : List Entry). AnswersPlan round.setup plan es) (sym i.is_log)
+        ((all.each k i.r i.stands).answers plan at);
     turned = λ k log e.
         let i = log_at k log e in
         subst (λ (ts : List (ℕ × ℕ)). slice_get ts k ≡ Some (k, turn_count log)) (sym l.closes.pairs)
-        (at_map number_and_turns (workers_of recorders) k i.r.worker (at_map (λ (r : Recording). r.worker) recorders k i.r i.stands)
+        (at_map number_and_turns (workers_of recorders) k i.r.worker
+        (at_map (λ (r : Recording). r.worker) recorders k i.r i.stands)
         ∙ (λ j. Some (i.number j, turn_count (sym i.is_log j))));
   }

@@ -1,5 +1,6 @@
 -- An entry of a log in the run.
-use Rattle.std.proofs.Common.{◌≡◌, ◌≢◌, ◌∙◌, ◌++◌, ◌∷◌, [], ℕ, List, ap, arith, length, length-append, refl, subst, sym, ⊎_elim}
+use Rattle.std.proofs.Common.{◌≡◌, ◌≢◌, ◌∙◌, ◌++◌, ◌∷◌, [], ℕ, List, ap, arith, length, length-append, refl, subst}
+use Rattle.std.proofs.Common.{sym, ⊎_elim}
 use Rattle.std.proofs.lemmas.Bool.{cases_eq}
 use Rattle.fr_core.specs.History.{moment_of, part}
 use Rattle.fr_core.specs.Legal.{IsRun}
@@ -28,7 +29,8 @@ at_other x h k before e after other i = record {
   after_it = i.after_it;
 }
 
-at_more : (x y : Entry) (h : List Entry) (k : ℕ) (before : List Entry) (e : Entry) (after : List Entry) → x.worker ≡ k → x ≡ y
+at_more : (x y : Entry) (h : List Entry) (k : ℕ) (before : List Entry) (e : Entry) (after : List Entry)
+    → x.worker ≡ k → x ≡ y
     → IsAt h k before e after → IsAt (x ∷ h) k (y ∷ before) e after
 at_more x y h k before e after own is i = record {
   front = x ∷ i.front;
@@ -39,7 +41,8 @@ at_more x y h k before e after own is i = record {
 }
 
 at_own : (x : Entry) (h : List Entry) (k : ℕ) (before : List Entry) (e : Entry) (after : List Entry) → x.worker ≡ k
-    → ((before : List Entry) → part k h ≡ before ++ e ∷ after → IsAt h k before e after) → x ∷ part k h ≡ before ++ e ∷ after → IsAt (x ∷ h) k before e after
+    → ((before : List Entry) → part k h ≡ before ++ e ∷ after → IsAt h k before e after)
+    → x ∷ part k h ≡ before ++ e ∷ after → IsAt (x ∷ h) k before e after
 at_own x h k [] e after own later is =
     let first : x ≡ e = cc in record {
       front = [];
@@ -53,7 +56,8 @@ at_own x h k (y ∷ before) e after own later is =
     let rest : part k h ≡ before ++ e ∷ after = cc in
     at_more x y h k before e after own first (later before rest)
 
-part_split : (h : List Entry) (k : ℕ) (before : List Entry) (e : Entry) (after : List Entry) → part k h ≡ before ++ e ∷ after → IsAt h k before e after
+part_split : (h : List Entry) (k : ℕ) (before : List Entry) (e : Entry) (after : List Entry)
+    → part k h ≡ before ++ e ∷ after → IsAt h k before e after
 part_split [] k before e after is = absurd (omega (arith, ap length is, length-append before (e ∷ after)))
 part_split (x ∷ h) k before e after is = ⊎_elim
     (λ own. at_own x h k before e after own (λ b. part_split h k b e after) (sym (part_more k x h own) ∙ is))

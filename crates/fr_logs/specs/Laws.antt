@@ -6,7 +6,8 @@ use Rattle.fr_core.specs.declared.entry.Entry.{Entry}
 use Rattle.fr_logs.specs.Runs.{AreOneRun}
 
 -- an entry of log k has a place in the run, behind what its worker did before it, and is legal there
-pub record HasPlace (n d : ℕ) (first : List (ℕ × ℕ)) (history : List Entry) (k : ℕ) (before : List Entry) (e : Entry) (after : List Entry) : Type 0 where
+pub record HasPlace (n d : ℕ) (first : List (ℕ × ℕ)) (history : List Entry) (k : ℕ) (before : List Entry)
+    (e : Entry) (after : List Entry) : Type 0 where
   pub front : List Entry
   pub back : List Entry
   pub parted : history ≡ front ++ e ∷ back
@@ -16,11 +17,13 @@ pub record HasPlace (n d : ℕ) (first : List (ℕ × ℕ)) (history : List Entr
 
 -- each entry of each log has such a place
 abbrev pub EachHasPlace : Type 0
-EachHasPlace = (n d : ℕ) (first : List (ℕ × ℕ)) (counts : List ℕ) (logs : List (List Entry)) (r : AreOneRun n d first counts logs)
+EachHasPlace = (n d : ℕ) (first : List (ℕ × ℕ)) (counts : List ℕ) (logs : List (List Entry))
+    (r : AreOneRun n d first counts logs)
     (k : ℕ) (before : List Entry) (e : Entry) (after : List Entry) → slice_get logs k ≡ Some (before ++ e ∷ after)
     → HasPlace n d first r.history k before e after
 
 -- however logs are merged into a run, it leads to the same counts
 abbrev pub LogsShowTheEnd : Type 0
-LogsShowTheEnd = (n d : ℕ) (first : List (ℕ × ℕ)) (counts others : List ℕ) (logs : List (List Entry)) → AreOneRun n d first counts logs
+LogsShowTheEnd = (n d : ℕ) (first : List (ℕ × ℕ)) (counts others : List ℕ) (logs : List (List Entry))
+    → AreOneRun n d first counts logs
     → AreOneRun n d first others logs → counts ≡ others

@@ -39,7 +39,8 @@ IsCallFault b r t Full = r.room ≡ 0
 IsCallFault b r t (Refused why) = (0 < r.room) × RefusesTarget b t why
 
 -- the call that a target asks for is made and written down:
-pub record Records (b : Setup) (before : Recording) (target : Target) (reply : Reply) (after : Recording) : Type 0 where
+pub record Records (b : Setup) (before : Recording) (target : Target) (reply : Reply)
+    (after : Recording) : Type 0 where
   -- the round does not refuse it,
   pub accepted : ¬ IsRefused b target
   -- the reply answers it,
@@ -56,7 +57,8 @@ abbrev pub AnswersPlan : Setup → List Target → List Entry → Type 0
 AnswersPlan b [] entries = entries ≡ []
 AnswersPlan b (t ∷ ts) entries =
     (IsRefused b t × AnswersPlan b ts entries)
-    ⊎ ((e : Entry) × (rest : List Entry) × (entries ≡ e ∷ rest) × ¬ IsRefused b t × IsAnswerTo t (answer_of e) × AnswersPlan b ts rest)
+    ⊎ ((e : Entry) × (rest : List Entry) × (entries ≡ e ∷ rest) × ¬ IsRefused b t × IsAnswerTo t
+    (answer_of e) × AnswersPlan b ts rest)
 
 -- a plan was followed: the log gained an answer to each target that is not refused
 pub record HasFollowed (b : Setup) (before : Recording) (plan : List Target) (after : Recording) : Type 0 where

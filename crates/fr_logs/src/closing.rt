@@ -54,12 +54,11 @@ fn take_apart(recorders: Vec<Recorder>, mut parts: Parts) -> Parts
     parts
 }
 
-/// Ends the round as [`Round::close`] does, and returns the logs beside what that returns. Together they are one run of
-/// full reversal by one thread, which leads to the counts at the end: each log is exactly its worker's part of it, and
-/// if all workers are handed back it has no other entries.
+/// Ends the round as [`Round::close`] does, and returns the logs beside what that returns. There is one run of full
+/// reversal by one thread, which leads to the counts at the end, and each log is exactly its worker's part of that run.
 ///
-/// The recorders have to be of this round, and no more than it was opened with; some may be missing. If an allocation is
-/// refused, nothing has changed, and the fault hands the round and the recorders back. `O(n + k)`.
+/// The recorders have to be of this round, and no more than it was opened with; some may be missing. If an allocation
+/// is refused, nothing has changed, and the fault hands the round and the recorders back. `O(n + k)`.
 pub fn close_logged(
     alloc: Global,
     round: Round,

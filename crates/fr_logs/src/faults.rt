@@ -16,7 +16,8 @@ pub enum CallFault {
     Refused(Refusal),
 }
 
-/// A round that could not be closed, because an allocation was refused. It is handed back as it was, with its recorders.
+/// A round that could not be closed, because an allocation was refused. It is handed back as it was, with its
+/// recorders.
 #[derive(Drop)]
 pub struct CloseFault {
     pub round: Round,

@@ -131,13 +131,14 @@ impl Recorder {
 
     /// Makes the call that a target asks for, a turn or a look, and writes down the reply.
     ///
-    /// The worker has to be one of this round. Fails with `Full` if the log has no room, before any step, and else with
-    /// `Refused` if the round refuses the call. Then nothing has changed, and nothing is written down. It takes no
-    /// memory, and waits for nobody.
+    /// The worker has to be one of this round. Fails with `Full` if the log has no room, before any step, and else
+    /// with `Refused` if the round refuses the call. Then nothing has changed, and nothing is written down. It takes
+    /// no memory, and waits for nobody.
     pub fn call(&mut self, round: &Round, target: Target) -> Result<Reply, CallFault>
         requires { IsOwn round.now self.old.worker }
         ensures records { IfOk result (λ reply. Records round.now.setup self.old target reply self.new) }
-        ensures fault { IfErr result (λ fault. IsCallFault round.now.setup self.old target fault × (self.new ≡ self.old)) }
+        ensures fault { IfErr result
+            (λ fault. IsCallFault round.now.setup self.old target fault × (self.new ≡ self.old)) }
     {
         if self.room() == 0 {
             return Err(CallFault::Full);
@@ -152,27 +153,30 @@ impl Recorder {
         }
     }
 
-    /// Turns node `x` if it is a sink, by [`Round::try_turn`], and writes down the reply. Fails as [`Recorder::call`] does.
+    /// Turns node `x` if it is a sink, by [`Round::try_turn`], and writes down the reply. Fails as [`Recorder::call`]
+    /// does.
     pub fn try_turn(&mut self, round: &Round, x: u32) -> Result<Reply, CallFault>
         requires { IsOwn round.now self.old.worker }
         ensures records { IfOk result (λ reply. Records round.now.setup self.old (Turn x) reply self.new) }
-        ensures fault { IfErr result (λ fault. IsCallFault round.now.setup self.old (Turn x) fault × (self.new ≡ self.old)) }
+        ensures fault { IfErr result
+            (λ fault. IsCallFault round.now.setup self.old (Turn x) fault × (self.new ≡ self.old)) }
     {
         self.call(round, Target::Turn(x))
     }
 
-    /// Looks where a link of node `x` points, by [`Round::look`], and writes down the reply. Fails as [`Recorder::call`]
-    /// does.
+    /// Looks where a link of node `x` points, by [`Round::look`], and writes down the reply. Fails as
+    /// [`Recorder::call`] does.
     pub fn look(&mut self, round: &Round, x: u32) -> Result<Reply, CallFault>
         requires { IsOwn round.now self.old.worker }
         ensures records { IfOk result (λ reply. Records round.now.setup self.old (Look x) reply self.new) }
-        ensures fault { IfErr result (λ fault. IsCallFault round.now.setup self.old (Look x) fault × (self.new ≡ self.old)) }
+        ensures fault { IfErr result
+            (λ fault. IsCallFault round.now.setup self.old (Look x) fault × (self.new ≡ self.old)) }
     {
         self.call(round, Target::Look(x))
     }
 
-    /// Makes the calls of a plan, one after the other, and writes down each reply. It passes over targets that the round
-    /// refuses. The log has to have room for as many entries as there are targets.
+    /// Makes the calls of a plan, one after the other, and writes down each reply. It passes over targets that the
+    /// round refuses. The log has to have room for as many entries as there are targets.
     pub fn follow(&mut self, round: &Round, plan: &[Target])
         requires own { IsOwn round.now self.old.worker }
         requires room { length plan.now ≤ self.old.room }

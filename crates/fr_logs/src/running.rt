@@ -122,14 +122,14 @@ fn close_run(
     }
 }
 
-/// Opens a round, has a thread follow each plan, and closes the round with the logs. A plan is a list of turns and looks.
-/// A thread makes the calls of its plan one after the other, passes over targets that the round refuses, and writes down
-/// each reply. Worker k follows plan k, and log k is its log. If no thread can be made, the calling thread follows plans
-/// one after the other.
+/// Opens a round, has a thread follow each plan, and closes the round with the logs. A plan is a list of turns and
+/// looks. A thread makes the calls of its plan one after the other, passes over targets that the round refuses, and
+/// writes down each reply. Worker k follows plan k, and log k is its log. If no thread can be made, the calling thread
+/// follows plans one after the other.
 ///
-/// Fails with `Range` if the destination is no node of the network, or if there is no plan or more than [`MAX_WORKERS`],
-/// and else with `Memory` if an allocation is refused; the fault hands the network back. It waits for its own threads
-/// alone. `O(m + k n)` beside the calls.
+/// Fails with `Range` if the destination is no node of the network, or if there is no plan or more than
+/// [`MAX_WORKERS`], and else with `Memory` if an allocation is refused; the fault hands the network back. It waits for
+/// its own threads alone. `O(m + k n)` beside the calls.
 pub fn run_logged<R: Threads + Sync>(
     rt: &R,
     alloc: Global,

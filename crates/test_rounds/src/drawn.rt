@@ -26,8 +26,8 @@ impl Draws {
     }
 }
 
-/// A network in two halves that no link joins. All links point from the lower number to the higher one, so nodes turn again and again. In
-/// each half a node has a link from the node before it, and drawn links from others.
+/// A network in two halves that no link joins. All links point from the lower number to the higher one, so nodes turn
+/// again and again. In each half a node has a link from the node before it, and drawn links from others.
 pub fn network(alloc: Global, draws: &mut Draws, nodes: u32) -> Result<Net, NetFault> {
     let mut links = Vec::new(alloc);
     let half = nodes / 2;

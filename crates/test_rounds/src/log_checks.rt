@@ -121,7 +121,8 @@ fn finds_exchanged(
     Ok(!is_run)
 }
 
-/// Whether the checker finds an entry of this kind that is altered, in the first log that has one. The logs are as before then.
+/// Whether the checker finds an entry of this kind that is altered, in the first log that has one. The logs are as
+/// before then.
 fn finds_altered(
     alloc: Global,
     net: &Net,
@@ -141,8 +142,8 @@ fn finds_altered(
     Ok(false)
 }
 
-/// Puts whether the logs are a run to the counts at the end, how many turns are left there, and whether faults in them are found: two turns
-/// of one node that are exchanged, and entries of these kinds that are altered.
+/// Puts whether the logs are a run to the counts at the end, how many turns are left there, and whether faults in them
+/// are found: two turns of one node that are exchanged, and entries of these kinds that are altered.
 pub fn put_checks(
     alloc: Global,
     text: &mut Answer,

@@ -22,7 +22,8 @@ use std::alloc::{AllocError, Global};
 use std::thread;
 use std::thread::Threads;
 
-/// A recorder, and for each entry of its log the counts of the node and of the neighbour that held it, as the worker had seen them then.
+/// A recorder, and for each entry of its log the counts of the node and of the neighbour that held it, as the worker
+/// had seen them then.
 #[derive(Drop)]
 struct Noted {
     recorder: Recorder,
@@ -196,8 +197,8 @@ fn draw(alloc: Global, asked: &[Value]) -> Result<Drawn, Fault> {
     Ok(Drawn { net, plans })
 }
 
-/// `["logs", nodes, seed, workers, calls]`: threads follow drawn plans. Whether their logs, merged by counts alone, are a run to the counts
-/// at the end, and whether a checker of runs finds what is exchanged or altered in a log.
+/// `["logs", nodes, seed, workers, calls]`: threads follow drawn plans. Whether their logs, merged by counts alone,
+/// are a run to the counts at the end, and whether a checker of runs finds what is exchanged or altered in a log.
 pub fn logs<R: Threads + Sync + Alloc<A = Global>>(
     rt: &R,
     text: &mut Answer,
@@ -249,8 +250,9 @@ fn counting(alloc: Global, log: &[Entry]) -> Result<Vec<Seen>, AllocError> {
     Ok(counting)
 }
 
-/// `["plans", nodes, seed, workers, calls]`: the same of the whole program of `fr_logs`, and whether each log answers its plan. What it returns
-/// does not say which counts a node that is held had seen, so these entries and those of sinks, which turn nothing, are left out.
+/// `["plans", nodes, seed, workers, calls]`: the same of the whole program of `fr_logs`, and whether each log answers
+/// its plan. What it returns does not say which counts a node that is held had seen, so these entries and those of
+/// sinks, which turn nothing, are left out.
 pub fn plans_followed<R: Threads + Sync + Alloc<A = Global>>(
     rt: &R,
     text: &mut Answer,

@@ -4,7 +4,8 @@ use fr_core::{Entry, Reply};
 use fr_net::{First, Net};
 use std::alloc::{AllocError, Global};
 
-/// An entry of a log, with the counts of its node and of the neighbour that held it, as the worker had seen them after the call.
+/// An entry of a log, with the counts of its node and of the neighbour that held it, as the worker had seen them after
+/// the call.
 #[derive(Clone, Copy)]
 pub struct Seen {
     pub entry: Entry,
@@ -102,7 +103,8 @@ impl<'n> Merge<'n> {
         }
     }
 
-    /// Whether an entry can stand next: the nodes have these counts, and a turn takes no count away at which another entry stands.
+    /// Whether an entry can stand next: the nodes have these counts, and a turn takes no count away at which another
+    /// entry stands.
     fn can_stand(&self, seen: &Seen) -> Result<bool, AllocError> {
         for place in places(self.alloc, self.net, seen)? {
             if !self.is_at(place) {
@@ -132,7 +134,8 @@ impl<'n> Merge<'n> {
         Ok(())
     }
 
-    /// The log whose next entry comes next: one that can stand, the one of this place if that can, or else any that is left.
+    /// The log whose next entry comes next: one that can stand, the one of this place if that can, or else any that is
+    /// left.
     fn next_log(&self, rests: &[&[Seen]], from: usize) -> Result<Option<usize>, AllocError> {
         let mut any = None;
         for at in (from..rests.len()).chain(0..from) {
@@ -148,8 +151,8 @@ impl<'n> Merge<'n> {
     }
 }
 
-/// The entries of all logs in one list, in which each log keeps its order. No worker's number and no time decides where an entry comes,
-/// but the counts that it names alone. Where these fit no place, the list is no run.
+/// The entries of all logs in one list, in which each log keeps its order. No worker's number and no time decides
+/// where an entry comes, but the counts that it names alone. Where these fit no place, the list is no run.
 pub fn merge_logs(alloc: Global, net: &Net, logs: &[Vec<Seen>]) -> Result<Vec<Entry>, AllocError> {
     let mut merge = Merge::new(alloc, net, logs)?;
     let mut merged = Vec::new(alloc);

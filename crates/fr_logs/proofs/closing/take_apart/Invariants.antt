@@ -9,6 +9,8 @@ abbrev pub invariant-loop-recorder : goal.invariant-loop-recorder
 invariant-loop-recorder l = record {
   room_of_workers : vec_len l.parts.workers + into_iter_len l.recorder-iterator ≤ vec_capacity l.parts.workers;
   room_of_logs : vec_len l.parts.logs + into_iter_len l.recorder-iterator ≤ vec_capacity l.parts.logs;
-  workers : l.parts.workers.items ++ workers_of (into_iter_items l.recorder-iterator) ≡ workers_of l.fn.recorders.items;
-  logs : lists_of l.parts.logs.items ++ map log_of (into_iter_items l.recorder-iterator) ≡ map log_of l.fn.recorders.items;
+  workers : l.parts.workers.items ++ workers_of
+      (into_iter_items l.recorder-iterator) ≡ workers_of l.fn.recorders.items;
+  logs : lists_of l.parts.logs.items ++ map log_of
+      (into_iter_items l.recorder-iterator) ≡ map log_of l.fn.recorders.items;
 }

@@ -10,10 +10,12 @@ pub returns-in-Turn-clause-accepted : goal.returns-in-Turn-clause-accepted
 returns-in-Turn-clause-accepted c =
     let b = c.args.round.now.setup in
     subst (λ (t : Target). IfOk c.try_turn.result (λ _. ¬ IsRefused b t)) (sym c.in-Turn.is)
-    (IfOk-weaker c.try_turn.result _ (λ _. ¬ IsRefused b (Turn c.in-Turn.x)) (λ _ may. turn_not_refused b c.in-Turn.x may) c.try_turn.ensures.decided)
+    (IfOk-weaker c.try_turn.result _ (λ _. ¬ IsRefused b (Turn c.in-Turn.x))
+    (λ _ may. turn_not_refused b c.in-Turn.x may) c.try_turn.ensures.decided)
 
 pub returns-in-Look-clause-accepted : goal.returns-in-Look-clause-accepted
 returns-in-Look-clause-accepted c =
     let b = c.args.round.now.setup in
     subst (λ (t : Target). IfOk c.look.result (λ _. ¬ IsRefused b t)) (sym c.in-Look.is)
-    (IfOk-weaker c.look.result _ (λ _. ¬ IsRefused b (Look c.in-Look.x)) (λ _ may. look_not_refused b c.in-Look.x may) c.look.ensures.decided)
+    (IfOk-weaker c.look.result _ (λ _. ¬ IsRefused b (Look c.in-Look.x))
+    (λ _ may. look_not_refused b c.in-Look.x may) c.look.ensures.decided)

@@ -8,4 +8,5 @@ loop-target-preserved c =
     let plan = c.args.plan.now in
     let made = c.loop-target.target-index in
     following_next c.args.round.now.setup c.args.recorder.now plan made c.loop-target.recorder c.loop-target.invariant
-    (Turn 0) (get_or plan made (Turn 0)) c.loop-target-test.true refl c.call.result c.call.new.self c.call.ensures.records c.call.ensures.fault
+    (Turn 0) (get_or plan made (Turn 0)) c.loop-target-test.true refl
+    c.call.result c.call.new.self c.call.ensures.records c.call.ensures.fault

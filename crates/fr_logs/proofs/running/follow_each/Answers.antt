@@ -11,6 +11,7 @@ map_vec-requires-after_bounds g c κs within i x below is =
 
 pub returns : goal.returns
 returns g c = both_ok c.map_vec.result
-    (λ v long each. all_done c.args.round.now (lists_of c.args.plans.now) c.args.jobs.items v.items c.requires (omega (arith, long, v.ok.0, c.args.jobs.ok.0))
+    (λ v long each. all_done c.args.round.now (lists_of c.args.plans.now) c.args.jobs.items v.items c.requires
+    (omega (arith, long, v.ok.0, c.args.jobs.ok.0))
     (λ k d below. let h = (each k d below).1 in record { job = h.job; read = h.job_read; followed = h.call.met }))
     c.map_vec.ensures.len c.map_vec.ensures.each

@@ -15,6 +15,8 @@ pub returns-clause-own : goal.returns-clause-own
 returns-clause-own g c = both_ok c.map_vec.result
     (λ v long each. each_by_get (λ (noted : Noted). IsOwnRecorder c.args.round.now noted.recorder) v.items
     (λ k x e.
-    let inside : k < length c.args.jobs.items = omega (arith, slice_get_within v.items k x e, long, v.ok.0, c.args.jobs.ok.0) in
-    subst (λ (noted : Noted). IsOwnRecorder c.args.round.now noted.recorder) (get_or_from_slice_get v.items k x x e) (each k x inside).1.call.met))
+    let inside : k < length c.args.jobs.items = omega
+    (arith, slice_get_within v.items k x e, long, v.ok.0, c.args.jobs.ok.0) in
+    subst (λ (noted : Noted). IsOwnRecorder c.args.round.now noted.recorder)
+    (get_or_from_slice_get v.items k x x e) (each k x inside).1.call.met))
     c.map_vec.ensures.len c.map_vec.ensures.each
