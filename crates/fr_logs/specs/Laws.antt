@@ -1,4 +1,4 @@
--- The laws of logs that are one run.
+-- The laws of logs that are one run. They are this project's own.
 use Rattle.std.specs.Prelude.{◌≡◌, ℕ, List, ◌∷◌, ◌++◌, Some, replicate, slice_get}
 use Rattle.fr_core.specs.History.{after_all, moment_of, part}
 use Rattle.fr_core.specs.Legal.{IsLegal}

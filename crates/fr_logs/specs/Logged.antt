@@ -1,4 +1,4 @@
--- What the closing of a round with its logs says.
+-- What the closing of a round with its logs says. The notions are this project's own.
 use Rattle.std.specs.Prelude.{◌≡◌, List, map}
 use Rattle.fr_core.specs.History.{part}
 use Rattle.fr_core.specs.Targets.{lists_of}

@@ -1,4 +1,5 @@
--- Logs that are one run.
+-- Logs that are one run: a history of all threads of which each log is one thread's part (M. Herlihy and J. Wing,
+-- "Linearizability", ACM Transactions on Programming Languages and Systems, 1990, call that part a subhistory).
 use Rattle.std.specs.Prelude.{◌≡◌, ℕ, ◌<◌, List, length, Some, slice_get}
 use Rattle.std.specs.List.{AllByRecursion as Each}
 use Rattle.fr_core.specs.History.{part, turn_count}
