@@ -3,13 +3,13 @@
 use crate::answers::Answer;
 use crate::fault::Fault;
 use crate::values::{items, named, word};
-use crate::{counts, crews, gates, live_walks, rounds, threads};
+use crate::{counts, crews, gates, live_walks, logs, rounds, threads};
 use serde_json::Value;
 use std::alloc::Global;
 use std::sync::Wait;
 use std::thread::Threads;
 
-/// What a case can ask for. The last nine are about threads and gates, which are not data.
+/// What a case can ask for. The last eleven are about threads and gates, which are not data.
 #[derive(Clone, Copy)]
 enum Asked {
     Open,
@@ -33,10 +33,12 @@ enum Asked {
     OddHeld,
     Slow,
     TriedAgain,
+    Logs,
+    Plans,
 }
 
 /// The words that ask.
-const WORDS: [(&str, Asked); 21] = [
+const WORDS: [(&str, Asked); 23] = [
     ("open", Asked::Open),
     ("calls", Asked::Calls),
     ("one worker", Asked::OneWorker),
@@ -58,6 +60,8 @@ const WORDS: [(&str, Asked); 21] = [
     ("odd held", Asked::OddHeld),
     ("slow", Asked::Slow),
     ("tried again", Asked::TriedAgain),
+    ("logs", Asked::Logs),
+    ("plans", Asked::Plans),
 ];
 
 /// Appends the answer to the case of a line.
@@ -103,5 +107,7 @@ fn put_answer<R: Threads + Wait + Sync + Alloc<A = Global>>(
         Asked::OddHeld => gates::odd_held(rt, text),
         Asked::Slow => gates::slow(rt, text),
         Asked::TriedAgain => gates::tried_again(rt, text),
+        Asked::Logs => logs::logs(rt, text, case),
+        Asked::Plans => logs::plans_followed(rt, text, case),
     }
 }

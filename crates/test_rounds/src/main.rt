@@ -1,4 +1,4 @@
-//! Tests of rounds and crews (fr_round, fr_crew), by public calls only. Each line of standard input is a title, which
+//! Tests of rounds, crews and logs (fr_round, fr_crew, fr_logs), by public calls only. Each line of standard input is a title, which
 //! begins with `#`, or a case: a JSON list whose first item names the question. Each line is printed, and below a case
 //! its answer, indented by two blanks. The expected answers were not written by this program. What depends on the order
 //! in which threads run is not printed.
@@ -8,9 +8,13 @@ mod answers;
 mod asked;
 mod counts;
 mod crews;
+mod drawn;
 mod fault;
 mod gates;
 mod live_walks;
+mod log_checks;
+mod logs;
+mod merging;
 mod rounds;
 mod threads;
 mod values;

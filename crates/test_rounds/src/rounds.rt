@@ -1,8 +1,9 @@
 //! Rounds of two or three workers, whose calls are in the case.
 
-ghost use Rattle.std.specs.Prelude.{◌≡◌, ◌≤◌, ◌<◌, length, IfOk, IfSome};
+ghost use Rattle.std.specs.Prelude.{◌≡◌, ◌≤◌, ◌<◌, length, IfOk, IfSome, vec_len};
 ghost use Rattle.std.specs.List.{AllByRecursion as Each};
 ghost use Rattle.fr_round.specs.Knowledge.{IsOwn};
+ghost use Rattle.fr_round.specs.Opening.{KnowsNothing};
 
 use crate::answers::Answer;
 use crate::fault::Fault;
@@ -28,9 +29,16 @@ enum Back {
 }
 
 /// A round and its workers.
-fn opened(alloc: Global, net: Net, dest: u32, count: u32) -> Result<(Round, Vec<Worker>), OpenFault>
+pub fn opened(
+    alloc: Global,
+    net: Net,
+    dest: u32,
+    count: u32,
+) -> Result<(Round, Vec<Worker>), OpenFault>
     ensures own { IfOk result (λ r. Each (IsOwn r.0) r.1.items) }
+    ensures fresh { IfOk result (λ r. Each (KnowsNothing r.0.setup) r.1.items) }
     ensures workers { IfOk result (λ r. r.0.setup.workers ≡ count) }
+    ensures all { IfOk result (λ r. vec_len r.1 ≡ count) }
 {
     match Round::open(alloc, net, dest, count) {
         Ok(opened) => Ok(opened),
