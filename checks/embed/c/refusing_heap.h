@@ -1,4 +1,5 @@
-/* A heap for tests. embed/check renames the library's calls of malloc, realloc and free, so that they come here. */
+/* A heap for tests. checks/embed/check renames the library's calls of malloc, realloc and free, so that they come
+ * here. */
 #ifndef REFUSING_HEAP_H
 #define REFUSING_HEAP_H
 

@@ -1,5 +1,5 @@
-/* The library with a fault in it. embed/can-fail builds it with each FAULT. The names of the real calls begin with
- * engine_ there. */
+/* The library with a fault in it. checks/embed/can-fail builds it with each FAULT. The names of the real calls begin
+ * with engine_ there. */
 #include <revroute.h>
 #include <stdlib.h>
 #include <string.h>

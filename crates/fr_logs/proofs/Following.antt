@@ -2,7 +2,7 @@
 use Rattle.std.proofs.Common.{◌≡◌, ◌∙◌, ◌≤◌, ◌<◌, ◌+◌, ◌++◌, ◌∷◌, [], ℕ, List, ap, arith, get_or, inl, inr, length}
 use Rattle.std.proofs.Common.{refl, subst, sym, take, ⊎_elim}
 use Rattle.std.specs.Prelude.{Err, IfErr, IfOk, Ok, Result}
-use Rattle.std.proofs.lemmas.List.{append-nil, append_assoc, take_all, take_more}
+use Rattle.std.proofs.lemmas.List.{append-nil, append_assoc, length-append, take_all, take_more}
 use Rattle.fr_core.specs.Played.{answer_of}
 use Rattle.fr_core.specs.Replies.{IsAnswerTo}
 use Rattle.fr_core.specs.Targets.{IsLookable, IsTurnable, node_of}
@@ -13,7 +13,7 @@ use Rattle.fr_core.specs.declared.targets.Target.TheVariants.{Look, Turn}
 use Rattle.fr_round.specs.declared.faults.Refusal.{Refusal}
 use Rattle.fr_round.specs.declared.faults.Refusal.TheVariants.{Alone, Destination, NoNode}
 use Rattle.fr_round.specs.declared.view.Setup.{Setup}
-use Rattle.fr_round.specs.Histories.{entry}
+use Rattle.fr_round.specs.Histories.{StartsWith, entry}
 use Rattle.fr_round.specs.Knowledge.{KeepsWorker, Knowledge}
 use Rattle.fr_logs.specs.declared.faults.CallFault.{CallFault}
 use Rattle.fr_logs.specs.declared.faults.CallFault.TheVariants.{Full, Refused}
@@ -72,6 +72,17 @@ keeps_on a b c p q = record {
   seen = λ z. omega (arith, p.seen z, q.seen z);
 }
 
+starts_on : (some more all : List Entry) → StartsWith more some → StartsWith all more → StartsWith all some
+starts_on some more all s t = (s.0 ++ t.0, t.1 ∙ (ap (λ (l : List Entry). l ++ t.0) s.1 ∙ append_assoc some s.0 t.0))
+
+-- a call forgets nothing
+knows_on : (b : Setup) (before after : Recording) (t : Target) (reply : Reply) → Records b before t reply after
+    → StartsWith after.worker.known before.worker.known
+knows_on b before after t reply r =
+    let h = r.learns.history in
+    let e : Entry = entry before.worker.number (node_of t) reply in
+    (h.between ++ e ∷ [], h.begins ∙ append_assoc before.worker.known h.between (e ∷ []))
+
 -- so many targets of a plan were passed, and there is room for the rest
 pub record IsFollowing (b : Setup) (first : Recording) (plan : List Target) (made : ℕ) (now : Recording) : Type 0 where
   pub followed : HasFollowed b first (take made plan) now
@@ -81,9 +92,11 @@ pub following_none : (b : Setup) (r : Recording) (plan : List Target) → length
 following_none b r plan room = record {
   followed = record {
     keeps = record { table = refl; setup = refl; number = refl; seen = λ z. omega arith };
+    begins = ([], sym (append-nil r.worker.known));
     gained = [];
     log = sym (append-nil (log_of r));
     answers = refl;
+    room = omega arith;
   };
   room = omega (arith, room);
 }
@@ -98,10 +111,12 @@ module _ (b : Setup) (first : Recording) (plan : List Target) (made : ℕ) (now 
   following_refused refused = record {
     followed = record {
       keeps = f.followed.keeps;
+      begins = f.followed.begins;
       gained = f.followed.gained;
       log = f.followed.log;
       answers = subst (λ (l : List Target). AnswersPlan b l f.followed.gained) (sym one_more)
           (answers-refused b (take made plan) f.followed.gained t f.followed.answers refused);
+      room = f.followed.room;
     };
     room = omega (arith, f.room);
   }
@@ -112,11 +127,13 @@ module _ (b : Setup) (first : Recording) (plan : List Target) (made : ℕ) (now 
       let e : Entry = entry now.worker.number (node_of t) reply in record {
         followed = record {
           keeps = keeps_on first.worker now.worker next.worker f.followed.keeps r.keeps;
+          begins = starts_on first.worker.known now.worker.known next.worker.known f.followed.begins (knows_on b now next t reply r);
           gained = f.followed.gained ++ e ∷ [];
           log = r.log ∙ (ap (λ (l : List Entry). l ++ e ∷ []) f.followed.log
               ∙ append_assoc (log_of first) f.followed.gained (e ∷ []));
           answers = subst (λ (l : List Target). AnswersPlan b l (f.followed.gained ++ e ∷ [])) (sym one_more)
               (answers-more b (take made plan) f.followed.gained t e f.followed.answers r.accepted r.answers);
+          room = omega (arith, f.followed.room, r.room, length-append f.followed.gained (e ∷ []));
         };
         room = omega (arith, f.room, r.room);
       }

@@ -1,5 +1,5 @@
 -- Workers that write down the replies that they get. The notions are this project's own.
-use Rattle.std.specs.Prelude.{◌≡◌, ℕ, ◌+◌, ◌<◌, ◌⊎◌, List, [], ◌∷◌, ◌++◌}
+use Rattle.std.specs.Prelude.{◌≡◌, ℕ, ◌+◌, ◌<◌, ◌⊎◌, List, [], ◌∷◌, ◌++◌, length}
 use Rattle.fr_core.specs.History.{part}
 use Rattle.fr_core.specs.Played.{answer_of}
 use Rattle.fr_core.specs.Replies.{IsAnswerTo}
@@ -10,7 +10,7 @@ use Rattle.fr_core.specs.declared.targets.Target.{Target}
 use Rattle.fr_core.specs.declared.targets.Target.TheVariants.{Turn, Look}
 use Rattle.fr_round.specs.declared.faults.Refusal.{Refusal}
 use Rattle.fr_round.specs.declared.view.Setup.{Setup}
-use Rattle.fr_round.specs.Histories.{entry}
+use Rattle.fr_round.specs.Histories.{StartsWith, entry}
 use Rattle.fr_round.specs.Knowledge.{KeepsWorker, Knowledge, LearnsReply, Refuses, RefusesLook}
 use Rattle.fr_logs.specs.declared.faults.CallFault.{CallFault}
 use Rattle.fr_logs.specs.declared.faults.CallFault.TheVariants.{Full, Refused}
@@ -60,9 +60,12 @@ AnswersPlan b (t ∷ ts) entries =
     ⊎ ((e : Entry) × (rest : List Entry) × (entries ≡ e ∷ rest) × ¬ IsRefused b t × IsAnswerTo t
     (answer_of e) × AnswersPlan b ts rest)
 
--- a plan was followed: the log gained an answer to each target that is not refused
+-- a plan was followed: the worker still knows what it knew, and the log gained an answer to each target that is not refused,
+-- which takes up its room
 pub record HasFollowed (b : Setup) (before : Recording) (plan : List Target) (after : Recording) : Type 0 where
   pub keeps : KeepsWorker before.worker after.worker
+  pub begins : StartsWith after.worker.known before.worker.known
   pub gained : List Entry
   pub log : log_of after ≡ log_of before ++ gained
   pub answers : AnswersPlan b plan gained
+  pub room : before.room ≡ after.room + length gained

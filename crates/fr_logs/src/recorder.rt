@@ -6,12 +6,12 @@ ghost use Rattle.fr_core.specs.Replies.{IsAnswerTo};
 ghost use Rattle.fr_core.specs.Targets.{node_of};
 ghost use Rattle.fr_core.specs.declared.targets.Target.TheVariants.{Turn, Look};
 ghost use Rattle.fr_round.specs.Histories.{entry};
-ghost use Rattle.fr_round.specs.Knowledge.{IsOwn, KeepsWorker, LearnsReply};
+ghost use Rattle.fr_round.specs.Knowledge.{IsOwn, KeepsWorker, LearnsPast, LearnsReply, past_of};
 ghost use Rattle.fr_logs.specs.Recording.{log_of, IsCallFault, IsRefused, RefusesTarget, Records, HasFollowed};
 
 use crate::faults::CallFault;
 use fr_core::{Entry, Reply, Target};
-use fr_round::{Refusal, Round, Worker};
+use fr_round::{Past, Refusal, Round, Worker};
 use std::alloc::{AllocError, AllocFailed, Global};
 use std::marker::Model;
 
@@ -86,8 +86,8 @@ fn follow_plan(recorder: &mut Recorder, round: &Round, plan: &[Target])
 }
 
 impl Recorder {
-    /// Gives a worker an empty log with room for so many entries. The worker has to have made no call yet. Fails if an
-    /// allocation is refused, and hands the worker back.
+    /// Gives a worker an empty log with room for so many entries. The worker must have made no call yet. Fails if an
+    /// allocation is refused, and gives the worker back.
     pub fn new(alloc: Global, worker: Worker, room: usize) -> Result<Recorder, AllocFailed<Worker>>
         requires { part worker.number worker.known ≡ [] }
         ensures made { IfOk result (λ recorder. recorder ≡ record { worker = worker; room = room }) }
@@ -124,6 +124,7 @@ impl Recorder {
     pub fn reserve(&mut self, entries: usize) -> Result<(), AllocError>
         ensures worker { self.new.worker ≡ self.old.worker }
         ensures room { IfOk result (λ _. entries ≤ self.new.room) }
+        ensures kept { self.old.room ≤ self.new.room }
         ensures failed { IfErr result (λ _. self.new ≡ self.old) }
     {
         self.log.reserve(entries)
@@ -131,9 +132,9 @@ impl Recorder {
 
     /// Makes the call that a target asks for, a turn or a look, and writes down the reply.
     ///
-    /// The worker has to be one of this round. Fails with `Full` if the log has no room, before any step, and else
-    /// with `Refused` if the round refuses the call. Then nothing has changed, and nothing is written down. It takes
-    /// no memory, and waits for nobody.
+    /// The worker must be one of this round. Fails with `Full` if the log has no room, before any step, and with
+    /// `Refused` if the round refuses the call. Then nothing has changed, and nothing is written down. The call does
+    /// not allocate or wait.
     pub fn call(&mut self, round: &Round, target: Target) -> Result<Reply, CallFault>
         requires { IsOwn round.now self.old.worker }
         ensures records { IfOk result (λ reply. Records round.now.setup self.old target reply self.new) }
@@ -175,14 +176,33 @@ impl Recorder {
         self.call(round, Target::Look(x))
     }
 
-    /// Makes the calls of a plan, one after the other, and writes down each reply. It passes over targets that the
-    /// round refuses. The log has to have room for as many entries as there are targets.
+    /// Makes the calls of a plan, one after the other, and writes down each reply. It skips targets that the round
+    /// refuses. The log must have room for as many entries as there are targets.
     pub fn follow(&mut self, round: &Round, plan: &[Target])
         requires own { IsOwn round.now self.old.worker }
         requires room { length plan.now ≤ self.old.room }
         ensures { HasFollowed round.now.setup self.old plan.now self.new }
     {
         follow_plan(self, round, plan);
+    }
+
+    /// What its worker knows, to hand to another thread, as by [`Round::past`]. It changes nothing.
+    pub fn past(&mut self, round: &Round) -> Past
+        requires { IsOwn round.now self.old.worker }
+        ensures kept { self.new ≡ self.old }
+        ensures past { result ≡ past_of self.old.worker }
+    {
+        round.past(&mut self.worker)
+    }
+
+    /// Its worker learns what another one knew, as by [`Round::learn`]. Nothing is written down.
+    pub fn learn(&mut self, round: &Round, past: Past)
+        requires worker { IsOwn round.now self.old.worker }
+        requires past { past.table ≡ round.now.table }
+        ensures learns { LearnsPast self.old.worker past self.new.worker }
+        ensures room { self.new.room ≡ self.old.room }
+    {
+        round.learn(&mut self.worker, past);
     }
 
     /// Its worker and its log.

@@ -1,5 +1,5 @@
-"""Calls without memory: the heap that embed/check puts under the library refuses each of its allocations in turn. Then
-each allocation of Python is refused."""
+"""Calls without memory: the heap that checks/embed/check puts under the library refuses each of its allocations in
+turn. Then each allocation of Python is refused."""
 
 import ctypes
 import unittest

@@ -1,4 +1,5 @@
-//! Calls without memory: the heap that embed/check puts under the library refuses each of its allocations in turn.
+//! Calls without memory: the heap that checks/embed/check puts under the library refuses each of its allocations in
+//! turn.
 #![cfg(refusing_heap)]
 
 use revroute::{Edit, Hop, Network, NoMemory, Refused, Report, Session, TableFault};
