@@ -1,4 +1,4 @@
--- What threads are given, and what they give back. The notions are this project's own.
+-- What threads are given, and what they return. For proofs only.
 use Rattle.std.specs.Prelude.{◌≡◌, ℕ, ◌≤◌, List, length, Some, slice_get}
 use Rattle.fr_graph.specs.Network.{Network}
 use Rattle.fr_core.specs.declared.targets.Target.{Target}

@@ -1,4 +1,4 @@
--- The fields of a recorder. The notions are this project's own.
+-- The fields of a recorder. For proofs only.
 use Rattle.std.specs.Prelude.{◌≡◌, ◌-◌, vec_capacity, vec_len}
 use Rattle.fr_core.specs.History.{part}
 use Rattle.fr_logs.specs.declared.recorder.Recorder.TheInside.{Inside}

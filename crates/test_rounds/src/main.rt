@@ -6,6 +6,7 @@
 
 mod answers;
 mod asked;
+mod callers;
 mod counts;
 mod crews;
 mod drawn;
