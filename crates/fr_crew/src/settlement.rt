@@ -1,10 +1,11 @@
 //! Settling a network.
 
 ghost use Rattle.std.specs.Prelude.{◌≡◌, ◌≢◌, ℕ, ◌<◌, ◌≤◌, ◌^◌, ◌↔◌, ◌⊎◌, IfOk, IfErr, IfSome, IsTrue, OnOk, length, replicate, sum, sum_by};
+ghost use Rattle.std.specs.List.{AllByRecursion as Each};
 ghost use Rattle.fr_graph.specs.Counts.{AreLawful};
-ghost use Rattle.fr_core.specs.Finish.{HoldsAllThatCanTurn};
+ghost use Rattle.fr_core.specs.Finish.{HoldsAllThatCanTurn, IsFinish};
 ghost use Rattle.fr_core.specs.Settled.{AreSettled};
-ghost use Rattle.fr_crew.specs.Settlements.{AreByWorkers, CanBegin, IsCounted, IsDoneBy, IsSettlement};
+ghost use Rattle.fr_crew.specs.Settlements.{AreByWorkers, AreNumbered, CanBegin, IsCounted, IsCrewWork, IsSettlement};
 ghost use Rattle.fr_crew.specs.declared.fault.CrewFault.TheVariants.{Range, Start, Memory};
 
 use crate::fault::CrewFault;
@@ -14,7 +15,7 @@ use crate::threads::run_crew;
 use fr_core::{are_settled, finish_from, finish_soon, finish_turns};
 use fr_graph::{Net, Turns};
 use fr_round::{Closed, Round};
-use std::alloc::Global;
+use std::alloc::{AllocError, Global};
 use std::marker::Brand;
 use std::sync::Wait;
 use std::thread::Threads;
@@ -32,11 +33,21 @@ pub struct Settled {
     pub by_finisher: u64,
 }
 
+/// A settled network, with what the workers of its crew did. This depends on the schedule.
+#[derive(Debug, Drop)]
+pub struct CrewWork {
+    /// The settled network.
+    pub settled: Settled,
+    /// How often each node had turned when the workers ended: where the finisher began.
+    pub left: Vec<u64>,
+    /// The number of each worker, and how often its own calls turned a node. The workers are in no order.
+    pub turned: Vec<(u32, u64)>,
+}
+
 /// Turns a network until no node can turn: full reversal (E. Gafni and D. Bertsekas, 1981) by the workers of the plan, each
 /// in a thread of its own but for the last, which works on the thread that calls, and what they leave by
 /// [`finish_turns`](fr_core::finish_turns) on one thread. Whatever the plan, the gate and the schedule, the answer is the same but for who
-/// made how many turns. The calls of the workers form one run of full reversal by one thread. The finisher goes on from
-/// the counts at its end.
+/// made how many turns.
 ///
 /// Each worker has a deque of candidates. At first these are all nodes with a link but the destination, each dealt to the worker
 /// whose number is the node's modulo the number of workers. A worker takes a candidate of its own, or else steals one from another
@@ -61,7 +72,6 @@ pub fn settle<R: Threads + Wait + Sync, G: Gate + Sync>(
     gate: &G,
 ) -> Result<Settled, CrewFault>
     ensures settled { IfOk result (λ settled. IsSettlement net.nodes dest net.links settled) }
-    ensures done { IfOk result (λ settled. IsDoneBy net.nodes dest net.links plan.now.workers settled) }
     ensures range { IfErr result (λ fault. (fault ≡ Range) ↔ (net.nodes ≤ dest)) }
     ensures by_finisher { plan.now.budget ≡ 0 → IfOk result (λ settled. settled.by_workers ≡ 0) }
     ensures no_start { (plan.now.budget ≡ 0) ⊎ (plan.now.workers ≡ 1) → IfErr result (λ fault. fault ≢ Start) }
@@ -80,6 +90,43 @@ pub fn settle<R: Threads + Wait + Sync, G: Gate + Sync>(
         plan,
         gate,
     };
+    let CrewWork { settled, .. } = settled_by(&crew, net, dest, turns)?;
+    Ok(settled)
+}
+
+/// Settles a network as [`settle`] does, and also returns what the workers did: how often each node had turned when
+/// they ended, and how often the calls of each worker turned a node. The calls of the workers form one run of full
+/// reversal by one thread, from the first links to those counts. The finisher goes on from there.
+///
+/// If no worker makes a call, all counts in `left` are 0, and each worker has the turns 0 in `turned`.
+///
+/// Its faults and its costs are those of `settle`. Only where no worker makes a call does it allocate more: `left`
+/// and `turned`, which takes `O(n + k)` steps for k workers.
+pub fn settle_telling<R: Threads + Wait + Sync, G: Gate + Sync>(
+    rt: &R,
+    alloc: Global,
+    net: Net,
+    dest: u32,
+    plan: &Plan,
+    gate: &G,
+) -> Result<CrewWork, CrewFault>
+    ensures settled { IfOk result (λ work. IsSettlement net.nodes dest net.links work.settled) }
+    ensures told { IfOk result (IsCrewWork net.nodes dest net.links plan.now.workers) }
+    ensures range { IfErr result (λ fault. (fault ≡ Range) ↔ (net.nodes ≤ dest)) }
+    ensures by_finisher { plan.now.budget ≡ 0 → IfOk result (λ work. work.settled.by_workers ≡ 0) }
+    ensures no_start { (plan.now.budget ≡ 0) ⊎ (plan.now.workers ≡ 1) → IfErr result (λ fault. fault ≢ Start) }
+    ensures still { AreSettled net.nodes dest net.links (replicate net.nodes 0) → IfErr result (λ fault. fault ≢ Start) }
+{
+    let turns = none_yet(alloc, &net, dest)?;
+    if plan.budget() == 0 || are_settled(&net, dest, turns.counts()) {
+        return settled_by_none(alloc, net, dest, plan.workers(), turns);
+    }
+    let crew = Crew {
+        rt,
+        alloc,
+        plan,
+        gate,
+    };
     settled_by(&crew, net, dest, turns)
 }
 
@@ -90,7 +137,6 @@ pub fn settle<R: Threads + Wait + Sync, G: Gate + Sync>(
 /// network is given up. `O(n + m)`, and what [`Net::turn`] costs.
 pub fn settle_alone(alloc: Global, net: Net, dest: u32) -> Result<Settled, CrewFault>
     ensures settled { IfOk result (λ settled. IsSettlement net.nodes dest net.links settled) }
-    ensures done { IfOk result (λ settled. IsDoneBy net.nodes dest net.links 0 settled) }
     ensures range { IfErr result (λ fault. (fault ≡ Range) ↔ (net.nodes ≤ dest)) }
     ensures by_finisher { IfOk result (λ settled. settled.by_workers ≡ 0) }
     ensures no_start { IfErr result (λ fault. fault ≢ Start) }
@@ -176,7 +222,6 @@ fn test_node(net: &Net, dest: u32) -> Result<(), CrewFault>
 /// `Memory`.
 fn none_yet(alloc: Global, net: &Net, dest: u32) -> Result<Turns, CrewFault>
     ensures none { IfOk result (λ turns. (dest < net.now.nodes) × (turns ≡ replicate net.now.nodes 0)) }
-    ensures begun { IfOk result (λ turns. (k : ℕ) → AreByWorkers net.now.nodes dest net.now.links k turns 0) }
     ensures range { IfErr result (λ fault. (fault ≡ Range) ↔ (net.now.nodes ≤ dest)) }
     ensures no_start { IfErr result (λ fault. fault ≢ Start) }
 {
@@ -201,17 +246,56 @@ fn turn_few(net: &Net, dest: u32, from: Option<&[u32]>, turns: &mut Turns) -> bo
     }
 }
 
+/// Settles a network on the thread that calls, where none of so many workers makes a call. No node has turned yet.
+fn settled_by_none(
+    alloc: Global,
+    net: Net,
+    dest: u32,
+    workers: u32,
+    turns: Turns,
+) -> Result<CrewWork, CrewFault>
+    requires node { dest < net.nodes }
+    requires none { turns ≡ replicate net.nodes 0 }
+    ensures settled { IfOk result (λ work. IsSettlement net.nodes dest net.links work.settled) }
+    ensures told { IfOk result (IsCrewWork net.nodes dest net.links workers) }
+    ensures by_finisher { IfOk result (λ work. work.settled.by_workers ≡ 0) }
+    ensures fault { IfErr result (λ fault. fault ≢ Range) }
+    ensures no_start { IfErr result (λ fault. fault ≢ Start) }
+{
+    net.network_law();
+    let left = vec![in alloc; 0u64; net.nodes() as usize]?;
+    let turned = no_turns(alloc, workers)?;
+    let settled = finished(net, dest, turns, 0);
+    Ok(CrewWork {
+        settled,
+        left,
+        turned,
+    })
+}
+
+/// The pairs of so many workers that turned no node.
+fn no_turns(alloc: Global, workers: u32) -> Result<Vec<(u32, u64)>, AllocError>
+    ensures numbered { IfOk result (λ turned. AreNumbered workers turned.items) }
+    ensures none { IfOk result (λ turned. Each (λ (p : ℕ × ℕ). p.1 ≡ 0) turned.items) }
+{
+    let mut turned = Vec::with_capacity(alloc, workers as usize)?;
+    for number in 0..workers {
+        turned.push_reserved((number, 0));
+    }
+    Ok(turned)
+}
+
 /// Settles a network by a crew, and what that leaves on the thread that calls. The table has a count for each node.
 fn settled_by<R: Threads + Wait, G: Gate + Sync>(
     crew: &Crew<'_, R, G>,
     net: Net,
     dest: u32,
     mut turns: Turns,
-) -> Result<Settled, CrewFault>
+) -> Result<CrewWork, CrewFault>
     requires node { dest < net.nodes }
     requires one_each { length turns ≡ net.nodes }
-    ensures settled { IfOk result (IsSettlement net.nodes dest net.links) }
-    ensures done { IfOk result (IsDoneBy net.nodes dest net.links crew.now.plan.now.workers) }
+    ensures settled { IfOk result (λ work. IsSettlement net.nodes dest net.links work.settled) }
+    ensures told { IfOk result (IsCrewWork net.nodes dest net.links crew.now.plan.now.workers) }
     ensures fault { IfErr result (λ fault. fault ≢ Range) }
     ensures no_start { crew.now.plan.now.workers ≡ 1 → IfErr result (λ fault. fault ≢ Start) }
 {
@@ -223,7 +307,12 @@ fn settled_by<R: Threads + Wait, G: Gate + Sync>(
     net.network_law();
     let by_workers = sum_of_turns(&turned);
     turns.copy_from(&counts);
-    Ok(finished(net, dest, turns, by_workers))
+    let settled = finished(net, dest, turns, by_workers);
+    Ok(CrewWork {
+        settled,
+        left: counts,
+        turned,
+    })
 }
 
 /// The counts that a crew leaves on a copy of a network. Where it is known which nodes can turn, each worker makes no more calls than
@@ -265,7 +354,7 @@ fn turned_by<R: Threads + Wait, G: Gate + Sync>(
     requires { dest < net.nodes }
     ensures net { IfOk result (λ closed. closed.net ≡ net) }
     ensures turned { IfOk result (λ closed. AreByWorkers net.nodes dest net.links crew.now.plan.now.workers
-        closed.counts.items (sum_by (λ (p : ℕ × ℕ). p.1) closed.turned.items)) }
+        closed.counts.items closed.turned.items) }
     ensures fault { IfErr result (λ fault. fault ≢ Range) }
     ensures no_start { crew.now.plan.now.workers ≡ 1 → IfErr result (λ fault. fault ≢ Start) }
 {
@@ -290,8 +379,7 @@ fn finished(mut net: Net, dest: u32, mut turns: Turns, by_workers: u64) -> Settl
     requires lawful { AreLawful net.nodes dest net.links turns }
     requires turned { by_workers ≡ sum turns }
     ensures settled { IsSettlement net.nodes dest net.links result }
-    ensures done { (k : ℕ) → AreByWorkers net.nodes dest net.links k turns by_workers
-        → IsDoneBy net.nodes dest net.links k result }
+    ensures finisher { IsFinish net.nodes dest net.links turns result.counts.items result.by_finisher }
     ensures by_workers { result.by_workers ≡ by_workers }
 {
     net.network_law();

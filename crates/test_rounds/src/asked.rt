@@ -19,6 +19,7 @@ enum Asked {
     Plan,
     SamePlans,
     Settle,
+    Telling,
     End,
     LongChain,
     Counts,
@@ -36,7 +37,7 @@ enum Asked {
 }
 
 /// The words that ask.
-const WORDS: [(&str, Asked); 21] = [
+const WORDS: [(&str, Asked); 22] = [
     ("open", Asked::Open),
     ("calls", Asked::Calls),
     ("one worker", Asked::OneWorker),
@@ -44,6 +45,7 @@ const WORDS: [(&str, Asked); 21] = [
     ("plan", Asked::Plan),
     ("same plans", Asked::SamePlans),
     ("settle", Asked::Settle),
+    ("telling", Asked::Telling),
     ("end", Asked::End),
     ("long chain", Asked::LongChain),
     ("counts", Asked::Counts),
@@ -89,6 +91,7 @@ fn put_answer<R: Threads + Wait + Sync + Alloc<A = Global>>(
         Asked::Plan => crews::plan_of(text, case),
         Asked::SamePlans => crews::same_plans(text, case),
         Asked::Settle => crews::settle_all(rt, text, case),
+        Asked::Telling => crews::settle_and_tell(rt, text, case),
         Asked::End => crews::settle_to_end(rt, text, case),
         Asked::LongChain => crews::settle_chain(rt, text, case),
         Asked::Counts => counts::counts(rt, text, case),
