@@ -30,7 +30,6 @@ use Rattle.fr_graph.specs.Links.{HasPath, IsAlone, IsNet, Joins}
 use Rattle.fr_core.proofs.Gaps.{AreFew, HasNoGap, few_without_gap, is_some, split_counts, split_sum, weight}
 use Rattle.fr_core.proofs.Gaps.{uncap, uncap-n, uncap-other}
 use Rattle.fr_core.specs.Work.{AreCounted, IsNumberOf, IsBad, IsConnected, IsStranded, IsWithinWork}
-use Rattle.fr_core.specs.Work.{WithinWorkIsBelowSquare}
 
 same_bool : (a b : Bool) → (IsTrue a ↔ IsTrue b) → a ≡ b
 same_bool true true e = refl
@@ -54,6 +53,15 @@ count_listed : (p : ℕ → Bool) (xs : List ℕ) (n : ℕ) → length xs ≡ n
 count_listed p xs n long =
     let at : ℕ → ℕ = λ x. slice_index xs x in
     ap (count_by p) (fill_by_all at xs n 0 long (λ k l. refl)) ∙ count_by-map p at (range_with_len 0 n)
+
+-- b and c are n - 1 at most together
+both_below : (b c n : ℕ) → b + c < n → b * (b + 1) + 2 * (c * n) ≤ 2 * (n * (n - 1))
+both_below b c n l =
+    let up : b * (b + 1) ≤ b * n =
+    mul-le-mul {n₁ = b} {m₁ = b + 1} {n₂ = b} {m₂ = n} (omega arith) (omega (arith, l)) in
+    let both : (b + c) * n ≤ (n - 1) * n =
+    mul-le-mul {n₁ = b + c} {m₁ = n} {n₂ = n - 1} {m₂ = n} (omega (arith, l)) (omega arith) in
+    omega (arith, up, both, add-mul b c n, mul_comm (n - 1) n)
 
 module _ (n d : ℕ) (first : List (ℕ × ℕ)) (net : IsNet n first) (below : d < n) (c : List ℕ)
     (settled : AreSettled n d first c) where
@@ -208,6 +216,11 @@ module _ (n d : ℕ) (first : List (ℕ × ℕ)) (net : IsNet n first) (below : 
     stranded = stranded_number;
     counted = counted;
     most = total_few bad_number stranded_number counted;
+    below = omega (
+      arith,
+      total_few bad_number stranded_number counted,
+      both_below bad_number stranded_number n counted_below,
+    );
   }
 
 -- a run adds up to no more than the settled counts
@@ -255,22 +268,6 @@ module _ (n d : ℕ) (first : List (ℕ × ℕ)) (net : IsNet n first) (below : 
   run_few before h b c are lawful run =
       let most = total_few n d first net below end ends b c are in
       omega (arith, run_below n d first before end h net below lawful ends run, most)
-
--- b and c are n - 1 at most together
-both_below : (b c n : ℕ) → b + c < n → b * (b + 1) + 2 * (c * n) ≤ 2 * (n * (n - 1))
-both_below b c n l =
-    let up : b * (b + 1) ≤ b * n =
-    mul-le-mul {n₁ = b} {m₁ = b + 1} {n₂ = b} {m₂ = n} (omega arith) (omega (arith, l)) in
-    let both : (b + c) * n ≤ (n - 1) * n =
-    mul-le-mul {n₁ = b + c} {m₁ = n} {n₂ = n - 1} {m₂ = n} (omega (arith, l)) (omega arith) in
-    omega (arith, up, both, add-mul b c n, mul_comm (n - 1) n)
-
-pub within_square : WithinWorkIsBelowSquare
-within_square = λ n d first total net below within.
-    let all = all_counted n d first net below in
-    let same = all.4 within.bad within.stranded within.counted in
-    let few : within.bad + within.stranded < n = omega (arith, all.3, same.0, same.1) in
-    omega (arith, within.most, both_below within.bad within.stranded n few)
 
 -- no node of a connected network is cut off
 pub none_stranded : (n d : ℕ) (first : List (ℕ × ℕ)) → IsConnected n d first → IsNumberOf n (IsStranded d first) 0

@@ -32,12 +32,14 @@ pub record AreCounted (n d : ℕ) (links : List (ℕ × ℕ)) (b c : ℕ) : Type
   pub bad : IsNumberOf n (IsBad d links) b
   pub stranded : IsNumberOf n (IsStranded d links) c
 
--- so many turns are at most 1 + 2 + .. + b, for b bad nodes, and n more for each stranded node
+-- so many turns are at most 1 + 2 + .. + b, for b bad nodes, and n more for each stranded node,
 pub record IsWithinWork (n d : ℕ) (first : List (ℕ × ℕ)) (total : ℕ) : Type 0 where
   pub bad : ℕ
   pub stranded : ℕ
   pub counted : AreCounted n d first bad stranded
   pub most : 2 * total ≤ bad * (bad + 1) + 2 * (stranded * n)
+  -- so at most n * (n - 1), since the destination is neither bad nor stranded
+  pub below : total ≤ n * (n - 1)
 
 -- a network of n nodes that are all joined with d, in whatever directions its links point
 pub record IsConnected (n d : ℕ) (links : List (ℕ × ℕ)) : Type 0 where
@@ -70,19 +72,15 @@ RunIsAtMostTriangle = (n d : ℕ) (first : List (ℕ × ℕ)) (counts : List ℕ
     → IsNet n first → d < n → AreCounted n d first b c → AreLawful n d first counts
     → IsRun n d (moment_of first counts) h → 2 * (sum counts + turn_count h) ≤ b * (b + 1) + 2 * (c * n)
 
--- In every network this bound is at most n * (n - 1), since the destination is neither bad nor stranded.
-abbrev pub WithinWorkIsBelowSquare : Type 0
-WithinWorkIsBelowSquare = (n d : ℕ) (first : List (ℕ × ℕ)) (total : ℕ) → IsNet n first → d < n
-    → IsWithinWork n d first total → total ≤ n * (n - 1)
-
 -- In a connected network no run makes more than n * (n - 1) / 2 turns.
 abbrev pub ConnectedIsAtMostHalfSquare : Type 0
 ConnectedIsAtMostHalfSquare = (n d : ℕ) (first : List (ℕ × ℕ)) (counts : List ℕ) (h : List Entry)
     → IsConnected n d first → AreLawful n d first counts → IsRun n d (moment_of first counts) h
     → 2 * (sum counts + turn_count h) ≤ n * (n - 1)
 
--- No smaller bound holds, neither by b nor by n. For each b there is a connected network of b + 1 nodes, of which b are
--- bad, and from its first links a run makes exactly 1 + 2 + .. + b turns.
+-- The bound for bad nodes is reached. For each b, there is a connected network, a chain, of b + 1 nodes, of which b are
+-- bad and none is stranded. From its first links a run makes exactly 1 + 2 + .. + b turns. So in connected networks no
+-- smaller bound holds, neither by b nor by n. This does not say that the bound for stranded nodes is reached.
 abbrev pub TriangleIsMet : Type 0
 TriangleIsMet = (b : ℕ) → (first : List (ℕ × ℕ)) × (h : List Entry) × IsConnected (b + 1) 0 first
     × AreCounted (b + 1) 0 first b 0 × IsRun (b + 1) 0 (moment_of first (replicate (b + 1) 0)) h

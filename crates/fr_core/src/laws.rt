@@ -7,7 +7,7 @@ ghost use Rattle.fr_core.specs.Laws.{LawfulIsAtMostAway, NoTurnLeftIsSettled, Se
 ghost use Rattle.fr_core.specs.Laws.{ZeroIsAPath, CapIsNotJoined, JoinedIsBelowCap, JoinedByCounts};
 ghost use Rattle.fr_core.specs.Laws.{EachNetSettles, EachRunSettles, RunsEndAlike, RunLeadsToSettled, TurnsAreBounded};
 ghost use Rattle.fr_core.specs.Work.{BadAreCounted, NoLevelIsEmpty, EachIsAtMostBad, RunIsAtMostTriangle};
-ghost use Rattle.fr_core.specs.Work.{WithinWorkIsBelowSquare, ConnectedIsAtMostHalfSquare, TriangleIsMet};
+ghost use Rattle.fr_core.specs.Work.{ConnectedIsAtMostHalfSquare, TriangleIsMet};
 ghost use Rattle.fr_core.specs.Laws.{MissedBoundHolds, SeenBoundsSink, MachineRuns, PartsAreReplies};
 ghost use Rattle.fr_core.specs.Laws.{BadIsNoRun, RunOrBad, OneIsBad};
 
@@ -76,7 +76,6 @@ pub fn work_law()
     ensures levels { NoLevelIsEmpty }
     ensures each { EachIsAtMostBad }
     ensures turns { RunIsAtMostTriangle }
-    ensures within { WithinWorkIsBelowSquare }
     ensures connected { ConnectedIsAtMostHalfSquare }
     ensures tight { TriangleIsMet }
 {}

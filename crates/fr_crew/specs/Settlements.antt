@@ -1,17 +1,19 @@
 -- What it means to settle a network. This project's own; a settled network is destination-oriented in the sense of
 -- Gafni and Bertsekas (1981) in the part that contains the destination.
-use Rattle.std.specs.Prelude.{◌≡◌, ℕ, ◌<◌, ◌+◌, List, Option, IfSome, replicate, sum}
+use Rattle.std.specs.Prelude.{◌≡◌, ℕ, ◌<◌, ◌+◌, List, Option, IfSome, length, map, replicate, sum, sum_by}
 use Rattle.std.specs.Borrow.{Bor}
 use Rattle.std.specs.List.{All, AllByRecursion as Each, Contains}
 use Rattle.fr_graph.specs.Network.{Network, net_of}
 use Rattle.fr_graph.specs.Counts.{links_at}
 use Rattle.fr_graph.specs.Turn.{IsSink}
 use Rattle.fr_core.specs.Finish.{IsFinish}
-use Rattle.fr_core.specs.History.{turn_count}
+use Rattle.fr_core.specs.History.{part, turn_count}
 use Rattle.fr_core.specs.Runs.{IsRunTo}
 use Rattle.fr_core.specs.Settled.{AreSettled}
 use Rattle.fr_core.specs.Work.{IsWithinWork}
 use Rattle.fr_core.specs.declared.entry.Entry.{Entry}
+use Rattle.fr_round.specs.Histories.{AreApart}
+use Rattle.fr_crew.specs.declared.settlement.CrewWork.{CrewWork}
 use Rattle.fr_crew.specs.declared.settlement.Settled.{Settled}
 
 -- the network with these first links is settled: the destination is a node
@@ -26,21 +28,34 @@ pub record IsSettlement (n d : ℕ) (first : List (ℕ × ℕ)) (s : Settled) : 
   -- and no more than the bound for these first links
   pub most : IsWithinWork n d first (sum s.counts.items)
 
--- k workers have made so many turns, which led to these counts: there is a history of calls by the workers 0 to k - 1,
-pub record AreByWorkers (n d : ℕ) (first : List (ℕ × ℕ)) (k : ℕ) (counts : List ℕ) (turns : ℕ) : Type 0 where
+-- each of the workers 0 to k - 1 has one pair, which begins with its number
+pub record AreNumbered (k : ℕ) (turned : List (ℕ × ℕ)) : Type 0 where
+  pub one_each : length turned ≡ k
+  pub apart : AreApart (map (λ (p : ℕ × ℕ). p.0) turned)
+  pub in_range : Each (λ (p : ℕ × ℕ). p.0 < k) turned
+
+-- k workers have turned nodes, each node as often as its count says: there is a history of calls by the workers
+-- 0 to k - 1,
+pub record AreByWorkers (n d : ℕ) (first : List (ℕ × ℕ)) (k : ℕ) (counts : List ℕ) (turned : List (ℕ × ℕ))
+    : Type 0 where
   pub history : List Entry
   pub of_workers : Each (λ (e : Entry). e.worker < k) history
   -- which is a run of full reversal by one thread from the first links to the counts,
   pub run : IsRunTo n d first history counts
-  -- and has so many turns
-  pub made : turns ≡ turn_count history
+  -- each worker has one pair,
+  pub numbered : AreNumbered k turned
+  -- which says how many of its own calls in the history are turns,
+  pub own : Each (λ (p : ℕ × ℕ). p.1 ≡ turn_count (part p.0 history)) turned
+  -- and together these are the counts
+  pub total : sum_by (λ (p : ℕ × ℕ). p.1) turned ≡ sum counts
 
--- k workers and the finisher have made the turns that this settlement reports: the workers went to some counts,
-pub record IsDoneBy (n d : ℕ) (first : List (ℕ × ℕ)) (k : ℕ) (s : Settled) : Type 0 where
-  pub left : List ℕ
-  pub workers : AreByWorkers n d first k left s.by_workers
-  -- and the finisher went on from there to the settled ones
-  pub finisher : IsFinish n d first left s.counts.items s.by_finisher
+-- k workers and the finisher have settled the network: the workers have turned nodes up to some counts,
+pub record IsCrewWork (n d : ℕ) (first : List (ℕ × ℕ)) (k : ℕ) (work : CrewWork) : Type 0 where
+  pub workers : AreByWorkers n d first k work.left.items work.turned.items
+  -- with as many turns as these counts add up to,
+  pub by_workers : work.settled.by_workers ≡ sum work.left.items
+  -- and the finisher has gone on from these counts to the settled ones
+  pub finisher : IsFinish n d first work.left.items work.settled.counts.items work.settled.by_finisher
 
 -- the settled counts of a network: the destination is a node
 pub record IsCounted (n d : ℕ) (first : List (ℕ × ℕ)) (counts : List ℕ) : Type 0 where

@@ -2,7 +2,8 @@
 //! links and counts do not depend on the schedule.
 //!
 //! [`settle`] opens a round, runs it with the workers of a [`Plan`], and finishes on one thread what they leave. A
-//! [`Gate`] is called before and after each call of a worker. [`settle_alone`] has the same result without threads.
+//! [`Gate`] is called before and after each call of a worker. [`settle_telling`] also returns what the workers did.
+//! [`settle_alone`] has the same result without threads.
 //! [`settled_counts`] and [`settled_counts_alone`] return only the counts, and do not change the network. [`live_walk`]
 //! follows the links of an open round while workers turn nodes.
 //!
@@ -28,4 +29,6 @@ pub use fault::CrewFault;
 pub use gate::{Gate, OpenGate};
 pub use live_walks::{LiveEnd, LiveFault, LiveWalk, live_walk};
 pub use plan::{Crew, Plan};
-pub use settlement::{Settled, settle, settle_alone, settled_counts, settled_counts_alone};
+pub use settlement::{
+    CrewWork, Settled, settle, settle_alone, settle_telling, settled_counts, settled_counts_alone,
+};

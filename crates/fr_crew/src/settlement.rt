@@ -1,10 +1,11 @@
 //! Settling a network.
 
 ghost use Rattle.std.specs.Prelude.{◌≡◌, ◌≢◌, ℕ, ◌<◌, ◌≤◌, ◌^◌, ◌↔◌, ◌⊎◌, IfOk, IfErr, IfSome, IsTrue, OnOk, length, replicate, sum, sum_by};
+ghost use Rattle.std.specs.List.{AllByRecursion as Each};
 ghost use Rattle.fr_graph.specs.Counts.{AreLawful};
-ghost use Rattle.fr_core.specs.Finish.{HoldsAllThatCanTurn};
+ghost use Rattle.fr_core.specs.Finish.{HoldsAllThatCanTurn, IsFinish};
 ghost use Rattle.fr_core.specs.Settled.{AreSettled};
-ghost use Rattle.fr_crew.specs.Settlements.{AreByWorkers, CanBegin, IsCounted, IsDoneBy, IsSettlement};
+ghost use Rattle.fr_crew.specs.Settlements.{AreByWorkers, AreNumbered, CanBegin, IsCounted, IsCrewWork, IsSettlement};
 ghost use Rattle.fr_crew.specs.declared.fault.CrewFault.TheVariants.{Range, Start, Memory};
 
 use crate::fault::CrewFault;
@@ -14,7 +15,7 @@ use crate::threads::run_crew;
 use fr_core::{are_settled, finish_from, finish_soon, finish_turns};
 use fr_graph::{Net, Turns};
 use fr_round::{Closed, Round};
-use std::alloc::Global;
+use std::alloc::{AllocError, Global};
 use std::marker::Brand;
 use std::sync::Wait;
 use std::thread::Threads;
@@ -30,6 +31,17 @@ pub struct Settled {
     pub by_workers: u64,
     /// How many turns the finisher made.
     pub by_finisher: u64,
+}
+
+/// A settled network, with what the workers of its crew did. This depends on the schedule.
+#[derive(Debug, Drop)]
+pub struct CrewWork {
+    /// The settled network.
+    pub settled: Settled,
+    /// How often each node had turned when the workers ended: where the finisher began.
+    pub left: Vec<u64>,
+    /// The number of each worker, and how often its own calls turned a node. The workers are in no order.
+    pub turned: Vec<(u32, u64)>,
 }
 
 /// Turns a network until no node can turn, by full reversal (E. Gafni and D. Bertsekas, 1981). The workers of the plan
@@ -62,7 +74,6 @@ pub fn settle<R: Threads + Wait + Sync, G: Gate + Sync>(
     gate: &G,
 ) -> Result<Settled, CrewFault>
     ensures settled { IfOk result (λ settled. IsSettlement net.nodes dest net.links settled) }
-    ensures done { IfOk result (λ settled. IsDoneBy net.nodes dest net.links plan.now.workers settled) }
     ensures range { IfErr result (λ fault. (fault ≡ Range) ↔ (net.nodes ≤ dest)) }
     ensures by_finisher { plan.now.budget ≡ 0 → IfOk result (λ settled. settled.by_workers ≡ 0) }
     ensures no_start { (plan.now.budget ≡ 0) ⊎ (plan.now.workers ≡ 1) → IfErr result (λ fault. fault ≢ Start) }
@@ -81,6 +92,43 @@ pub fn settle<R: Threads + Wait + Sync, G: Gate + Sync>(
         plan,
         gate,
     };
+    let CrewWork { settled, .. } = settled_by(&crew, net, dest, turns)?;
+    Ok(settled)
+}
+
+/// Settles a network as [`settle`] does, and also returns what the workers did: how often each node had turned when
+/// they ended, and how often the calls of each worker turned a node. The calls of the workers form one run of full
+/// reversal by one thread, from the first links to those counts. The finisher goes on from there.
+///
+/// If no worker makes a call, all counts in `left` are 0, and each worker has the turns 0 in `turned`.
+///
+/// Its faults and its costs are those of `settle`. Only where no worker makes a call does it allocate more: `left`
+/// and `turned`, which takes `O(n + k)` steps for k workers.
+pub fn settle_telling<R: Threads + Wait + Sync, G: Gate + Sync>(
+    rt: &R,
+    alloc: Global,
+    net: Net,
+    dest: u32,
+    plan: &Plan,
+    gate: &G,
+) -> Result<CrewWork, CrewFault>
+    ensures settled { IfOk result (λ work. IsSettlement net.nodes dest net.links work.settled) }
+    ensures told { IfOk result (IsCrewWork net.nodes dest net.links plan.now.workers) }
+    ensures range { IfErr result (λ fault. (fault ≡ Range) ↔ (net.nodes ≤ dest)) }
+    ensures by_finisher { plan.now.budget ≡ 0 → IfOk result (λ work. work.settled.by_workers ≡ 0) }
+    ensures no_start { (plan.now.budget ≡ 0) ⊎ (plan.now.workers ≡ 1) → IfErr result (λ fault. fault ≢ Start) }
+    ensures still { AreSettled net.nodes dest net.links (replicate net.nodes 0) → IfErr result (λ fault. fault ≢ Start) }
+{
+    let turns = none_yet(alloc, &net, dest)?;
+    if plan.budget() == 0 || are_settled(&net, dest, turns.counts()) {
+        return settled_by_none(alloc, net, dest, plan.workers(), turns);
+    }
+    let crew = Crew {
+        rt,
+        alloc,
+        plan,
+        gate,
+    };
     settled_by(&crew, net, dest, turns)
 }
 
@@ -91,7 +139,6 @@ pub fn settle<R: Threads + Wait + Sync, G: Gate + Sync>(
 /// refused; never with `Start`. If it fails, the network is dropped. O(n + m), and the cost of [`Net::turn`].
 pub fn settle_alone(alloc: Global, net: Net, dest: u32) -> Result<Settled, CrewFault>
     ensures settled { IfOk result (λ settled. IsSettlement net.nodes dest net.links settled) }
-    ensures done { IfOk result (λ settled. IsDoneBy net.nodes dest net.links 0 settled) }
     ensures range { IfErr result (λ fault. (fault ≡ Range) ↔ (net.nodes ≤ dest)) }
     ensures by_finisher { IfOk result (λ settled. settled.by_workers ≡ 0) }
     ensures no_start { IfErr result (λ fault. fault ≢ Start) }
@@ -179,7 +226,6 @@ fn test_node(net: &Net, dest: u32) -> Result<(), CrewFault>
 /// node, which is tested first, and with `Memory` if an allocation is refused.
 fn none_yet(alloc: Global, net: &Net, dest: u32) -> Result<Turns, CrewFault>
     ensures none { IfOk result (λ turns. (dest < net.now.nodes) × (turns ≡ replicate net.now.nodes 0)) }
-    ensures begun { IfOk result (λ turns. (k : ℕ) → AreByWorkers net.now.nodes dest net.now.links k turns 0) }
     ensures range { IfErr result (λ fault. (fault ≡ Range) ↔ (net.now.nodes ≤ dest)) }
     ensures no_start { IfErr result (λ fault. fault ≢ Start) }
 {
@@ -204,17 +250,56 @@ fn turn_few(net: &Net, dest: u32, from: Option<&[u32]>, turns: &mut Turns) -> bo
     }
 }
 
+/// Settles a network on the calling thread. None of the workers makes a call. No node has turned yet.
+fn settled_by_none(
+    alloc: Global,
+    net: Net,
+    dest: u32,
+    workers: u32,
+    turns: Turns,
+) -> Result<CrewWork, CrewFault>
+    requires node { dest < net.nodes }
+    requires none { turns ≡ replicate net.nodes 0 }
+    ensures settled { IfOk result (λ work. IsSettlement net.nodes dest net.links work.settled) }
+    ensures told { IfOk result (IsCrewWork net.nodes dest net.links workers) }
+    ensures by_finisher { IfOk result (λ work. work.settled.by_workers ≡ 0) }
+    ensures fault { IfErr result (λ fault. fault ≢ Range) }
+    ensures no_start { IfErr result (λ fault. fault ≢ Start) }
+{
+    net.network_law();
+    let left = vec![in alloc; 0u64; net.nodes() as usize]?;
+    let turned = no_turns(alloc, workers)?;
+    let settled = finished(net, dest, turns, 0);
+    Ok(CrewWork {
+        settled,
+        left,
+        turned,
+    })
+}
+
+/// The pairs of so many workers that turned no node.
+fn no_turns(alloc: Global, workers: u32) -> Result<Vec<(u32, u64)>, AllocError>
+    ensures numbered { IfOk result (λ turned. AreNumbered workers turned.items) }
+    ensures none { IfOk result (λ turned. Each (λ (p : ℕ × ℕ). p.1 ≡ 0) turned.items) }
+{
+    let mut turned = Vec::with_capacity(alloc, workers as usize)?;
+    for number in 0..workers {
+        turned.push_reserved((number, 0));
+    }
+    Ok(turned)
+}
+
 /// Settles a network by a crew, and what that leaves on the calling thread. The table has a count for each node.
 fn settled_by<R: Threads + Wait, G: Gate + Sync>(
     crew: &Crew<'_, R, G>,
     net: Net,
     dest: u32,
     mut turns: Turns,
-) -> Result<Settled, CrewFault>
+) -> Result<CrewWork, CrewFault>
     requires node { dest < net.nodes }
     requires one_each { length turns ≡ net.nodes }
-    ensures settled { IfOk result (IsSettlement net.nodes dest net.links) }
-    ensures done { IfOk result (IsDoneBy net.nodes dest net.links crew.now.plan.now.workers) }
+    ensures settled { IfOk result (λ work. IsSettlement net.nodes dest net.links work.settled) }
+    ensures told { IfOk result (IsCrewWork net.nodes dest net.links crew.now.plan.now.workers) }
     ensures fault { IfErr result (λ fault. fault ≢ Range) }
     ensures no_start { crew.now.plan.now.workers ≡ 1 → IfErr result (λ fault. fault ≢ Start) }
 {
@@ -226,7 +311,12 @@ fn settled_by<R: Threads + Wait, G: Gate + Sync>(
     net.network_law();
     let by_workers = sum_of_turns(&turned);
     turns.copy_from(&counts);
-    Ok(finished(net, dest, turns, by_workers))
+    let settled = finished(net, dest, turns, by_workers);
+    Ok(CrewWork {
+        settled,
+        left: counts,
+        turned,
+    })
 }
 
 /// The counts that a crew leaves on a copy of a network. If it is known which nodes can turn, each worker makes at most
@@ -268,7 +358,7 @@ fn turned_by<R: Threads + Wait, G: Gate + Sync>(
     requires { dest < net.nodes }
     ensures net { IfOk result (λ closed. closed.net ≡ net) }
     ensures turned { IfOk result (λ closed. AreByWorkers net.nodes dest net.links crew.now.plan.now.workers
-        closed.counts.items (sum_by (λ (p : ℕ × ℕ). p.1) closed.turned.items)) }
+        closed.counts.items closed.turned.items) }
     ensures fault { IfErr result (λ fault. fault ≢ Range) }
     ensures no_start { crew.now.plan.now.workers ≡ 1 → IfErr result (λ fault. fault ≢ Start) }
 {
@@ -293,8 +383,7 @@ fn finished(mut net: Net, dest: u32, mut turns: Turns, by_workers: u64) -> Settl
     requires lawful { AreLawful net.nodes dest net.links turns }
     requires turned { by_workers ≡ sum turns }
     ensures settled { IsSettlement net.nodes dest net.links result }
-    ensures done { (k : ℕ) → AreByWorkers net.nodes dest net.links k turns by_workers
-        → IsDoneBy net.nodes dest net.links k result }
+    ensures finisher { IsFinish net.nodes dest net.links turns result.counts.items result.by_finisher }
     ensures by_workers { result.by_workers ≡ by_workers }
 {
     net.network_law();

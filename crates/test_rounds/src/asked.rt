@@ -9,7 +9,7 @@ use std::alloc::Global;
 use std::sync::Wait;
 use std::thread::Threads;
 
-/// What a case can ask for. The last eleven are about threads and gates, which are not data.
+/// What a case can ask for. The last twelve are about threads and gates, which are not data.
 #[derive(Clone, Copy)]
 enum Asked {
     Open,
@@ -19,6 +19,7 @@ enum Asked {
     Plan,
     SamePlans,
     Settle,
+    Telling,
     End,
     LongChain,
     Counts,
@@ -38,7 +39,7 @@ enum Asked {
 }
 
 /// The words that ask.
-const WORDS: [(&str, Asked); 23] = [
+const WORDS: [(&str, Asked); 24] = [
     ("open", Asked::Open),
     ("calls", Asked::Calls),
     ("one worker", Asked::OneWorker),
@@ -46,6 +47,7 @@ const WORDS: [(&str, Asked); 23] = [
     ("plan", Asked::Plan),
     ("same plans", Asked::SamePlans),
     ("settle", Asked::Settle),
+    ("telling", Asked::Telling),
     ("end", Asked::End),
     ("long chain", Asked::LongChain),
     ("counts", Asked::Counts),
@@ -93,6 +95,7 @@ fn put_answer<R: Threads + Wait + Sync + Alloc<A = Global>>(
         Asked::Plan => crews::plan_of(text, case),
         Asked::SamePlans => crews::same_plans(text, case),
         Asked::Settle => crews::settle_all(rt, text, case),
+        Asked::Telling => crews::settle_and_tell(rt, text, case),
         Asked::End => crews::settle_to_end(rt, text, case),
         Asked::LongChain => crews::settle_chain(rt, text, case),
         Asked::Counts => counts::counts(rt, text, case),

@@ -3,7 +3,7 @@
 use crate::answers::Answer;
 use crate::fault::Fault;
 use crate::values::{items, network, number, small_number};
-use fr_crew::{Gate, OpenGate, Plan, Settled, settle};
+use fr_crew::{CrewWork, Gate, OpenGate, Plan, Settled, settle, settle_telling};
 use fr_net::Net;
 use serde_json::Value;
 use std::alloc::Global;
@@ -94,6 +94,32 @@ pub fn settle_to_end<R: Threads + Wait + Sync + Alloc<A = Global>>(
     asked: &[Value],
 ) -> Result<(), Fault> {
     put_end(rt.alloc(), text, &settled(rt, asked)?);
+    Ok(())
+}
+
+/// `["telling", nodes, destination, links, workers, budget]`: where the workers ended, the turns of each, those of the finisher, and the
+/// settled network.
+pub fn settle_and_tell<R: Threads + Wait + Sync + Alloc<A = Global>>(
+    rt: &R,
+    text: &mut Answer,
+    asked: &[Value],
+) -> Result<(), Fault> {
+    let [nodes, dest, links, workers, budget] = asked else {
+        return Err(Fault::NoCase);
+    };
+    let (dest, plan) = (small_number(dest)?, named_plan(workers, budget)?);
+    let net = network(rt.alloc(), nodes, links)?;
+    let CrewWork {
+        settled,
+        left,
+        turned,
+    } = settle_telling(rt, rt.alloc(), net, dest, &plan, &OpenGate)?;
+    text.put("left ", &left);
+    text.put(", turned ", &turned);
+    text.say(", ");
+    put_turns(text, &settled);
+    text.say(", ");
+    put_end(rt.alloc(), text, &settled);
     Ok(())
 }
 

@@ -1,5 +1,5 @@
 use Rattle.fr_core.proofs.Chains.{chain_meets}
-use Rattle.fr_core.proofs.Totals.{all_counted, connected_few, each_few, level_below, run_few, within_square}
+use Rattle.fr_core.proofs.Totals.{all_counted, connected_few, each_few, level_below, run_few}
 use Rattle.fr_core.proofs.laws.work_law.Goals as goal
 
 pub returns-clause-counted : goal.returns-clause-counted
@@ -14,9 +14,6 @@ returns-clause-each c = λ n d first counts b k x net below are settled.
 
 pub returns-clause-turns : goal.returns-clause-turns
 returns-clause-turns c = λ n d first counts h b k net below. run_few n d first net below counts h b k
-
-pub returns-clause-within : goal.returns-clause-within
-returns-clause-within c = within_square
 
 pub returns-clause-connected : goal.returns-clause-connected
 returns-clause-connected c = connected_few

@@ -26,9 +26,5 @@ returns-clause-settled c =
       most = rw same (settled_within n d first c.network_law.ensures.is_net c.requires.node counts settled);
     }
 
-pub returns-clause-done : goal.returns-clause-done
-returns-clause-done c = λ k turned. record {
-  left = c.args.turns;
-  workers = turned;
-  finisher = rw c.into_counts.ensures c.finish_turns-by_finisher.ensures.run;
-}
+pub returns-clause-finisher : goal.returns-clause-finisher
+returns-clause-finisher c = rw c.into_counts.ensures c.finish_turns-by_finisher.ensures.run

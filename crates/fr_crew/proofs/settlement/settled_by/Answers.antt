@@ -1,6 +1,5 @@
 use Rattle.std.proofs.Common.{arith, ap}
 use Rattle.fr_core.proofs.SettledRuns.{lawful_sum_fits}
-use Rattle.fr_crew.proofs.Turners.{turned_total}
 use Rattle.fr_graph.specs.Network.{Network}
 use Rattle.fr_crew.proofs.settlement.settled_by.Goals as goal
 
@@ -10,11 +9,11 @@ sum_of_turns-by_workers-requires g c =
     let nodes = ap (λ (net : Network). net.nodes) c.in_ok-net.ensures.net in
     let turned = c.in_ok-net.ensures.turned in
     let fits = lawful_sum_fits _ _ _ _ (omega (arith, few, nodes)) turned.run.lawful in
-    rw c.deref.ensures.value (omega (arith, turned_total _ _ _ _ _ _ turned, fits))
+    rw c.deref.ensures.value (omega (arith, turned.total, fits))
 
-pub finished-requires-clause-turned : goal.finished-requires-clause-turned
-finished-requires-clause-turned g c =
-    let total = turned_total _ _ _ _ _ _ c.in_ok-net.ensures.turned in
+pub finished-settled-requires-clause-turned : goal.finished-settled-requires-clause-turned
+finished-settled-requires-clause-turned g c =
+    let total = c.in_ok-net.ensures.turned.total in
     cc (
       total,
       c.sum_of_turns-by_workers.ensures,
