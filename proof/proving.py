@@ -119,7 +119,8 @@ def prove(progress, name, words):
     del progress.running[name]
     proved = re.search(r"^logic=proved functions=(\d+)", said, re.M)
     if run.returncode or not proved:
-        raise NotProved(name, said)
+        killed = f"{name}: killed by signal {-run.returncode}; is there enough memory?\n" if run.returncode < 0 else ""
+        raise NotProved(name, said + killed)
     progress.told(f"{name} is proved, {proved[1]} functions")
     return said
 
