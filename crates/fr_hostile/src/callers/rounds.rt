@@ -37,7 +37,12 @@ pub fn round_of_two(alloc: Global, net: Net, dest: u32, x: u32) -> Result<Closed
 
 /// Looks at node `x` by the second worker after the first one has called: a join or a message has made one thread go on
 /// after the other. The second worker then knows that call, so its reply is no older.
-pub fn look_after(round: &Round, first: &mut Worker, second: &mut Worker, x: u32) -> Result<Reply, Refusal>
+pub fn look_after(
+    round: &Round,
+    first: &mut Worker,
+    second: &mut Worker,
+    x: u32,
+) -> Result<Reply, Refusal>
     requires first { IsOwn round.now first.old }
     requires second { IsOwn round.now second.old }
     ensures { StartsWith second.new.known first.old.known }

@@ -23,6 +23,8 @@ returns c =
     let l = c.look.ensures in
     let more = known_after c.args.round.now.setup c.learn.new.worker c.look.new.worker c.args.x c.look.result l.learns l.refused in
     let learned = c.learn.ensures.learns in
-    let past = ap (λ p. p.known) c.past-past.ensures.past in
-    (learned.0 ++ more.0, more.1 ∙ (ap (λ l. l ++ more.0) (learned.1 ∙ ap (λ l. l ++ learned.0) past)
-    ∙ append_assoc c.args.first.now.known learned.0 more.0))
+    let past = ap (λ p. p.known) c.past-past.ensures.past in (
+      learned.0 ++ more.0,
+      more.1 ∙ (ap (λ l. l ++ more.0) (learned.1 ∙ ap (λ l. l ++ learned.0) past)
+          ∙ append_assoc c.args.first.now.known learned.0 more.0),
+    )
