@@ -17,7 +17,7 @@ use fr_bytes::{Lines, RunFault, read_input, write_out};
 use fr_core::{Entry, play};
 use fr_graph::Net;
 use fr_lines::{LineFault, Request, read_line};
-use fr_route::{Refusal, is_blank};
+use fr_route::{Reason, is_blank};
 use fr_words::Draw;
 use std::alloc::{AllocError, Global};
 use std::io::{Read, Write};
@@ -60,13 +60,13 @@ fn play_input(alloc: Global, input: &[u8], draw: Draw) -> Result<(String, u64), 
     ensures { IfOk result (λ made. IsPlayOutput draw input.now (string_bytes made.0) made.1) }
 {
     let Some(line) = first_asking(input) else {
-        return refusal(alloc, Refusal::NoNetwork);
+        return refusal(alloc, Reason::NoNetwork);
     };
     match read_line(alloc, line) {
         Ok(Request::Network { nodes, dest, links }) => play_links(alloc, nodes, dest, &links, draw),
-        Ok(_) => refusal(alloc, Refusal::NoNetwork),
-        Err(LineFault::NotJson) => refusal(alloc, Refusal::NotJson),
-        Err(LineFault::NotRequest) => refusal(alloc, Refusal::NotRequest),
+        Ok(_) => refusal(alloc, Reason::NoNetwork),
+        Err(LineFault::NotJson) => refusal(alloc, Reason::NotJson),
+        Err(LineFault::NotRequest) => refusal(alloc, Reason::NotRequest),
         Err(LineFault::Memory) => Err(AllocError),
     }
 }
@@ -79,7 +79,7 @@ fn first_asking(input: &[u8]) -> Option<&[u8]>
 }
 
 /// The text for a refusal, without entries.
-fn refusal(alloc: Global, refusal: Refusal) -> Result<(String, u64), AllocError>
+fn refusal(alloc: Global, refusal: Reason) -> Result<(String, u64), AllocError>
     ensures { IfOk result (λ made. IsRefusal (number_of refusal) (string_bytes made.0) made.1) }
 {
     let mut text = String::new(alloc);
@@ -100,13 +100,13 @@ fn play_links(
 {
     let net = match Net::new(alloc, nodes, links) {
         Ok(net) => net,
-        Err(fault) => return match Refusal::of(&fault) {
+        Err(fault) => return match Reason::of(&fault) {
             Some(refused) => refusal(alloc, refused),
             None => Err(AllocError),
         },
     };
     if dest >= nodes {
-        return refusal(alloc, Refusal::NoNode);
+        return refusal(alloc, Reason::NoNode);
     }
     play_net(alloc, &net, dest, draw)
 }

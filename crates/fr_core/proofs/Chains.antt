@@ -16,7 +16,7 @@ use Rattle.fr_core.proofs.Settling.{cases_linked, walk_along}
 use Rattle.fr_core.proofs.Turning.{All-from_Contains}
 use Rattle.fr_core.specs.History.{turn_count}
 use Rattle.fr_core.specs.Settled.{AreSettled, IsSettledCount}
-use Rattle.fr_core.specs.Walks.{HasWalk, IsLeastAway}
+use Rattle.fr_core.specs.Walks.{HasUndirectedWalk, IsLeastAway}
 use Rattle.fr_graph.proofs.Counting.{count-range_more, weigh}
 use Rattle.fr_graph.proofs.Linking.{is_between_itself, joined_from}
 use Rattle.fr_graph.proofs.Members.{Contains-cases, Contains-head, Contains-none, Contains-tail}
@@ -114,7 +114,7 @@ chain_net b = record {
 }
 
 -- the walk along the chain to node x takes x steps
-chain_walk : (b x : ℕ) → x ≤ b → HasWalk (chain b) 0 x x
+chain_walk : (b x : ℕ) → x ≤ b → HasUndirectedWalk (chain b) 0 x x
 chain_walk b zero l = ([], (refl, refl))
 chain_walk b (suc x) l =
     let w = chain_walk b x (omega arith) in

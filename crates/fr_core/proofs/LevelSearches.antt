@@ -8,7 +8,7 @@ use Rattle.fr_core.proofs.Settling.{cases_linked, walk_against, walk_along}
 use Rattle.fr_core.specs.LevelSearch.{IsLevelSearch, IsSeen}
 use Rattle.fr_core.specs.Reaching.{IsNeighbour, IsQueued, IsReached, ReachesOnly}
 use Rattle.fr_core.specs.Settled.{AreSettled, IsSettledCount}
-use Rattle.fr_core.specs.Walks.{HasWalk, IsWalk}
+use Rattle.fr_core.specs.Walks.{HasUndirectedWalk, IsUndirectedWalk}
 use Rattle.fr_graph.proofs.Linking.{joined_below}
 use Rattle.fr_graph.proofs.Neighbours.{in_of_row, out_of_row, row_of_in, row_of_out}
 use Rattle.fr_graph.specs.Links.{IsAlone, IsNet, Joins, Points}
@@ -21,7 +21,7 @@ module _ (n d : ℕ) (first : List (ℕ × ℕ)) (c q : List ℕ) (closed opened
 
   -- some nodes more are reached
   module _ (P : ℕ → Type 0) (e r : List ℕ) (g : ReachesOnly n P level c q e r) (leads : (x : ℕ) → P x → (x < n)
-      × HasWalk first d x level) (one_each : length e ≡ n) where
+      × HasUndirectedWalk first d x level) (one_each : length e ≡ n) where
     count_kept : (i : ℕ) → i < length q → slice_index e (slice_index r i) ≡ slice_index c (slice_index q i)
     count_kept i l = ap (slice_index e) (g.kept i l) ∙ g.same (slice_index q i) (λ z. omega (arith, z, s.reached i l))
 
@@ -44,10 +44,10 @@ module _ (n d : ℕ) (first : List (ℕ × ℕ)) (c q : List ℕ) (closed opened
       zero = g.same d (λ z. omega (arith, z, s.zero, positive)) ∙ s.zero;
       seen = λ x l. seen_more x (s.seen x l);
       nodes = λ i l. ⊎_elim (λ b. omega (arith, g.kept i b, s.nodes i b)) (λ a. (leads (slice_index r i) (g.added i a l).0).0) (cases_lt i (length q));
-      walks = λ i l. ⊎_elim {C = HasWalk first d (slice_index r i) (slice_index e (slice_index r i))}
-          (λ b. subst (HasWalk first d (slice_index r i)) (sym (count_kept i b))
-          (subst (λ (z : ℕ). HasWalk first d z (slice_index c (slice_index q i))) (sym (g.kept i b)) (s.walks i b)))
-          (λ a. subst (HasWalk first d (slice_index r i)) (sym (g.added i a l).1) (leads (slice_index r i) (g.added i a l).0).1)
+      walks = λ i l. ⊎_elim {C = HasUndirectedWalk first d (slice_index r i) (slice_index e (slice_index r i))}
+          (λ b. subst (HasUndirectedWalk first d (slice_index r i)) (sym (count_kept i b))
+          (subst (λ (z : ℕ). HasUndirectedWalk first d z (slice_index c (slice_index q i))) (sym (g.kept i b)) (s.walks i b)))
+          (λ a. subst (HasUndirectedWalk first d (slice_index r i)) (sym (g.added i a l).1) (leads (slice_index r i) (g.added i a l).0).1)
           (cases_lt i (length q));
       most = λ i l. ⊎_elim (λ b. omega (arith, count_kept i b, s.most i b)) (λ a. omega (arith, (g.added i a l).1)) (cases_lt i (length q));
       reached = λ i l. ⊎_elim (λ b. omega (arith, count_kept i b, s.reached i b))
@@ -163,9 +163,9 @@ module _ (n d : ℕ) (first : List (ℕ × ℕ)) (net : IsNet n first) (c q : Li
       → All (IsReached n e Inward) (row n first (slice_index q closed)) → IsLevelSearch n d first e r (closed + 1) opened start level
   close_step l m g all =
       let u : ℕ = slice_index q closed in
-      let leads : (x : ℕ) → IsNeighbour (row n first u) Inward x → (x < n) × HasWalk first d x level = λ x h.
+      let leads : (x : ℕ) → IsNeighbour (row n first u) Inward x → (x < n) × HasUndirectedWalk first d x level = λ x h.
       let p : Points first x u = in_of_row n first u x h in
-      let w : HasWalk first d u level = subst (HasWalk first d u) (s.here closed m l) (s.walks closed l) in
+      let w : HasUndirectedWalk first d u level = subst (HasUndirectedWalk first d u) (s.here closed m l) (s.walks closed l) in
       ((joined_below n first x u net (inl p)).0, (w.0 ++ x ∷ [], walk_against first d w.0 level u x w.1 p)) in
       let t = search_more n d first c q closed opened start level s (IsNeighbour (row n first u) Inward) e r g leads one_each in
       close_one n d first e r closed opened start level t net (omega (arith, g.longer)) m
@@ -176,11 +176,11 @@ module _ (n d : ℕ) (first : List (ℕ × ℕ)) (net : IsNet n first) (c q : Li
   open_step l g all =
       let u : ℕ = slice_index q opened in
       let queued : opened < length q = omega (arith, s.start_in) in
-      let leads : (x : ℕ) → IsNeighbour (row n first u) Outward x → (x < n) × HasWalk first d x level = λ x h.
+      let leads : (x : ℕ) → IsNeighbour (row n first u) Outward x → (x < n) × HasUndirectedWalk first d x level = λ x h.
       let p : Points first u x = out_of_row n first u x h in
-      let w : HasWalk first d u (slice_index c u) = s.walks opened queued in (
+      let w : HasUndirectedWalk first d u (slice_index c u) = s.walks opened queued in (
         (joined_below n first x u net (inr p)).0,
-        subst (HasWalk first d x) (s.before opened (omega arith) l)
+        subst (HasUndirectedWalk first d x) (s.before opened (omega arith) l)
             (w.0 ++ x ∷ [], walk_along first d w.0 (slice_index c u) u x w.1 p),
       ) in
       let t = search_more n d first c q closed opened start level s (IsNeighbour (row n first u) Outward) e r g leads one_each in
@@ -213,7 +213,7 @@ next_level n d first c q start level s l = record {
 -- where no node is left to follow, the counts are the settled ones
 module _ (n d : ℕ) (first : List (ℕ × ℕ)) (c q : List ℕ) (start level : ℕ)
     (s : IsLevelSearch n d first c q start start start level) (done : length q ≤ start) where
-  climb : (u : ℕ) (vs : List ℕ) (away x : ℕ) → IsWalk first u vs away x → IsQueued q u → IsQueued q x × (slice_index c x ≤ slice_index c u + away)
+  climb : (u : ℕ) (vs : List ℕ) (away x : ℕ) → IsUndirectedWalk first u vs away x → IsQueued q u → IsQueued q x × (slice_index c x ≤ slice_index c u + away)
   climb u [] away x w h = (subst (IsQueued q) (sym w.0) h, omega (arith, ap (slice_index c) w.0))
   climb u (v ∷ vs) away x (inl w) h =
       let p = s.along h.0 (omega (arith, h.1)) v (subst (λ (z : ℕ). Points first z v) (sym h.2) w.0) in
@@ -224,11 +224,11 @@ module _ (n d : ℕ) (first : List (ℕ × ℕ)) (c q : List ℕ) (start level :
       let rest = climb v vs away x w.1 p.0 in
       (rest.0, omega (arith, rest.1, p.1, ap (slice_index c) h.2))
 
-  from_start : (vs : List ℕ) (away x : ℕ) → IsWalk first d vs away x → IsQueued q x × (slice_index c x ≤ slice_index c d + away)
+  from_start : (vs : List ℕ) (away x : ℕ) → IsUndirectedWalk first d vs away x → IsQueued q x × (slice_index c x ≤ slice_index c d + away)
   from_start vs away x w = climb d vs away x w (0, s.begun, s.head)
 
-  walk_of : (x : ℕ) → IsQueued q x → HasWalk first d x (slice_index c x)
-  walk_of x h = subst (λ (z : ℕ). HasWalk first d z (slice_index c z)) h.2 (s.walks h.0 h.1)
+  walk_of : (x : ℕ) → IsQueued q x → HasUndirectedWalk first d x (slice_index c x)
+  walk_of x h = subst (λ (z : ℕ). HasUndirectedWalk first d z (slice_index c z)) h.2 (s.walks h.0 h.1)
 
   alone_zero : (x : ℕ) → IsAlone first x → IsQueued q x → slice_index c x ≡ 0
   alone_zero x alone h =

@@ -7,7 +7,7 @@ use Rattle.std.proofs.lemmas.List.Sums.{count_by-le-length, sum_by-set}
 use Rattle.fr_core.specs.LevelSearch.{IsLevelSearch, IsSeen}
 use Rattle.fr_core.specs.NodeCounts.{IsMostCount}
 use Rattle.fr_core.specs.Reaching.{unreached_count}
-use Rattle.fr_core.specs.Walks.{HasWalk}
+use Rattle.fr_core.specs.Walks.{HasUndirectedWalk}
 
 module _ (n d : ℕ) (first : List (ℕ × ℕ)) (c : List ℕ) (one_each : length c ≡ n) (in_range : d < n) (cleared : (x : ℕ)
     → x < n → IsMostCount n first x (slice_index c x)) where
@@ -53,7 +53,7 @@ module _ (n d : ℕ) (first : List (ℕ × ℕ)) (c : List ℕ) (one_each : leng
         (λ ne. seen_other x ne (cleared x l))
         (cases_eq x d);
     nodes = λ i l. omega (arith, only i l);
-    walks = λ i l. subst (HasWalk first d (slice_index queue i)) (sym (count_only i l)) ([], (only i l, refl));
+    walks = λ i l. subst (HasUndirectedWalk first d (slice_index queue i)) (sym (count_only i l)) ([], (only i l, refl));
     most = λ i l. omega (arith, count_only i l);
     reached = λ i l. omega (arith, count_only i l);
     before = λ i a b. absurd (omega arith);

@@ -4,7 +4,7 @@ use Rattle.std.proofs.lemmas.List.Elements.{All-contains}
 use Rattle.std.proofs.lemmas.List.Sorted.{Contains-permutation, IsPermutation-sym}
 use Rattle.fr_core.proofs.Turning.{All-from_Contains}
 use Rattle.fr_core.specs.Settled.{AreSettled, IsSettledCount}
-use Rattle.fr_core.specs.Walks.{HasWalk, IsJoined, IsLeastAway, IsWalk}
+use Rattle.fr_core.specs.Walks.{HasUndirectedWalk, IsConnected, IsLeastAway, IsUndirectedWalk}
 use Rattle.fr_graph.proofs.Giving.{ComesFrom, Points-links_at_back, Points-links_at_from}
 use Rattle.fr_graph.specs.Counts.{AreLawful, IsKept, links_at}
 use Rattle.fr_graph.specs.Links.{HaveSameLinks, IsAcyclic, IsAlone, IsPath, Joins, Points}
@@ -28,15 +28,15 @@ pub same_acyclic : (a b : List (ℕ × ℕ)) → HaveSameLinks a b → IsAcyclic
 same_acyclic a b same acyclic u [] h = h
 same_acyclic a b same acyclic u (v ∷ vs) h = acyclic u (v ∷ vs) (same_path b a (same_sym a b same) u (v ∷ vs) h.0, h.1)
 
-same_walk : (a b : List (ℕ × ℕ)) → HaveSameLinks a b → (u : ℕ) (vs : List ℕ) (k x : ℕ) → IsWalk a u vs k x → IsWalk b u vs k x
+same_walk : (a b : List (ℕ × ℕ)) → HaveSameLinks a b → (u : ℕ) (vs : List ℕ) (k x : ℕ) → IsUndirectedWalk a u vs k x → IsUndirectedWalk b u vs k x
 same_walk a b same u [] k x w = w
 same_walk a b same u (v ∷ vs) k x (inl w) = inl ((same u v).0 w.0, (w.1.0, w.1.1, same_walk a b same v vs w.1.0 x w.1.2))
 same_walk a b same u (v ∷ vs) k x (inr w) = inr ((same v u).0 w.0, same_walk a b same v vs k x w.1)
 
-same_has_walk : (a b : List (ℕ × ℕ)) → HaveSameLinks a b → (d x k : ℕ) → HasWalk a d x k → HasWalk b d x k
+same_has_walk : (a b : List (ℕ × ℕ)) → HaveSameLinks a b → (d x k : ℕ) → HasUndirectedWalk a d x k → HasUndirectedWalk b d x k
 same_has_walk a b same d x k w = (w.0, same_walk a b same d w.0 k x w.1)
 
-pub same_joined : (a b : List (ℕ × ℕ)) → HaveSameLinks a b → (d x : ℕ) → IsJoined a d x → IsJoined b d x
+pub same_joined : (a b : List (ℕ × ℕ)) → HaveSameLinks a b → (d x : ℕ) → IsConnected a d x → IsConnected b d x
 same_joined a b same d x j = (j.0, same_has_walk a b same d x j.0 j.1)
 
 same_least : (a b : List (ℕ × ℕ)) → HaveSameLinks a b → (d x k : ℕ) → IsLeastAway a d x k → IsLeastAway b d x k

@@ -9,7 +9,7 @@ use Rattle.fr_core.proofs.Sinks.{sink_from_none_out}
 use Rattle.fr_core.specs.History.{moment_of}
 use Rattle.fr_core.specs.Legal.{NoneCanTurn}
 use Rattle.fr_core.specs.Settled.{AreSettled, IsSettledCount}
-use Rattle.fr_core.specs.Walks.{HasWalk, IsJoined, IsWalk}
+use Rattle.fr_core.specs.Walks.{HasUndirectedWalk, IsConnected, IsUndirectedWalk}
 use Rattle.fr_graph.proofs.Acyclic.{links_at_acyclic}
 use Rattle.fr_graph.proofs.Giving.{ComesFrom, Points-links_at_from}
 use Rattle.fr_graph.proofs.Linking.{joined_below}
@@ -31,19 +31,19 @@ cases_out links x = ⊎_elim
     (λ none. inr (λ y h. none (x, y) h refl))
     (cases_some (λ (l : ℕ × ℕ). l.0 ≡ x) (λ l. cases_eq l.0 x) links)
 
-pub walk_along : (links : List (ℕ × ℕ)) (u : ℕ) (vs : List ℕ) (k y x : ℕ) → IsWalk links u vs k y → Points links y x → IsWalk links u (vs ++ x ∷ []) (k + 1) x
+pub walk_along : (links : List (ℕ × ℕ)) (u : ℕ) (vs : List ℕ) (k y x : ℕ) → IsUndirectedWalk links u vs k y → Points links y x → IsUndirectedWalk links u (vs ++ x ∷ []) (k + 1) x
 walk_along links u [] k y x w h = inl (subst (λ (z : ℕ). Points links z x) w.0 h, (0, omega (arith, w.1), (refl, refl)))
 walk_along links u (v ∷ vs) k y x (inl w) h = inl (w.0, (w.1.0 + 1, omega (arith, w.1.1), walk_along links v vs w.1.0 y x w.1.2 h))
 walk_along links u (v ∷ vs) k y x (inr w) h = inr (w.0, walk_along links v vs k y x w.1 h)
 
-pub walk_against : (links : List (ℕ × ℕ)) (u : ℕ) (vs : List ℕ) (k y x : ℕ) → IsWalk links u vs k y → Points links x y → IsWalk links u (vs ++ x ∷ []) k x
+pub walk_against : (links : List (ℕ × ℕ)) (u : ℕ) (vs : List ℕ) (k y x : ℕ) → IsUndirectedWalk links u vs k y → Points links x y → IsUndirectedWalk links u (vs ++ x ∷ []) k x
 walk_against links u [] k y x w h = inr (subst (λ (z : ℕ). Points links x z) w.0 h, (refl, w.1))
 walk_against links u (v ∷ vs) k y x (inl w) h = inl (w.0, (w.1.0, w.1.1, walk_against links v vs w.1.0 y x w.1.2 h))
 walk_against links u (v ∷ vs) k y x (inr w) h = inr (w.0, walk_against links v vs k y x w.1 h)
 
 -- on a walk that climbs by at most one a step each count between its ends is taken
 pub walk_takes : (n : ℕ) (links : List (ℕ × ℕ)) → ((u w : ℕ) → Joins links u w → u < n) → (c : List ℕ) → Climbs links c
-    → (u : ℕ) → u < n → (vs : List ℕ) (k x : ℕ) → IsWalk links u vs k x
+    → (u : ℕ) → u < n → (vs : List ℕ) (k x : ℕ) → IsUndirectedWalk links u vs k x
     → (m : ℕ) → slice_index c u ≤ m → m ≤ slice_index c x → (y : ℕ) × (y < n) × (slice_index c y ≡ m)
 walk_takes n links below c climbs u in_range [] k x w m low high = (u, in_range, omega (arith, ap (slice_index c) w.0))
 walk_takes n links below c climbs u in_range (v ∷ vs) k x (inl w) m low high = ⊎_elim
@@ -55,7 +55,7 @@ walk_takes n links below c climbs u in_range (v ∷ vs) k x (inr w) m low high =
 
 -- so no walk climbs from 0 to n
 pub no_walk_to_n : (n : ℕ) (links : List (ℕ × ℕ)) → ((u w : ℕ) → Joins links u w → u < n) → (c : List ℕ) → Climbs links c
-    → (d : ℕ) → d < n → slice_index c d ≡ 0 → (x : ℕ) → IsJoined links d x → slice_index c x < n
+    → (d : ℕ) → d < n → slice_index c d ≡ 0 → (x : ℕ) → IsConnected links d x → slice_index c x < n
 no_walk_to_n n links below c climbs d in_range start x (k, (vs, w)) = ⊎_elim (λ l. l)
     (λ high. absurd (too_many_counts n (slice_index c) (λ m l. walk_takes n links below c climbs d in_range vs k x w m (omega arith) (omega arith))))
     (cases_lt (slice_index c x) n)
@@ -71,10 +71,10 @@ module _ (n d : ℕ) (first : List (ℕ × ℕ)) (net : IsNet n first) (in_range
         })))
         (cases_out (links_at first c) x)
 
-    reach_further : (x y : ℕ) → ComesFrom first c x y → HasWalk first d y (slice_index c y) → HasWalk first d x (slice_index c x)
-    reach_further x y (inl h) (vs, w) = (vs ++ x ∷ [], walk_against first d vs (slice_index c x) y x (subst (λ (k : ℕ). IsWalk first d vs k y) h.1 w) h.0)
+    reach_further : (x y : ℕ) → ComesFrom first c x y → HasUndirectedWalk first d y (slice_index c y) → HasUndirectedWalk first d x (slice_index c x)
+    reach_further x y (inl h) (vs, w) = (vs ++ x ∷ [], walk_against first d vs (slice_index c x) y x (subst (λ (k : ℕ). IsUndirectedWalk first d vs k y) h.1 w) h.0)
     reach_further x y (inr h) (vs, w) =
-        (vs ++ x ∷ [], subst (λ (k : ℕ). IsWalk first d (vs ++ x ∷ []) k x) (sym h.1) (walk_along first d vs (slice_index c y) y x w h.0))
+        (vs ++ x ∷ [], subst (λ (k : ℕ). IsUndirectedWalk first d (vs ++ x ∷ []) k x) (sym h.1) (walk_along first d vs (slice_index c y) y x w h.0))
 
     falls : (x y : ℕ) → ComesFrom first c x y → slice_index c y ≤ slice_index c x
     falls x y (inl h) = omega (arith, h.1)
@@ -84,7 +84,7 @@ module _ (n d : ℕ) (first : List (ℕ × ℕ)) (net : IsNet n first) (in_range
     linked_back x y (inl h) = inr h.0
     linked_back x y (inr h) = inl h.0
 
-    follow : (k x w : ℕ) → Joins first x w → slice_index c x < n → HasWalk first d x (slice_index c x)
+    follow : (k x w : ℕ) → Joins first x w → slice_index c x < n → HasUndirectedWalk first d x (slice_index c x)
         ⊎ ((vs : List ℕ) × (length vs ≡ k) × IsPath (links_at first c) x vs)
     follow zero x w linked below = inr ([], refl, tt)
     follow (suc k) x w linked below = ⊎_elim
@@ -96,7 +96,7 @@ module _ (n d : ℕ) (first : List (ℕ × ℕ)) (net : IsNet n first) (in_range
         ⊎_elim (λ r. inl (reach_further x o.0 from r)) (λ p. inr (o.0 ∷ p.0, ap suc p.1, (o.1, p.2))) (follow k o.0 x (linked_back x o.0 from) (omega arith)))
         (cases_eq x d)
 
-    reached : (x w : ℕ) → Joins first x w → slice_index c x < n → HasWalk first d x (slice_index c x)
+    reached : (x w : ℕ) → Joins first x w → slice_index c x < n → HasUndirectedWalk first d x (slice_index c x)
     reached x w linked below = ⊎_elim (λ r. r)
         (λ p. absurd (omega (
           arith,

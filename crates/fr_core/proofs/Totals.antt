@@ -21,7 +21,7 @@ use Rattle.fr_core.proofs.Unique.{settled_climbs, settled_destination, settled_l
 use Rattle.fr_core.specs.History.{after_all, moment_of, turn_count}
 use Rattle.fr_core.specs.Legal.{IsRun}
 use Rattle.fr_core.specs.Settled.{AreSettled}
-use Rattle.fr_core.specs.Walks.{IsJoined}
+use Rattle.fr_core.specs.Walks.{IsConnected}
 use Rattle.fr_core.specs.declared.entry.Entry.{Entry}
 use Rattle.fr_graph.proofs.Counting.{count-range_agree, count_by-map, none_pass}
 use Rattle.fr_graph.proofs.Linking.{joined_below}
@@ -71,18 +71,18 @@ module _ (n d : ℕ) (first : List (ℕ × ℕ)) (net : IsNet n first) (below : 
   lawful : AreLawful n d first c
   lawful = settled_lawful n d first net below c settled
 
-  high : (x : ℕ) → IsJoined first d x → slice_index c x < n
+  high : (x : ℕ) → IsConnected first d x → slice_index c x < n
   high x joined = joined_count_below n d first net below c settled x joined
 
   -- a node with a count from 1 to n - 1 is joined with the destination
-  joined_by_count : (x : ℕ) → ¬ (slice_index c x ≡ 0) → slice_index c x < n → IsJoined first d x
+  joined_by_count : (x : ℕ) → ¬ (slice_index c x ≡ 0) → slice_index c x < n → IsConnected first d x
   joined_by_count x some l = ⊎_elim
       (λ linked. joined_from_counts n d first net below c settled x (inr (linked, l)))
       (λ alone. absurd (some (lawful.alone x alone)))
       (cases_linked first x)
 
-  pub level_below : (x k : ℕ) → IsJoined first d x → slice_index c x ≡ k + 1
-      → (y : ℕ) × (y < n) × IsJoined first d y × (slice_index c y ≡ k)
+  pub level_below : (x k : ℕ) → IsConnected first d x → slice_index c x ≡ k + 1
+      → (y : ℕ) × (y < n) × IsConnected first d y × (slice_index c y ≡ k)
   level_below x zero joined e = (d, below, (0, ([], (refl, refl))), at_destination)
   level_below x (suc k) joined e =
       let climbs = settled_climbs n d first net below c settled in
@@ -92,7 +92,7 @@ module _ (n d : ℕ) (first : List (ℕ × ℕ)) (net : IsNet n first) (below : 
       (at.0, at.1, joined_by_count at.0 (λ z. omega (arith, z, at.2)) (omega (arith, e, at.2, high x joined)), at.2)
 
   -- a joined node with the count 0 has a path
-  path_at_zero : (x : ℕ) → x < n → IsJoined first d x → slice_index c x ≡ 0 → HasPath first x d
+  path_at_zero : (x : ℕ) → x < n → IsConnected first d x → slice_index c x ≡ 0 → HasPath first x d
   path_at_zero x l joined e = ⊎_elim
       (λ same. ([], (tt, same)))
       (λ linked.
@@ -120,7 +120,7 @@ module _ (n d : ℕ) (first : List (ℕ × ℕ)) (net : IsNet n first) (below : 
       let ne : ¬ (slice_index c x ≡ n) = λ e. some (low_at x l ∙ uncap-n n (slice_index c x) e) in
       omega (arith, ne, lawful.capped x)
 
-  joined_by_low : (x : ℕ) → x < n → ¬ (slice_index low x ≡ 0) → IsJoined first d x
+  joined_by_low : (x : ℕ) → x < n → ¬ (slice_index low x ≡ 0) → IsConnected first d x
   joined_by_low x l some =
       let under = below_cap x l some in
       joined_by_count x (λ e. some (low_below x l under ∙ e)) under
@@ -196,7 +196,7 @@ module _ (n d : ℕ) (first : List (ℕ × ℕ)) (net : IsNet n first) (below : 
     unfolding bad_number
     few = few_without_gap b low no_gap (many_unique n (IsBad d first) bad_number b counted.bad are.bad)
 
-    pub each_few : (x : ℕ) → IsJoined first d x → slice_index c x ≤ b
+    pub each_few : (x : ℕ) → IsConnected first d x → slice_index c x ≤ b
     each_few x joined = ⊎_elim
         (λ l. omega (arith, few.0 x (omega (arith, l, low_long)), low_below x l (high x joined)))
         (λ past. omega (arith, get_or_past c x 0 (omega (arith, past, settled.one_each))))

@@ -8,7 +8,7 @@ use Rattle.fr_core.proofs.Turning.{All-from_Contains, sink_linked}
 use Rattle.fr_core.specs.History.{moment_of}
 use Rattle.fr_core.specs.Legal.{NoneCanTurn}
 use Rattle.fr_core.specs.Settled.{AreSettled, IsSettledCount}
-use Rattle.fr_core.specs.Walks.{IsJoined, IsLeastAway, IsWalk}
+use Rattle.fr_core.specs.Walks.{IsConnected, IsLeastAway, IsUndirectedWalk}
 use Rattle.fr_graph.proofs.Giving.{Points-links_at_same, Points-links_at_turned}
 use Rattle.fr_graph.proofs.Linking.{joined_below}
 use Rattle.fr_graph.specs.Counts.{AreLawful, IsKept, links_at}
@@ -16,7 +16,7 @@ use Rattle.fr_graph.specs.Links.{IsAlone, IsNet, Joins, Points}
 
 -- what a linked node's settled count is
 abbrev pub IsLinkedCount : ℕ → ℕ → List (ℕ × ℕ) → ℕ → ℕ → Type 0
-IsLinkedCount n d links x k = IsLeastAway links d x k ⊎ (¬ IsJoined links d x × (k ≡ n))
+IsLinkedCount n d links x k = IsLeastAway links d x k ⊎ (¬ IsConnected links d x × (k ≡ n))
 
 pub linked_count : (n d : ℕ) (links : List (ℕ × ℕ)) (x k : ℕ) → IsSettledCount n d links x k → ¬ IsAlone links x → IsLinkedCount n d links x k
 linked_count n d links x k (inl h) linked = absurd (linked h.0)
@@ -55,10 +55,10 @@ module _ (n d : ℕ) (first : List (ℕ × ℕ)) (net : IsNet n first) (in_range
   pub of_linked : (x w : ℕ) → Joins first x w → IsLinkedCount n d first x (slice_index c x)
   of_linked x w h = linked_count n d first x (slice_index c x) (settled.settled x (joined_below n first x w net h).0) (λ alone. alone w h)
 
-  pub joined_along : (u v : ℕ) → Points first u v → IsJoined first d u → IsJoined first d v
+  pub joined_along : (u v : ℕ) → Points first u v → IsConnected first d u → IsConnected first d v
   joined_along u v h (k, (vs, w)) = (k + 1, (vs ++ v ∷ [], walk_along first d vs k u v w h))
 
-  pub joined_against : (u v : ℕ) → Points first v u → IsJoined first d u → IsJoined first d v
+  pub joined_against : (u v : ℕ) → Points first v u → IsConnected first d u → IsConnected first d v
   joined_against u v h (k, (vs, w)) = (k, (vs ++ v ∷ [], walk_against first d vs k u v w h))
 
   climbs_along : (u v : ℕ) → Points first u v → IsLinkedCount n d first u (slice_index c u)
@@ -89,7 +89,7 @@ module _ (n d : ℕ) (first : List (ℕ × ℕ)) (net : IsNet n first) (in_range
       go (inr (inl h)) = omega (arith, h.1.least 0 ([], (refl, refl)))
       go (inr (inr h)) = absurd (h.1 (0, ([], (refl, refl))))
 
-  pub joined_count_below : (x : ℕ) → IsJoined first d x → slice_index c x < n
+  pub joined_count_below : (x : ℕ) → IsConnected first d x → slice_index c x < n
   joined_count_below x joined = no_walk_to_n n first (λ y w h. (joined_below n first y w net h).0) c settled_climbs d in_range settled_destination x joined
 
   settled_capped : (x : ℕ) → slice_index c x ≤ n
@@ -122,7 +122,7 @@ module _ (n d : ℕ) (first : List (ℕ × ℕ)) (net : IsNet n first) (in_range
   }
 
   -- the last step of a walk with the least away number is against a link that the counts give
-  last_step : (u : ℕ) (vs : List ℕ) (k x : ℕ) → IsWalk first u vs k x → slice_index c u + k ≤ slice_index c x → ¬ (u ≡ x)
+  last_step : (u : ℕ) (vs : List ℕ) (k x : ℕ) → IsUndirectedWalk first u vs k x → slice_index c u + k ≤ slice_index c x → ¬ (u ≡ x)
       → (y : ℕ) × Points (links_at first c) x y
   last_step u [] k x w l apart = absurd (apart (sym w.0))
   last_step u (v ∷ vs) k x (inl w) l apart = ⊎_elim
@@ -152,9 +152,9 @@ module _ (n d : ℕ) (first : List (ℕ × ℕ)) (net : IsNet n first) (in_range
       go (inl h) = let o = settled_out x h (λ e. can.not_destination (sym e)) in can.sink.1 o.0 o.1
       go (inr h) = omega (arith, h.1, can.below_cap)
 
-  pub cap_from_not_joined : (x : ℕ) → x < n → ¬ IsAlone first x → ¬ IsJoined first d x → slice_index c x ≡ n
+  pub cap_from_not_joined : (x : ℕ) → x < n → ¬ IsAlone first x → ¬ IsConnected first d x → slice_index c x ≡ n
   cap_from_not_joined x l linked apart = ⊎_elim (λ least. absurd (apart (slice_index c x, least.reached))) (λ h. h.1)
       (linked_count n d first x (slice_index c x) (settled.settled x l) linked)
 
-  pub not_joined_from_cap : (x : ℕ) → slice_index c x ≡ n → ¬ IsJoined first d x
+  pub not_joined_from_cap : (x : ℕ) → slice_index c x ≡ n → ¬ IsConnected first d x
   not_joined_from_cap x e joined = omega (arith, joined_count_below x joined)

@@ -11,7 +11,7 @@ use Rattle.fr_core.specs.Bounds.{MeetsBounds}
 use Rattle.fr_core.specs.Finish.{IsFinish}
 use Rattle.fr_core.specs.History.{Moment, moment_of, after_all, links_after, count_after, turn_count, turn_count_of}
 use Rattle.fr_core.specs.Legal.{CanTurn, NoneCanTurn, IsRun}
-use Rattle.fr_core.specs.Walks.{HasWalk, IsJoined}
+use Rattle.fr_core.specs.Walks.{HasUndirectedWalk, IsConnected}
 use Rattle.fr_core.specs.Senses.{first_link, link_by, sense_of}
 use Rattle.fr_core.specs.Settled.{AreSettled}
 use Rattle.fr_core.specs.Machine.{start, entries_of, state_after}
@@ -52,7 +52,7 @@ abbrev pub OrderDoesNotMatter : Type 0
 OrderDoesNotMatter = (n d : ℕ) (first other : List (ℕ × ℕ)) (counts : List ℕ) → IsPermutation first other
     → (IsNet n first → IsNet n other) × (AreLawful n d first counts → AreLawful n d other counts) × (AreSettled n d first counts → AreSettled n d other counts)
     × HaveSameLinks (links_at first counts) (links_at other counts)
-    × ((x : ℕ) → IsJoined first d x → IsJoined other d x) × ((x : ℕ) → IsSink first x → IsSink other x)
+    × ((x : ℕ) → IsConnected first d x → IsConnected other d x) × ((x : ℕ) → IsSink first x → IsSink other x)
 
 -- Turns and runs
 
@@ -99,7 +99,7 @@ SinkByCounts = (n d : ℕ) (first : List (ℕ × ℕ)) (counts : List ℕ) (x : 
 
 -- no lawful count is greater than an away number
 abbrev pub LawfulIsAtMostAway : Type 0
-LawfulIsAtMostAway = (n d : ℕ) (first : List (ℕ × ℕ)) (counts : List ℕ) (x away : ℕ) → AreLawful n d first counts → HasWalk first d x away → slice_index counts x ≤ away
+LawfulIsAtMostAway = (n d : ℕ) (first : List (ℕ × ℕ)) (counts : List ℕ) (x away : ℕ) → AreLawful n d first counts → HasUndirectedWalk first d x away → slice_index counts x ≤ away
 
 -- if no node can turn, lawful counts are settled
 abbrev pub NoTurnLeftIsSettled : Type 0
@@ -123,16 +123,16 @@ ZeroIsAPath = (n d : ℕ) (first : List (ℕ × ℕ)) (counts : List ℕ) (x : �
 
 -- a node with links has the settled count n exactly if it is not joined with the destination
 abbrev pub CapIsNotJoined : Type 0
-CapIsNotJoined = (n d : ℕ) (first : List (ℕ × ℕ)) (counts : List ℕ) (x : ℕ) → IsNet n first → d < n → AreSettled n d first counts → x < n → ¬ IsAlone first x → (slice_index counts x ≡ n) ↔ (¬ IsJoined first d x)
+CapIsNotJoined = (n d : ℕ) (first : List (ℕ × ℕ)) (counts : List ℕ) (x : ℕ) → IsNet n first → d < n → AreSettled n d first counts → x < n → ¬ IsAlone first x → (slice_index counts x ≡ n) ↔ (¬ IsConnected first d x)
 
 -- the settled count of a node that is joined with the destination is less than n
 abbrev pub JoinedIsBelowCap : Type 0
-JoinedIsBelowCap = (n d : ℕ) (first : List (ℕ × ℕ)) (counts : List ℕ) (x : ℕ) → IsNet n first → d < n → AreSettled n d first counts → IsJoined first d x → slice_index counts x < n
+JoinedIsBelowCap = (n d : ℕ) (first : List (ℕ × ℕ)) (counts : List ℕ) (x : ℕ) → IsNet n first → d < n → AreSettled n d first counts → IsConnected first d x → slice_index counts x < n
 
 -- the settled count of a node shows whether it is joined with the destination
 abbrev pub JoinedByCounts : Type 0
 JoinedByCounts = (n d : ℕ) (first : List (ℕ × ℕ)) (counts : List ℕ) (x : ℕ) → IsNet n first → d < n → AreSettled n d first counts
-    → IsJoined first d x ↔ ((x ≡ d) ⊎ (((w : ℕ) × Joins first x w) × (slice_index counts x < n)))
+    → IsConnected first d x ↔ ((x ≡ d) ⊎ (((w : ℕ) × Joins first x w) × (slice_index counts x < n)))
 
 -- Every schedule ends at the same counts
 

@@ -3,7 +3,7 @@
 use Rattle.std.specs.Prelude.{◌≡◌, ℕ, ◌+◌, ◌<◌, ◌≤◌, ◌⊎◌, List, length, slice_index}
 use Rattle.fr_graph.specs.Links.{Points, IsAlone}
 use Rattle.fr_core.specs.Reaching.{IsQueued, unreached_count}
-use Rattle.fr_core.specs.Walks.{HasWalk}
+use Rattle.fr_core.specs.Walks.{HasUndirectedWalk}
 
 -- a node without a link, a node that is not reached, or a node of the queue
 abbrev pub IsSeen : ℕ → List (ℕ × ℕ) → List ℕ → List ℕ → ℕ → Type 0
@@ -22,7 +22,7 @@ pub record IsLevelSearch (n d : ℕ) (first : List (ℕ × ℕ)) (counts queue :
   pub zero : slice_index counts d ≡ 0
   pub seen : (x : ℕ) → x < n → IsSeen n first counts queue x
   pub nodes : (i : ℕ) → i < length queue → slice_index queue i < n
-  pub walks : (i : ℕ) → i < length queue → HasWalk first d (slice_index queue i) (slice_index counts (slice_index queue i))
+  pub walks : (i : ℕ) → i < length queue → HasUndirectedWalk first d (slice_index queue i) (slice_index counts (slice_index queue i))
   pub most : (i : ℕ) → i < length queue → slice_index counts (slice_index queue i) ≤ level
   pub reached : (i : ℕ) → i < length queue → slice_index counts (slice_index queue i) < n
   pub before : (i : ℕ) → opened ≤ i → i < start → slice_index counts (slice_index queue i) + 1 ≡ level

@@ -2,7 +2,7 @@
 -- Walter, "Link Reversal Algorithms", 2011), where the turns of a part without the destination stop at the cap.
 use Rattle.std.specs.Prelude.{◌≡◌, ℕ, ◌<◌, ◌⊎◌, List, length, slice_index}
 use Rattle.fr_graph.specs.Links.{IsAlone}
-use Rattle.fr_core.specs.Walks.{IsJoined, IsLeastAway}
+use Rattle.fr_core.specs.Walks.{IsConnected, IsLeastAway}
 
 -- 0 for a node without a link; the least away number for a node that is joined with the destination d (so 0 for d
 -- itself, by the walk without steps); and n for every other node
@@ -10,7 +10,7 @@ abbrev pub IsSettledCount : ℕ → ℕ → List (ℕ × ℕ) → ℕ → ℕ �
 IsSettledCount n d links x k =
     (IsAlone links x × (k ≡ 0))
     ⊎ (¬ IsAlone links x × IsLeastAway links d x k)
-    ⊎ (¬ IsAlone links x × ¬ IsJoined links d x × (k ≡ n))
+    ⊎ (¬ IsAlone links x × ¬ IsConnected links d x × (k ≡ n))
 
 -- one settled count for each of n nodes
 pub record AreSettled (n d : ℕ) (links : List (ℕ × ℕ)) (counts : List ℕ) : Type 0 where

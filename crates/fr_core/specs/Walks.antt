@@ -5,21 +5,21 @@ use Rattle.fr_graph.specs.Links.{Points}
 
 -- A walk from u along these nodes ends at x. Its away number is the number of its steps along a link, from tail to
 -- head. (In a network, no step goes both along a link and against one, so a walk has only one away number.)
-abbrev pub IsWalk : List (ℕ × ℕ) → ℕ → List ℕ → ℕ → ℕ → Type 0
-IsWalk links u [] away x = (x ≡ u) × (away ≡ 0)
-IsWalk links u (v ∷ vs) away x =
-    (Points links u v × ((rest : ℕ) × (away ≡ rest + 1) × IsWalk links v vs rest x))
-    ⊎ (Points links v u × IsWalk links v vs away x)
+abbrev pub IsUndirectedWalk : List (ℕ × ℕ) → ℕ → List ℕ → ℕ → ℕ → Type 0
+IsUndirectedWalk links u [] away x = (x ≡ u) × (away ≡ 0)
+IsUndirectedWalk links u (v ∷ vs) away x =
+    (Points links u v × ((rest : ℕ) × (away ≡ rest + 1) × IsUndirectedWalk links v vs rest x))
+    ⊎ (Points links v u × IsUndirectedWalk links v vs away x)
 
 -- some walk from d to x has this away number
-abbrev pub HasWalk : List (ℕ × ℕ) → ℕ → ℕ → ℕ → Type 0
-HasWalk links d x away = (vs : List ℕ) × IsWalk links d vs away x
+abbrev pub HasUndirectedWalk : List (ℕ × ℕ) → ℕ → ℕ → ℕ → Type 0
+HasUndirectedWalk links d x away = (vs : List ℕ) × IsUndirectedWalk links d vs away x
 
 -- a walk leads from d to x; the walk without steps leads from d to d. In the literature, d and x are connected
-abbrev pub IsJoined : List (ℕ × ℕ) → ℕ → ℕ → Type 0
-IsJoined links d x = (away : ℕ) × HasWalk links d x away
+abbrev pub IsConnected : List (ℕ × ℕ) → ℕ → ℕ → Type 0
+IsConnected links d x = (away : ℕ) × HasUndirectedWalk links d x away
 
 -- the least away number of the walks from d to x
 pub record IsLeastAway (links : List (ℕ × ℕ)) (d x k : ℕ) : Type 0 where
-  pub reached : HasWalk links d x k
-  pub least : (away : ℕ) → HasWalk links d x away → k ≤ away
+  pub reached : HasUndirectedWalk links d x k
+  pub least : (away : ℕ) → HasUndirectedWalk links d x away → k ≤ away

@@ -9,17 +9,17 @@ use Rattle.fr_graph.specs.Links.{HasPath, IsAlone, IsNet}
 use Rattle.fr_core.specs.History.{moment_of, turn_count}
 use Rattle.fr_core.specs.Legal.{IsRun}
 use Rattle.fr_core.specs.Settled.{AreSettled}
-use Rattle.fr_core.specs.Walks.{IsJoined}
+use Rattle.fr_core.specs.Walks.{IsConnected}
 use Rattle.fr_core.specs.declared.entry.Entry.{Entry}
 
 -- a bad node, as it is called in the literature: it is joined with the destination d, but no path along the links leads
 -- to d
 abbrev pub IsBad : ℕ → List (ℕ × ℕ) → ℕ → Type 0
-IsBad d links x = IsJoined links d x × ¬ HasPath links x d
+IsBad d links x = IsConnected links d x × ¬ HasPath links x d
 
 -- a stranded node: it has links, but is not joined with d
 abbrev pub IsStranded : ℕ → List (ℕ × ℕ) → ℕ → Type 0
-IsStranded d links x = ¬ IsAlone links x × ¬ IsJoined links d x
+IsStranded d links x = ¬ IsAlone links x × ¬ IsConnected links d x
 
 -- exactly k of the nodes below n have the property P
 pub record IsNumberOf (n : ℕ) (P : ℕ → Type 0) (k : ℕ) : Type 0 where
@@ -45,7 +45,7 @@ pub record IsWithinWork (n d : ℕ) (first : List (ℕ × ℕ)) (total : ℕ) : 
 pub record IsConnected (n d : ℕ) (links : List (ℕ × ℕ)) : Type 0 where
   pub is_net : IsNet n links
   pub dest : d < n
-  pub joined : (x : ℕ) → x < n → IsJoined links d x
+  pub joined : (x : ℕ) → x < n → IsConnected links d x
 
 -- Each network has exactly one number of bad nodes and one of stranded nodes. Together they are fewer than the nodes.
 abbrev pub BadAreCounted : Type 0
@@ -56,13 +56,13 @@ BadAreCounted = (n d : ℕ) (first : List (ℕ × ℕ)) → IsNet n first → d 
 -- The joined nodes lie in levels, by their settled counts. If level k + 1 has a node, level k has one too.
 abbrev pub NoLevelIsEmpty : Type 0
 NoLevelIsEmpty = (n d : ℕ) (first : List (ℕ × ℕ)) (counts : List ℕ) (x k : ℕ) → IsNet n first → d < n
-    → AreSettled n d first counts → IsJoined first d x → slice_index counts x ≡ k + 1
-    → (y : ℕ) × (y < n) × IsJoined first d y × (slice_index counts y ≡ k)
+    → AreSettled n d first counts → IsConnected first d x → slice_index counts x ≡ k + 1
+    → (y : ℕ) × (y < n) × IsConnected first d y × (slice_index counts y ≡ k)
 
 -- No joined node turns more often than there are bad nodes.
 abbrev pub EachIsAtMostBad : Type 0
 EachIsAtMostBad = (n d : ℕ) (first : List (ℕ × ℕ)) (counts : List ℕ) (b c x : ℕ) → IsNet n first → d < n
-    → AreCounted n d first b c → AreSettled n d first counts → IsJoined first d x → slice_index counts x ≤ b
+    → AreCounted n d first b c → AreSettled n d first counts → IsConnected first d x → slice_index counts x ≤ b
 
 -- No run makes more than 1 + 2 + .. + b turns, and n for each stranded node, in whatever order it turns nodes. This
 -- includes the turns that led to the counts at its start. So the bound also holds of the sum of the settled counts:

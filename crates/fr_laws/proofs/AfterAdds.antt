@@ -8,7 +8,7 @@ use Rattle.fr_graph.specs.Links.{IsAlone, HasPath, HaveSameLinks, IsAcyclic, IsN
 use Rattle.fr_graph.specs.Network.{Network}
 use Rattle.fr_graph.proofs.AddedLinks.{added, path_joins}
 use Rattle.fr_graph.proofs.Linking.{path_carries}
-use Rattle.fr_core.specs.Walks.{IsJoined}
+use Rattle.fr_core.specs.Walks.{IsConnected}
 use Rattle.fr_core.proofs.SameLinks.{same_acyclic, same_from_permutation, same_sym}
 use Rattle.fr_core.proofs.Paths.{walk_from_path}
 use Rattle.fr_route.specs.States.{State, IsAfterRound, IsRound}
@@ -46,11 +46,11 @@ module _ (s : State) (after : IsAfterRound s) (tail head : ℕ) (first : List (�
   added_is : Points first tail head
   added_is = (listed tail head).0 (Contains-push s.links (tail, head))
 
-  still : (x : ℕ) → IsJoined s.links s.dest x → ¬ HasTurned new x
+  still : (x : ℕ) → IsConnected s.links s.dest x → ¬ HasTurned new x
   still = grown_still s after first new net round grows
 
   -- a head that does not turn has a path, which is none over the added link
-  head_joined : ¬ HasTurned new head → IsJoined s.links s.dest head
+  head_joined : ¬ HasTurned new head → IsConnected s.links s.dest head
   head_joined rests =
       let acyclic : IsAcyclic (added s.links tail head) =
       same_acyclic first (added s.links tail head) (same_sym (added s.links tail head) first listed) net.acyclic in
@@ -68,7 +68,7 @@ module _ (s : State) (after : IsAfterRound s) (tail head : ℕ) (first : List (�
       ⊎_elim inl (λ e. inr (e.0, e.1, subst (λ (z : ℕ). ¬ HasTurned new z) e.1 out.1))
       (pushed_cases s.links tail head x w ((listed x w).1 out.0))
 
-  takes : (x : ℕ) → IsJoined s.links s.dest x → TakesLink s tail head x → IsHop new x (To head)
+  takes : (x : ℕ) → IsConnected s.links s.dest x → TakesLink s tail head x → IsHop new x (To head)
   takes x joined t =
       let between = links_between s.nodes s.dest first new net after.dest round x head in
       let stands : Points first x head = subst (λ (z : ℕ). Points first z head) (sym t.at_tail) added_is in
@@ -78,7 +78,7 @@ module _ (s : State) (after : IsAfterRound s) (tail head : ℕ) (first : List (�
             (new_out x w (still x joined) h);
       })
 
-  keeps : (x : ℕ) → IsJoined s.links s.dest x → ¬ TakesLink s tail head x → KeepsHop s new x
+  keeps : (x : ℕ) → IsConnected s.links s.dest x → ¬ TakesLink s tail head x → KeepsHop s new x
   keeps x joined other Here h = h ∙ sym round.dest
   keeps x joined other (To y) (rest, (apart, hop, route)) =
       let between = links_between s.nodes s.dest first new net after.dest round x y in
@@ -98,11 +98,11 @@ module _ (s : State) (after : IsAfterRound s) (tail head : ℕ) (first : List (�
       })
   keeps x joined other CutOff h = absurd (h.1 joined)
 
-  after_add : (x : ℕ) → IsJoined s.links s.dest x → IsAfterAdd s tail head new x
+  after_add : (x : ℕ) → IsConnected s.links s.dest x → IsAfterAdd s tail head new x
   after_add x joined = record { still = still x joined; takes = takes x joined; keeps = keeps x joined }
 
 pub add_spares : (s : State) (u v : ℕ) (first : List (ℕ × ℕ)) (d : ℕ) (new : State) (x : ℕ)
-    → IsSettledAnew s (Add u v) first d new → IsJoined s.links s.dest x → IsAfterAdd s u v new x
+    → IsSettledAnew s (Add u v) first d new → IsConnected s.links s.dest x → IsAfterAdd s u v new x
 add_spares s u v first d new x h joined =
     let links = added s.links u v in
     let round = moved_round s.nodes d s.dest first links new h.begins.1 h.begins.2 h.round in
@@ -111,7 +111,7 @@ add_spares s u v first d new x h joined =
 -- what a join does, by the network that it makes
 abbrev AfterJoin : State → ℕ → ℕ → List (ℕ × ℕ) → State → Type 0
 AfterJoin s u v first new = (tail : ℕ) × (head : ℕ) × AreEnds u v tail head × Points first tail head
-    × ((x : ℕ) → IsJoined s.links s.dest x → IsAfterAdd s tail head new x)
+    × ((x : ℕ) → IsConnected s.links s.dest x → IsAfterAdd s tail head new x)
 
 join_by : (s : State) (after : IsAfterRound s) (u v : ℕ) (net : Network) (new : State)
     → IsNetJoined s.nodes s.links u v net → IsNet s.nodes net.links → IsRound s.nodes s.dest net.links new

@@ -9,7 +9,7 @@ use Rattle.fr_graph.proofs.AddedLinks.{path_joins}
 use Rattle.fr_graph.proofs.Editing.{from_filter}
 use Rattle.fr_graph.proofs.Linking.{joined_from, path_carries}
 use Rattle.fr_graph.proofs.Lists.{filter_passes, into_filter}
-use Rattle.fr_core.specs.Walks.{IsJoined}
+use Rattle.fr_core.specs.Walks.{IsConnected}
 use Rattle.fr_core.proofs.Joining.{joined_carries}
 use Rattle.fr_route.specs.States.{State, IsAfterRound, IsCutOff, IsRound}
 use Rattle.fr_route.specs.Routes.{IsHop, IsNextHop}
@@ -97,21 +97,21 @@ module _ (s : State) (after : IsAfterRound s) (u v : ℕ) (new : State)
   path_was : (x y : ℕ) → HasPath left x y → HasPath s.links x y
   path_was x y p = (p.0, (path_carries left s.links (left_was s.links u v) x p.0 p.1.0, p.1.1))
 
-  splits : (tail : ℕ) → IsTail s.links u v tail → (x : ℕ) → IsJoined s.links s.dest x
+  splits : (tail : ℕ) → IsTail s.links u v tail → (x : ℕ) → IsConnected s.links s.dest x
       → HasPath left x s.dest ⊎ HasPath left x tail
   splits tail at x joined =
       let path = home s after x joined in
       left_or_to_tail s.links u v (here s after).acyclic tail at s.dest x path.0 path.1.0 path.1.1
 
   -- a link that points from the tail leads to a path, since a path back to the tail would close a walk
-  tail_path : (tail w : ℕ) → IsTail s.links u v tail → Points left tail w → IsJoined s.links s.dest tail
+  tail_path : (tail w : ℕ) → IsTail s.links u v tail → Points left tail w → IsConnected s.links s.dest tail
       → HasPath left tail s.dest
   tail_path tail w at h joined = ⊎_elim
       (λ p. (w ∷ p.0, ((h, p.1.0), p.1.1)))
       (λ p. absurd (left_net.acyclic tail (w ∷ p.0) ((h, p.1.0), p.1.1)))
       (splits tail at w (joined_out s.links s.dest tail w joined (left_was s.links u v tail w h)))
 
-  detour : (x : ℕ) → IsJoined s.links s.dest x → (tail w : ℕ) → IsTail s.links u v tail → Points left tail w
+  detour : (x : ℕ) → IsConnected s.links s.dest x → (tail w : ℕ) → IsTail s.links u v tail → Points left tail w
       → ¬ HasTurned new x
   detour x joined tail w at h = ⊎_elim (left_still x)
       (λ p.
@@ -121,7 +121,7 @@ module _ (s : State) (after : IsAfterRound s) (u v : ℕ) (new : State)
       (splits tail at x joined)
 
   -- a joined node keeps its hop if it is not the tail, and neither it nor the nodes to which its links point turn
-  other_hop : (x tail : ℕ) → IsJoined s.links s.dest x → IsTail s.links u v tail → x ≢ tail → ¬ HasTurned new x
+  other_hop : (x tail : ℕ) → IsConnected s.links s.dest x → IsTail s.links u v tail → x ≢ tail → ¬ HasTurned new x
       → ((w : ℕ) → Points s.links x w → ¬ HasTurned new w) → KeepsHop s new x
   other_hop x tail joined at apart still out = keeps_hop s after left new left_net round x joined still
       (λ w h. (
@@ -131,13 +131,13 @@ module _ (s : State) (after : IsAfterRound s) (u v : ℕ) (new : State)
       ))
       (λ w h. left_was s.links u v x w h)
 
-  apart_still : (x : ℕ) → IsJoined s.links s.dest x → (tail : ℕ) → IsTail s.links u v tail → ¬ HasPath s.links x tail
+  apart_still : (x : ℕ) → IsConnected s.links s.dest x → (tail : ℕ) → IsTail s.links u v tail → ¬ HasPath s.links x tail
       → ¬ HasTurned new x
   apart_still x joined tail at none =
       ⊎_elim (left_still x) (λ p. absurd (none (path_was x tail p))) (splits tail at x joined)
 
   -- the tail is not the destination, since a path leads back to that from each joined node
-  tail_hop : (x w : ℕ) → IsJoined s.links s.dest x → ¬ HasTurned new x → ¬ HasTurned new w → IsNextHop left x w
+  tail_hop : (x w : ℕ) → IsConnected s.links s.dest x → ¬ HasTurned new x → ¬ HasTurned new w → IsNextHop left x w
       → IsHop new x (To w)
   tail_hop x w joined still rests next =
       let was : Points s.links x w = left_was s.links u v x w next.link in
@@ -150,7 +150,7 @@ module _ (s : State) (after : IsAfterRound s) (u v : ℕ) (new : State)
         least = λ z h. next.least z (out_still s.nodes s.dest left new left_net after.dest round x z still h).0;
       })
 
-  after_cut : (x : ℕ) → IsJoined s.links s.dest x → IsAfterCut s u v left new x
+  after_cut : (x : ℕ) → IsConnected s.links s.dest x → IsAfterCut s u v left new x
   after_cut x joined =
       let who = who_turns s.nodes s.dest left new left_net after.dest round x in
       let paths = none_left s.links u v x s.dest in
@@ -158,7 +158,7 @@ module _ (s : State) (after : IsAfterRound s) (u v : ℕ) (new : State)
         had = home s after x joined;
         turns = ((λ turned. let h = who.0 turned in (h.0, paths.0 h.1)), (λ h. who.1 (h.0, paths.1 h.1)));
         detour = λ tail w at next.
-            let still : (z : ℕ) → IsJoined s.links s.dest z → ¬ HasTurned new z =
+            let still : (z : ℕ) → IsConnected s.links s.dest z → ¬ HasTurned new z =
             λ z on. detour z on tail w at next.link in (
               still x joined,
               (λ e.
@@ -177,7 +177,7 @@ module _ (s : State) (after : IsAfterRound s) (u v : ℕ) (new : State)
       }
 
   -- no node is joined that was not
-  stays_cut_off : (x : ℕ) → ¬ IsJoined s.links s.dest x → IsCutOff new.dest new.links x
+  stays_cut_off : (x : ℕ) → ¬ IsConnected s.links s.dest x → IsCutOff new.dest new.links x
   stays_cut_off x none =
       let off : IsCutOff s.dest new.links x = (
         (λ e. none (0, ([], (e, refl)))),
@@ -193,7 +193,7 @@ module _ (s : State) (after : IsAfterRound s) (u v : ℕ) (new : State)
 
 pub cut_spares : (s : State) (u v : ℕ) (first : List (ℕ × ℕ)) (d : ℕ) (new : State) (x : ℕ)
     → IsSettledAnew s (Cut u v) first d new
-    → (IsJoined s.links s.dest x → IsAfterCut s u v first new x) × (¬ IsJoined s.links s.dest x → IsHop new x CutOff)
+    → (IsConnected s.links s.dest x → IsAfterCut s u v first new x) × (¬ IsConnected s.links s.dest x → IsHop new x CutOff)
 cut_spares s u v first d new x h =
     let round = moved_round s.nodes d s.dest first (without u v s.links) new h.begins.1 h.begins.2 h.round in (
       λ joined. subst (λ (l : List (ℕ × ℕ)). IsAfterCut s u v l new x) (sym h.begins.1)

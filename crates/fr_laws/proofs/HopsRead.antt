@@ -16,7 +16,7 @@ use Rattle.fr_core.proofs.Unique.{joined_against, joined_along, joined_count_bel
 use Rattle.fr_core.specs.History.{Moment, after_all, count_at, moment_of, turn_count}
 use Rattle.fr_core.specs.Legal.{IsLegalReply, IsRun}
 use Rattle.fr_core.specs.Settled.{AreSettled}
-use Rattle.fr_core.specs.Walks.{IsJoined}
+use Rattle.fr_core.specs.Walks.{IsConnected}
 use Rattle.fr_core.specs.declared.entry.Entry.{Entry}
 use Rattle.fr_core.specs.declared.entry.Reply.{Reply}
 use Rattle.fr_core.specs.declared.entry.Reply.TheVariants.{Cut, Held, Moved, Sink, Turned}
@@ -58,11 +58,11 @@ module _ (n d : ℕ) (first : List (ℕ × ℕ)) (net : IsNet n first) (m : Mome
   -- and where they are quiet
   module _ (below : d < n) (settled : AreSettled n d first m.counts)
       (q : IsQuiet d first still) (all : AllHeldSendOn still table) where
-    linked_there : (x : ℕ) → IsJoined first d x → ¬ (x ≡ d) → (w : ℕ) × Joins first x w
+    linked_there : (x : ℕ) → IsConnected first d x → ¬ (x ≡ d) → (w : ℕ) × Joins first x w
     linked_there x joined apart =
         ⊎_elim (λ e. absurd (apart e)) (λ h. h.0) (joined_by_counts n d first net below m.counts settled x joined)
 
-    sends_there : (x : ℕ) → IsJoined first d x → ¬ (x ≡ d) → (y : ℕ) × SendsOn table x y
+    sends_there : (x : ℕ) → IsConnected first d x → ¬ (x ≡ d) → (y : ℕ) × SendsOn table x y
     sends_there x joined apart =
         let shows = q.blocked x apart (linked_there x joined apart) in
         let legal = (legal_there n d m still shows.entry none run shows.among).1 in
@@ -72,13 +72,13 @@ module _ (n d : ℕ) (first : List (ℕ × ℕ)) (net : IsNet n first) (m : Mome
         (λ full. absurd (omega (arith, low, full, ap (count_at m) shows.node)))
         (held_or_full n d m shows.entry.node shows.entry.reply legal shows.blocked)
 
-    joined_there : (x y : ℕ) → IsJoined first d x → Points m.links x y → IsJoined first d y
+    joined_there : (x y : ℕ) → IsConnected first d x → Points m.links x y → IsConnected first d y
     joined_there x y joined link = ⊎_elim
         (λ along. joined_along n d first net below m.counts settled x y along.0 joined)
         (λ against. joined_against n d first net below m.counts settled x y against.0 joined)
         (Points-links_at_from first m.counts x y (subst (λ (ls : List (ℕ × ℕ)). Points ls x y) at.links link))
 
-    in_range : (x : ℕ) → IsJoined first d x → x < n
+    in_range : (x : ℕ) → IsConnected first d x → x < n
     in_range x joined = ⊎_elim
         (λ e. omega (arith, e, below))
         (λ h. (joined_below n first x h.0.0 net h.0.1).0)
@@ -94,7 +94,7 @@ module _ (n d : ℕ) (first : List (ℕ × ℕ)) (net : IsNet n first) (m : Mome
     abbrev Leads : ℕ → Type 0
     Leads x = (ys : List ℕ) × IsWalk table x ys × (end_of x ys ≡ d)
 
-    follow : (k x : ℕ) → IsJoined first d x → Leads x ⊎ ((ys : List ℕ) × (length ys ≡ k) × IsPath m.links x ys)
+    follow : (k x : ℕ) → IsConnected first d x → Leads x ⊎ ((ys : List ℕ) × (length ys ≡ k) × IsPath m.links x ys)
     follow zero x joined = inr ([], refl, tt)
     follow (suc k) x joined = ⊎_elim
         (λ e. inl ([], tt, e))
@@ -107,7 +107,7 @@ module _ (n d : ℕ) (first : List (ℕ × ℕ)) (net : IsNet n first) (m : Mome
         (follow k y (joined_there x y joined link)))
         (cases_eq x d)
 
-    leads_home : (x : ℕ) → IsJoined first d x → Leads x
+    leads_home : (x : ℕ) → IsConnected first d x → Leads x
     leads_home x joined = ⊎_elim (λ r. r)
         (λ p. absurd (omega (arith, p.1, path_short m.links n acyclic_there head_in_range x p.0 (in_range x joined) p.2)))
         (follow n x joined)
@@ -119,7 +119,7 @@ module _ (n d : ℕ) (first : List (ℕ × ℕ)) (net : IsNet n first) (m : Mome
         let (ys, goes, home) = leads_home y (joined_there d y (0, ([], (refl, refl))) link) in
         acyclic_there d (y ∷ ys) ((link, walk_path m.links table read_along y ys goes), same_end y ys ∙ home)
 
-    whole_home : (x : ℕ) → IsJoined first d x → (ys : List ℕ) × IsWholeWalk table x ys × (end_of x ys ≡ d)
+    whole_home : (x : ℕ) → IsConnected first d x → (ys : List ℕ) × IsWholeWalk table x ys × (end_of x ys ≡ d)
     whole_home x joined =
         let (ys, goes, home) = leads_home x joined in
         let ends : (y : ℕ) → ¬ SendsOn table (end_of x ys) y =

@@ -8,7 +8,7 @@ use Rattle.fr_graph.specs.Links.{HasPath, HaveSameLinks, IsAlone, IsNet, IsPath,
 use Rattle.fr_graph.proofs.Giving.{ComesFrom, Points-links_at_from, Points-links_at_same}
 use Rattle.fr_graph.proofs.Ordering.{into_order, out_of_order}
 use Rattle.fr_graph.proofs.Linking.{joined_below, path_carries}
-use Rattle.fr_core.specs.Walks.{IsJoined}
+use Rattle.fr_core.specs.Walks.{IsConnected}
 use Rattle.fr_core.proofs.Joining.{joins_kept}
 use Rattle.fr_core.proofs.Paths.{path_gives_zero, zero_gives_path}
 use Rattle.fr_core.proofs.Settling.{cases_linked, walk_along}
@@ -103,17 +103,17 @@ module _ (n d : ℕ) (first : List (ℕ × ℕ)) (new : State) (net : IsNet n fi
 
 -- Who keeps its hop
 
-pub home : (s : State) → IsAfterRound s → (x : ℕ) → IsJoined s.links s.dest x → HasPath s.links x s.dest
+pub home : (s : State) → IsAfterRound s → (x : ℕ) → IsConnected s.links s.dest x → HasPath s.links x s.dest
 home s after x joined =
     let r = route_home s.nodes s.dest after.first s after.is_net after.dest after.round x joined in
     (r.0, (route_path s.links s.dest x r.0 r.1, route_end s.links s.dest x r.0 r.1))
 
-pub joined_out : (links : List (ℕ × ℕ)) (d x w : ℕ) → IsJoined links d x → Points links x w → IsJoined links d w
+pub joined_out : (links : List (ℕ × ℕ)) (d x w : ℕ) → IsConnected links d x → Points links x w → IsConnected links d w
 joined_out links d x w (k, (vs, walk)) h = (k + 1, (vs ++ w ∷ [], walk_along links d vs k x w walk h))
 
-pub joined_on : (links : List (ℕ × ℕ)) (d x : ℕ) (vs : List ℕ) (y : ℕ) → IsJoined links d x → IsPath links x vs
-    → end_of x vs ≡ y → IsJoined links d y
-joined_on links d x [] y joined path ends = subst (IsJoined links d) ends joined
+pub joined_on : (links : List (ℕ × ℕ)) (d x : ℕ) (vs : List ℕ) (y : ℕ) → IsConnected links d x → IsPath links x vs
+    → end_of x vs ≡ y → IsConnected links d y
+joined_on links d x [] y joined path ends = subst (IsConnected links d) ends joined
 joined_on links d x (w ∷ ws) y joined path ends =
     joined_on links d w ws y (joined_out links d x w joined path.0) path.1 ends
 
@@ -130,7 +130,7 @@ module _ (s : State) (after : IsAfterRound s) (first : List (ℕ × ℕ)) (new :
 
   -- a joined node keeps its hop if it does not turn, and its links point to the nodes to which they did, none of which
   -- turns
-  pub keeps_hop : (x : ℕ) → IsJoined s.links s.dest x → ¬ HasTurned new x
+  pub keeps_hop : (x : ℕ) → IsConnected s.links s.dest x → ¬ HasTurned new x
       → ((w : ℕ) → Points s.links x w → Points first x w × ¬ HasTurned new w)
       → ((w : ℕ) → Points first x w → Points s.links x w) → KeepsHop s new x
   keeps_hop x joined still out back Here h = h ∙ sym round.dest
@@ -143,7 +143,7 @@ module _ (s : State) (after : IsAfterRound s) (first : List (ℕ × ℕ)) (new :
   keeps_hop x joined still out back CutOff h = absurd (h.1 joined)
 
   module _ (grows : (a b : ℕ) → Points s.links a b → Points first a b) where
-    pub grown_still : (x : ℕ) → IsJoined s.links s.dest x → ¬ HasTurned new x
+    pub grown_still : (x : ℕ) → IsConnected s.links s.dest x → ¬ HasTurned new x
     grown_still x joined =
         let path = home s after x joined in
         let kept = path_carries s.links first grows x path.0 path.1.0 in

@@ -8,7 +8,7 @@ use Rattle.fr_graph.specs.Counts.{links_at}
 use Rattle.fr_graph.specs.Links.{IsNet, Points}
 use Rattle.fr_core.specs.History.{links_after, moment_of, turn_count}
 use Rattle.fr_core.specs.Legal.{IsRun}
-use Rattle.fr_core.specs.Walks.{IsJoined}
+use Rattle.fr_core.specs.Walks.{IsConnected}
 use Rattle.fr_core.specs.declared.entry.Entry.{Entry}
 use Rattle.fr_core.specs.declared.entry.Reply.TheVariants.{Held}
 use Rattle.fr_round.specs.Rule.{KeepsRule}
@@ -77,5 +77,5 @@ RepliesNeverLoop = (n d : ℕ) (first : List (ℕ × ℕ)) (h still : List Entry
 abbrev pub QuietHopsLeadHome : Type 0
 QuietHopsLeadHome = (n d : ℕ) (first : List (ℕ × ℕ)) (h quiet : List Entry) (table : List Hop) → IsNet n first → d < n
     → IsRun n d (moment_of first (replicate n 0)) (h ++ quiet) → IsQuiet d first quiet → AreReadFrom quiet table
-    → AllHeldSendOn quiet table → (x : ℕ) → IsJoined first d x
+    → AllHeldSendOn quiet table → (x : ℕ) → IsConnected first d x
     → (ys : List ℕ) × IsWholeWalk table x ys × (end_of x ys ≡ d)

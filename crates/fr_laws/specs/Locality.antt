@@ -10,7 +10,7 @@ use Rattle.fr_graph.specs.Faults.{IsFaultless}
 use Rattle.fr_graph.specs.Limits.{most_edits}
 use Rattle.fr_graph.specs.Links.{HasPath, IsAlone, IsPath, Joins, Points, end_of, is_between}
 use Rattle.fr_graph.specs.Network.{Network}
-use Rattle.fr_core.specs.Walks.{IsJoined}
+use Rattle.fr_core.specs.Walks.{IsConnected}
 use Rattle.fr_route.specs.Changes.{IsChanged}
 use Rattle.fr_route.specs.Routes.{IsHop, IsNextHop}
 use Rattle.fr_route.specs.States.{State, IsAfterRound, IsRound, net_at}
@@ -79,7 +79,7 @@ KeepsHop s new x = (hop : Hop) → IsHop s x hop → IsHop new x hop
 -- that of the node to which x sent on
 pub record TakesLink (s : State) (tail head x : ℕ) : Type 0 where
   pub at_tail : x ≡ tail
-  pub joined : IsJoined s.links s.dest head
+  pub joined : IsConnected s.links s.dest head
   pub before : ℕ
   pub hop : IsHop s x (To before)
   pub less : head < before
@@ -95,7 +95,7 @@ pub record IsAfterAdd (s : State) (tail head : ℕ) (new : State) (x : ℕ) : Ty
 -- its tail
 abbrev pub AddSparesJoined : Type 0
 AddSparesJoined = (s : State) (u v : ℕ) (first : List (ℕ × ℕ)) (d : ℕ) (new : State) (x : ℕ)
-    → IsSettledAnew s (Add u v) first d new → IsJoined s.links s.dest x → IsAfterAdd s u v new x
+    → IsSettledAnew s (Add u v) first d new → IsConnected s.links s.dest x → IsAfterAdd s u v new x
 
 -- the tail is one of u and v, and the head is the other
 abbrev pub AreEnds : ℕ → ℕ → ℕ → ℕ → Type 0
@@ -105,7 +105,7 @@ AreEnds u v tail head = ((tail ≡ u) × (head ≡ v)) ⊎ ((tail ≡ v) × (hea
 abbrev pub JoinSparesJoined : Type 0
 JoinSparesJoined = (s : State) (u v : ℕ) (first : List (ℕ × ℕ)) (d : ℕ) (new : State)
     → IsSettledAnew s (Join u v) first d new → (tail : ℕ) × (head : ℕ) × AreEnds u v tail head × Points first tail head
-    × ((x : ℕ) → IsJoined s.links s.dest x → IsAfterAdd s tail head new x)
+    × ((x : ℕ) → IsConnected s.links s.dest x → IsAfterAdd s tail head new x)
 
 -- Which nodes a cut link does not touch
 
@@ -141,4 +141,4 @@ pub record IsAfterCut (s : State) (u v : ℕ) (first : List (ℕ × ℕ)) (new :
 abbrev pub CutSparesOthers : Type 0
 CutSparesOthers = (s : State) (u v : ℕ) (first : List (ℕ × ℕ)) (d : ℕ) (new : State) (x : ℕ)
     → IsSettledAnew s (Cut u v) first d new
-    → (IsJoined s.links s.dest x → IsAfterCut s u v first new x) × (¬ IsJoined s.links s.dest x → IsHop new x CutOff)
+    → (IsConnected s.links s.dest x → IsAfterCut s u v first new x) × (¬ IsConnected s.links s.dest x → IsHop new x CutOff)

@@ -12,7 +12,7 @@ use Rattle.fr_graph.proofs.Building.{permuted_net}
 use Rattle.fr_graph.proofs.Ordering.{in_order_permutes, into_order, out_of_order}
 use Rattle.fr_graph.proofs.Reordering.{in_order-links_at}
 use Rattle.fr_graph.proofs.TurnedLinks.{net_turned}
-use Rattle.fr_core.specs.Walks.{IsJoined}
+use Rattle.fr_core.specs.Walks.{IsConnected}
 use Rattle.fr_core.specs.Settled.{AreSettled}
 use Rattle.fr_core.proofs.Joining.{joined_at, joins_at, joins_kept, walk_linked}
 use Rattle.fr_core.specs.Work.{IsWithinWork}
@@ -93,13 +93,13 @@ module _ (n d : ℕ) (first : List (ℕ × ℕ)) (s : State) (net : IsNet n firs
     (λ h. joins_at first s.counts x y (⊎_elim (λ a. inl ((given_back x y).0 a)) (λ a. inr ((given_back y x).0 a)) h)),
   )
 
-  pub round_joined : (x : ℕ) → IsJoined first d x ↔ IsJoined s.links d x
+  pub round_joined : (x : ℕ) → IsConnected first d x ↔ IsConnected s.links d x
   round_joined x = (
     (λ j. same_joined (links_at first s.counts) s.links as_given d x ((joined_at first s.counts lawful.kept d x).0 j)),
     (λ j. (joined_at first s.counts lawful.kept d x).1 (same_joined s.links (links_at first s.counts) given_back d x j)),
   )
 
-  pub route_home : (x : ℕ) → IsJoined s.links d x → (rest : List ℕ) × IsRoute s.links d x rest
+  pub route_home : (x : ℕ) → IsConnected s.links d x → (rest : List ℕ) × IsRoute s.links d x rest
   route_home x joined =
       let r = route n d first net below s.counts round.counts x ((round_joined x).1 joined) in
       (r.0, same_route (links_at first s.counts) s.links as_given d x r.0 r.1)
@@ -112,7 +112,7 @@ module _ (n d : ℕ) (first : List (ℕ × ℕ)) (s : State) (net : IsNet n firs
   pub alone_cut_off : (x : ℕ) → ¬ (x ≡ d) → IsAlone first x → IsCutOff d s.links x
   alone_cut_off x apart alone = (
     apart,
-    (λ j. let joined : IsJoined first d x = (round_joined x).1 j in ⊎_elim apart (λ h. alone h.0 h.1) (walk_linked first d joined.1.0 joined.0 x joined.1.1)),
+    (λ j. let joined : IsConnected first d x = (round_joined x).1 j in ⊎_elim apart (λ h. alone h.0 h.1) (walk_linked first d joined.1.0 joined.0 x joined.1.1)),
   )
 
   -- so is a node from which no link points away
@@ -124,10 +124,10 @@ module _ (n d : ℕ) (first : List (ℕ × ℕ)) (s : State) (net : IsNet n firs
   )
 
   -- a node with a link whose count is below the cap is joined with the destination
-  pub linked_joined : (x y : ℕ) → Joins s.links x y → ¬ (slice_index s.counts x ≡ n) → IsJoined first d x
+  pub linked_joined : (x y : ℕ) → Joins s.links x y → ¬ (slice_index s.counts x ≡ n) → IsConnected first d x
   linked_joined x y h free = go (of_linked n d first net below s.counts round.counts x y ((round_joins x y).1 h))
     where
-      go : IsLinkedCount n d first x (slice_index s.counts x) → IsJoined first d x
+      go : IsLinkedCount n d first x (slice_index s.counts x) → IsConnected first d x
       go (inl least) = (slice_index s.counts x, least.reached)
       go (inr out) = absurd (free out.1)
 

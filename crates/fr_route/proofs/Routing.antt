@@ -15,7 +15,7 @@ use Rattle.fr_core.proofs.Paths.{walk_from_path}
 use Rattle.fr_core.proofs.Searching.{cases_below}
 use Rattle.fr_core.proofs.Unique.{IsLinkedCount, joined_against, joined_along, of_linked, settled_out}
 use Rattle.fr_core.specs.Settled.{AreSettled}
-use Rattle.fr_core.specs.Walks.{IsJoined, IsLeastAway}
+use Rattle.fr_core.specs.Walks.{IsConnected, IsLeastAway}
 use Rattle.fr_route.specs.Routes.{IsNextHop, IsRoute}
 
 -- a node from which a link points away has a next hop
@@ -37,7 +37,7 @@ pub route_simple : (links : List (ℕ × ℕ)) (d x : ℕ) (ys : List ℕ) → I
     → IsPath links x ys × (end_of x ys ≡ d) × IsDistinct eqb (x ∷ ys)
 route_simple links d x ys acyclic r = let path = route_path links d x ys r in (path, route_end links d x ys r, path_distinct links acyclic x ys path)
 
-pub route_joined : (links : List (ℕ × ℕ)) (d x : ℕ) (ys : List ℕ) → IsRoute links d x ys → IsJoined links d x
+pub route_joined : (links : List (ℕ × ℕ)) (d x : ℕ) (ys : List ℕ) → IsRoute links d x ys → IsConnected links d x
 route_joined links d x ys r = (0, walk_from_path links d x ys (route_path links d x ys r) (route_end links d x ys r))
 
 pub hop_unique : (links : List (ℕ × ℕ)) (x y z : ℕ) → IsNextHop links x y → IsNextHop links x z → y ≡ z
@@ -66,15 +66,15 @@ module _ (n d : ℕ) (first : List (ℕ × ℕ)) (net : IsNet n first) (in_range
       go (inl h) = (joined_below n first y x net (inr h.0)).0
       go (inr h) = (joined_below n first y x net (inl h.0)).0
 
-  pub joined_next : (x y : ℕ) → Points (links_at first c) x y → IsJoined first d x → IsJoined first d y
+  pub joined_next : (x y : ℕ) → Points (links_at first c) x y → IsConnected first d x → IsConnected first d y
   joined_next x y h joined = go (Points-links_at_from first c x y h)
     where
-      go : ComesFrom first c x y → IsJoined first d y
+      go : ComesFrom first c x y → IsConnected first d y
       go (inl h) = joined_along n d first net in_range c settled x y h.0 joined
       go (inr h) = joined_against n d first net in_range c settled x y h.0 joined
 
   -- a link points away from each node that is joined with the destination, except from the destination
-  pub out_of_joined : (x : ℕ) → IsJoined first d x → ¬ (x ≡ d) → (y : ℕ) × Points (links_at first c) x y
+  pub out_of_joined : (x : ℕ) → IsConnected first d x → ¬ (x ≡ d) → (y : ℕ) × Points (links_at first c) x y
   out_of_joined x joined apart = go (walk_linked first d joined.1.0 joined.0 x joined.1.1)
     where
       least_of : IsLinkedCount n d first x (slice_index c x) → IsLeastAway first d x (slice_index c x)
@@ -86,7 +86,7 @@ module _ (n d : ℕ) (first : List (ℕ × ℕ)) (net : IsNet n first) (in_range
       go (inr (w, h)) = settled_out n d first net in_range c settled x (least_of (of_linked n d first net in_range c settled x w h)) (λ e. apart (sym e))
 
   -- after k hops the destination is reached, or there is a path of k links
-  route_by : (k x : ℕ) → IsJoined first d x → ((ys : List ℕ) × IsRoute (links_at first c) d x ys)
+  route_by : (k x : ℕ) → IsConnected first d x → ((ys : List ℕ) × IsRoute (links_at first c) d x ys)
       ⊎ ((vs : List ℕ) × (length vs ≡ k) × IsPath (links_at first c) x vs)
   route_by zero x joined = inr ([], refl, tt)
   route_by (suc k) x joined = ⊎_elim
@@ -98,10 +98,10 @@ module _ (n d : ℕ) (first : List (ℕ × ℕ)) (net : IsNet n first) (in_range
       (route_by k hop.0 (joined_next x hop.0 hop.1.link joined)))
       (cases_eq x d)
 
-  pub joined_in_range : (x : ℕ) → IsJoined first d x → x < n
+  pub joined_in_range : (x : ℕ) → IsConnected first d x → x < n
   joined_in_range x joined = ⊎_elim (λ e. omega (arith, e)) (λ h. (joined_below n first x h.0 net h.1).0) (walk_linked first d joined.1.0 joined.0 x joined.1.1)
 
-  pub route : (x : ℕ) → IsJoined first d x → (ys : List ℕ) × IsRoute (links_at first c) d x ys
+  pub route : (x : ℕ) → IsConnected first d x → (ys : List ℕ) × IsRoute (links_at first c) d x ys
   route x joined = ⊎_elim (λ r. r)
       (λ p. absurd (omega (arith, p.1, path_short (links_at first c) n (links_at_acyclic first c net.acyclic) now_below x p.0 (joined_in_range x joined) p.2)))
       (route_by n x joined)

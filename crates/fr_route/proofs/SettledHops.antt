@@ -9,7 +9,7 @@ use Rattle.std.proofs.lemmas.Option.{get_or_from_slice_get, slice_get-get_or, sl
 use Rattle.fr_graph.specs.Links.{IsAcyclic, IsNet, IsPath, end_of}
 use Rattle.fr_graph.specs.Limits.{most_nodes}
 use Rattle.fr_route.specs.Reroutes.{AreRerouted, IsPushesFault, IsRerouted}
-use Rattle.fr_core.specs.Walks.{IsJoined}
+use Rattle.fr_core.specs.Walks.{IsConnected}
 use Rattle.fr_route.specs.Outcomes.{IsSettledTable}
 use Rattle.fr_route.specs.Routes.{AreHops, IsHop}
 use Rattle.fr_route.specs.States.{State, IsAfterRound, IsCutOff}
@@ -67,7 +67,7 @@ module _ (s : State) (after : IsAfterRound s) where
   outside_cut x out = (
     λ same. omega (arith, same, out, after.dest),
     λ joined.
-        let at_first : IsJoined after.first s.dest x = (round_joined s.nodes s.dest after.first s after.is_net after.dest after.round x).1 joined in
+        let at_first : IsConnected after.first s.dest x = (round_joined s.nodes s.dest after.first s after.is_net after.dest after.round x).1 joined in
         let below : x < s.nodes = joined_in_range s.nodes s.dest after.first after.is_net after.dest s.counts after.round.counts x at_first in
         omega (arith, out, below),
   )

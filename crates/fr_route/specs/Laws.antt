@@ -5,7 +5,7 @@ use Rattle.std.specs.List.{IsDistinct}
 use Rattle.fr_graph.specs.Links.{IsAcyclic, IsNet, IsPath, end_of}
 use Rattle.fr_lines.specs.Requests.{PlainRequest}
 use Rattle.fr_lines.specs.declared.requests.LineFault.{LineFault}
-use Rattle.fr_core.specs.Walks.{IsJoined}
+use Rattle.fr_core.specs.Walks.{IsConnected}
 use Rattle.fr_route.specs.States.{State, IsAfterRound, IsRound, IsReport}
 use Rattle.fr_route.specs.Reroutes.{AreRerouted, IsRerouted}
 use Rattle.fr_route.specs.Routes.{AreHops, IsRoute, IsHop}
@@ -25,7 +25,7 @@ RoundLeavesNoLoop = (n d : ℕ) (first : List (ℕ × ℕ)) (s : State) → IsNe
 
 -- the same nodes are joined with the destination before and after a round
 abbrev pub RoundKeepsJoined : Type 0
-RoundKeepsJoined = (n d : ℕ) (first : List (ℕ × ℕ)) (s : State) (x : ℕ) → IsNet n first → d < n → IsRound n d first s → IsJoined first d x ↔ IsJoined s.links d x
+RoundKeepsJoined = (n d : ℕ) (first : List (ℕ × ℕ)) (s : State) (x : ℕ) → IsNet n first → d < n → IsRound n d first s → IsConnected first d x ↔ IsConnected s.links d x
 
 -- a state has only one report
 abbrev pub ReportIsUnique : Type 0
@@ -36,7 +36,7 @@ ReportIsUnique = (s : State) (t u k l : ℕ) → IsReport s t k → IsReport s u
 -- after a round, a node has a route exactly if it is joined with the destination
 abbrev pub RoutesLeadHome : Type 0
 RoutesLeadHome = (n d : ℕ) (first : List (ℕ × ℕ)) (s : State) (x : ℕ) → IsNet n first → d < n → IsRound n d first s
-    → IsJoined s.links d x ↔ ((rest : List ℕ) × IsRoute s.links d x rest)
+    → IsConnected s.links d x ↔ ((rest : List ℕ) × IsRoute s.links d x rest)
 
 -- no node has two routes
 abbrev pub RouteIsUnique : Type 0

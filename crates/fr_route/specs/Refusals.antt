@@ -9,11 +9,11 @@ use Rattle.fr_route.specs.declared.change.Change.{Change}
 use Rattle.fr_route.specs.declared.change.Change.TheVariants.{Cut, Add, Join, Batch, Destination}
 use Rattle.fr_route.specs.declared.fault.RouteFault.{RouteFault}
 use Rattle.fr_route.specs.declared.fault.RouteFault.TheVariants.{Net, Range, Start, Memory}
-use Rattle.fr_route.specs.declared.refusals.Refusal.{Refusal}
-use Rattle.fr_route.specs.declared.refusals.Refusal.TheVariants.{NotJson, NotRequest, NoNetwork, NoNode, SelfLink, Twice, Cycle, NoLink, TooMany}
+use Rattle.fr_route.specs.declared.refusals.Reason.{Reason}
+use Rattle.fr_route.specs.declared.refusals.Reason.TheVariants.{NotJson, NotRequest, NoNetwork, NoNode, SelfLink, Twice, Cycle, NoLink, TooMany}
 
 -- the number of a refusal in an answer
-abbrev pub number_of : Refusal → ℕ
+abbrev pub number_of : Reason → ℕ
 number_of NotJson = 1
 number_of NotRequest = 2
 number_of NoNetwork = 3

@@ -6,7 +6,7 @@ use Rattle.fr_graph.specs.Links.{IsNet}
 use Rattle.fr_graph.specs.Network.{Network}
 use Rattle.fr_graph.specs.Order.{in_order}
 use Rattle.fr_graph.specs.Counts.{links_at}
-use Rattle.fr_core.specs.Walks.{IsJoined}
+use Rattle.fr_core.specs.Walks.{IsConnected}
 use Rattle.fr_core.specs.Settled.{AreSettled}
 use Rattle.fr_core.specs.Work.{IsWithinWork}
 
@@ -42,7 +42,7 @@ pub record IsAfterRound (s : State) : Type 0 where
 
 -- x is cut off: it is not the destination, and not joined with it
 abbrev pub IsCutOff : ℕ → List (ℕ × ℕ) → ℕ → Type 0
-IsCutOff d links x = ¬ (x ≡ d) × ¬ IsJoined links d x
+IsCutOff d links x = ¬ (x ≡ d) × ¬ IsConnected links d x
 
 -- k of the nodes below n are cut off
 pub record IsCutCount (n d : ℕ) (links : List (ℕ × ℕ)) (k : ℕ) : Type 0 where

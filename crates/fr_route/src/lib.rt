@@ -11,7 +11,7 @@
 //! Full link reversal is the method of E. Gafni and D. Bertsekas ("Distributed Algorithms for Generating Loop-Free
 //! Routes in Networks with Frequently Changing Topology", 1981). The requests and answers are those of docs/LINES.md.
 //!
-//! Callers that answer lines in another way can use the parts of an answer: [`is_blank`], [`Refusal`],
+//! Callers that answer lines in another way can use the parts of an answer: [`is_blank`], [`Reason`],
 //! [`fault_number`], [`links_line`] and [`counts_line`]. Callers that change the network of a session without lines can
 //! use [`Session::router_mut`] and [`Session::put_router`].
 //!
@@ -39,7 +39,7 @@ pub use change::{Change, Report};
 pub use fault::{AnswerFault, RouteFault};
 pub use fr_tables::Hop;
 pub use hops::Walked;
-pub use refusals::{Refusal, fault_number};
+pub use refusals::{Reason, fault_number};
 pub use router::Router;
 pub use session::Session;
 pub use texts::{counts_line, links_line};

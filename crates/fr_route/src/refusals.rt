@@ -8,7 +8,7 @@ use fr_graph::NetFault;
 
 /// Why a line is refused. The answer contains the number of the refusal, from 1 to 9.
 #[derive(Clone, Copy, Debug, Drop, PartialEq, Eq)]
-pub enum Refusal {
+pub enum Reason {
     /// The line is not JSON.
     NotJson,
     /// The line is JSON, but not a request.
@@ -29,19 +29,19 @@ pub enum Refusal {
     TooMany,
 }
 
-impl Refusal {
+impl Reason {
     /// The refusal for a fault of links or of an edit. `None` for `Memory`. O(1).
-    pub fn of(fault: &NetFault) -> Option<Refusal>
+    pub fn of(fault: &NetFault) -> Option<Reason>
         ensures number { IfSome result (λ refusal. fault_number_of fault.now ≡ number_of refusal) }
         ensures none { IfNone result (fault_number_of fault.now ≡ 0) }
     {
         match fault {
-            NetFault::TooMany => Some(Refusal::TooMany),
-            NetFault::Range(_) => Some(Refusal::NoNode),
-            NetFault::SelfLink(_) => Some(Refusal::SelfLink),
-            NetFault::Twice(_, _) => Some(Refusal::Twice),
-            NetFault::Cycle(_) => Some(Refusal::Cycle),
-            NetFault::NoLink => Some(Refusal::NoLink),
+            NetFault::TooMany => Some(Reason::TooMany),
+            NetFault::Range(_) => Some(Reason::NoNode),
+            NetFault::SelfLink(_) => Some(Reason::SelfLink),
+            NetFault::Twice(_, _) => Some(Reason::Twice),
+            NetFault::Cycle(_) => Some(Reason::Cycle),
+            NetFault::NoLink => Some(Reason::NoLink),
             NetFault::Memory => None,
         }
     }
@@ -51,15 +51,15 @@ impl Refusal {
         ensures { result ≡ number_of self }
     {
         match self {
-            Refusal::NotJson => 1,
-            Refusal::NotRequest => 2,
-            Refusal::NoNetwork => 3,
-            Refusal::NoNode => 4,
-            Refusal::SelfLink => 5,
-            Refusal::Twice => 6,
-            Refusal::Cycle => 7,
-            Refusal::NoLink => 8,
-            Refusal::TooMany => 9,
+            Reason::NotJson => 1,
+            Reason::NotRequest => 2,
+            Reason::NoNetwork => 3,
+            Reason::NoNode => 4,
+            Reason::SelfLink => 5,
+            Reason::Twice => 6,
+            Reason::Cycle => 7,
+            Reason::NoLink => 8,
+            Reason::TooMany => 9,
         }
     }
 }
@@ -69,7 +69,7 @@ impl Refusal {
 pub fn fault_number(fault: &NetFault) -> u32
     ensures { result ≡ fault_number_of fault.now }
 {
-    match Refusal::of(fault) {
+    match Reason::of(fault) {
         Some(refusal) => refusal.number(),
         None => 0,
     }

@@ -21,7 +21,7 @@ use crate::blank::is_blank;
 use crate::change::Change;
 use crate::fault::{AnswerFault, RouteFault};
 use crate::hops::Walked;
-use crate::refusals::Refusal;
+use crate::refusals::Reason;
 use crate::revision::Revision;
 use crate::router::Router;
 use crate::settling::Asking;
@@ -285,10 +285,10 @@ impl Session {
         ensures memory { IfErr result (λ fault. fault ≡ Memory) }
     {
         let Some(router) = &self.router else {
-            return refuse(alloc, Refusal::NoNetwork);
+            return refuse(alloc, Reason::NoNetwork);
         };
         if x >= router.net().nodes() {
-            return refuse(alloc, Refusal::NoNode);
+            return refuse(alloc, Reason::NoNode);
         }
         match router.walk(alloc, x) {
             Ok(Walked::Route(nodes)) => Ok(walk_line(alloc, &nodes)?),
@@ -304,7 +304,7 @@ impl Session {
         ensures memory { IfErr result (λ fault. fault ≡ Memory) }
     {
         let Some(router) = &self.router else {
-            return refuse(alloc, Refusal::NoNetwork);
+            return refuse(alloc, Reason::NoNetwork);
         };
         match question {
             Question::Links => Ok(links_line(alloc, router.net().links())?),
@@ -338,7 +338,7 @@ fn tell_replaced(
 }
 
 /// The answer to a line with this refusal.
-fn refuse(alloc: Global, refusal: Refusal) -> Result<String, AnswerFault>
+fn refuse(alloc: Global, refusal: Reason) -> Result<String, AnswerFault>
     ensures text { IfOk result (λ text. string_bytes text ≡ refusal_text (number_of refusal)) }
     ensures memory { IfErr result (λ fault. fault ≡ Memory) }
 {
@@ -354,14 +354,14 @@ fn refusal(alloc: Global, fault: RouteFault) -> Result<String, AnswerFault>
 }
 
 /// The refusal for this fault. A fault that is not a refusal is returned.
-fn refusal_for(fault: &RouteFault) -> Result<Refusal, AnswerFault>
+fn refusal_for(fault: &RouteFault) -> Result<Reason, AnswerFault>
     ensures refusal { IfOk result (λ refusal. IsRefusalOf fault.now (refusal_text (number_of refusal))) }
     ensures refused { OnOk result (of_route_fault fault.now ≡ None) }
     ensures missing { IfErr result (λ why. of_route_fault fault.now ≡ Some why) }
 {
     match fault {
-        RouteFault::Net(fault) => Refusal::of(fault).ok_or(AnswerFault::Memory),
-        RouteFault::Range => Ok(Refusal::NoNode),
+        RouteFault::Net(fault) => Reason::of(fault).ok_or(AnswerFault::Memory),
+        RouteFault::Range => Ok(Reason::NoNode),
         RouteFault::Start => Err(AnswerFault::Start),
         RouteFault::Memory => Err(AnswerFault::Memory),
     }
@@ -396,8 +396,8 @@ impl<'a, F: Fn(&Net, u32, Option<&[u32]>, Turns) -> Result<Turns, CrewFault>> As
     {
         match session.reader.read(self.alloc, line) {
             Ok(request) => self.answer(session, &request, told),
-            Err(LineFault::NotJson) => refuse(self.alloc, Refusal::NotJson),
-            Err(LineFault::NotRequest) => refuse(self.alloc, Refusal::NotRequest),
+            Err(LineFault::NotJson) => refuse(self.alloc, Reason::NotJson),
+            Err(LineFault::NotRequest) => refuse(self.alloc, Reason::NotRequest),
             Err(LineFault::Memory) => Err(AnswerFault::Memory),
         }
     }
@@ -470,7 +470,7 @@ impl<'a, F: Fn(&Net, u32, Option<&[u32]>, Turns) -> Result<Turns, CrewFault>> As
         ensures { IsAnswered (NeverStarts F.post self.now.settle.now) session.old (Ok (request_of_change change)) told.old result session.new told.new }
     {
         let Some(router) = &mut session.router else {
-            return refuse(self.alloc, Refusal::NoNetwork);
+            return refuse(self.alloc, Reason::NoNetwork);
         };
         self.answer_change(router, &change, told)
     }
@@ -503,7 +503,7 @@ impl<'a, F: Fn(&Net, u32, Option<&[u32]>, Turns) -> Result<Turns, CrewFault>> As
         ensures { IsAnswered (NeverStarts F.post self.now.settle.now) session.old (Ok (make_edits edits.now)) told.old result session.new told.new }
     {
         let Some(router) = &mut session.router else {
-            return refuse(self.alloc, Refusal::NoNetwork);
+            return refuse(self.alloc, Reason::NoNetwork);
         };
         self.answer_edits(router, edits, told)
     }

@@ -5,7 +5,7 @@ ghost use Rattle.fr_route.specs.Refusals.{number_of};
 ghost use Rattle.fr_route.specs.Texts.{counts_text, links_text, hops_text, hop_word, walk_text, no_walk_text, report_text, longest_report, refusal_text};
 
 use crate::change::Report;
-use crate::refusals::Refusal;
+use crate::refusals::Reason;
 use fr_graph::{Links, MAX_NODES};
 use fr_tables::Hop;
 use itoa::Buffer;
@@ -135,7 +135,7 @@ pub(crate) fn report_line(alloc: Global, report: Report) -> Result<String, Alloc
 }
 
 /// The answer to a line that is refused.
-pub(crate) fn refusal_line(alloc: Global, refusal: Refusal) -> Result<String, AllocError>
+pub(crate) fn refusal_line(alloc: Global, refusal: Reason) -> Result<String, AllocError>
     ensures { IfOk result (λ line. string_bytes line ≡ refusal_text (number_of refusal)) }
 {
     let mut line = begun(alloc, "refused", 1)?;

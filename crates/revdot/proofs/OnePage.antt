@@ -13,7 +13,7 @@ use Rattle.fr_route.specs.Told.{IsLineTold}
 use Rattle.fr_bytes.specs.Lines.{lines_of}
 use Rattle.revdot.specs.Pages.{IsPage}
 use Rattle.revdot.specs.Asked.{asked_text}
-use Rattle.revdot.specs.Stories.{AreBlocks, AreSettledLines, HasBegun, HasLineBegun, IsAnswerLine, IsAnswered, IsBlock}
+use Rattle.revdot.specs.Stories.{AreBlocks, AreSettledLines, HasBegun, HasLineBegun, IsAnswerLine, IsAnsweredBlock, IsBlock}
 use Rattle.revdot.specs.Stories.{IsRoundStory, IsToldRound, IsTurnByTurn, answer_text}
 use Rattle.revdot.specs.Stories.{beginning_text, is_short, most_told_turns, net_text, nodes_line}
 use Rattle.revdot.specs.Strips.{beginning}
@@ -66,7 +66,7 @@ line_begun_unique s (Ok request) a b h k = begun_unique s request a b h k
 line_begun_unique s (Err fault) a b h k = h ∙ sym k
 
 answered_unique : (s : Option State) (number : ℕ) (asked : Result PlainRequest LineFault) (a b : List ℕ) (p q : Option State)
-    → IsAnswered s number asked a p → IsAnswered s number asked b q → (a ≡ b) × (p ≡ q)
+    → IsAnsweredBlock s number asked a p → IsAnsweredBlock s number asked b q → (a ≡ b) × (p ≡ q)
 answered_unique s number asked a b p q h k =
     let one = line_unique s asked h.answer k.answer p q h.is_answer k.is_answer in
     let are_rerouted = subst (λ (t : Option State). IsLineTold s asked t [] h.rerouted) one.1 h.are_rerouted in
@@ -83,7 +83,7 @@ block_unique : (s : Option State) (number : ℕ) (line a b : List ℕ) (p q : Op
 block_unique s number line a b p q h k = of (is_blank line) h k
   where
     IsOf : Bool → List ℕ → Option State → Type 0
-    IsOf blank out next = MatchBool blank ((out ≡ []) × (next ≡ s)) (IsAnswered s number (reading line) out next)
+    IsOf blank out next = MatchBool blank ((out ≡ []) × (next ≡ s)) (IsAnsweredBlock s number (reading line) out next)
 
     of : (blank : Bool) → IsOf blank a p → IsOf blank b q → (a ≡ b) × (p ≡ q)
     of true h k = (h.0 ∙ sym k.0, h.1 ∙ sym k.1)

@@ -14,7 +14,7 @@ use Rattle.fr_route.specs.Blank.{is_blank}
 use Rattle.fr_route.specs.Texts.{refusal_text}
 use Rattle.fr_route.specs.Told.{IsTold}
 use Rattle.revdot.specs.Asked.{asked_text}
-use Rattle.revdot.specs.Stories.{AreBlocks, AreSettledLines, IsAnswerLine, IsAnswered, IsBlock, IsRoundStory, IsStory, IsTurnByTurn, answer_text}
+use Rattle.revdot.specs.Stories.{AreBlocks, AreSettledLines, IsAnswerLine, IsAnsweredBlock, IsBlock, IsRoundStory, IsStory, IsTurnByTurn, answer_text}
 use Rattle.revdot.specs.Stories.{HasBegun, beginning_text, is_short, makes_round, most_told_turns, net_text, nodes_line}
 use Rattle.revdot.specs.Strips.{AreAllTurns, beginning}
 use Rattle.revdot.proofs.Beginnings.{begins}
@@ -130,9 +130,9 @@ begun_by s next request answer began (inr (new, accepted, is, same)) e = inr (ne
 pub answered_told : (s next : Option State) (number : ℕ) (request : PlainRequest) (began : Bool) (answer rerouted told old one two new : List ℕ)
     → IsAnswer s request answer next → IsTold s request next [] rerouted → HasBegun s request began → IsRoundStory began next rerouted told
     → one ≡ old ++ answer_text number answer → two ≡ one ++ asked_text (Ok request) → new ≡ two ++ told
-    → (block : List ℕ) × IsAnswered s number (Ok request) block next × (new ≡ old ++ block)
+    → (block : List ℕ) × IsAnsweredBlock s number (Ok request) block next × (new ≡ old ++ block)
 answered_told s next number request began answer rerouted told old one two new is_answer are_rerouted has_begun of_round e f g =
-    let answered : IsAnswered s number (Ok request) (answer_text number answer ++ (asked_text (Ok request) ++ told)) next = record {
+    let answered : IsAnsweredBlock s number (Ok request) (answer_text number answer ++ (asked_text (Ok request) ++ told)) next = record {
       answer = answer;
       is_answer = is_answer;
       rerouted = rerouted;

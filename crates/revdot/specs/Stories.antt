@@ -94,7 +94,7 @@ abbrev pub answer_text : ℕ → List ℕ → List ℕ
 answer_text number answer = codes "line " ++ (decimal number ++ (codes "\n" ++ (answer ++ codes "\n")))
 
 -- the story of a line that is not blank: its answer, what it asks, and its round if it began one
-pub record IsAnswered (s : Option State) (number : ℕ) (asked : Result PlainRequest LineFault) (block : List ℕ) (next : Option State) : Type 0 where
+pub record IsAnsweredBlock (s : Option State) (number : ℕ) (asked : Result PlainRequest LineFault) (block : List ℕ) (next : Option State) : Type 0 where
   pub answer : List ℕ
   pub is_answer : IsLineAnswer s asked answer next
   pub rerouted : List ℕ
@@ -107,7 +107,7 @@ pub record IsAnswered (s : Option State) (number : ℕ) (asked : Result PlainReq
 
 -- the story of a line, and the state after it: nothing for a blank line
 abbrev pub IsBlock : Option State → ℕ → List ℕ → List ℕ → Option State → Type 0
-IsBlock s number line block next = MatchBool (is_blank line) ((block ≡ []) × (next ≡ s)) (IsAnswered s number (reading line) block next)
+IsBlock s number line block next = MatchBool (is_blank line) ((block ≡ []) × (next ≡ s)) (IsAnsweredBlock s number (reading line) block next)
 
 -- the story of lines, the first of which has this number
 abbrev pub AreBlocks : Option State → ℕ → List (List ℕ) → List ℕ → Type 0

@@ -5,13 +5,13 @@ ghost use Rattle.std.specs.List.{starts_with};
 ghost use Rattle.fr_lines.specs.Requests.{plain};
 ghost use Rattle.fr_route.specs.Refusals.{number_of};
 ghost use Rattle.fr_route.specs.Texts.{refusal_text};
-ghost use Rattle.revdot.specs.Stories.{IsAnswered, IsBlock, IsStory, answer_text, makes_round};
+ghost use Rattle.revdot.specs.Stories.{IsAnsweredBlock, IsBlock, IsStory, answer_text, makes_round};
 
 use crate::asked::push_asked;
 use crate::rounds::push_round;
 use fr_bytes::Lines;
 use fr_lines::{LineFault, Request, read_line};
-use fr_route::{Refusal, Session, is_blank};
+use fr_route::{Reason, Session, is_blank};
 use std::alloc::{AllocError, Global};
 use std::fmt::Write;
 
@@ -44,14 +44,14 @@ fn push_line(
     }
     match read_line(alloc, line) {
         Ok(request) => push_answered(story, alloc, session, number, &request),
-        Err(LineFault::NotJson) => push_refusal(story, number, Refusal::NotJson),
-        Err(LineFault::NotRequest) => push_refusal(story, number, Refusal::NotRequest),
+        Err(LineFault::NotJson) => push_refusal(story, number, Reason::NotJson),
+        Err(LineFault::NotRequest) => push_refusal(story, number, Reason::NotRequest),
         Err(LineFault::Memory) => Err(AllocError),
     }
 }
 
 /// Appends the number of a line that is not a request, and its answer.
-fn push_refusal(story: &mut String, number: u64, refusal: Refusal) -> Result<(), AllocError>
+fn push_refusal(story: &mut String, number: u64, refusal: Reason) -> Result<(), AllocError>
     ensures { OnOk result (string_bytes story.new
         ≡ string_bytes story.old ++ answer_text number (refusal_text (number_of refusal))) }
 {
@@ -66,7 +66,7 @@ fn push_answered(
     number: u64,
     request: &Request,
 ) -> Result<(), AllocError>
-    ensures { OnOk result ((block : List ℕ) × IsAnswered session.old number (Ok (plain request.now)) block session.new
+    ensures { OnOk result ((block : List ℕ) × IsAnsweredBlock session.old number (Ok (plain request.now)) block session.new
         × (string_bytes story.new ≡ string_bytes story.old ++ block)) }
 {
     let mut rerouted = Vec::new(alloc);

@@ -1,4 +1,4 @@
-//! What is the same in every page: written by page/embed from page/viewer.
+//! What is the same in every page: written by page/into-revdot from page/viewer.
 
 /// What a page begins with.
 pub const FIRST_PART: &str = "\

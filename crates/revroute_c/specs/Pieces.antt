@@ -8,7 +8,7 @@ use Rattle.fr_route.specs.States.{State}
 use Rattle.fr_route.specs.Told.{IsLineTold}
 use Rattle.fr_published.specs.Publishing.{PublishesTo}
 use Rattle.revroute_c.specs.Engines.{Held, published_of}
-use Rattle.revroute_c.specs.Replies.{least_room, IsAnswered, IsAnswerLength, Outcome}
+use Rattle.revroute_c.specs.Replies.{least_room, IsReplied, IsAnswerLength, Outcome}
 use Rattle.revroute_c.specs.Statuses.{REVROUTE_ANSWERED, REVROUTE_BLANK, REVROUTE_TOO_SHORT}
 use Rattle.revroute_c.specs.Statuses.{REVROUTE_NO_MEMORY, REVROUTE_BEGUN, REVROUTE_TOO_LONG}
 
@@ -48,7 +48,7 @@ IsTooLong begun piece =
 pub record AnswersEnd (piece : List ℕ) (old new : Held) (taken : ℕ) (o : Outcome) : Type 0 where
   pub line : List ℕ
   pub ends : EndsLine old.begun piece line taken
-  pub answered : IsAnswered old.session line new.session o
+  pub answered : IsReplied old.session line new.session o
   -- the engine then has the nodes that the line reroutes
   pub told : IsLineTold old.session (reading line) new.session old.rerouted new.rerouted
   -- they are pushed to the readers

@@ -45,7 +45,7 @@ pub record GivesList (Are : List ℕ → Type 0) (o : Outcome) : Type 0 where
   pub none : REVROUTE_TOO_SHORT < o.status → o.size ≡ 0
 
 -- the line is answered: the session is then in this state, the answer is in the place, and `size` is its length
-pub record IsAnswered (old : Option State) (line : List ℕ) (new : Option State) (o : Outcome) : Type 0 where
+pub record IsReplied (old : Option State) (line : List ℕ) (new : Option State) (o : Outcome) : Type 0 where
   pub asks : is_blank line ≡ false
   pub text : List ℕ
   pub answer : IsLineAnswer old (reading line) text new
@@ -67,7 +67,7 @@ IsWanted old line room size =
 
 -- a call answers the line in the caller's place; the engine changes from `old` to `new`
 pub record AnswersLine (line : List ℕ) (old new : Held) (o : Outcome) : Type 0 where
-  pub answered : o.status ≡ REVROUTE_ANSWERED → IsAnswered old.session line new.session o
+  pub answered : o.status ≡ REVROUTE_ANSWERED → IsReplied old.session line new.session o
   -- the engine then has the nodes that the line reroutes
   pub told : o.status ≡ REVROUTE_ANSWERED → IsLineTold old.session (reading line) new.session old.rerouted new.rerouted
   pub blank : o.status ≡ REVROUTE_BLANK → (is_blank line ≡ true) × (o.size ≡ 0)

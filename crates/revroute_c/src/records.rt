@@ -85,7 +85,7 @@ pub(crate) fn unknown_at(at: usize) -> Refusal
     ensures { result ≡ record { number = 2; u = 0; v = 0; at = at } }
 {
     Refusal {
-        number: fr_route::Refusal::NotRequest.number(),
+        number: fr_route::Reason::NotRequest.number(),
         u: 0,
         v: 0,
         at,
