@@ -58,7 +58,8 @@ fn read_by_pieces<R: Read>(
 /// reader is at its end. Fails with `Read` if the read fails. The cost is that of the read.
 pub fn read_piece<R: Read>(reader: &mut R, piece: &mut [u8]) -> Result<usize, RunFault>
     ensures brings { IfOk result (λ count. count ≡ 0 → 0 < length piece.old → IsAtEnd (R.remaining reader.new)) }
-    ensures bytes { IfOk result (λ count. Consumes (R.remaining reader.old) (R.remaining reader.new) (take count piece.new)) }
+    ensures bytes { IfOk result
+        (λ count. Consumes (R.remaining reader.old) (R.remaining reader.new) (take count piece.new)) }
     ensures bound { IfOk result (λ count. count ≤ length piece.old) }
     ensures fault { IfErr result (λ fault. fault ≡ RunFault.Read) }
     ensures kept { OnErr result (Keeps (R.remaining reader.old) (R.remaining reader.new)) }

@@ -28,7 +28,8 @@ pub fn write_whole<W: Write>(writer: &mut W, bytes: &[u8]) -> Result<(), RunFaul
 /// byte; then a beginning of the bytes was written. O(b) for b bytes.
 pub fn write_out<W: Write>(writer: &mut W, bytes: &[u8]) -> Result<(), RunFault>
     ensures ok { OnOk result (Appends (W.contents writer.old) (W.contents writer.new) bytes.now) }
-    ensures err { OnErr result ((front : List ℕ) × IsBeginning front bytes.now × Appends (W.contents writer.old) (W.contents writer.new) front) }
+    ensures err { OnErr result ((front : List ℕ) × IsBeginning front bytes.now
+        × Appends (W.contents writer.old) (W.contents writer.new) front) }
     ensures kind { IfErr result (λ fault. fault ≡ RunFault.Write) }
 {
     write_whole(writer, bytes)?;

@@ -8,7 +8,8 @@ use Rattle.fr_core.specs.Legal.{CanTurn, IsRun}
 use Rattle.fr_core.specs.declared.check.fault.CheckFault.{CheckFault}
 use Rattle.fr_core.specs.declared.check.fault.CheckFault.TheVariants.{Range, BadAt, Memory}
 use Rattle.fr_core.specs.declared.check.fault.Why.{Why}
-use Rattle.fr_core.specs.declared.check.fault.Why.TheVariants.{NoNode, Destination, Capped, NotSink, WrongCount, NotHeld, NotMoved, NotCut}
+use Rattle.fr_core.specs.declared.check.fault.Why.TheVariants.{NoNode, Destination, Capped, NotSink}
+use Rattle.fr_core.specs.declared.check.fault.Why.TheVariants.{WrongCount, NotHeld, NotMoved, NotCut}
 use Rattle.fr_core.specs.declared.entry.Entry.{Entry}
 use Rattle.fr_core.specs.declared.entry.Reply.{Reply}
 use Rattle.fr_core.specs.declared.entry.Reply.TheVariants.{Turned, Held, Moved, Cut, Sink}
@@ -50,5 +51,6 @@ pub record IsBadAt (n d : ℕ) (m : Moment) (entries : List Entry) (index : ℕ)
 -- history from the counts 0. `Memory` is not a fault of entries
 abbrev pub IsCheckFault : ℕ → ℕ → List (ℕ × ℕ) → List Entry → CheckFault → Type 0
 IsCheckFault n d first entries Range = n ≤ d
-IsCheckFault n d first entries (BadAt index why) = (d < n) × IsBadAt n d (moment_of first (replicate n 0)) entries index why
+IsCheckFault n d first entries (BadAt index why) = (d < n)
+    × IsBadAt n d (moment_of first (replicate n 0)) entries index why
 IsCheckFault n d first entries Memory = ⊥

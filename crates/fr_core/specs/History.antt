@@ -1,6 +1,7 @@
 -- Histories of replies, and what they make of the links and of the counts. Histories are those of Herlihy and Wing
 -- (1990); the links and counts are those of J. Welch and J. Walter, "Link Reversal Algorithms" (2011).
-use Rattle.std.specs.Prelude.{ℕ, ◌+◌, ◌==◌, ◌&&◌, if◌then◌else◌, Bool, true, false, List, [], ◌∷◌, slice_index, slice_set}
+use Rattle.std.specs.Prelude.{ℕ, ◌+◌, ◌==◌, ◌&&◌, if◌then◌else◌, Bool, true}
+use Rattle.std.specs.Prelude.{false, List, [], ◌∷◌, slice_index, slice_set}
 use Rattle.std.specs.List.{count_by, filter}
 use Rattle.fr_graph.specs.Counts.{links_at}
 use Rattle.fr_graph.specs.Turn.{turn}

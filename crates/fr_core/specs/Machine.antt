@@ -16,7 +16,8 @@
 --                      for c + 1                                otherwise decides Moved, with c and the count found
 --   Confirming x c     loads the count of x                     it is c: decides Sink
 --                                                               otherwise decides Moved, with c and the count found
-use Rattle.std.specs.Prelude.{ℕ, ◌+◌, ◌==◌, nat_lt, if◌then◌else◌, List, [], ◌∷◌, ◌++◌, length, map, replicate, Option, Some, None, slice_index, slice_index_or, slice_set, option_to_list}
+use Rattle.std.specs.Prelude.{ℕ, ◌+◌, ◌==◌, nat_lt, if◌then◌else◌, List, [], ◌∷◌, ◌++◌, length, map, replicate}
+use Rattle.std.specs.Prelude.{Option, Some, None, slice_index, slice_index_or, slice_set, option_to_list}
 use Rattle.fr_graph.specs.Rows.{row}
 use Rattle.fr_graph.specs.declared.first.First.{First}
 use Rattle.fr_graph.specs.declared.first.First.TheVariants.{Outward, Inward}
@@ -63,7 +64,8 @@ all_but_first (t ∷ ts) = ts
 
 -- the step decides the call on x, which uses up its target and leaves the worker idle
 abbrev pub decides : List ℕ → List Target → ℕ → Reply → Outcome
-decides counts left x reply = record { counts = counts; worker = record { left = all_but_first left; phase = Idle }; decided = Some (x, reply) }
+decides counts left x reply = record
+    { counts = counts; worker = record { left = all_but_first left; phase = Idle }; decided = Some (x, reply) }
 
 -- the bound of a neighbour: the link points to a node with count c once the neighbour's count is at least the bound
 abbrev pub bound_of : First → ℕ → ℕ
@@ -133,7 +135,8 @@ outcome_of n first m k = outcome n first m.counts (worker_of m k).left (worker_o
 
 -- the machine after a step of worker k
 abbrev pub step : ℕ → List (ℕ × ℕ) → MachineState → ℕ → MachineState
-step n first m k = record { counts = (outcome_of n first m k).counts; workers = slice_set m.workers k (outcome_of n first m k).worker }
+step n first m k = record
+    { counts = (outcome_of n first m k).counts; workers = slice_set m.workers k (outcome_of n first m k).worker }
 
 -- the entry of a call that worker k decided, if there is one
 abbrev pub entry_of : ℕ → Option (ℕ × Reply) → List Entry
@@ -154,4 +157,5 @@ state_after n first m (k ∷ ks) = state_after n first (step n first m k) ks
 abbrev pub decided_by : ℕ → List (ℕ × ℕ) → MachineState → ℕ → List ℕ → List (ℕ × Reply)
 decided_by n first m k [] = []
 decided_by n first m k (j ∷ ks) =
-    (if j == k then option_to_list (outcome_of n first m j).decided else []) ++ decided_by n first (step n first m j) k ks
+    (if j == k then option_to_list (outcome_of n first m j).decided else [])
+    ++ decided_by n first (step n first m j) k ks

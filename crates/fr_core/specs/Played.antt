@@ -24,14 +24,17 @@ abbrev pub answer_of : Entry → ℕ × Reply
 answer_of e = (e.node, e.reply)
 
 -- the part of worker k of the entries: what its steps decide, in order, an answer to each target that it has used up
-pub record HasPart (n : ℕ) (first : List (ℕ × ℕ)) (targets : List (List Target)) (schedule : List ℕ) (entries : List Entry) (k : ℕ) : Type 0 where
+pub record HasPart (n : ℕ) (first : List (ℕ × ℕ)) (targets : List (List Target)) (schedule : List ℕ)
+    (entries : List Entry) (k : ℕ) : Type 0 where
   pub replies : map answer_of (part k entries) ≡ decided_by n first (start n targets) k schedule
   pub used : List Target
-  pub used_up : used ++ (worker_of (state_after n first (start n targets) schedule) k).left ≡ slice_index_or targets k []
+  pub used_up : used ++ (worker_of (state_after n first (start n targets) schedule) k).left
+      ≡ slice_index_or targets k []
   pub answers : AreAnswersTo used (map answer_of (part k entries))
 
 -- what a schedule makes of a machine before its first step
-pub record IsPlay (n d : ℕ) (first : List (ℕ × ℕ)) (targets : List (List Target)) (schedule : List ℕ) (entries : List Entry) : Type 0 where
+pub record IsPlay (n d : ℕ) (first : List (ℕ × ℕ)) (targets : List (List Target)) (schedule : List ℕ)
+    (entries : List Entry) : Type 0 where
   -- there is no fault
   pub playable : IsPlayable n d first targets schedule
   -- the entries are those that the steps of the schedule decide, in order

@@ -16,7 +16,8 @@ IsQueued queue x = (i : ℕ) × (i < length queue) × (slice_index queue i ≡ x
 pub record ReachesOnly (n : ℕ) (P : ℕ → Type 0) (level : ℕ) (c q d r : List ℕ) : Type 0 where
   pub longer : length q ≤ length r
   pub kept : (i : ℕ) → i < length q → slice_index r i ≡ slice_index q i
-  pub added : (i : ℕ) → length q ≤ i → i < length r → P (slice_index r i) × (slice_index d (slice_index r i) ≡ level) × (level < n)
+  pub added : (i : ℕ) → length q ≤ i → i < length r
+      → P (slice_index r i) × (slice_index d (slice_index r i) ≡ level) × (level < n)
   pub same : (x : ℕ) → ¬ (slice_index c x ≡ n) → slice_index d x ≡ slice_index c x
   pub rest : (x : ℕ) → slice_index c x ≡ n → (slice_index d x ≡ n) ⊎ IsQueued r x
   pub balance : length r + unreached_count n d ≡ length q + unreached_count n c

@@ -35,11 +35,14 @@ pub record IsUnderWay (n d : ℕ) (first : List (ℕ × ℕ)) (counts : List ℕ
   pub fit : IsFit n d first t
   pub low : c ≤ slice_index counts (node_of t)
   pub in_range : IsInRange n t c
-  pub enough : (i : ℕ) → i < j → bound_of (neighbour_at (row n first (node_of t)) i).1 c ≤ slice_index counts (neighbour_at (row n first (node_of t)) i).0
+  pub enough : (i : ℕ) → i < j
+      → bound_of (neighbour_at (row n first (node_of t)) i).1 c
+      ≤ slice_index counts (neighbour_at (row n first (node_of t)) i).0
 
 abbrev pub IsSoundPhase : ℕ → ℕ → List (ℕ × ℕ) → List ℕ → Phase → Type 0
 IsSoundPhase n d first counts Idle = Unit {0}
-IsSoundPhase n d first counts (Looking t c j) = IsUnderWay n d first counts t c j × (j < length (row n first (node_of t)))
+IsSoundPhase n d first counts (Looking t c j) = IsUnderWay n d first counts t c j
+    × (j < length (row n first (node_of t)))
 IsSoundPhase n d first counts (Swapping x c) = IsUnderWay n d first counts (Turn x) c (length (row n first x))
 IsSoundPhase n d first counts (Confirming x c) = IsUnderWay n d first counts (Look x) c (length (row n first x))
 
@@ -73,7 +76,8 @@ pub record CanStep (n : ℕ) (first : List (ℕ × ℕ)) (worker : WorkerState) 
 
 -- the value of a machine, from its fields
 abbrev pub view_of : ℕ → ℕ → List (ℕ × ℕ) → List ℕ → List WorkerState → MachineView
-view_of n d links counts workers = record { nodes = n; dest = d; links = links; state = record { counts = counts; workers = workers } }
+view_of n d links counts workers = record
+    { nodes = n; dest = d; links = links; state = record { counts = counts; workers = workers } }
 
 abbrev pub outcome_with : List ℕ → WorkerState → Option (ℕ × Reply) → Outcome
 outcome_with counts worker decided = record { counts = counts; worker = worker; decided = decided }
@@ -85,4 +89,5 @@ pub record IsOnTheWay (begun now : MachineView) (entries : List Entry) (rest who
   pub dest : now.dest ≡ begun.dest
   pub links : now.links ≡ begun.links
   pub workers : length now.state.workers ≡ length begun.state.workers
-  pub come : entries ++ entries_of now.nodes now.links now.state rest ≡ entries_of begun.nodes begun.links begun.state whole
+  pub come : entries ++ entries_of now.nodes now.links now.state rest
+      ≡ entries_of begun.nodes begun.links begun.state whole

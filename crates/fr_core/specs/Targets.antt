@@ -56,11 +56,13 @@ abbrev pub ComesBefore : ℕ → ℕ → ℕ → ℕ → Type 0
 ComesBefore k i worker at = (k < worker) ⊎ ((k ≡ worker) × (i < at))
 
 -- the first target that is refused
-pub record IsFirstBadTarget (n d : ℕ) (links : List (ℕ × ℕ)) (targets : List (List Target)) (worker at : ℕ) : Type 0 where
+pub record IsFirstBadTarget (n d : ℕ) (links : List (ℕ × ℕ)) (targets : List (List Target))
+    (worker at : ℕ) : Type 0 where
   pub target : Target
   pub here : IsTarget targets worker at target
   pub refused : IsTargetRefused n d links target
-  pub first : (k i : ℕ) (t : Target) → IsTarget targets k i t → ComesBefore k i worker at → ¬ IsTargetRefused n d links t
+  pub first : (k i : ℕ) (t : Target) → IsTarget targets k i t → ComesBefore k i worker at
+      → ¬ IsTargetRefused n d links t
 
 -- the destination is not a node, or a number of the schedule is not a worker
 abbrev pub IsPlayOutOfRange : ℕ → ℕ → List (List Target) → List ℕ → Type 0
@@ -80,7 +82,8 @@ IsMachineFault n d links targets Memory = ⊥
 -- the same for a play under a schedule
 abbrev pub IsPlayFault : ℕ → ℕ → List (ℕ × ℕ) → List (List Target) → List ℕ → PlayFault → Type 0
 IsPlayFault n d links targets schedule Range = IsPlayOutOfRange n d targets schedule
-IsPlayFault n d links targets schedule (BadTarget worker at) = IsPlayInRange n d targets schedule × IsFirstBadTarget n d links targets worker at
+IsPlayFault n d links targets schedule (BadTarget worker at) = IsPlayInRange n d targets schedule
+    × IsFirstBadTarget n d links targets worker at
 IsPlayFault n d links targets schedule Memory = ⊥
 
 -- there is no fault

@@ -1,6 +1,7 @@
 //! The checker of histories. It tests whether full reversal on one thread can give each entry after those before it.
 
-ghost use Rattle.std.specs.Prelude.{◌≡◌, ◌≢◌, ℕ, ◌<◌, ◌↔◌, IsTrue, All, length, slice_index, IfOk, IfErr, IfSome, IfNone};
+ghost use Rattle.std.specs.Prelude.{◌≡◌, ◌≢◌, ℕ, ◌<◌, ◌↔◌, IsTrue, All, length};
+ghost use Rattle.std.specs.Prelude.{slice_index, IfOk, IfErr, IfSome, IfNone};
 ghost use Rattle.fr_graph.specs.Counts.{AreLawful, IsKept, links_at};
 ghost use Rattle.fr_graph.specs.Links.{Points};
 ghost use Rattle.fr_graph.specs.Turn.{IsSink};
@@ -156,7 +157,8 @@ pub fn check_run(
 ) -> Result<Vec<u64>, CheckFault>
     ensures destination { IfOk result (λ _. dest < net.now.nodes) }
     ensures run { IfOk result (λ counts. IsRunTo net.now.nodes dest net.now.links entries.now counts.items) }
-    ensures refused { IfErr result (λ fault. fault ≢ Memory → IsCheckFault net.now.nodes dest net.now.links entries.now fault) }
+    ensures refused { IfErr result (λ fault. fault ≢ Memory
+        → IsCheckFault net.now.nodes dest net.now.links entries.now fault) }
 {
     let nodes = net.nodes();
     if dest >= nodes {

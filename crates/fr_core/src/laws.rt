@@ -1,9 +1,12 @@
 //! The laws of full reversal with counts. Each clause is a law of `specs/Laws.antt`, proved. The functions do nothing.
 //! They are the table of contents of the mathematics on which the other contracts are based.
 
-ghost use Rattle.fr_core.specs.Laws.{NoLoopStands, LinksComeFromFirst, SenseShowsTheLink, LawfulGivesANet, ZerosGiveFirst, OrderDoesNotMatter};
-ghost use Rattle.fr_core.specs.Laws.{TurnIsACount, RunKeepsLawful, MomentIsAfter, NoLoopEverStands, RunAddsUp, LawfulIsReached, SinkByCounts};
-ghost use Rattle.fr_core.specs.Laws.{LawfulIsAtMostAway, NoTurnLeftIsSettled, SettledLeavesNoTurn, SettledIsUnique, LawfulIsAtMostSettled};
+ghost use Rattle.fr_core.specs.Laws.{NoLoopStands, LinksComeFromFirst, SenseShowsTheLink};
+ghost use Rattle.fr_core.specs.Laws.{LawfulGivesANet, ZerosGiveFirst, OrderDoesNotMatter};
+ghost use Rattle.fr_core.specs.Laws.{TurnIsACount, RunKeepsLawful, MomentIsAfter};
+ghost use Rattle.fr_core.specs.Laws.{NoLoopEverStands, RunAddsUp, LawfulIsReached, SinkByCounts};
+ghost use Rattle.fr_core.specs.Laws.{LawfulIsAtMostAway, NoTurnLeftIsSettled};
+ghost use Rattle.fr_core.specs.Laws.{SettledLeavesNoTurn, SettledIsUnique, LawfulIsAtMostSettled};
 ghost use Rattle.fr_core.specs.Laws.{ZeroIsAPath, CapIsNotJoined, JoinedIsBelowCap, JoinedByCounts};
 ghost use Rattle.fr_core.specs.Laws.{EachNetSettles, EachRunSettles, RunsEndAlike, RunLeadsToSettled, TurnsAreBounded};
 ghost use Rattle.fr_core.specs.Work.{BadAreCounted, NoLevelIsEmpty, EachIsAtMostBad, RunIsAtMostTriangle};

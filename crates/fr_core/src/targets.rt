@@ -1,7 +1,8 @@
 //! The targets of a machine's workers.
 
 ghost use Rattle.std.specs.Prelude.{◌≡◌, ◌↔◌, IsTrue, IfSome, IfNone};
-ghost use Rattle.fr_core.specs.Targets.{node_of, IsUnturnable, IsUnlookable, IsTargetRefused, IsFirstBadTarget, AreAccepted, AreAllAccepted, lists_of};
+ghost use Rattle.fr_core.specs.Targets.{node_of, IsUnturnable, IsUnlookable, IsTargetRefused};
+ghost use Rattle.fr_core.specs.Targets.{IsFirstBadTarget, AreAccepted, AreAllAccepted, lists_of};
 ghost use Rattle.fr_core.specs.Sound.{IsFirstRefused};
 
 use fr_graph::Net;

@@ -2,7 +2,8 @@
 
 ghost use Rattle.std.specs.Prelude.{◌≡◌, ◌<◌, ◌≤◌, ◌^◌, All, length};
 ghost use Rattle.fr_graph.specs.Rows.{row};
-ghost use Rattle.fr_core.specs.Machine.{fresh, all_but_first, load_own, load_to_look, load_neighbour, exchange, confirm, phase_unheld, step_idle, outcome, bound_of};
+ghost use Rattle.fr_core.specs.Machine.{fresh, all_but_first, load_own, load_to_look, load_neighbour};
+ghost use Rattle.fr_core.specs.Machine.{exchange, confirm, phase_unheld, step_idle, outcome, bound_of};
 ghost use Rattle.fr_core.specs.Targets.{node_of};
 ghost use Rattle.fr_core.specs.Sound.{CanStep, IsOnNode, outcome_with};
 ghost use Rattle.fr_core.specs.declared.worker.Phase.TheVariants.{Idle};

@@ -39,7 +39,8 @@ hop_of Sink = []
 -- look comes after one that finds a sink.
 abbrev pub AreLooksFrom : ℕ → ℕ → List Entry → Type 0
 AreLooksFrom d x [] = Unit {0}
-AreLooksFrom d x (e ∷ es) = (e.node ≡ x) × (x ≢ d) × IsReplyToLook e.reply × (e.reply ≡ Sink → es ≡ []) × AreLooksFrom d (node_after x e.reply) es
+AreLooksFrom d x (e ∷ es) = (e.node ≡ x) × (x ≢ d) × IsReplyToLook e.reply × (e.reply ≡ Sink → es ≡ [])
+    × AreLooksFrom d (node_after x e.reply) es
 
 -- the nodes of such a walk: the first one, and each one to which it hops
 abbrev pub trail : ℕ → List Entry → List ℕ
@@ -51,7 +52,8 @@ FindsNoSink e = e.reply ≢ Sink
 -- how the walk ends at this last node
 abbrev pub EndsBy : ℕ → ℕ → ℕ → List Entry → LiveEnd → Type 0
 EndsBy d limit last looks Here = last ≡ d
-EndsBy d limit last looks AtSink = (before : List Entry) × (e : Entry) × (looks ≡ before ++ e ∷ []) × (e.node ≡ last) × (e.reply ≡ Sink)
+EndsBy d limit last looks AtSink = (before : List Entry) × (e : Entry) × (looks ≡ before ++ e ∷ []) × (e.node ≡ last)
+    × (e.reply ≡ Sink)
 EndsBy d limit last looks Limit = (last ≢ d) × (length looks ≡ limit) × Each FindsNoSink looks
 
 -- the only node is x, and there is room for one more node for each look

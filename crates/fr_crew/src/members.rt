@@ -35,7 +35,8 @@ pub(crate) fn equip<J: Naming>(
     seed: u64,
 ) -> Result<Members<J>, AllocError>
     requires named { round.now.setup ≡ J.setup }
-    ensures own { IfOk result (λ all. (round : OpenRound) → Each (IsOwn round) workers.items → Each (IsOwnMember round) all.members.items) }
+    ensures own { IfOk result (λ all. (round : OpenRound) → Each (IsOwn round) workers.items
+        → Each (IsOwnMember round) all.members.items) }
     ensures members { IfOk result (λ all. vec_len all.members ≡ vec_len workers) }
     ensures stealers { IfOk result (λ all. vec_len all.stealers ≡ vec_len workers) }
 {

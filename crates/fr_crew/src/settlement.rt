@@ -1,6 +1,7 @@
 //! Settling a network.
 
-ghost use Rattle.std.specs.Prelude.{◌≡◌, ◌≢◌, ℕ, ◌<◌, ◌≤◌, ◌^◌, ◌↔◌, ◌⊎◌, IfOk, IfErr, IfSome, IsTrue, OnOk, length, replicate, sum, sum_by};
+ghost use Rattle.std.specs.Prelude.{◌≡◌, ◌≢◌, ℕ, ◌<◌, ◌≤◌, ◌^◌, ◌↔◌, ◌⊎◌, IfOk, IfErr};
+ghost use Rattle.std.specs.Prelude.{IfSome, IsTrue, OnOk, length, replicate, sum, sum_by};
 ghost use Rattle.std.specs.List.{AllByRecursion as Each};
 ghost use Rattle.fr_graph.specs.Counts.{AreLawful};
 ghost use Rattle.fr_core.specs.Finish.{HoldsAllThatCanTurn, IsFinish};
@@ -77,7 +78,8 @@ pub fn settle<R: Threads + Wait + Sync, G: Gate + Sync>(
     ensures range { IfErr result (λ fault. (fault ≡ Range) ↔ (net.nodes ≤ dest)) }
     ensures by_finisher { plan.now.budget ≡ 0 → IfOk result (λ settled. settled.by_workers ≡ 0) }
     ensures no_start { (plan.now.budget ≡ 0) ⊎ (plan.now.workers ≡ 1) → IfErr result (λ fault. fault ≢ Start) }
-    ensures still { AreSettled net.nodes dest net.links (replicate net.nodes 0) → IfErr result (λ fault. fault ≢ Start) }
+    ensures still { AreSettled net.nodes dest net.links (replicate net.nodes 0)
+        → IfErr result (λ fault. fault ≢ Start) }
 {
     if plan.budget() == 0 {
         return settle_alone(alloc, net, dest);
@@ -117,7 +119,8 @@ pub fn settle_telling<R: Threads + Wait + Sync, G: Gate + Sync>(
     ensures range { IfErr result (λ fault. (fault ≡ Range) ↔ (net.nodes ≤ dest)) }
     ensures by_finisher { plan.now.budget ≡ 0 → IfOk result (λ work. work.settled.by_workers ≡ 0) }
     ensures no_start { (plan.now.budget ≡ 0) ⊎ (plan.now.workers ≡ 1) → IfErr result (λ fault. fault ≢ Start) }
-    ensures still { AreSettled net.nodes dest net.links (replicate net.nodes 0) → IfErr result (λ fault. fault ≢ Start) }
+    ensures still { AreSettled net.nodes dest net.links (replicate net.nodes 0)
+        → IfErr result (λ fault. fault ≢ Start) }
 {
     let turns = none_yet(alloc, &net, dest)?;
     if plan.budget() == 0 || are_settled(&net, dest, turns.counts()) {
@@ -174,8 +177,10 @@ pub fn settled_counts<R: Threads + Wait + Sync, G: Gate + Sync>(
     ensures settled { IfOk result (IsCounted net.now.nodes dest net.now.links) }
     ensures range { IfErr result (λ fault. (fault ≡ Range) ↔ (net.now.nodes ≤ dest)) }
     ensures alone { crew.now.plan.now.budget ≡ 0 → IfErr result (λ fault. fault ≡ Range) }
-    ensures no_start { (crew.now.plan.now.budget ≡ 0) ⊎ (crew.now.plan.now.workers ≡ 1) → IfErr result (λ fault. fault ≢ Start) }
-    ensures still { AreSettled net.now.nodes dest net.now.links (replicate net.now.nodes 0) → IfErr result (λ fault. fault ≡ Range) }
+    ensures no_start { (crew.now.plan.now.budget ≡ 0) ⊎ (crew.now.plan.now.workers ≡ 1)
+        → IfErr result (λ fault. fault ≢ Start) }
+    ensures still { AreSettled net.now.nodes dest net.now.links (replicate net.now.nodes 0)
+        → IfErr result (λ fault. fault ≡ Range) }
 {
     if crew.plan.budget() == 0 {
         return settled_counts_alone(net, dest, from, turns);

@@ -141,4 +141,5 @@ pub record IsAfterCut (s : State) (u v : ℕ) (first : List (ℕ × ℕ)) (new :
 abbrev pub CutSparesOthers : Type 0
 CutSparesOthers = (s : State) (u v : ℕ) (first : List (ℕ × ℕ)) (d : ℕ) (new : State) (x : ℕ)
     → IsSettledAnew s (Cut u v) first d new
-    → (IsConnected s.links s.dest x → IsAfterCut s u v first new x) × (¬ IsConnected s.links s.dest x → IsHop new x CutOff)
+    → (IsConnected s.links s.dest x → IsAfterCut s u v first new x)
+    × (¬ IsConnected s.links s.dest x → IsHop new x CutOff)

@@ -1,5 +1,6 @@
 -- The request of the tokens of a line, and how it is returned. For proofs only.
-use Rattle.std.specs.Prelude.{List, [], ◌∷◌, ◌++◌, Option, Some, None, option_map, option_and_then, Result, Ok, Err, IfOk, IfErr, ◌≡◌, ◌≢◌}
+use Rattle.std.specs.Prelude.{List, [], ◌∷◌, ◌++◌, Option, Some, None, option_map}
+use Rattle.std.specs.Prelude.{option_and_then, Result, Ok, Err, IfOk, IfErr, ◌≡◌, ◌≢◌}
 use Rattle.json.specs.Json.{Json, if_last, value}
 use Rattle.json.specs.Token.{Token}
 use Rattle.serde_json.specs.Data.{Data, null, boolean, number, string}
@@ -32,7 +33,8 @@ reading_of_tokens ts = reading_of_value (value_alone (value max_depth ts))
 
 -- the answer is this reading, unless an allocation was refused
 abbrev pub Tells : Result PlainRequest LineFault → Result Request LineFault → Type 0
-Tells reading answer = IfOk answer (λ request. reading ≡ Ok (plain request)) × IfErr answer (λ fault. fault ≢ Memory → reading ≡ Err fault)
+Tells reading answer = IfOk answer (λ request. reading ≡ Ok (plain request))
+    × IfErr answer (λ fault. fault ≢ Memory → reading ≡ Err fault)
 
 -- the item is read as one thing, which is appended to those before it
 abbrev pub IsReadNext : {X : Type 0} → (Data → Option X) → List X → Data → List X → Type 0

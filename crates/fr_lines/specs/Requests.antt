@@ -11,7 +11,8 @@
 --     ["links"]                      ask for the links
 --     ["counts"]                     ask how often each node has turned
 --     ["hops"]                       ask for the next hop of each node
-use Rattle.std.specs.Prelude.{ℕ, ◌^◌, List, [], ◌∷◌, Option, Some, None, ok_or, option_map, option_and_then, Result, Err, nat_lt, if◌then◌else◌, codes}
+use Rattle.std.specs.Prelude.{ℕ, ◌^◌, List, [], ◌∷◌, Option, Some, None, ok_or, option_map}
+use Rattle.std.specs.Prelude.{option_and_then, Result, Err, nat_lt, if◌then◌else◌, codes}
 use Rattle.std.specs.Str.{bytes_eq, is_utf8}
 use Rattle.serde_json.specs.Data.{Data, Items, no_items, item}
 use Rattle.serde_json.specs.Find.{as_number, as_str, as_array, as_u64}

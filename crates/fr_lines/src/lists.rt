@@ -7,7 +7,8 @@ ghost use Rattle.fr_lines.specs.Requests.{edit_in, link_in};
 ghost use Rattle.json.specs.Lex.{Lexeme, token, comma};
 ghost use Rattle.json.specs.Token.{end_array};
 ghost use Rattle.fr_lines.specs.declared.requests.LineFault.TheVariants.{Memory};
-ghost use Rattle.fr_lines.specs.LineLexemes.{Begins, Each, AreSmall, HasSmallEnds, letters_of_edit, ends_lexemes, link_lexemes, edit_lexemes, list_lexemes, word_of, edit_ends};
+ghost use Rattle.fr_lines.specs.LineLexemes.{Begins, Each, AreSmall, HasSmallEnds, letters_of_edit, ends_lexemes};
+ghost use Rattle.fr_lines.specs.LineLexemes.{link_lexemes, edit_lexemes, list_lexemes, word_of, edit_ends};
 
 use crate::fronts::{behind_mark, ends_line, number_before};
 use crate::read::{edit, link};

@@ -1,10 +1,14 @@
 //! Reading a line as a request. `specs/Requests.antt` defines which line is which request.
 
-ghost use Rattle.std.specs.Prelude.{◌≡◌, ◌≢◌, Ok, Err, Some, None, IfOk, IfErr, OnOk, map, ok_or, option_and_then, option_map};
+ghost use Rattle.std.specs.Prelude.{◌≡◌, ◌≢◌, Ok, Err, Some, None, IfOk, IfErr};
+ghost use Rattle.std.specs.Prelude.{OnOk, map, ok_or, option_and_then, option_map};
 ghost use Rattle.serde_json.specs.View.{view};
 ghost use Rattle.fr_lines.specs.declared.requests.LineFault.TheVariants.{NotRequest, Memory};
 ghost use Rattle.fr_lines.specs.LineTokens.{IsReadNext, Tells};
-ghost use Rattle.fr_lines.specs.Requests.{plain, reading, request_of, request_of_word, cut_link, add_link, join_nodes, move_dest, walk_from, network_request, pair_request, batch_request, node_request, ask_request, items_in, link_in, edit_in, edit_of_word, number_pair, read_all, single_number, number_in};
+ghost use Rattle.fr_lines.specs.Requests.{plain, reading, request_of, request_of_word, cut_link, add_link};
+ghost use Rattle.fr_lines.specs.Requests.{join_nodes, move_dest, walk_from, network_request, pair_request};
+ghost use Rattle.fr_lines.specs.Requests.{batch_request, node_request, ask_request, items_in, link_in, edit_in};
+ghost use Rattle.fr_lines.specs.Requests.{edit_of_word, number_pair, read_all, single_number, number_in};
 
 use crate::lists::Item;
 use crate::requests::{LineFault, Question, Request};
@@ -84,7 +88,8 @@ fn add(rest: &[Value]) -> Result<Request, LineFault>
 /// A join, if exactly the two nodes follow its word.
 fn join(rest: &[Value]) -> Result<Request, LineFault>
     ensures ok { IfOk result (λ request. pair_request join_nodes (map view rest.now) ≡ Some (plain request)) }
-    ensures refused { IfErr result (λ fault. ok_or (pair_request join_nodes (map view rest.now)) NotRequest ≡ Err fault) }
+    ensures refused { IfErr result
+        (λ fault. ok_or (pair_request join_nodes (map view rest.now)) NotRequest ≡ Err fault) }
 {
     let (u, v) = two_numbers(rest).ok_or(LineFault::NotRequest)?;
     Ok(Request::Join { u, v })
@@ -93,7 +98,8 @@ fn join(rest: &[Value]) -> Result<Request, LineFault>
 /// A walk, if exactly its first node follows the word.
 fn walk(rest: &[Value]) -> Result<Request, LineFault>
     ensures ok { IfOk result (λ request. node_request walk_from (map view rest.now) ≡ Some (plain request)) }
-    ensures refused { IfErr result (λ fault. ok_or (node_request walk_from (map view rest.now)) NotRequest ≡ Err fault) }
+    ensures refused { IfErr result
+        (λ fault. ok_or (node_request walk_from (map view rest.now)) NotRequest ≡ Err fault) }
 {
     let x = one_number(rest).ok_or(LineFault::NotRequest)?;
     Ok(Request::Walk { x })
@@ -113,7 +119,8 @@ fn batch(alloc: Global, rest: &[Value]) -> Result<Request, LineFault>
 /// Another destination, if exactly its number follows the word.
 fn destination(rest: &[Value]) -> Result<Request, LineFault>
     ensures ok { IfOk result (λ request. node_request move_dest (map view rest.now) ≡ Some (plain request)) }
-    ensures refused { IfErr result (λ fault. ok_or (node_request move_dest (map view rest.now)) NotRequest ≡ Err fault) }
+    ensures refused { IfErr result
+        (λ fault. ok_or (node_request move_dest (map view rest.now)) NotRequest ≡ Err fault) }
 {
     let dest = one_number(rest).ok_or(LineFault::NotRequest)?;
     Ok(Request::Destination { dest })
@@ -146,7 +153,8 @@ fn network(alloc: Global, rest: &[Value]) -> Result<Request, LineFault>
 
 /// The items of an array.
 fn item_list<T: Item>(alloc: Global, value: &Value) -> Result<Vec<T>, LineFault>
-    ensures ok { IfOk result (λ items. option_and_then (read_all T.in_data) (items_in (view value.now)) ≡ Some items.items) }
+    ensures ok { IfOk result
+        (λ items. option_and_then (read_all T.in_data) (items_in (view value.now)) ≡ Some items.items) }
     ensures refused { IfErr result (λ fault. fault ≢ Memory
         → (fault ≡ NotRequest) × (option_and_then (read_all T.in_data) (items_in (view value.now)) ≡ None)) }
 {
@@ -164,7 +172,8 @@ fn item_list<T: Item>(alloc: Global, value: &Value) -> Result<Vec<T>, LineFault>
 #[inline(always)]
 fn push_item<T: Item>(items: &mut Vec<T>, value: &Value) -> Result<(), LineFault>
     ensures ok { OnOk result (IsReadNext T.in_data items.old.items (view value.now) items.new.items) }
-    ensures refused { IfErr result (λ fault. fault ≢ Memory → (fault ≡ NotRequest) × (T.in_data (view value.now) ≡ None)) }
+    ensures refused { IfErr result (λ fault. fault ≢ Memory
+        → (fault ≡ NotRequest) × (T.in_data (view value.now) ≡ None)) }
 {
     let Some(item) = T::of_value(value) else {
         return Err(LineFault::NotRequest);

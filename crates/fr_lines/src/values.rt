@@ -1,6 +1,7 @@
 //! Values of JSON from tokens, as `serde_json` reads them. `serde_json` itself would make a new table for each text.
 
-ghost use Rattle.std.specs.Prelude.{◌≡◌, ◌≢◌, ◌+◌, [], ◌∷◌, length, false, true, Some, None, option_map, IfOk, IfErr, OnOk};
+ghost use Rattle.std.specs.Prelude.{◌≡◌, ◌≢◌, ◌+◌, [], ◌∷◌, length, false, true};
+ghost use Rattle.std.specs.Prelude.{Some, None, option_map, IfOk, IfErr, OnOk};
 ghost use Rattle.fast_float.specs.Text.{scan};
 ghost use Rattle.json.specs.Json.{value as json_value, items as json_items, members as json_members, read_key};
 ghost use Rattle.json.specs.Reads.{token_of};
@@ -67,9 +68,11 @@ fn members(
     depth: usize,
 ) -> Result<Map<String, Value>, LineFault>
     ensures ok { IfOk result (λ found. converted (λ ms. of_members ms no_members)
-        (json_members (json_value depth) (length reader.old) reader.old) ≡ Some (members_view found.entries, reader.new)) }
+        (json_members (json_value depth) (length reader.old) reader.old)
+        ≡ Some (members_view found.entries, reader.new)) }
     ensures refused { IfErr result (λ fault. fault ≢ Memory → (fault ≡ NotJson)
-        × (converted (λ ms. of_members ms no_members) (json_members (json_value depth) (length reader.old) reader.old) ≡ None)) }
+        × (converted (λ ms. of_members ms no_members)
+        (json_members (json_value depth) (length reader.old) reader.old) ≡ None)) }
 {
     let mut found = Map::new(alloc);
     'members: while let Some(name) = next_name(reader)? {
@@ -92,7 +95,8 @@ fn next_token<'a>(reader: &mut Reader<'a>) -> Result<Token<'a>, LineFault>
 #[inline(always)]
 fn single_value(alloc: Global, token: Token<'_>) -> Result<Value, LineFault>
     ensures ok { IfOk result (λ v. single_data (token_of token.entry) ≡ Some (view v)) }
-    ensures refused { IfErr result (λ fault. fault ≢ Memory → (fault ≡ NotJson) × (single_data (token_of token.entry) ≡ None)) }
+    ensures refused { IfErr result (λ fault. fault ≢ Memory
+        → (fault ≡ NotJson) × (single_data (token_of token.entry) ≡ None)) }
 {
     match token {
         Token::String(text) => Ok(Value::String(String::from_str(alloc, text)?)),
@@ -120,7 +124,8 @@ fn put_member(
     name: &str,
     member: Value,
 ) -> Result<(), LineFault>
-    ensures ok { OnOk result (members_view found.new.entries ≡ put name.now (view member) (members_view found.old.entries)) }
+    ensures ok { OnOk result
+        (members_view found.new.entries ≡ put name.now (view member) (members_view found.old.entries)) }
     ensures refused { IfErr result (λ fault. fault ≡ Memory) }
 {
     let key = String::from_str(alloc, name)?;

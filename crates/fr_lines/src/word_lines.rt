@@ -105,7 +105,8 @@ fn network(alloc: Global, rest: &[u8]) -> Result<Option<Request>, LineFault>
 
 /// The number of nodes and the destination of a network, and the text after the bracket that opens its links.
 fn network_head(rest: &[u8]) -> Option<(u32, u32, &[u8])>
-    ensures { IfSome result (λ head. Begins rest.now (comma ∷ number_lexeme head.0 ∷ comma ∷ number_lexeme head.1 ∷ comma
+    ensures { IfSome result
+        (λ head. Begins rest.now (comma ∷ number_lexeme head.0 ∷ comma ∷ number_lexeme head.1 ∷ comma
         ∷ token begin_array ∷ []) head.2.now) }
 {
     let (nodes, rest) = number_before(b',', behind_mark(b',', rest)?)?;

@@ -22,7 +22,8 @@ use Rattle.fr_published.specs.Publishing.{PublishesTo}
 
 -- a line is answered, and the nodes that it reroutes are published; a blank line has no answer
 pub record AnswersLine
-    (old : Published) (line : List ℕ) (answer : Result (Option (String Global)) AnswerFault) (new : Published) : Type 0 where
+    (old : Published) (line : List ℕ) (answer : Result (Option (String Global)) AnswerFault)
+    (new : Published) : Type 0 where
   pub blank : IfOk answer (λ a. IfNone a ((is_blank line ≡ true) × (new ≡ old)))
   pub text : IfOk answer (λ a. IfSome a (λ text. (is_blank line ≡ false)
       × IsLineAnswer old.session (reading line) (string_bytes text) new.session))
@@ -60,7 +61,8 @@ pub record MakesChange
   pub published : PublishesTo old.table new
 
 -- a router replaces the one before it, if there was one, and the nodes that it reroutes are published
-pub record PutsRouter (old : Published) (router : State) (answer : Result (Unit {0}) AllocError) (new : Published) : Type 0 where
+pub record PutsRouter (old : Published) (router : State) (answer : Result (Unit {0}) AllocError)
+    (new : Published) : Type 0 where
   pub put : OnOk answer (new.session ≡ Some router)
   pub rerouted : OnOk answer (AreReplaced old.session router new.rerouted)
   pub published : PublishesTo old.table new

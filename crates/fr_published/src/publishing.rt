@@ -4,7 +4,8 @@ ghost use Rattle.std.specs.Prelude.{◌≡◌, ◌≤◌, ◌↔◌, IfOk, IfSom
 ghost use Rattle.std.specs.Option.{option_copied};
 ghost use Rattle.fr_route.specs.Reroutes.{AreReplaced};
 ghost use Rattle.fr_published.specs.Published.{HasHopsOf};
-ghost use Rattle.fr_published.specs.Publishing.{AreHopsOf, CanPublish, HasHopAt, IsSettledSession, Publishes, PublishesIn};
+ghost use Rattle.fr_published.specs.Publishing.{AreHopsOf, CanPublish, HasHopAt};
+ghost use Rattle.fr_published.specs.Publishing.{IsSettledSession, Publishes, PublishesIn};
 ghost use Rattle.fr_shared.specs.Histories.{padded};
 ghost use Rattle.fr_shared.specs.Knowledge.{last_table};
 ghost use Rattle.fr_tables.specs.declared.hop.Hop.TheVariants.{CutOff};

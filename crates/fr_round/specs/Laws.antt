@@ -62,7 +62,8 @@ pub record StandsBehind (b : Setup) (s : State (Unit {0}) View) (history : List 
 
 -- one history explains the words and the workers of every state that the rule allows
 abbrev pub OneHistoryStandsBehindAll : Type 0
-OneHistoryStandsBehindAll = (b : Setup) (s : State (Unit {0}) View) (ruled : KeepsRule b s) → StandsBehind b s ruled.history
+OneHistoryStandsBehindAll = (b : Setup) (s : State (Unit {0}) View) (ruled : KeepsRule b s)
+    → StandsBehind b s ruled.history
 
 -- the state in which a round is opened: the words are 0, and the opening seat is the only one
 abbrev pub first_state : Setup → State (Unit {0}) View
@@ -70,7 +71,8 @@ first_state b = opening (replicate b.nodes 0) [] (opening_view b)
 
 -- the rule allows this state, and the empty history explains it
 abbrev pub RuleHoldsAtFirst : Type 0
-RuleHoldsAtFirst = (b : Setup) → IsNet b.nodes b.links → HasList b [] (first_state b) × StandsBehind b (first_state b) []
+RuleHoldsAtFirst = (b : Setup) → IsNet b.nodes b.links
+    → HasList b [] (first_state b) × StandsBehind b (first_state b) []
 
 -- the rule allows no other state in which the opening seat is the only one and has given out no number
 abbrev pub NoOtherStateIsFirst : Type 0

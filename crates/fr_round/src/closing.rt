@@ -37,7 +37,8 @@ pub(crate) fn take_over(
     requires own { Each (λ (k : Knowledge). k.table ≡ table.now.shared.table_id) workers.items }
     requires room { length turned.old.items + length workers.items ≤ vec_capacity turned.old }
     ensures seat { IsSameSeat seat.old seat.new }
-    ensures taken { seat.new.me.0 ≡ record seat.old.me.0 { taken = seat.old.me.0.taken ++ map number_and_known workers.items } }
+    ensures taken { seat.new.me.0
+        ≡ record seat.old.me.0 { taken = seat.old.me.0.taken ++ map number_and_known workers.items } }
     ensures turned { turned.new.items ≡ turned.old.items ++ map number_and_turns workers.items }
 {
     for worker in workers {

@@ -4,7 +4,8 @@ ghost use Rattle.std.specs.Prelude.{◌≡◌, ◌≤◌, IfOk, IfErr, length};
 ghost use Rattle.std.specs.List.{AllByRecursion as Each};
 ghost use Rattle.fr_core.specs.Replies.{IsReplyToTurn, IsReplyToLook};
 ghost use Rattle.fr_core.specs.Targets.{IsTurnable, IsLookable};
-ghost use Rattle.fr_round.specs.Knowledge.{IsOwn, IsOpenable, IsWhyNotOpened, KeepsWorker, LearnsPast, LearnsReply, Refuses};
+ghost use Rattle.fr_round.specs.Knowledge.{IsOwn, IsOpenable, IsWhyNotOpened};
+ghost use Rattle.fr_round.specs.Knowledge.{KeepsWorker, LearnsPast, LearnsReply, Refuses};
 ghost use Rattle.fr_round.specs.Knowledge.{RefusesLook, new_workers, past_of};
 ghost use Rattle.fr_round.specs.Closing.{Closes};
 ghost use Rattle.fr_round.specs.Opening.{HasNotBegun};
@@ -135,7 +136,8 @@ impl Round {
     pub fn try_turn(&self, worker: &mut Worker, x: u32) -> Result<Reply, Refusal>
         requires { IsOwn self.now worker.old }
         ensures keeps { KeepsWorker worker.old worker.new }
-        ensures decided { IfOk result (λ _. IsTurnable self.now.setup.nodes self.now.setup.dest self.now.setup.links x) }
+        ensures decided { IfOk result
+            (λ _. IsTurnable self.now.setup.nodes self.now.setup.dest self.now.setup.links x) }
         ensures refused { IfErr result (λ refusal. Refuses self.now.setup x refusal × (worker.new ≡ worker.old)) }
         ensures kind { IfOk result IsReplyToTurn }
         ensures learns { IfOk result (λ reply. LearnsReply worker.old x reply worker.new) }

@@ -1,6 +1,7 @@
 //! The counts that a worker has seen.
 
-ghost use Rattle.std.specs.Prelude.{◌≡◌, ◌≢◌, ℕ, ◌<◌, ◌≤◌, IfOk, IsTrue, not, nat_lt, ◌&&◌, ◌↔◌, length, slice_index, slice_set, replicate};
+ghost use Rattle.std.specs.Prelude.{◌≡◌, ◌≢◌, ℕ, ◌<◌, ◌≤◌, IfOk, IsTrue, not, nat_lt};
+ghost use Rattle.std.specs.Prelude.{◌&&◌, ◌↔◌, length, slice_index, slice_set, replicate};
 ghost use Rattle.fr_graph.specs.RowLists.{opposite};
 ghost use Rattle.fr_core.specs.Machine.{bound_of};
 ghost use Rattle.fr_round.specs.Missing.{misses, missing_of, IsCounted};
@@ -37,7 +38,8 @@ fn is_below(first: First, own: u16, count: u16) -> bool
 /// `first` is the first direction of their link seen from the node. It does exactly if the neighbour begins to miss its
 /// own bound.
 fn begins_to_meet(first: First, other: u16, had: u16, count: u16) -> bool
-    ensures { result ≡ (nat_lt had (bound_of (opposite first) other) && not (nat_lt count (bound_of (opposite first) other))) }
+    ensures { result ≡ (nat_lt had (bound_of (opposite first) other)
+        && not (nat_lt count (bound_of (opposite first) other))) }
 {
     is_below(first, count, other) && !is_below(first, had, other)
 }
@@ -65,7 +67,8 @@ fn pass_row(net: &Net, counts: &[u16], missing: &mut [u16], y: u32, count: u16) 
     requires node { y < net.now.nodes }
     requires one_each { (length counts.now ≡ net.now.nodes) × (length missing.old ≡ net.now.nodes) }
     requires up { slice_index counts.now y ≤ count }
-    requires right { (z : ℕ) → z < net.now.nodes → slice_index missing.old z ≡ missing_of net.now.nodes net.now.links counts.now z }
+    requires right { (z : ℕ) → z < net.now.nodes
+        → slice_index missing.old z ≡ missing_of net.now.nodes net.now.links counts.now z }
     ensures others { (z : ℕ) → z < net.now.nodes → z ≢ y
         → slice_index missing.new z ≡ missing_of net.now.nodes net.now.links (slice_set counts.now y count) z }
     ensures own { result ≡ missing_of net.now.nodes net.now.links (slice_set counts.now y count) y }

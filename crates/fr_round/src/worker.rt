@@ -53,7 +53,8 @@ impl Worker {
     /// A worker before its first call.
     pub(crate) fn new(seat: RoundSeat, number: u32, seen: Seen) -> Worker
         requires view { (seat.me.1 ≡ []) × IsNewView seat.me.0 number }
-        requires seen { (seat.me.0.seen ≡ seen.counts.items) × IsCounted seat.me.0.setup.nodes seat.me.0.setup.links seen }
+        requires seen { (seat.me.0.seen ≡ seen.counts.items)
+            × IsCounted seat.me.0.setup.nodes seat.me.0.setup.links seen }
         ensures { result ≡ new_worker seat.table_id seat.me.0.setup number }
     {
         Worker {

@@ -1,6 +1,7 @@
 //! The laws of push orders. Each clause is a law of `specs/Laws.antt`, proved. The functions do nothing.
 
-ghost use Rattle.fr_tables.specs.Laws.{StartsAsOld, PushIsOneMore, NoLoopIsNew, NeverLoops, PushedIsRight, ComesTwiceAtMost};
+ghost use Rattle.fr_tables.specs.Laws.{StartsAsOld, PushIsOneMore, NoLoopIsNew};
+ghost use Rattle.fr_tables.specs.Laws.{NeverLoops, PushedIsRight, ComesTwiceAtMost};
 ghost use Rattle.fr_tables.specs.Laws.{BeginningIsClosed, WavesAreClosed, EndsAsNew, OrderExists, OrderIsUnique};
 
 /// If the new table has no loop and the pushed nodes are closed downstream, pushes add no loop, in whatever order they

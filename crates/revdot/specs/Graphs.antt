@@ -15,7 +15,8 @@ opening = codes "digraph network {\n    graph [ nodesep = 0.4 ranksep = 0.4 font
 
 -- the line below the graph of a turn
 abbrev pub title_text : Option Title → List ℕ
-title_text (Some t) = codes "    label = <turn " ++ (decimal t.turn ++ (codes ": node " ++ (decimal t.node ++ codes ">\n")))
+title_text (Some t) = codes "    label = <turn "
+    ++ (decimal t.turn ++ (codes ": node " ++ (decimal t.node ++ codes ">\n")))
 title_text None = []
 
 -- the attributes of one node
@@ -35,7 +36,9 @@ label_text x count = decimal x ++ (small ++ (decimal count ++ codes "</font>"))
 
 -- a node
 abbrev pub node_line : DrawnNode → List ℕ
-node_line m = codes "    " ++ (decimal m.node ++ (codes " [ label = <" ++ (label_text m.node m.count ++ (codes ">" ++ (node_look_text m.look ++ codes " ]\n")))))
+node_line m = codes "    "
+    ++ (decimal m.node ++
+    (codes " [ label = <" ++ (label_text m.node m.count ++ (codes ">" ++ (node_look_text m.look ++ codes " ]\n")))))
 
 -- the destination is laid out below all other nodes
 abbrev pub lowest_line : ℕ → List ℕ
@@ -56,9 +59,12 @@ back_text false = []
 -- a link from its upper end to its lower end
 abbrev pub link_line : DrawnLink → List ℕ
 link_line m =
-    codes "    " ++ (decimal m.tail ++ (codes " -> " ++ (decimal m.head ++ (codes " [" ++ (back_text m.back ++ (link_look_text m.look ++ codes " ]\n"))))))
+    codes "    " ++ (decimal m.tail
+    ++ (codes " -> " ++ (decimal m.head
+    ++ (codes " [" ++ (back_text m.back ++ (link_look_text m.look ++ codes " ]\n"))))))
 
 -- a graph with this destination, these nodes and these links
 abbrev pub graph_text : Option Title → ℕ → List DrawnNode → List DrawnLink → List ℕ
 graph_text title d nodes links =
-    opening ++ (title_text title ++ (flat_map node_line nodes ++ (lowest_line d ++ (flat_map link_line links ++ codes "}\n"))))
+    opening ++ (title_text title
+    ++ (flat_map node_line nodes ++ (lowest_line d ++ (flat_map link_line links ++ codes "}\n"))))

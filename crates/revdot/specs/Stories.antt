@@ -1,6 +1,7 @@
 -- The story of an input: the answer to each line, and each round turn by turn, with the nodes that get new hops. This
 -- project's own.
-use Rattle.std.specs.Prelude.{◌≡◌, ℕ, ◌+◌, nat_le, ◌⊎◌, ◌&&◌, Bool, true, false, List, [], ◌∷◌, ◌++◌, Option, Some, None, Result, Ok, Err, MatchBool, codes, decimal, sum}
+use Rattle.std.specs.Prelude.{◌≡◌, ℕ, ◌+◌, nat_le, ◌⊎◌, ◌&&◌, Bool, true, false, List, [], ◌∷◌, ◌++◌}
+use Rattle.std.specs.Prelude.{Option, Some, None, Result, Ok, Err, MatchBool, codes, decimal, sum}
 use Rattle.fr_lines.specs.Requests.{PlainRequest, walk_from, ask, reading}
 use Rattle.fr_lines.specs.declared.requests.LineFault.{LineFault}
 use Rattle.fr_lines.specs.declared.requests.Question.{Question}
@@ -94,7 +95,8 @@ abbrev pub answer_text : ℕ → List ℕ → List ℕ
 answer_text number answer = codes "line " ++ (decimal number ++ (codes "\n" ++ (answer ++ codes "\n")))
 
 -- the story of a line that is not blank: its answer, what it asks, and its round if it began one
-pub record IsAnsweredBlock (s : Option State) (number : ℕ) (asked : Result PlainRequest LineFault) (block : List ℕ) (next : Option State) : Type 0 where
+pub record IsAnsweredBlock (s : Option State) (number : ℕ) (asked : Result PlainRequest LineFault) (block : List ℕ)
+    (next : Option State) : Type 0 where
   pub answer : List ℕ
   pub is_answer : IsLineAnswer s asked answer next
   pub rerouted : List ℕ
@@ -107,7 +109,8 @@ pub record IsAnsweredBlock (s : Option State) (number : ℕ) (asked : Result Pla
 
 -- the story of a line, and the state after it: nothing for a blank line
 abbrev pub IsBlock : Option State → ℕ → List ℕ → List ℕ → Option State → Type 0
-IsBlock s number line block next = MatchBool (is_blank line) ((block ≡ []) × (next ≡ s)) (IsAnsweredBlock s number (reading line) block next)
+IsBlock s number line block next = MatchBool (is_blank line) ((block ≡ [])
+    × (next ≡ s)) (IsAnsweredBlock s number (reading line) block next)
 
 -- the story of lines, the first of which has this number
 abbrev pub AreBlocks : Option State → ℕ → List (List ℕ) → List ℕ → Type 0

@@ -1,5 +1,6 @@
 -- The turns of the last round, with a graph for each. This project's own.
-use Rattle.std.specs.Prelude.{◌≡◌, ℕ, ◌+◌, ◌<◌, ◌≤◌, ◌==◌, ◌⊎◌, if◌then◌else◌, not, List, [], ◌∷◌, ◌++◌, Some, length, map, replicate, slice_index}
+use Rattle.std.specs.Prelude.{◌≡◌, ℕ, ◌+◌, ◌<◌, ◌≤◌, ◌==◌, ◌⊎◌, if◌then◌else◌, not, List}
+use Rattle.std.specs.Prelude.{[], ◌∷◌, ◌++◌, Some, length, map, replicate, slice_index}
 use Rattle.std.specs.List.{range_with_len, zip}
 use Rattle.fr_graph.specs.Links.{HaveSameLinks, IsNet}
 use Rattle.fr_core.specs.History.{Moment, after_reply, count_at}
@@ -72,7 +73,8 @@ turn_link x p = record {
 -- the graph of turn k, in which x turns
 abbrev pub turn_text : State → Moment → ℕ → ℕ → List ℕ
 turn_text s m k x =
-    graph_text (Some (record { turn = k; node = x })) s.dest (map (turn_node s.dest m.counts x) (range_with_len 0 s.nodes)) (map (turn_link x) (zip s.links m.links))
+    graph_text (Some (record { turn = k; node = x })) s.dest
+    (map (turn_node s.dest m.counts x) (range_with_len 0 s.nodes)) (map (turn_link x) (zip s.links m.links))
 
 -- a graph for each of these turns, numbered from k
 abbrev pub turns_text : State → Moment → ℕ → List ℕ → List ℕ
@@ -81,7 +83,8 @@ turns_text s m k (x ∷ xs) = turn_text s m k x ++ turns_text s (after_turn m x)
 
 -- the replay begins with the first links of any round that led to the state
 abbrev pub BeginsTheRound : State → Type 0
-BeginsTheRound s = (first : List (ℕ × ℕ)) → IsNet s.nodes first → s.dest < s.nodes → IsRound s.nodes s.dest first s → HaveSameLinks (beginning s).links first
+BeginsTheRound s = (first : List (ℕ × ℕ)) → IsNet s.nodes first → s.dest < s.nodes → IsRound s.nodes s.dest first s
+    → HaveSameLinks (beginning s).links first
 
 -- the graphs of the turns of the last round, and then the graph of the state
 pub record IsStripOf (s : State) (out : List ℕ) : Type 0 where

@@ -30,7 +30,8 @@ pub record WritesBeginning (IsText : List ℕ → List ℕ → Type 0) (before a
 
 -- Why the text is not written. If a write failed, a beginning of the text was written, otherwise nothing. No thread is
 -- started.
-abbrev pub IsTextFault : (IsText : List ℕ → List ℕ → Type 0) (before after old new : Option (List ℕ)) → RunFault → Type 0
+abbrev pub IsTextFault : (IsText : List ℕ → List ℕ → Type 0) (before after old new : Option (List ℕ)) → RunFault
+    → Type 0
 IsTextFault IsText before after old new Read = Keeps old new
 IsTextFault IsText before after old new Write = WritesBeginning IsText before after old new
 IsTextFault IsText before after old new TooLong = Keeps old new × ReadsOneTooMany before after

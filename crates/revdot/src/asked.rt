@@ -41,14 +41,17 @@ fn push_network(
     dest: u32,
     links: &[(u32, u32)],
 ) -> Result<(), AllocError>
-    ensures { OnOk result (string_bytes story.new ≡ string_bytes story.old ++ (pair_text (codes "net") nodes dest ++ spaced_links links.now)) }
+    ensures { OnOk result
+        (string_bytes story.new
+        ≡ string_bytes story.old ++ (pair_text (codes "net") nodes dest ++ spaced_links links.now)) }
 {
     push_pair(story, "net", nodes, dest)?;
     push_links(story, links)
 }
 
 fn push_batch(story: &mut String, edits: &[Edit]) -> Result<(), AllocError>
-    ensures { OnOk result (string_bytes story.new ≡ string_bytes story.old ++ (codes "batch" ++ spaced_edits edits.now)) }
+    ensures { OnOk result
+        (string_bytes story.new ≡ string_bytes story.old ++ (codes "batch" ++ spaced_edits edits.now)) }
 {
     story.push_str("batch")?;
     push_edits(story, edits)
@@ -86,7 +89,8 @@ fn push_pair(story: &mut String, word: &str, u: u32, v: u32) -> Result<(), Alloc
 
 /// Appends a word and a number.
 fn push_single(story: &mut String, word: &str, number: u32) -> Result<(), AllocError>
-    ensures { OnOk result (string_bytes story.new ≡ string_bytes story.old ++ (word.now ++ (codes " " ++ decimal number))) }
+    ensures { OnOk result
+        (string_bytes story.new ≡ string_bytes story.old ++ (word.now ++ (codes " " ++ decimal number))) }
 {
     story.push_str(word)?;
     push_number(story, number)

@@ -2,7 +2,8 @@
 
 ghost use Rattle.std.specs.Prelude.{◌≡◌, ◌++◌, OnOk, string_bytes};
 ghost use Rattle.std.specs.List.{flat_map};
-ghost use Rattle.revdot.specs.Graphs.{opening, node_look_text, node_line, label_text, small, lowest_line, link_look_text, back_text, link_line, title_text, graph_text};
+ghost use Rattle.revdot.specs.Graphs.{opening, node_look_text, node_line, label_text, small, lowest_line};
+ghost use Rattle.revdot.specs.Graphs.{link_look_text, back_text, link_line, title_text, graph_text};
 
 use std::alloc::AllocError;
 use std::fmt::Write;

@@ -24,10 +24,12 @@ pub fn page<R: Read, W: Write>(
     first_part: &str,
     last_part: &str,
 ) -> Result<(), RunFault>
-    ensures ok { OnOk result (WritesText (IsPage first_part.now last_part.now) (R.remaining reader.old) (R.remaining reader.new)
+    ensures ok { OnOk result
+        (WritesText (IsPage first_part.now last_part.now) (R.remaining reader.old) (R.remaining reader.new)
         (W.contents writer.old) (W.contents writer.new)) }
     ensures limit { ReadsAtMostOneTooMany (R.remaining reader.old) (R.remaining reader.new) }
-    ensures fault { IfErr result (IsTextFault (IsPage first_part.now last_part.now) (R.remaining reader.old) (R.remaining reader.new)
+    ensures fault { IfErr result
+        (IsTextFault (IsPage first_part.now last_part.now) (R.remaining reader.old) (R.remaining reader.new)
         (W.contents writer.old) (W.contents writer.new)) }
 {
     let input = read_input(alloc, reader)?;

@@ -4,7 +4,8 @@ ghost use Rattle.std.specs.Prelude.{◌≡◌, ◌++◌, ℕ, List, true, IfOk, 
 ghost use Rattle.revdot.specs.Replays.{IsReplay, moment_of};
 ghost use Rattle.revdot.specs.Strips.{AreAllTurns, beginning};
 ghost use Rattle.fr_route.specs.Texts.{spaced, spaced_links};
-ghost use Rattle.revdot.specs.Stories.{IsRoundStory, AreSettledLines, IsAnswerLine, beginning_text, first_text, is_short, most_told_turns, net_text, nodes_line};
+ghost use Rattle.revdot.specs.Stories.{IsRoundStory, AreSettledLines, IsAnswerLine, beginning_text};
+ghost use Rattle.revdot.specs.Stories.{first_text, is_short, most_told_turns, net_text, nodes_line};
 
 use crate::turns::Replay;
 use fr_lines::Question;
@@ -56,7 +57,8 @@ fn is_short_round(router: &Router) -> bool
 
 /// Appends the links before a round, and the turns of the round.
 fn push_beginning(story: &mut String, alloc: Global, router: &Router) -> Result<(), AllocError>
-    ensures { OnOk result ((turns : List ℕ) × AreAllTurns most_told_turns router.now.nodes router.now.dest (beginning router.now) turns
+    ensures { OnOk result ((turns : List ℕ)
+        × AreAllTurns most_told_turns router.now.nodes router.now.dest (beginning router.now) turns
         × (string_bytes story.new ≡ string_bytes story.old ++ beginning_text router.now turns)) }
 {
     let replay = Replay::begin(alloc, router)?;
@@ -84,7 +86,9 @@ pub fn push_links(story: &mut String, links: &[(u32, u32)]) -> Result<(), AllocE
 }
 
 fn push_link(story: &mut String, link: (u32, u32)) -> Result<(), AllocError>
-    ensures { OnOk result (string_bytes story.new ≡ string_bytes story.old ++ (codes " " ++ (decimal link.0 ++ (codes ">" ++ decimal link.1)))) }
+    ensures { OnOk result
+        (string_bytes story.new
+        ≡ string_bytes story.old ++ (codes " " ++ (decimal link.0 ++ (codes ">" ++ decimal link.1)))) }
 {
     write!(story, " {}>{}", link.0, link.1)
 }
@@ -111,7 +115,8 @@ fn push_nodes(story: &mut String, nodes: &[u32]) -> Result<(), AllocError>
 fn turns_of(alloc: Global, router: &Router, mut replay: Replay) -> Result<Vec<u32>, AllocError>
     requires replay { IsReplay router.now replay }
     requires first { moment_of replay ≡ beginning router.now }
-    ensures { IfOk result (λ turns. AreAllTurns most_told_turns router.now.nodes router.now.dest (beginning router.now) turns.items) }
+    ensures { IfOk result
+        (λ turns. AreAllTurns most_told_turns router.now.nodes router.now.dest (beginning router.now) turns.items) }
 {
     let mut turns = Vec::new(alloc);
     for turn in 0..MOST_TURNS {

@@ -11,7 +11,8 @@ use std::alloc::{AllocError, Global};
 
 /// Appends the graph of a settled network.
 pub fn push_settled(text: &mut String, alloc: Global, router: &Router) -> Result<(), AllocError>
-    ensures { OnOk result ((graph : List ℕ) × IsGraphOf router.now graph × (string_bytes text.new ≡ string_bytes text.old ++ graph)) }
+    ensures { OnOk result ((graph : List ℕ) × IsGraphOf router.now graph
+        × (string_bytes text.new ≡ string_bytes text.old ++ graph)) }
 {
     let hops = hops_of(alloc, router)?;
     let nodes = settled_nodes(alloc, router, &hops)?;
@@ -33,7 +34,8 @@ fn hops_of(alloc: Global, router: &Router) -> Result<Vec<Hop>, AllocError>
 /// The nodes, in order.
 fn settled_nodes(alloc: Global, router: &Router, hops: &[Hop]) -> Result<Vec<DrawnNode>, AllocError>
     requires { length hops.now ≡ router.now.nodes }
-    ensures { IfOk result (λ nodes. nodes.items ≡ map (settled_node router.now.counts hops.now) (range_with_len 0 router.now.nodes)) }
+    ensures { IfOk result
+        (λ nodes. nodes.items ≡ map (settled_node router.now.counts hops.now) (range_with_len 0 router.now.nodes)) }
 {
     let counts = router.counts();
     let mut nodes = Vec::new(alloc);

@@ -17,7 +17,8 @@ use std::fmt::Write;
 
 /// Appends the story of an input. It starts no thread.
 pub fn push_story(story: &mut String, alloc: Global, input: &[u8]) -> Result<(), AllocError>
-    ensures { OnOk result ((told : List ℕ) × IsStory input.now told × (string_bytes story.new ≡ string_bytes story.old ++ told)) }
+    ensures { OnOk result ((told : List ℕ) × IsStory input.now told
+        × (string_bytes story.new ≡ string_bytes story.old ++ told)) }
 {
     let mut session = Session::new();
     let mut number = 0u64;
@@ -66,7 +67,8 @@ fn push_answered(
     number: u64,
     request: &Request,
 ) -> Result<(), AllocError>
-    ensures { OnOk result ((block : List ℕ) × IsAnsweredBlock session.old number (Ok (plain request.now)) block session.new
+    ensures { OnOk result ((block : List ℕ)
+        × IsAnsweredBlock session.old number (Ok (plain request.now)) block session.new
         × (string_bytes story.new ≡ string_bytes story.old ++ block)) }
 {
     let mut rerouted = Vec::new(alloc);

@@ -3,7 +3,8 @@
 ghost use Rattle.std.specs.Prelude.{◌≡◌, ◌++◌, ◌<◌, ◌≤◌, ℕ, List, length, map, IfOk, OnOk, string_bytes};
 ghost use Rattle.std.specs.List.{range_with_len, zip};
 ghost use Rattle.revdot.specs.Replays.{IsReplay, moment_of};
-ghost use Rattle.revdot.specs.Strips.{IsStripOf, AreAllTurns, most_turns, beginning, turn_look, turn_node as turn_node_of, turn_link, turn_text, turns_text};
+ghost use Rattle.revdot.specs.Strips.{IsStripOf, AreAllTurns, most_turns, beginning, turn_look};
+ghost use Rattle.revdot.specs.Strips.{turn_node as turn_node_of, turn_link, turn_text, turns_text};
 
 use crate::graphs::{DrawnLink, DrawnNode, LinkLook, NodeLook, Title, push_graph};
 use crate::settled::push_settled;
@@ -16,7 +17,8 @@ const MAX_TURNS: u32 = 1_000;
 
 /// Appends a graph for each turn of the last round, and then one of the settled network.
 pub fn push_strip(text: &mut String, alloc: Global, router: &Router) -> Result<(), AllocError>
-    ensures { OnOk result ((strip : List ℕ) × IsStripOf router.now strip × (string_bytes text.new ≡ string_bytes text.old ++ strip)) }
+    ensures { OnOk result ((strip : List ℕ) × IsStripOf router.now strip
+        × (string_bytes text.new ≡ string_bytes text.old ++ strip)) }
 {
     push_turns(text, alloc, router)?;
     push_settled(text, alloc, router)
@@ -24,7 +26,8 @@ pub fn push_strip(text: &mut String, alloc: Global, router: &Router) -> Result<(
 
 /// Appends a graph for each turn of the last round.
 fn push_turns(text: &mut String, alloc: Global, router: &Router) -> Result<(), AllocError>
-    ensures { OnOk result ((turns : List ℕ) × AreAllTurns most_turns router.now.nodes router.now.dest (beginning router.now) turns
+    ensures { OnOk result ((turns : List ℕ)
+        × AreAllTurns most_turns router.now.nodes router.now.dest (beginning router.now) turns
         × (string_bytes text.new ≡ string_bytes text.old ++ turns_text router.now (beginning router.now) 1 turns)) }
 {
     let mut replay = Replay::begin(alloc, router)?;
@@ -51,7 +54,9 @@ fn push_turn(
     title: Title,
 ) -> Result<(), AllocError>
     requires { IsReplay router.now replay.now }
-    ensures { OnOk result (string_bytes text.new ≡ string_bytes text.old ++ turn_text router.now (moment_of replay.now) title.turn title.node) }
+    ensures { OnOk result
+        (string_bytes text.new
+        ≡ string_bytes text.old ++ turn_text router.now (moment_of replay.now) title.turn title.node) }
 {
     let x = title.node;
     let nodes = turn_nodes(

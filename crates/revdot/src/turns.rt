@@ -46,7 +46,8 @@ impl Replay {
     pub fn next_to_turn(&self, alloc: Global, router: &Router) -> Result<Option<u32>, AllocError>
         requires { IsReplay router.now self.now }
         ensures next { IfOk result (λ next. MatchOption next
-            (NoneCanTurn router.now.nodes router.now.dest (moment_of self.now)) (IsNext router.now.nodes router.now.dest (moment_of self.now))) }
+            (NoneCanTurn router.now.nodes router.now.dest (moment_of self.now))
+            (IsNext router.now.nodes router.now.dest (moment_of self.now))) }
         ensures node { IfOk result (λ next. IfSome next (λ x. x < router.now.nodes)) }
         ensures few { IfOk result (λ next. IfSome next (λ x. slice_index self.now.counts.items x < 2 ^ 32)) }
     {

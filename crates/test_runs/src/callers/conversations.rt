@@ -18,7 +18,8 @@ pub fn take_line<T: Threads + Wait + Sync>(
     conversation: &mut Conversation,
     come: &[u8],
 ) -> Result<Taken, RunFault>
-    ensures { IfOk result (λ taken. Takes conversation.old (take taken.count come.now) (text_of taken.answer) conversation.new) }
+    ensures { IfOk result
+        (λ taken. Takes conversation.old (take taken.count come.now) (text_of taken.answer) conversation.new) }
 {
     let plan = Plan::new(1, 0, 0).unwrap();
     conversation.take(rt, alloc, come, &plan, &OpenGate)
