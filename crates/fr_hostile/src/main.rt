@@ -4,7 +4,6 @@
 //! checks/hostile/check refuses each one in turn. The state after a failed call is checked as well.
 #![tactic(auto)]
 
-mod callers;
 mod calls;
 mod sessions;
 mod telling;

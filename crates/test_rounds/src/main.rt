@@ -6,7 +6,6 @@
 
 mod answers;
 mod asked;
-mod callers;
 mod counts;
 mod crews;
 mod drawn;

@@ -11,7 +11,6 @@
 #![tactic(auto)]
 
 mod answers;
-mod callers;
 mod cases;
 mod changes;
 mod gates;
