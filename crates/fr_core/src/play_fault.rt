@@ -11,11 +11,11 @@ use thiserror::Error;
 #[derive(Debug, Drop, Error, PartialEq, Eq)]
 pub enum PlayFault {
     /// The destination is not a node, or a number of the schedule is not a worker.
-    #[error("the destination is no node, or a number of the schedule is no worker")]
+    #[error("the destination is not a node, or a number of the schedule is not a worker")]
     Range,
     /// The first target, by worker and then by place in the worker's list, that is not a node, has no link, or is a
     /// turn of the destination.
-    #[error("target {at} of worker {worker} is no node or has no link, or is a turn of the destination")]
+    #[error("target {at} of worker {worker} is not a node, has no link, or is a turn of the destination")]
     BadTarget { worker: usize, at: usize },
     /// An allocation was refused.
     #[error("no memory")]

@@ -10,7 +10,7 @@ use thiserror::Error;
 #[derive(Clone, Copy, Debug, Drop, Error, PartialEq, Eq)]
 pub enum CrewFault {
     /// The destination is not a node of the network. This is tested first.
-    #[error("the destination is no node")]
+    #[error("the destination is not a node")]
     Range,
     /// A thread could not be started. The threads that were started have ended.
     #[error("a thread could not be started")]

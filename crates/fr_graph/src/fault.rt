@@ -18,7 +18,7 @@ pub enum NetFault {
     #[error("node {0} is out of range")]
     Range(u32),
     /// A node with a link to itself.
-    #[error("a link joins node {0} with itself")]
+    #[error("a link connects node {0} with itself")]
     SelfLink(u32),
     /// Two nodes that more than one link joins, in either direction.
     #[error(fmt = tell_twice)]
@@ -27,7 +27,7 @@ pub enum NetFault {
     #[error(fmt = tell_cycle)]
     Cycle(Vec<u32>),
     /// No link joins the two nodes. Only a cut fails with this, and a cut fails with no other fault but `Memory`.
-    #[error("no link joins the two nodes")]
+    #[error("no link connects the two nodes")]
     NoLink,
     /// An allocation was refused.
     #[error("no memory")]
@@ -36,13 +36,13 @@ pub enum NetFault {
 
 /// Writes which two nodes more than one link joins.
 fn tell_twice<W: fmt::Write>(u: &u32, v: &u32, f: &mut fmt::Formatter<W>) -> fmt::Result {
-    write!(f, "more than one link joins nodes {u} and {v}")
+    write!(f, "more than one link connects nodes {u} and {v}")
 }
 
 /// Writes how long a cycle is.
 fn tell_cycle<W: fmt::Write>(nodes: &Vec<u32>, f: &mut fmt::Formatter<W>) -> fmt::Result {
     let steps = nodes.len().saturating_sub(1);
-    write!(f, "the links close a walk of {steps} steps")
+    write!(f, "the links contain a cycle of {steps} links")
 }
 
 /// The first edit of a batch that is refused, and why. If the fault is `Memory`, `at` has no meaning.

@@ -76,10 +76,10 @@ pub enum Question {
 pub enum LineFault {
     /// The line is not one JSON value: it is not UTF-8 or not JSON, it has no value or more than one, or it nests
     /// deeper than 127.
-    #[error("the line is no JSON")]
+    #[error("the line is not JSON")]
     NotJson,
     /// The line is a JSON value that is not a request.
-    #[error("the line is no request")]
+    #[error("the line is not a request")]
     NotRequest,
     /// An allocation was refused. This says nothing about the line.
     #[error("no memory")]

@@ -21,7 +21,7 @@ pub enum Refusal {
 #[derive(Debug, Drop, Clone, Copy, Error, PartialEq, Eq)]
 pub enum OpenWhy {
     /// The destination is not a node, or the number of workers is not 1 to `MAX_WORKERS`.
-    #[error("the destination is no node, or the number of workers is out of range")]
+    #[error("the destination is not a node, or the number of workers is out of range")]
     Range,
     /// An allocation was refused.
     #[error("no memory")]

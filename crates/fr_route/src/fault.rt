@@ -17,7 +17,7 @@ pub enum RouteFault {
     #[error("{0}")]
     Net(NetFault),
     /// The destination is not a node of the network.
-    #[error("the destination is no node")]
+    #[error("the destination is not a node")]
     Range,
     /// A thread could not be started. The threads that were started have ended.
     #[error("a thread could not be started")]

@@ -86,7 +86,7 @@ fn told(written: io::Result<()>) -> Result<(), RunFault> {
 fn refuse<R: Eprint>(rt: &R, word: Option<String>) {
     let _ = match word {
         Some(word) => eprintln!(rt; "revdot: unknown word '{word}', try 'revdot --help'"),
-        None => eprintln!(rt; "revdot: a word is no UTF-8, try 'revdot --help'"),
+        None => eprintln!(rt; "revdot: a word is not UTF-8, try 'revdot --help'"),
     };
 }
 

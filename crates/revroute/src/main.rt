@@ -50,7 +50,7 @@ fn words_of<R: Env + Alloc<A = Global>>(rt: &R) -> Result<Vec<String>, TaskFault
     match env::args(rt) {
         Ok(words) => words.collect(rt.alloc()).map_err(|_| TaskFault::Memory),
         Err(error) if error.kind() == ErrorKind::InvalidData => {
-            match String::from_str(rt.alloc(), "error: a word is no UTF-8") {
+            match String::from_str(rt.alloc(), "error: a word is not UTF-8") {
                 Ok(text) => Err(TaskFault::Usage { text, asked: false }),
                 Err(_) => Err(TaskFault::Memory),
             }
