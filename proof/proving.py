@@ -229,14 +229,17 @@ def link(made):
 
 
 def build(name, beside=None):
-    """Builds the crate into out, unless this was done since the last edit. `beside` is the file with the output of an
+    """Builds the crate into out, unless this was done from the sources as they are now. `beside` is the file with the output of an
     rt ci that is running."""
     progress, jobs = Progress(name), crates.jobs()
     to = crates.BUILT / (name if crates.is_program(name) else f"lib{name}.a")
     # The gate leaves a program, but not a static library, where it was proved.
     left = crates.CRATES / name / "out" / name
     edited = crates.newest([*crates.below(name), name])
-    if is_newer(to, edited):
+    stamp, sources = to.with_name(f"{to.name}.stamp"), crates.stamp(name)
+    if to.is_file() and stamp.is_file() and stamp.read_text() == sources:
+        # proof/run goes by times: this says that an edit was undone.
+        to.touch()
         return
     made = to.with_name(f"{to.name}.new")
     if is_newer(left, edited):
@@ -252,3 +255,4 @@ def build(name, beside=None):
         if crates.is_program(name):
             link(made)
     made.replace(to)
+    stamp.write_text(sources)
