@@ -64,8 +64,11 @@ all_but_first (t ∷ ts) = ts
 
 -- the step decides the call on x, which uses up its target and leaves the worker idle
 abbrev pub decides : List ℕ → List Target → ℕ → Reply → Outcome
-decides counts left x reply = record
-    { counts = counts; worker = record { left = all_but_first left; phase = Idle }; decided = Some (x, reply) }
+decides counts left x reply = record {
+  counts = counts;
+  worker = record { left = all_but_first left; phase = Idle };
+  decided = Some (x, reply);
+}
 
 -- the bound of a neighbour: the link points to a node with count c once the neighbour's count is at least the bound
 abbrev pub bound_of : First → ℕ → ℕ
@@ -135,8 +138,10 @@ outcome_of n first m k = outcome n first m.counts (worker_of m k).left (worker_o
 
 -- the machine after a step of worker k
 abbrev pub step : ℕ → List (ℕ × ℕ) → MachineState → ℕ → MachineState
-step n first m k = record
-    { counts = (outcome_of n first m k).counts; workers = slice_set m.workers k (outcome_of n first m k).worker }
+step n first m k = record {
+  counts = (outcome_of n first m k).counts;
+  workers = slice_set m.workers k (outcome_of n first m k).worker;
+}
 
 -- the entry of a call that worker k decided, if there is one
 abbrev pub entry_of : ℕ → Option (ℕ × Reply) → List Entry

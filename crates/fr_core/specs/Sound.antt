@@ -76,8 +76,12 @@ pub record CanStep (n : ℕ) (first : List (ℕ × ℕ)) (worker : WorkerState) 
 
 -- the value of a machine, from its fields
 abbrev pub view_of : ℕ → ℕ → List (ℕ × ℕ) → List ℕ → List WorkerState → MachineView
-view_of n d links counts workers = record
-    { nodes = n; dest = d; links = links; state = record { counts = counts; workers = workers } }
+view_of n d links counts workers = record {
+  nodes = n;
+  dest = d;
+  links = links;
+  state = record { counts = counts; workers = workers };
+}
 
 abbrev pub outcome_with : List ℕ → WorkerState → Option (ℕ × Reply) → Outcome
 outcome_with counts worker decided = record { counts = counts; worker = worker; decided = decided }

@@ -26,12 +26,19 @@ link_look (To y) head = if y == head then link.NextHop else link.Plain
 link_look CutOff head = link.CutOff
 
 abbrev pub settled_node : List ℕ → List Hop → ℕ → DrawnNode
-settled_node counts hops x = record
-    { node = x; count = slice_index counts x; look = node_look (slice_index_or hops x Here) }
+settled_node counts hops x = record {
+  node = x;
+  count = slice_index counts x;
+  look = node_look (slice_index_or hops x Here);
+}
 
 abbrev pub settled_link : List Hop → ℕ × ℕ → DrawnLink
-settled_link hops l = record
-    { tail = l.0; head = l.1; look = link_look (slice_index_or hops l.0 Here) l.1; back = false }
+settled_link hops l = record {
+  tail = l.0;
+  head = l.1;
+  look = link_look (slice_index_or hops l.0 Here) l.1;
+  back = false;
+}
 
 -- the graph of a state: each node with its settled count, and each link
 pub record IsGraphOf (s : State) (out : List ℕ) : Type 0 where
