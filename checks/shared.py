@@ -4,6 +4,7 @@ from pathlib import Path
 
 TOP = Path(__file__).resolve().parent.parent
 EXAMPLES = TOP / "examples"
+VERSION = (TOP / "VERSION").read_text().strip()
 
 # The output of the program `example` in each language.
 EXAMPLE_IN_C = "turned 6 cut 0\nwalk 3 2 1 0\nturned 12 cut 3\nwalk 3 cut\n"
