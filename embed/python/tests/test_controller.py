@@ -66,7 +66,7 @@ class TestController(unittest.TestCase):
                     controller.answered(*routers.arrive())
                 controller.update()
             self.assertEqual([routers.hops[it] for it in range(SIDE * SIDE)], [network.next_hop(it) for it in range(SIDE * SIDE)])
-            self.assertGreater(routers.pushed, 100)
+            self.assertGreater(routers.pushed, 50)
 
     def event(self, routers, controller, down):
         """A late push arrives, a link comes back, or one fails."""
