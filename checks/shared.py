@@ -1,5 +1,6 @@
 """What several checks share: inputs with known answers, the output of the example programs in embed/, and how a check says what it skips."""
 
+import json
 from pathlib import Path
 
 TOP = Path(__file__).resolve().parent.parent
@@ -22,6 +23,11 @@ def examples():
     return [(it, it.with_suffix(".answers")) for it in sorted(EXAMPLES.glob("*.jsonl"))]
 
 
+def json_answers(given):
+    """The file of the answers in JSON to an input in examples/."""
+    return given.with_suffix(".json-answers")
+
+
 def long_chain(nodes):
     """An input with a chain of this many nodes that points away from the destination, and each question; and the answers."""
     links = ",".join(f"[{x},{x + 1}]" for x in range(nodes - 1))
@@ -34,3 +40,16 @@ def long_chain(nodes):
         " ".join(["walk", *map(str, range(nodes - 1, -1, -1))]),
     ]
     return given.encode(), "".join(f"{it}\n" for it in wanted).encode()
+
+
+def long_chain_in_json(nodes):
+    """The answers in JSON to the input of a long chain."""
+    hops = ["here", *range(nodes - 1)]
+    wanted = [
+        {"turned": nodes * (nodes - 1) // 2, "cut_off": 0, "changed": [[x, hop] for x, hop in enumerate(hops)]},
+        {"links": [[x + 1, x] for x in range(nodes - 1)]},
+        {"counts": [*range(nodes)]},
+        {"hops": hops},
+        {"walk": [*range(nodes - 1, -1, -1)]},
+    ]
+    return "".join(f"{json.dumps(it, separators=(',', ':'))}\n" for it in wanted).encode()

@@ -14,6 +14,9 @@ CRATES = TOP / "crates"
 BUILT = TOP / "out"
 # The most memory that one job of a check needs, in bytes. The highest value measured was 2.3 GB.
 ROOM_OF_A_JOB = 2_500_000_000
+# The status if something cannot be proved or built.
+FAILED = 70
+NO_TOOLCHAIN = "There is no command rt. Rattle's toolchain proves and builds revroute: README.md says where to get it, and what to do without it."
 
 
 @cache
@@ -21,7 +24,8 @@ def kit():
     """The folder of the toolchain that the command rt belongs to. It is compared with the one that toolchain.txt names."""
     rt = shutil.which("rt")
     if not rt:
-        sys.exit("the toolchain is missing: there is no command rt")
+        print(NO_TOOLCHAIN, file=sys.stderr)
+        sys.exit(FAILED)
     if subprocess.run([TOP / "proof" / "toolchain"]).returncode:
         sys.exit(1)
     os.environ["TOOLCHAIN_IS_COMPARED"] = "yes"

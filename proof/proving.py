@@ -19,7 +19,6 @@ PROVED = crates.BUILT / "proved"
 WORDS = crates.BUILT / "axioms"
 # The folder where proved libraries are unpacked, outside of the clone. It is deleted when the command ends.
 ROOM = tempfile.TemporaryDirectory(prefix="revroute-proved-")
-FAILED = 70
 # Each job loads what it needs, so too many jobs cost more than they save. With four jobs, revroute with its 6
 # functions takes as long as with one, and 20 seconds more of one processor. With at most two jobs for large crates, a
 # first answer took three minutes longer.
@@ -102,7 +101,7 @@ class Progress:
             it.terminate()
         self.told(f"{crate} is not proved or not built")
         print(said, end="", file=sys.stderr)
-        sys.exit(FAILED)
+        sys.exit(crates.FAILED)
 
 
 def said_by(run, progress):
@@ -234,7 +233,7 @@ def link(made):
     linked = subprocess.run([kit / "bin" / "rattle-link", *words], stdout=subprocess.PIPE, stderr=subprocess.STDOUT, text=True, errors="replace")
     if linked.returncode:
         print(linked.stdout, end="", file=sys.stderr)
-        sys.exit(FAILED)
+        sys.exit(crates.FAILED)
     compiled.unlink()
 
 

@@ -1,11 +1,12 @@
-import subprocess
-from subprocess import PIPE
+import json
+from subprocess import PIPE, Popen
 
-with subprocess.Popen(["./revroute", "serve"], stdin=PIPE, stdout=PIPE, text=True, bufsize=1) as service:
+with Popen(["./revroute", "serve", "--json"], stdin=PIPE, stdout=PIPE, text=True, bufsize=1) as service:
 
-    def ask(line):
-        service.stdin.write(line + "\n")  # bufsize=1: each line goes out at once
-        return service.stdout.readline().removesuffix("\n")
+    def ask(*request):
+        print(json.dumps(request), file=service.stdin)  # bufsize=1: each line goes out at once
+        return json.loads(service.stdout.readline())
 
-    print(ask('["net",4,0,[[0,1],[1,2],[2,3]]]'))  # turned 6 cut 0
-    print(ask('["walk",3]'))  # walk 3 2 1 0
+    ask("net", 5, 0, [(1, 0), (2, 0), (3, 1), (3, 2), (4, 3)])
+    print(ask("cut", 1, 0)["changed"])  # [[3, 2], [1, 3]]
+    print(ask("add", 0, 4)["nodes"])  # [0, 4, 3, 2, 0]

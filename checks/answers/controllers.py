@@ -1,0 +1,80 @@
+"""Runs the controllers in examples/pipe over drawn changes, and follows the routers' tables after each push."""
+
+import re
+import shutil
+import subprocess
+import sys
+import tempfile
+from pathlib import Path
+
+import plain
+from drawn import CHANGES, Drawn
+
+PIPE = Path(__file__).resolve().parents[2] / "examples" / "pipe"
+# Seeds, the most nodes of a network, and the number of changes.
+STORIES = [(50, 4, 30), (51, 8, 40), (52, 12, 40), (53, 20, 30)]
+PUSH = re.compile(r"(\d+): (\w+) -> (\w+)")
+PATIENCE = 60
+
+
+def loop_in(table):
+    """The nodes of a loop in a table, or None."""
+    for x in table:
+        way = []
+        while x in table and x not in way:
+            way.append(x)
+            x = table[x]
+        if x in way:
+            return way[way.index(x) :]
+    return None
+
+
+def hop_of(text):
+    return int(text) if text.isdigit() else text
+
+
+def stop(name, why):
+    sys.exit(f"answers: WRONG: {name}: {why}")
+
+
+def follow(name, said, wanted):
+    """Makes the pushes that a controller has printed, one after another. They must be the wanted ones, and close no loop."""
+    table = {}
+    for at, line in enumerate(said.splitlines()):
+        push = PUSH.fullmatch(line)
+        if not push:
+            stop(name, f"no push: {line!r}")
+        router, old, new = int(push[1]), hop_of(push[2]), hop_of(push[3])
+        if table.get(router, plain.CUT) != old:
+            stop(name, f"push {at}, {line!r}: the router has {table.get(router)}")
+        table[router] = new
+        if loop := loop_in(table):
+            stop(name, f"push {at}, {line!r}: a loop {loop}")
+        if at >= len(wanted) or wanted[at] != [router, new]:
+            stop(name, f"push {at}, {line!r}, and not {wanted[at : at + 1]}")
+    return len(said.splitlines())
+
+
+def pushes_of(changes):
+    """What a controller has to push for these changes, by the plain program."""
+    session = plain.Session()
+    answers = [session.answer(it) for it in changes]
+    return [push for it in answers if it for push in it[1].get("changed", [])]
+
+
+def check(program):
+    """Checks each controller."""
+    names = ["controller.py", "controller.sh"]
+    if not shutil.which("jq"):
+        print("no jq: examples/pipe/controller.sh was left out")
+        names.remove("controller.sh")
+    with tempfile.TemporaryDirectory(prefix="answers-") as folder:
+        Path(folder, "revroute").symlink_to(program)
+        for seed, nodes, count in STORIES:
+            changes = Drawn(seed, nodes).draw(count, CHANGES)
+            wanted, given = pushes_of(changes), b"".join(b"%s\n" % it for it in changes)
+            for name in names:
+                ran = subprocess.run([PIPE / name], cwd=folder, input=given, capture_output=True, timeout=PATIENCE)
+                count = follow(name, ran.stdout.decode(), wanted)
+                if (count, ran.returncode, ran.stderr) != (len(wanted), 0, b""):
+                    stop(name, f"{count} pushes and not {len(wanted)}, status {ran.returncode}, {ran.stderr[-300:].decode()}")

@@ -1,0 +1,150 @@
+"""Drawn lines: requests that are answered, requests that are refused for each reason, and lines that are no requests."""
+
+import copy
+import json
+import random
+from contextlib import suppress
+
+import plain
+from plain import LARGEST, MOST_EDITS, MOST_LINKS, MOST_NODES, Refused
+
+BLANK = [b"", b" ", b"\t\r", b" \t \r"]
+NOT_JSON = [
+    b"[", b"]", b"links", b"['links']", b'["links"', b'["links"],', b'["links",]', b'["links"] ["links"]', b'["links"]]', b'["walk",01]', b'["walk",+1]',
+    b'["walk",.5]', b'["walk",1.]', b'["walk",-]', b'["walk",0x1]', b'["walk" 1]', b"NaN", b"[Infinity]", b"[-Infinity]", b"nul", b"True", b'{"a"}', b"{1:2}",
+    b"{'a':1}", b'["li\tnks"]', b'["\\x6c"]', b'["\\u12"]', b'["links\xff"]', b'["\xc0\xaf"]', b'["\xed\xa0\x80"]', b"\xef\xbb\xbf[]", b"\x00", b"\x0b[]",
+    b"// links", b"[/**/]", b"[" * 128 + b"]" * 128, b'{"a":' * 128 + b"1" + b"}" * 128, b"[" * 100_000, b"[" * 1000 + b"]" * 1000,
+]  # fmt: skip
+NOT_REQUESTS = [
+    b"[]", b"{}", b"0", b"null", b"true", b'"links"', b'["Links"]', b'["links "]', b'["links",0]', b'["counts",[]]', b'["hops",null]', b'[["links"]]',
+    b'{"links":[]}', b'["fly",1]', b'["fly"]', b"[1]", b'["walk"]', b'["walk",1,2]', b'["walk",[1]]', b'["walk",-0]', b'["walk",-1]', b'["walk",0.0]',
+    b'["walk",1e0]', b'["walk",1E+2]', b'["walk","0"]', b'["walk",true]', b'["walk",null]', b'["walk",4294967296]', b'["walk",18446744073709551616]',
+    b'["walk",' + b"9" * 300 + b"]", b'["dest"]', b'["dest",{}]', b'["cut",0]', b'["cut",0,1,2]', b'["cut",[0,1]]', b'["add",0,"1"]', b'["join",0.5,1]',
+    b'["net",1,0]', b'["net",1,0,[],0]', b'["net",1,[],0]', b'["net",2,0,[[1]]]', b'["net",2,0,[[1,0,0]]]', b'["net",2,0,[1,0]]', b'["net",2,0,{"0":[1,0]}]',
+    b'["net",2,0,[[1,0],[0,4294967296]]]', b'["net",-1,0,[]]', b'["net",1,"0",[]]', b'["batch"]', b'["batch",[],[]]', b'["batch",["cut",0,1]]',
+    b'["batch",[["dest",0]]]', b'["batch",[["links"]]]', b'["batch",[["cut",0]]]', b'["batch",[["batch",[]]]]', b'["batch",{}]', b"[" * 127 + b"]" * 127,
+    b'{"a":' * 127 + b"1" + b"}" * 127, b'["[[[[",' + b"[" * 126 + b"]" * 127,
+]  # fmt: skip
+QUESTIONS = (["links"], ["counts"], ["hops"])
+# A session begins with one of these, before there is a network.
+WITHOUT_NETWORK = (["cut", 0, 1], ["add", 0, 1], ["join", 0, 1], ["batch", []], ["dest", 0], ["walk", 0], *QUESTIONS)
+
+
+def full():
+    """Lines at the limits: as many links as there may be, one more, and one node more."""
+    heads = range(1, 129)
+    links = [[x, 0] for x in heads] + [[u, v] for u in range(129, 384) for v in heads]
+    assert len(links) == MOST_LINKS
+    yield from (["net", 400, 0, links], ["add", 390, 0], ["join", 0, 390], ["join", 5, 5], ["add", 4095, 4096], ["batch", [["cut", 383, 1], ["join", 0, 390]]])
+    yield from (["batch", [["join", 383, 1], ["add", 383, 1]]], ["walk", 383], ["walk", 390], ["net", 400, 0, [*links, [1, 1]]], ["dest", 400], ["counts"])
+    yield from (["net", MOST_NODES + 1, 0, []], ["net", LARGEST, LARGEST, [[0, 0]]], ["batch", [["cut", 0, 0]] * MOST_EDITS], ["batch", [["cut", 0, 0]] * (MOST_EDITS + 1)])
+
+
+# The methods of Drawn that draw a line, and how often each is taken.
+ALL_KINDS = {"edit": 6, "batch": 6, "question": 6, "walk": 3, "move": 2, "net": 2, "wild_net": 3, "no_request": 3}
+CHANGES = {"edit": 6, "batch": 3, "move": 1, "net": 1}
+
+
+class Drawn:
+    """A session that is drawn line by line. The plain program answers each line, since the next line depends on the network after it."""
+
+    def __init__(self, seed, most_nodes):
+        self.seed, self.most_nodes, self.by = seed, most_nodes, random.Random(seed)
+        self.session, self.lines = plain.Session(), []
+
+    def add(self, line):
+        self.lines.append(line)
+        self.session.answer(line)
+
+    def ask(self, request):
+        """Adds the line of a request, in one of the ways to write it."""
+        line = json.dumps(request, separators=self.by.choice([(",", ":"), (", ", ": "), (" ,\t", ":")]))
+        if self.by.random() < 0.1:
+            line = line.replace("e", "\\u0065").replace("[", "[ ")
+        self.add(self.by.choice(["", "", "", " ", "\t"]).encode() + line.encode() + self.by.choice([b"", b"", b"", b" ", b"\r"]))
+
+    def draw(self, count, kinds):
+        """Draws so many lines."""
+        self.ask(WITHOUT_NETWORK[self.seed % len(WITHOUT_NETWORK)])
+        for kind in self.by.choices([*kinds], [*kinds.values()], k=count):
+            has_none = self.session.network is None and self.by.random() < 0.8
+            getattr(self, "net" if has_none else kind)()
+        return self.lines
+
+    def no_request(self):
+        self.add(self.by.choice(self.by.choice([BLANK, NOT_JSON, NOT_REQUESTS, [self.torn()]])))
+
+    def torn(self):
+        """A line from before with a byte less or more."""
+        line = bytearray(self.by.choice([it for it in self.lines if len(it) < 1000] or [b"[]"]))
+        at = self.by.randrange(len(line) + 1)
+        if self.by.random() < 0.5:
+            del line[at : at + 1]
+        else:
+            line.insert(at, self.by.choice(b'[],"0 {}:-'))
+        return bytes(line)
+
+    def question(self):
+        self.ask(self.by.choice(QUESTIONS))
+
+    # The numbers of nodes below are sometimes one too high, for a node that does not exist
+
+    def size(self):
+        return self.session.network.size if self.session.network else 1
+
+    def node(self):
+        return self.by.randrange(self.size() + (self.by.random() < 0.1))
+
+    def walk(self):
+        self.ask(["walk", self.by.choice([self.node(), self.node(), self.node(), LARGEST])])
+
+    def move(self):
+        self.ask(["dest", self.node()])
+
+    def order(self, size):
+        """Links without a cycle."""
+        nodes = self.by.sample(range(size), size)
+        share = self.by.choice([0.5, 1, 1.5, 2, 4, size]) / size
+        links = [[nodes[at], nodes[to]] for at in range(size) for to in range(at) if self.by.random() < share]
+        self.by.shuffle(links)
+        return links
+
+    def net(self):
+        size = self.by.randint(1, self.most_nodes)
+        self.ask(["net", size, self.by.randrange(size), self.order(size)])
+
+    def wild_net(self):
+        """A network that is refused, mostly, and often for several faults."""
+        size = self.by.randint(0, 6)
+        links = [[self.by.randrange(size + 1), self.by.randrange(size + 1)] for _ in range(self.by.randint(0, 5))]
+        dest = self.by.randrange(size + 1)
+        if self.by.random() < 0.7:
+            size = self.by.randint(3, self.most_nodes)
+            links, dest = self.order(size), self.by.randrange(size + 1)
+            for _ in range(self.by.choice([0, 0, 1, 2])):
+                if links:
+                    u, v = self.by.choice(links)
+                    links.insert(self.by.randrange(len(links)), self.by.choice([[u, v], [v, u]]))
+            if self.by.random() < 0.7:
+                links = [link[:: self.by.choice([1, 1, -1])] for link in links]
+        self.ask(["net", size, dest, links])
+
+    def an_edit(self, network):
+        """An edit of a network: mostly one that is made."""
+        links = sorted(network.links) if network else []
+        u, v = self.by.choice(links)[:: self.by.choice([1, -1])] if links and self.by.random() < 0.5 else (self.node(), self.node())
+        is_there = network is not None and bool({(u, v), (v, u)} & network.links)
+        words = ["cut"] if is_there else ["add", "join"]
+        return [self.by.choice(words if self.by.random() < 0.9 else ["cut", "add", "join"]), u, v]
+
+    def edit(self):
+        self.ask(self.an_edit(self.session.network))
+
+    def batch(self):
+        network, edits = copy.copy(self.session.network), []
+        for _ in range(self.by.choice([0, 1, 2, 3, 5, 8])):
+            edits.append(self.an_edit(network))
+            with suppress(Refused):
+                if network:
+                    network.edit(*edits[-1])
+        self.ask(["batch", edits])

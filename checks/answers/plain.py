@@ -1,0 +1,329 @@
+#!/usr/bin/env python3
+"""Answers lines of requests, as docs/LINES.md and docs/RULES.md define the answers. It uses sets, lists and dictionaries only.
+
+usage: checks/answers/plain.py [--json] < INPUT
+
+It shares no code with revroute, so that checks can compare revroute's answers with these. It is slow: it turns one sink after another, and goes
+through all links for each turn.
+"""
+
+import copy
+import json
+import re
+import sys
+from collections import Counter
+from itertools import accumulate
+
+MOST_NODES, MOST_LINKS, MOST_EDITS, DEEPEST, LARGEST = 4096, 32768, 1024, 127, 4294967295
+FAULTS = {1: "not JSON", 2: "not a request", 3: "no network", 4: "no such node", 5: "self link", 6: "linked twice", 7: "cycle", 8: "no such link", 9: "too many"}
+HERE, CUT = "here", "cut"
+
+
+class Refused(Exception):
+    """A line is refused, with this number, for these nodes. If it is a batch, `place` has the number of its refused edit."""
+
+    def __init__(self, number, nodes=()):
+        self.number, self.nodes, self.place = number, [*nodes], {}
+
+
+# Reading a line
+
+
+def is_number(it):
+    return type(it) is int and 0 <= it <= LARGEST
+
+
+def whole(text):
+    """The number of a text without fraction and exponent; -1 if it has a sign, or is too large."""
+    return int(text) if text.isdigit() and len(text) <= 10 else -1
+
+
+def no_json(word):
+    """Python reads NaN and Infinity, but JSON has no such words."""
+    raise ValueError(word)
+
+
+def depth(text):
+    """How deep arrays and objects nest in a JSON text."""
+    outside_of_strings = re.sub(r'"(?:[^"\\]|\\.)*"', "", text)
+    return max(accumulate((it in "[{") - (it in "]}") for it in outside_of_strings), default=0)
+
+
+def is_edit(value):
+    match value:
+        case ["cut" | "add" | "join", u, v]:
+            return is_number(u) and is_number(v)
+    return False
+
+
+def is_link(value):
+    match value:
+        case [u, v]:
+            return is_number(u) and is_number(v)
+    return False
+
+
+def is_request(value):
+    match value:
+        case ["links"] | ["counts"] | ["hops"]:
+            return True
+        case ["walk" | "dest", x]:
+            return is_number(x)
+        case ["batch", [*edits]]:
+            return all(map(is_edit, edits))
+        case ["net", n, d, [*links]]:
+            return is_number(n) and is_number(d) and all(map(is_link, links))
+    return is_edit(value)
+
+
+def read(line):
+    """The request of a line."""
+    try:
+        text = line.decode("utf-8")
+        value = json.loads(text, parse_int=whole, parse_constant=no_json)
+    except (ValueError, RecursionError):
+        raise Refused(1) from None
+    if depth(text) > DEEPEST:
+        raise Refused(1)
+    if not is_request(value):
+        raise Refused(2)
+    return value
+
+
+# Networks
+
+
+class Network:
+    """Nodes, a destination, and links as they point now, each a pair of its tail and its head. `counts` has the turns of each node in the last round."""
+
+    def __init__(self, size, dest, links):
+        self.size, self.dest, self.links, self.counts = size, dest, {(u, v) for u, v in links}, {}
+        if size > MOST_NODES or len(links) > MOST_LINKS:
+            raise Refused(9)
+        if size == 0:
+            raise Refused(4, [0])
+        for x in (x for link in links for x in link):
+            self.test_node(x)
+        for u, v in links:
+            if u == v:
+                raise Refused(5, [u])
+        times = Counter(frozenset(link) for link in links)
+        if twice := sorted(sorted(pair) for pair in times if times[pair] > 1):
+            raise Refused(6, twice[0])
+        if leading := self.leading_into_cycles():
+            raise Refused(7, self.cycle_from(min(leading), leading))
+        self.test_node(dest)
+
+    def test_node(self, x):
+        if x >= self.size:
+            raise Refused(4, [x])
+
+    def leading_into_cycles(self):
+        """The nodes from which links lead into a cycle: those from which one can always go on."""
+        found, before = {u for u, _ in self.links}, None
+        while found != before:
+            found, before = {u for u, v in self.links if v in found}, found
+        return found
+
+    def leading_to(self, x):
+        """The nodes from which links lead to x, and x itself."""
+        found = {x}
+        while more := {u for u, v in self.links if v in found} - found:
+            found |= more
+        return found
+
+    def lowest_way(self, x, among):
+        """Begins at x, and always goes on to the lowest node, of these, that links point to."""
+        while True:
+            yield x
+            x = min(v for u, v in self.links if u == x and v in among)
+
+    def cycle_from(self, x, leading):
+        """The cycle into which the lowest way from x comes, from its first node that comes twice."""
+        way = []
+        for it in self.lowest_way(x, leading):
+            if it in way:
+                return [*way[way.index(it) :], it]
+            way.append(it)
+
+    def cycle_with(self, u, v):
+        """The cycle that a link from u to v closes, by the lowest way from v to u."""
+        way = [u]
+        for it in self.lowest_way(v, self.leading_to(u)):
+            way.append(it)
+            if it == u:
+                return way
+
+    def edit(self, word, u, v):
+        """Makes an edit. No node turns yet."""
+        either_way = {(u, v), (v, u)}
+        if word == "cut":
+            if not self.links & either_way:
+                raise Refused(8, [u, v])
+            self.links = self.links - either_way
+            return
+        if len(self.links) >= MOST_LINKS:
+            raise Refused(9)
+        self.test_node(u)
+        self.test_node(v)
+        if u == v:
+            raise Refused(5, [u])
+        if self.links & either_way:
+            raise Refused(6, [u, v])
+        if v not in self.leading_to(u):
+            self.links = self.links | {(u, v)}
+        elif word == "join":
+            self.links = self.links | {(v, u)}
+        else:
+            raise Refused(7, self.cycle_with(u, v))
+
+    def sinks(self):
+        """The sinks that may turn."""
+        tails, heads = {u for u, _ in self.links}, {v for _, v in self.links}
+        return [x for x in heads - tails - {self.dest} if self.counts[x] < self.size]
+
+    def turn(self, x):
+        self.links = {(v, u) if v == x else (u, v) for u, v in self.links}
+        self.counts[x] += 1
+
+    def settle(self):
+        """A round. No two sinks are neighbours, so each is still a sink when its turn comes."""
+        self.counts = dict.fromkeys(range(self.size), 0)
+        while sinks := self.sinks():
+            for x in sinks:
+                self.turn(x)
+
+    def joined(self):
+        """The nodes that links join with the destination, whichever way they point."""
+        found = {self.dest}
+        while more := {x for link in self.links if found & {*link} for x in link} - found:
+            found |= more
+        return found
+
+    def hops(self):
+        """The next hop of each node."""
+        joined, lowest = self.joined(), {}
+        for u, v in self.links:
+            lowest[u] = min(v, lowest.get(u, v))
+        return {x: HERE if x == self.dest else lowest[x] if x in joined else CUT for x in range(self.size)}
+
+
+# Tables of next hops. A number that is missing from a table is cut off
+
+
+def route(table, x):
+    """The route from x, with x first."""
+    way = [x]
+    while type(hop := table.get(way[-1], CUT)) is int:
+        way.append(hop)
+    return way
+
+
+def pushes(old, new):
+    """The numbers at which two tables differ, each with its new hop, by wave, and within a wave by number."""
+    differ = {x for x in {*old, *new} if old.get(x, CUT) != new.get(x, CUT)}
+    wave = {x: len(differ.intersection(route(new, x))) for x in differ}
+    return [[x, new.get(x, CUT)] for x in sorted(differ, key=lambda x: (wave[x], x))]
+
+
+# Answers
+
+
+class Session:
+    """Answers lines, one after another."""
+
+    def __init__(self):
+        self.network, self.table, self.number = None, {}, 0
+
+    def answer(self, line):
+        """The answer to the next line as a text and as a value for JSON, or None if the line is blank."""
+        self.number += 1
+        if not line.strip(b" \t\r"):
+            return None
+        try:
+            return self.reply(read(line))
+        except Refused as it:
+            value = {"refused": it.number, "fault": FAULTS[it.number], "nodes": it.nodes, **it.place, "line": self.number}
+            return f"refused {it.number}", value
+
+    def reply(self, request):
+        word, *items = request
+        if word == "net":
+            return self.round(Network(*items))
+        if not self.network:
+            raise Refused(3)
+        match request:
+            case ["links"]:
+                links = sorted(self.network.links)
+                return listed(word, (f"{u}>{v}" for u, v in links)), {word: [[u, v] for u, v in links]}
+            case ["counts"]:
+                counts = [self.network.counts[x] for x in range(self.network.size)]
+                return listed(word, counts), {word: counts}
+            case ["hops"]:
+                hops = [self.table[x] for x in range(self.network.size)]
+                return listed(word, hops), {word: hops}
+            case ["walk", x]:
+                self.network.test_node(x)
+                if self.table[x] == CUT:
+                    return f"walk {x} cut", {word: None}
+                way = route(self.table, x)
+                return listed(word, way), {word: way}
+        return self.round(changed(copy.copy(self.network), request))
+
+    def round(self, network):
+        """Settles a network, which is then the one of the session."""
+        network.settle()
+        hops = network.hops()
+        turned, cut_off, differ = sum(network.counts.values()), [*hops.values()].count(CUT), pushes(self.table, hops)
+        self.network, self.table = network, hops
+        return f"turned {turned} cut {cut_off}", {"turned": turned, "cut_off": cut_off, "changed": differ}
+
+
+def listed(word, items):
+    return " ".join([word, *map(str, items)])
+
+
+def changed(network, request):
+    """The network after a change, before its round."""
+    match request:
+        case ["dest", d]:
+            network.test_node(d)
+            network.dest = d
+        case ["batch", edits]:
+            make_all(network, edits)
+        case edit:
+            network.edit(*edit)
+    return network
+
+
+def make_all(network, edits):
+    at = MOST_EDITS
+    try:
+        if len(edits) > MOST_EDITS:
+            raise Refused(9)
+        for at, edit in enumerate(edits):
+            network.edit(*edit)
+    except Refused as it:
+        it.place = {"edit": at}
+        raise
+
+
+def in_json(value):
+    return json.dumps(value, separators=(",", ":"))
+
+
+def outputs(given):
+    """The output for an input, as text and in JSON."""
+    session = Session()
+    answers = [it for line in given.split(b"\n") if (it := session.answer(line))]
+    return "".join(f"{text}\n" for text, _ in answers).encode(), "".join(f"{in_json(value)}\n" for _, value in answers).encode()
+
+
+def main():
+    if sys.argv[1:] not in ([], ["--json"]):
+        sys.exit(__doc__)
+    sys.stdout.buffer.write(outputs(sys.stdin.buffer.read())[len(sys.argv) - 1])
+
+
+if __name__ == "__main__":
+    main()

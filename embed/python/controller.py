@@ -1,0 +1,56 @@
+"""A controller for routers that may not answer. It keeps a table of what they have confirmed, and pushes the difference to the
+next hops of the network, in an order in which no push makes a loop (docs/PUSHING.md)."""
+
+
+class Controller:
+    """The hops of routers, which are the nodes of a network.
+
+    `push(node, hop)` gives a router its hop. It returns True if the router has confirmed it, False if the router has certainly
+    kept its old one, and None if there is no answer. A hop is a node, or `NoHop.HERE` or `NoHop.CUT_OFF`, for which the router's
+    route is withdrawn.
+    """
+
+    def __init__(self, network, push):
+        self.network, self.push, self.table, self.unconfirmed = network, push, {}, set()
+        # the links in the network: another cut or join of one of them would be Refused
+        self.links = {frozenset(link) for link in network.links()}
+
+    def retire(self, u, v):
+        """A link is to be taken down, and still carries packets."""
+        if frozenset((u, v)) in self.links:
+            self.network.cut(u, v)
+            self.links.remove(frozenset((u, v)))
+
+    def down(self, u, v):
+        """A link has failed, and both routers have deleted their routes over it."""
+        for router, other in ((u, v), (v, u)):
+            if self.table.get(router) == other:
+                del self.table[router]
+        self.retire(u, v)
+
+    def up(self, u, v):
+        """A link has come back."""
+        if frozenset((u, v)) not in self.links:
+            self.network.join(u, v)
+            self.links.add(frozenset((u, v)))
+
+    def update(self, interrupted=lambda: False):
+        """Pushes the hops that the routers do not have yet, until an event waits (`interrupted`) or a router refuses."""
+        for node, hop in self.network.pushes(self.table):
+            if interrupted():
+                return
+            # its new route, and the node itself; a node that is cut off has no route
+            if not self.unconfirmed.isdisjoint(self.network.walk(node) or [node]):
+                continue
+            confirmed = self.push(node, hop)
+            if confirmed is None:  # the router may have its old hop or the new one
+                self.unconfirmed.add(node)
+            elif confirmed:
+                self.table[node] = hop
+            else:  # its link is down, and the event is not here yet
+                return
+
+    def answered(self, node, hop):
+        """An unconfirmed router has reported its hop, and no earlier push can still arrive."""
+        self.unconfirmed.discard(node)
+        self.table[node] = hop

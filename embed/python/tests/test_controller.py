@@ -1,0 +1,90 @@
+"""Tests the controller with routers that confirm a push, refuse it, or do not answer."""
+
+import random
+import sys
+import unittest
+from pathlib import Path
+
+from revroute import Network, NoHop
+
+sys.path.insert(0, str(Path(__file__).resolve().parent.parent))
+from controller import Controller  # noqa: E402
+
+SIDE = 5
+LINKS = [(x, y) for x in range(SIDE * SIDE) for y in (x - 1, x - SIDE) if y >= 0 and (y == x - SIDE or x % SIDE)]
+
+
+class Routers:
+    """Drawn routers: what each has, and the pushes that are on their way to it."""
+
+    def __init__(self, seed):
+        self.draw, self.hops, self.late, self.pushed = random.Random(seed), {}, {}, 0
+
+    def push(self, node, hop):
+        answer = self.draw.choice([True, True, True, False, None])
+        if answer:
+            self.set(node, hop)
+        elif answer is None:
+            self.late[node] = hop
+        return answer
+
+    def set(self, node, hop):
+        self.hops[node], self.pushed = hop, self.pushed + 1
+        at = hop
+        for _ in self.hops:
+            at = self.hops.get(at)
+        assert at is None or isinstance(at, NoHop), f"a loop is reached from {node}"
+
+    def arrive(self):
+        """A push whose answer was lost arrives after all, or is lost too. Returns the router, and what it has then."""
+        node, hop = self.late.popitem()
+        if self.draw.random() < 0.5:
+            self.set(node, hop)
+        return node, self.hops.get(node, NoHop.CUT_OFF)
+
+    def forget(self, u, v):
+        for node, other in ((u, v), (v, u)):
+            if self.hops.get(node) == other:
+                self.hops[node] = NoHop.CUT_OFF
+            if self.late.get(node) == other:
+                del self.late[node]
+
+
+class TestController(unittest.TestCase):
+    def test_no_loop_and_all_pushed(self):
+        for seed in range(20):
+            routers = Routers(seed)
+            network = Network(SIDE * SIDE, 0, LINKS)
+            controller, down = Controller(network, routers.push), []
+            for _ in range(100):
+                self.event(routers, controller, down)
+                controller.update(lambda: routers.draw.random() < 0.05)
+            for link in down:
+                controller.up(*link)
+            while network.pushes(controller.table):
+                while routers.late:
+                    controller.answered(*routers.arrive())
+                controller.update()
+            self.assertEqual([routers.hops[it] for it in range(SIDE * SIDE)], [network.next_hop(it) for it in range(SIDE * SIDE)])
+            self.assertGreater(routers.pushed, 50)
+
+    def event(self, routers, controller, down):
+        """A late push arrives, a link comes back, or one fails."""
+        kind = routers.draw.randrange(3)
+        if kind == 0 and routers.late:
+            controller.answered(*routers.arrive())
+        elif kind == 1 and down:
+            controller.up(*down.pop(0))
+        else:
+            link = routers.draw.choice([it for it in LINKS if it not in down])
+            down.append(link)
+            unconfirmed = [it for it in link if it in routers.late]
+            routers.forget(*link)
+            controller.down(*link)
+            for node in unconfirmed:
+                if node not in routers.late:
+                    controller.answered(node, routers.hops.get(node, NoHop.CUT_OFF))
+
+
+if __name__ == "__main__":
+    unittest.main()
