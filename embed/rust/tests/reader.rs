@@ -42,7 +42,7 @@ fn read_along(reader: Reader, is_over: &AtomicBool) -> Vec<Hop> {
                 Walked::Arrived(route) => {
                     assert_eq!((route.first(), route.last()), (Some(&node), Some(&0)));
                 }
-                Walked::CutOff | Walked::Longer(_) => {}
+                _ => {}
             }
             assert!(reader.next_hop(node).node().is_none_or(|it| it < NODES));
         }
@@ -82,7 +82,7 @@ fn after_each_call_a_reader_has_the_hops() -> Result<(), Refused> {
     assert_eq!(read(), network.hops()?);
     assert_eq!(network.cut(1, 0), Err(Refused::NoLink(1, 0)));
     assert_eq!(read(), network.hops()?);
-    network.set_destination(2)?;
+    network.move_dest(2)?;
     assert_eq!(read(), network.hops()?);
     Ok(())
 }
@@ -135,6 +135,7 @@ fn a_walk_has_an_end_for_each_room() -> Result<(), Refused> {
 fn what_can_be_no_node_panics() -> Result<(), Refused> {
     let reader = Network::new(2, 0, &[(0, 1)])?.reader()?;
     for node in [4096, u32::MAX] {
+        assert_eq!(reader.try_next_hop(node), None);
         let reader = panic::AssertUnwindSafe(&reader);
         assert!(panic::catch_unwind(|| reader.next_hop(node)).is_err());
         assert!(panic::catch_unwind(|| reader.walk(node, &mut [0; 2]) == Walked::CutOff).is_err());
