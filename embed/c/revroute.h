@@ -117,8 +117,8 @@ typedef enum revroute_status {
 } revroute_status;
 
 /* Returns what a status means, as a constant text in English. */
-static inline const char *revroute_status_text(revroute_status status) {
-    switch (status) {
+static inline const char *revroute_status_text(revroute_status status_) {
+    switch (status_) {
     case REVROUTE_ANSWERED: return "the call succeeded";
     case REVROUTE_BLANK: return "the line is blank";
     case REVROUTE_TOO_SHORT: return "the buffer or the array is too short";
@@ -196,8 +196,8 @@ typedef enum revroute_reason {
 
 /* Returns what the number of a refusal means, as a constant text in English. It also takes the number of a line's
  * answer, such as `refused 3`. */
-static inline const char *revroute_refusal_text(uint32_t number) {
-    static const char *const texts[] = {
+static inline const char *revroute_refusal_text(uint32_t number_) {
+    static const char *const texts_[] = {
         "an unknown reason",
         "the line is no JSON, or nests too deep",
         "the value is no request, or the edit has an unknown kind",
@@ -209,7 +209,7 @@ static inline const char *revroute_refusal_text(uint32_t number) {
         "no link joins the two nodes",
         "there would be more than 4,096 nodes, 32,768 links or 1,024 edits",
     };
-    return texts[number <= REVROUTE_TOO_MANY ? number : 0];
+    return texts_[number_ <= REVROUTE_TOO_MANY ? number_ : 0];
 }
 
 /* Why, and where. `number` is one of the reasons above, and `u` and `v` are the nodes that it names. `at` is the index
@@ -432,108 +432,111 @@ revroute_status revroute_version(uint8_t *text, size_t room, size_t *length);
 #define REVROUTE_INLINE extern __inline__ __attribute__((__always_inline__, __gnu_inline__))
 #define REVROUTE_SOME(type, at, other) ((at) ? (at) : (type *)(void *)(other))
 
-revroute_status revroute_open_(revroute *session, uint32_t nodes, uint32_t dest, const revroute_link *links,
-                               size_t count, revroute_round *round, revroute_refusal *refusal) __asm__("revroute_open");
-REVROUTE_INLINE revroute_status revroute_open(revroute *session, uint32_t nodes, uint32_t dest,
-                                              const revroute_link *links, size_t count, revroute_round *round,
-                                              revroute_refusal *refusal) {
-    return revroute_open_(session, nodes, dest, REVROUTE_SOME(const revroute_link, links, round), count, round,
-                          refusal);
+revroute_status revroute_open_(revroute *session_, uint32_t nodes_, uint32_t dest_, const revroute_link *links_,
+                               size_t count_, revroute_round *round_,
+                               revroute_refusal *refusal_) __asm__("revroute_open");
+REVROUTE_INLINE revroute_status revroute_open(revroute *session_, uint32_t nodes_, uint32_t dest_,
+                                              const revroute_link *links_, size_t count_, revroute_round *round_,
+                                              revroute_refusal *refusal_) {
+    return revroute_open_(session_, nodes_, dest_, REVROUTE_SOME(const revroute_link, links_, round_), count_, round_,
+                          refusal_);
 }
 
-revroute_status revroute_change_(revroute *session, const revroute_edit *edits, size_t count, revroute_round *round,
-                                 revroute_refusal *refusal) __asm__("revroute_change");
-REVROUTE_INLINE revroute_status revroute_change(revroute *session, const revroute_edit *edits, size_t count,
-                                                revroute_round *round, revroute_refusal *refusal) {
-    return revroute_change_(session, REVROUTE_SOME(const revroute_edit, edits, round), count, round, refusal);
+revroute_status revroute_change_(revroute *session_, const revroute_edit *edits_, size_t count_, revroute_round *round_,
+                                 revroute_refusal *refusal_) __asm__("revroute_change");
+REVROUTE_INLINE revroute_status revroute_change(revroute *session_, const revroute_edit *edits_, size_t count_,
+                                                revroute_round *round_, revroute_refusal *refusal_) {
+    return revroute_change_(session_, REVROUTE_SOME(const revroute_edit, edits_, round_), count_, round_, refusal_);
 }
 
-revroute_status revroute_closed_walk_(revroute *session, const revroute_edit *edits, size_t count, uint32_t *nodes,
-                                      size_t room, size_t *length) __asm__("revroute_closed_walk");
-REVROUTE_INLINE revroute_status revroute_closed_walk(revroute *session, const revroute_edit *edits, size_t count,
-                                                     uint32_t *nodes, size_t room, size_t *length) {
-    return revroute_closed_walk_(session, REVROUTE_SOME(const revroute_edit, edits, length), count,
-                                 REVROUTE_SOME(uint32_t, nodes, length), room, length);
+revroute_status revroute_closed_walk_(revroute *session_, const revroute_edit *edits_, size_t count_, uint32_t *nodes_,
+                                      size_t room_, size_t *length_) __asm__("revroute_closed_walk");
+REVROUTE_INLINE revroute_status revroute_closed_walk(revroute *session_, const revroute_edit *edits_, size_t count_,
+                                                     uint32_t *nodes_, size_t room_, size_t *length_) {
+    return revroute_closed_walk_(session_, REVROUTE_SOME(const revroute_edit, edits_, length_), count_,
+                                 REVROUTE_SOME(uint32_t, nodes_, length_), room_, length_);
 }
 
-revroute_status revroute_closed_walk_of_(uint32_t nodes, const revroute_link *links, size_t count, uint32_t *walk,
-                                         size_t room, size_t *length) __asm__("revroute_closed_walk_of");
-REVROUTE_INLINE revroute_status revroute_closed_walk_of(uint32_t nodes, const revroute_link *links, size_t count,
-                                                        uint32_t *walk, size_t room, size_t *length) {
-    return revroute_closed_walk_of_(nodes, REVROUTE_SOME(const revroute_link, links, length), count,
-                                    REVROUTE_SOME(uint32_t, walk, length), room, length);
+revroute_status revroute_closed_walk_of_(uint32_t nodes_, const revroute_link *links_, size_t count_, uint32_t *walk_,
+                                         size_t room_, size_t *length_) __asm__("revroute_closed_walk_of");
+REVROUTE_INLINE revroute_status revroute_closed_walk_of(uint32_t nodes_, const revroute_link *links_, size_t count_,
+                                                        uint32_t *walk_, size_t room_, size_t *length_) {
+    return revroute_closed_walk_of_(nodes_, REVROUTE_SOME(const revroute_link, links_, length_), count_,
+                                    REVROUTE_SOME(uint32_t, walk_, length_), room_, length_);
 }
 
-revroute_status revroute_answer_(revroute *session, const uint8_t *line, size_t line_length, uint8_t *answer,
-                                 size_t room, size_t *length) __asm__("revroute_answer");
-REVROUTE_INLINE revroute_status revroute_answer(revroute *session, const uint8_t *line, size_t line_length,
-                                                uint8_t *answer, size_t room, size_t *length) {
-    return revroute_answer_(session, REVROUTE_SOME(const uint8_t, line, length), line_length,
-                            REVROUTE_SOME(uint8_t, answer, length), room, length);
+revroute_status revroute_answer_(revroute *session_, const uint8_t *line_, size_t line_length_, uint8_t *answer_,
+                                 size_t room_, size_t *length_) __asm__("revroute_answer");
+REVROUTE_INLINE revroute_status revroute_answer(revroute *session_, const uint8_t *line_, size_t line_length_,
+                                                uint8_t *answer_, size_t room_, size_t *length_) {
+    return revroute_answer_(session_, REVROUTE_SOME(const uint8_t, line_, length_), line_length_,
+                            REVROUTE_SOME(uint8_t, answer_, length_), room_, length_);
 }
 
-revroute_status revroute_take_(revroute *session, const uint8_t *piece, size_t piece_length, uint8_t *answer,
-                               size_t room, size_t *length, size_t *taken) __asm__("revroute_take");
-REVROUTE_INLINE revroute_status revroute_take(revroute *session, const uint8_t *piece, size_t piece_length,
-                                              uint8_t *answer, size_t room, size_t *length, size_t *taken) {
-    return revroute_take_(session, REVROUTE_SOME(const uint8_t, piece, length), piece_length,
-                          REVROUTE_SOME(uint8_t, answer, length), room, length, taken);
+revroute_status revroute_take_(revroute *session_, const uint8_t *piece_, size_t piece_length_, uint8_t *answer_,
+                               size_t room_, size_t *length_, size_t *taken_) __asm__("revroute_take");
+REVROUTE_INLINE revroute_status revroute_take(revroute *session_, const uint8_t *piece_, size_t piece_length_,
+                                              uint8_t *answer_, size_t room_, size_t *length_, size_t *taken_) {
+    return revroute_take_(session_, REVROUTE_SOME(const uint8_t, piece_, length_), piece_length_,
+                          REVROUTE_SOME(uint8_t, answer_, length_), room_, length_, taken_);
 }
 
-revroute_status revroute_finish_(revroute *session, uint8_t *answer, size_t room,
-                                 size_t *length) __asm__("revroute_finish");
-REVROUTE_INLINE revroute_status revroute_finish(revroute *session, uint8_t *answer, size_t room, size_t *length) {
-    return revroute_finish_(session, REVROUTE_SOME(uint8_t, answer, length), room, length);
+revroute_status revroute_finish_(revroute *session_, uint8_t *answer_, size_t room_,
+                                 size_t *length_) __asm__("revroute_finish");
+REVROUTE_INLINE revroute_status revroute_finish(revroute *session_, uint8_t *answer_, size_t room_, size_t *length_) {
+    return revroute_finish_(session_, REVROUTE_SOME(uint8_t, answer_, length_), room_, length_);
 }
 
-revroute_status revroute_hops_(revroute *session, uint32_t *hops, size_t room, size_t *length) __asm__("revroute_hops");
-REVROUTE_INLINE revroute_status revroute_hops(revroute *session, uint32_t *hops, size_t room, size_t *length) {
-    return revroute_hops_(session, REVROUTE_SOME(uint32_t, hops, length), room, length);
+revroute_status revroute_hops_(revroute *session_, uint32_t *hops_, size_t room_,
+                               size_t *length_) __asm__("revroute_hops");
+REVROUTE_INLINE revroute_status revroute_hops(revroute *session_, uint32_t *hops_, size_t room_, size_t *length_) {
+    return revroute_hops_(session_, REVROUTE_SOME(uint32_t, hops_, length_), room_, length_);
 }
 
-revroute_status revroute_changed_(revroute *session, uint32_t *nodes, size_t room,
-                                  size_t *length) __asm__("revroute_changed");
-REVROUTE_INLINE revroute_status revroute_changed(revroute *session, uint32_t *nodes, size_t room, size_t *length) {
-    return revroute_changed_(session, REVROUTE_SOME(uint32_t, nodes, length), room, length);
+revroute_status revroute_changed_(revroute *session_, uint32_t *nodes_, size_t room_,
+                                  size_t *length_) __asm__("revroute_changed");
+REVROUTE_INLINE revroute_status revroute_changed(revroute *session_, uint32_t *nodes_, size_t room_, size_t *length_) {
+    return revroute_changed_(session_, REVROUTE_SOME(uint32_t, nodes_, length_), room_, length_);
 }
 
-revroute_status revroute_pushes_(revroute *session, const uint32_t *table, size_t count, uint32_t *nodes, size_t room,
-                                 size_t *length) __asm__("revroute_pushes");
-REVROUTE_INLINE revroute_status revroute_pushes(revroute *session, const uint32_t *table, size_t count, uint32_t *nodes,
-                                                size_t room, size_t *length) {
-    return revroute_pushes_(session, REVROUTE_SOME(const uint32_t, table, length), count,
-                            REVROUTE_SOME(uint32_t, nodes, length), room, length);
+revroute_status revroute_pushes_(revroute *session_, const uint32_t *table_, size_t count_, uint32_t *nodes_,
+                                 size_t room_, size_t *length_) __asm__("revroute_pushes");
+REVROUTE_INLINE revroute_status revroute_pushes(revroute *session_, const uint32_t *table_, size_t count_,
+                                                uint32_t *nodes_, size_t room_, size_t *length_) {
+    return revroute_pushes_(session_, REVROUTE_SOME(const uint32_t, table_, length_), count_,
+                            REVROUTE_SOME(uint32_t, nodes_, length_), room_, length_);
 }
 
-revroute_status revroute_counts_(revroute *session, uint64_t *counts, size_t room,
-                                 size_t *length) __asm__("revroute_counts");
-REVROUTE_INLINE revroute_status revroute_counts(revroute *session, uint64_t *counts, size_t room, size_t *length) {
-    return revroute_counts_(session, REVROUTE_SOME(uint64_t, counts, length), room, length);
+revroute_status revroute_counts_(revroute *session_, uint64_t *counts_, size_t room_,
+                                 size_t *length_) __asm__("revroute_counts");
+REVROUTE_INLINE revroute_status revroute_counts(revroute *session_, uint64_t *counts_, size_t room_, size_t *length_) {
+    return revroute_counts_(session_, REVROUTE_SOME(uint64_t, counts_, length_), room_, length_);
 }
 
-revroute_status revroute_walk_(revroute *session, uint32_t node, uint32_t *nodes, size_t room,
-                               size_t *length) __asm__("revroute_walk");
-REVROUTE_INLINE revroute_status revroute_walk(revroute *session, uint32_t node, uint32_t *nodes, size_t room,
-                                              size_t *length) {
-    return revroute_walk_(session, node, REVROUTE_SOME(uint32_t, nodes, length), room, length);
+revroute_status revroute_walk_(revroute *session_, uint32_t node_, uint32_t *nodes_, size_t room_,
+                               size_t *length_) __asm__("revroute_walk");
+REVROUTE_INLINE revroute_status revroute_walk(revroute *session_, uint32_t node_, uint32_t *nodes_, size_t room_,
+                                              size_t *length_) {
+    return revroute_walk_(session_, node_, REVROUTE_SOME(uint32_t, nodes_, length_), room_, length_);
 }
 
-revroute_status revroute_links_(revroute *session, revroute_link *links, size_t room,
-                                size_t *length) __asm__("revroute_links");
-REVROUTE_INLINE revroute_status revroute_links(revroute *session, revroute_link *links, size_t room, size_t *length) {
-    return revroute_links_(session, REVROUTE_SOME(revroute_link, links, length), room, length);
+revroute_status revroute_links_(revroute *session_, revroute_link *links_, size_t room_,
+                                size_t *length_) __asm__("revroute_links");
+REVROUTE_INLINE revroute_status revroute_links(revroute *session_, revroute_link *links_, size_t room_,
+                                               size_t *length_) {
+    return revroute_links_(session_, REVROUTE_SOME(revroute_link, links_, length_), room_, length_);
 }
 
-revroute_status revroute_reader_walk_(revroute_reader *reader, uint32_t node, uint32_t *nodes, size_t room,
-                                      size_t *length) __asm__("revroute_reader_walk");
-REVROUTE_INLINE revroute_status revroute_reader_walk(revroute_reader *reader, uint32_t node, uint32_t *nodes,
-                                                     size_t room, size_t *length) {
-    return revroute_reader_walk_(reader, node, REVROUTE_SOME(uint32_t, nodes, length), room, length);
+revroute_status revroute_reader_walk_(revroute_reader *reader_, uint32_t node_, uint32_t *nodes_, size_t room_,
+                                      size_t *length_) __asm__("revroute_reader_walk");
+REVROUTE_INLINE revroute_status revroute_reader_walk(revroute_reader *reader_, uint32_t node_, uint32_t *nodes_,
+                                                     size_t room_, size_t *length_) {
+    return revroute_reader_walk_(reader_, node_, REVROUTE_SOME(uint32_t, nodes_, length_), room_, length_);
 }
 
-revroute_status revroute_version_(uint8_t *text, size_t room, size_t *length) __asm__("revroute_version");
-REVROUTE_INLINE revroute_status revroute_version(uint8_t *text, size_t room, size_t *length) {
-    return revroute_version_(REVROUTE_SOME(uint8_t, text, length), room, length);
+revroute_status revroute_version_(uint8_t *text_, size_t room_, size_t *length_) __asm__("revroute_version");
+REVROUTE_INLINE revroute_status revroute_version(uint8_t *text_, size_t room_, size_t *length_) {
+    return revroute_version_(REVROUTE_SOME(uint8_t, text_, length_), room_, length_);
 }
 
 #undef REVROUTE_INLINE
@@ -548,46 +551,46 @@ REVROUTE_INLINE revroute_status revroute_version(uint8_t *text, size_t room, siz
 #endif
 
 REVROUTE_OLD("revroute_move_dest") revroute_status
-revroute_move(revroute *session, uint32_t dest, revroute_round *round, revroute_refusal *refusal) {
-    return revroute_move_dest(session, dest, round, refusal);
+revroute_move(revroute *session_, uint32_t dest_, revroute_round *round_, revroute_refusal *refusal_) {
+    return revroute_move_dest(session_, dest_, round_, refusal_);
 }
 
 REVROUTE_OLD("revroute_hops") revroute_status
-revroute_next_hops(revroute *session, uint32_t *hops, size_t room, size_t *length) {
-    return revroute_hops(session, hops, room, length);
+revroute_next_hops(revroute *session_, uint32_t *hops_, size_t room_, size_t *length_) {
+    return revroute_hops(session_, hops_, room_, length_);
 }
 
 REVROUTE_OLD("revroute_changed") revroute_status
-revroute_rerouted(revroute *session, uint32_t *nodes, size_t room, size_t *length) {
-    return revroute_changed(session, nodes, room, length);
+revroute_rerouted(revroute *session_, uint32_t *nodes_, size_t room_, size_t *length_) {
+    return revroute_changed(session_, nodes_, room_, length_);
 }
 
 REVROUTE_OLD("revroute_walk") revroute_status
-revroute_route(revroute *session, uint32_t node, uint32_t *nodes, size_t room, size_t *length) {
-    return revroute_walk(session, node, nodes, room, length);
+revroute_route(revroute *session_, uint32_t node_, uint32_t *nodes_, size_t room_, size_t *length_) {
+    return revroute_walk(session_, node_, nodes_, room_, length_);
 }
 
 REVROUTE_OLD("revroute_reader_walk") revroute_status
-revroute_reader_route(revroute_reader *reader, uint32_t node, uint32_t *nodes, size_t room, size_t *length) {
-    return revroute_reader_walk(reader, node, nodes, room, length);
+revroute_reader_route(revroute_reader *reader_, uint32_t node_, uint32_t *nodes_, size_t room_, size_t *length_) {
+    return revroute_reader_walk(reader_, node_, nodes_, room_, length_);
 }
 
 /* What revroute_links was: each link takes two places, tail first, and *length is twice the number of links. */
 REVROUTE_OLD("revroute_links") revroute_status
-revroute_links_numbers(revroute *session, uint32_t *ends, size_t room, size_t *length) {
-    revroute_status status = revroute_links(session, (revroute_link *)(void *)ends, room / 2, length);
-    *length *= 2;
-    return status;
+revroute_links_numbers(revroute *session_, uint32_t *ends_, size_t room_, size_t *length_) {
+    revroute_status status_ = revroute_links(session_, (revroute_link *)(void *)ends_, room_ / 2, length_);
+    *length_ *= 2;
+    return status_;
 }
 
 /* What revroute_report was: the two numbers apart. */
 REVROUTE_OLD("revroute_report") revroute_status
-revroute_report_numbers(revroute *session, uint64_t *turned, uint64_t *cut_off) {
-    revroute_round round;
-    revroute_status status = revroute_report(session, &round);
-    *turned = round.turned;
-    *cut_off = round.cut_off;
-    return status;
+revroute_report_numbers(revroute *session_, uint64_t *turned_, uint64_t *cut_off_) {
+    revroute_round round_;
+    revroute_status status_ = revroute_report(session_, &round_);
+    *turned_ = round_.turned;
+    *cut_off_ = round_.cut_off;
+    return status_;
 }
 
 #undef REVROUTE_OLD

@@ -130,7 +130,7 @@ static void *fenced(const void *bytes, size_t size) {
 }
 
 static end call(revroute *session, const step *it) {
-    end all = {0, {UNTOUCHED, UNTOUCHED}, {UNTOUCHED, UNTOUCHED, UNTOUCHED, UNTOUCHED}};
+    end all = {0, {UNTOUCHED, UNTOUCHED}, {(revroute_reason)UNTOUCHED, UNTOUCHED, UNTOUCHED, UNTOUCHED}};
     revroute before = *session;
     if (it->what == OPEN) {
         const revroute_link *links = fenced(it->links, it->count * sizeof *links);
@@ -142,7 +142,7 @@ static end call(revroute *session, const step *it) {
     bool is_answered = all.status == REVROUTE_ANSWERED, is_refused = all.status == REVROUTE_REFUSED;
     if (!is_answered && (session->at != before.at || all.round.turned != UNTOUCHED || all.round.cut_off != UNTOUCHED))
         stop("a call that is not answered wrote the handle or a round");
-    if (!is_refused && (all.refusal.number != UNTOUCHED || all.refusal.u != UNTOUCHED || all.refusal.v != UNTOUCHED || all.refusal.at != UNTOUCHED))
+    if (!is_refused && ((uint32_t)all.refusal.number != UNTOUCHED || all.refusal.u != UNTOUCHED || all.refusal.v != UNTOUCHED || all.refusal.at != UNTOUCHED))
         stop("a call that is not refused wrote a refusal");
     return all;
 }

@@ -493,9 +493,9 @@ fn a_clone_has_the_links_and_hops_and_changes_alone() -> Result<(), Box<dyn Erro
         let nodes = 1 + draw.below(8);
         let mut network = Network::new(nodes, draw.below(nodes), &draw.links(nodes))?;
         for _ in 0..20 {
-            Asked::drawn(&mut draw, nodes)
-                .make(&mut network, network.links()?)
-                .ok();
+            let links = network.links()?;
+            let asked = Asked::drawn(&mut draw, nodes);
+            asked.make(&mut network, links).ok();
         }
         let (links, hops, dest) = (network.links()?, network.hops()?, network.dest());
         let mut other = network.clone();
