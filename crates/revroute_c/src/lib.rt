@@ -1,7 +1,8 @@
 //! The engine for programs in C, and for all that can call C: a session behind a handle, without threads and locks.
 //!
 //! `embed/c/revroute.h` declares these calls, and says what a caller must ensure. A slice is a pointer and a length
-//! there. The allocator has no bytes, so C passes nothing for it.
+//! there. The pointer is never null, since the header passes another address for null. The allocator has no bytes, so C
+//! passes nothing for it.
 #![tactic(auto)]
 
 ghost use Rattle.std.specs.Prelude.{◌≡◌, ◌≢◌, ◌≤◌, ◌<◌, ◌⊎◌, ◌↔◌, [], None, length, map, IfSome};
