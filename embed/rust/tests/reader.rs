@@ -38,11 +38,8 @@ fn read_along(reader: Reader, is_over: &AtomicBool) -> Vec<Hop> {
     let mut place = [0; MAX_NODES];
     while !is_over.load(Ordering::Acquire) {
         for node in 0..NODES {
-            match reader.walk(node, &mut place) {
-                Walked::Arrived(route) => {
-                    assert_eq!((route.first(), route.last()), (Some(&node), Some(&0)));
-                }
-                _ => {}
+            if let Walked::Arrived(route) = reader.walk(node, &mut place) {
+                assert_eq!((route.first(), route.last()), (Some(&node), Some(&0)));
             }
             assert!(reader.next_hop(node).node().is_none_or(|it| it < NODES));
         }
