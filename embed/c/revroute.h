@@ -427,119 +427,104 @@ revroute_status revroute_version(uint8_t *text, size_t room, size_t *length);
 /* The rest of this file is not for reading: it has no new call.
  *
  * The library takes no null pointer, not even to an array without elements. So here each call that takes an array
- * passes another address instead of null. Nothing is read or written there. */
-#ifdef __GNUC__
-#define REVROUTE_INLINE extern __inline__ __attribute__((__always_inline__, __gnu_inline__))
+ * passes another address instead of null. Nothing is read or written there. A file that defines REVROUTE_SYMBOLS before
+ * it includes this header gets the library's own calls. */
+#ifndef REVROUTE_SYMBOLS
 #define REVROUTE_SOME(type, at, other) ((at) ? (at) : (type *)(void *)(other))
 
-revroute_status revroute_open_(revroute *session_, uint32_t nodes_, uint32_t dest_, const revroute_link *links_,
-                               size_t count_, revroute_round *round_,
-                               revroute_refusal *refusal_) __asm__("revroute_open");
-REVROUTE_INLINE revroute_status revroute_open(revroute *session_, uint32_t nodes_, uint32_t dest_,
-                                              const revroute_link *links_, size_t count_, revroute_round *round_,
-                                              revroute_refusal *refusal_) {
-    return revroute_open_(session_, nodes_, dest_, REVROUTE_SOME(const revroute_link, links_, round_), count_, round_,
-                          refusal_);
+static inline revroute_status revroute_open_(revroute *session_, uint32_t nodes_, uint32_t dest_,
+                                             const revroute_link *links_, size_t count_, revroute_round *round_,
+                                             revroute_refusal *refusal_) {
+    return revroute_open(session_, nodes_, dest_, REVROUTE_SOME(const revroute_link, links_, session_), count_, round_,
+                         refusal_);
 }
+#define revroute_open revroute_open_
 
-revroute_status revroute_change_(revroute *session_, const revroute_edit *edits_, size_t count_, revroute_round *round_,
-                                 revroute_refusal *refusal_) __asm__("revroute_change");
-REVROUTE_INLINE revroute_status revroute_change(revroute *session_, const revroute_edit *edits_, size_t count_,
-                                                revroute_round *round_, revroute_refusal *refusal_) {
-    return revroute_change_(session_, REVROUTE_SOME(const revroute_edit, edits_, round_), count_, round_, refusal_);
+static inline revroute_status revroute_change_(revroute *session_, const revroute_edit *edits_, size_t count_,
+                                               revroute_round *round_, revroute_refusal *refusal_) {
+    return revroute_change(session_, REVROUTE_SOME(const revroute_edit, edits_, session_), count_, round_, refusal_);
 }
+#define revroute_change revroute_change_
 
-revroute_status revroute_closed_walk_(revroute *session_, const revroute_edit *edits_, size_t count_, uint32_t *nodes_,
-                                      size_t room_, size_t *length_) __asm__("revroute_closed_walk");
-REVROUTE_INLINE revroute_status revroute_closed_walk(revroute *session_, const revroute_edit *edits_, size_t count_,
-                                                     uint32_t *nodes_, size_t room_, size_t *length_) {
-    return revroute_closed_walk_(session_, REVROUTE_SOME(const revroute_edit, edits_, length_), count_,
-                                 REVROUTE_SOME(uint32_t, nodes_, length_), room_, length_);
+static inline revroute_status revroute_closed_walk_(revroute *session_, const revroute_edit *edits_, size_t count_,
+                                                    uint32_t *nodes_, size_t room_, size_t *length_) {
+    return revroute_closed_walk(session_, REVROUTE_SOME(const revroute_edit, edits_, session_), count_,
+                                REVROUTE_SOME(uint32_t, nodes_, length_), room_, length_);
 }
+#define revroute_closed_walk revroute_closed_walk_
 
-revroute_status revroute_closed_walk_of_(uint32_t nodes_, const revroute_link *links_, size_t count_, uint32_t *walk_,
-                                         size_t room_, size_t *length_) __asm__("revroute_closed_walk_of");
-REVROUTE_INLINE revroute_status revroute_closed_walk_of(uint32_t nodes_, const revroute_link *links_, size_t count_,
-                                                        uint32_t *walk_, size_t room_, size_t *length_) {
-    return revroute_closed_walk_of_(nodes_, REVROUTE_SOME(const revroute_link, links_, length_), count_,
-                                    REVROUTE_SOME(uint32_t, walk_, length_), room_, length_);
+static inline revroute_status revroute_closed_walk_of_(uint32_t nodes_, const revroute_link *links_, size_t count_,
+                                                       uint32_t *walk_, size_t room_, size_t *length_) {
+    const revroute_link none_ = {0, 0};
+    return revroute_closed_walk_of(nodes_, links_ ? links_ : &none_, count_, REVROUTE_SOME(uint32_t, walk_, length_),
+                                   room_, length_);
 }
+#define revroute_closed_walk_of revroute_closed_walk_of_
 
-revroute_status revroute_answer_(revroute *session_, const uint8_t *line_, size_t line_length_, uint8_t *answer_,
-                                 size_t room_, size_t *length_) __asm__("revroute_answer");
-REVROUTE_INLINE revroute_status revroute_answer(revroute *session_, const uint8_t *line_, size_t line_length_,
-                                                uint8_t *answer_, size_t room_, size_t *length_) {
-    return revroute_answer_(session_, REVROUTE_SOME(const uint8_t, line_, length_), line_length_,
-                            REVROUTE_SOME(uint8_t, answer_, length_), room_, length_);
+static inline revroute_status revroute_answer_(revroute *session_, const uint8_t *line_, size_t line_length_,
+                                               uint8_t *answer_, size_t room_, size_t *length_) {
+    return revroute_answer(session_, REVROUTE_SOME(const uint8_t, line_, session_), line_length_,
+                           REVROUTE_SOME(uint8_t, answer_, length_), room_, length_);
 }
+#define revroute_answer revroute_answer_
 
-revroute_status revroute_take_(revroute *session_, const uint8_t *piece_, size_t piece_length_, uint8_t *answer_,
-                               size_t room_, size_t *length_, size_t *taken_) __asm__("revroute_take");
-REVROUTE_INLINE revroute_status revroute_take(revroute *session_, const uint8_t *piece_, size_t piece_length_,
-                                              uint8_t *answer_, size_t room_, size_t *length_, size_t *taken_) {
-    return revroute_take_(session_, REVROUTE_SOME(const uint8_t, piece_, length_), piece_length_,
-                          REVROUTE_SOME(uint8_t, answer_, length_), room_, length_, taken_);
+static inline revroute_status revroute_take_(revroute *session_, const uint8_t *piece_, size_t piece_length_,
+                                             uint8_t *answer_, size_t room_, size_t *length_, size_t *taken_) {
+    return revroute_take(session_, REVROUTE_SOME(const uint8_t, piece_, session_), piece_length_,
+                         REVROUTE_SOME(uint8_t, answer_, length_), room_, length_, taken_);
 }
+#define revroute_take revroute_take_
 
-revroute_status revroute_finish_(revroute *session_, uint8_t *answer_, size_t room_,
-                                 size_t *length_) __asm__("revroute_finish");
-REVROUTE_INLINE revroute_status revroute_finish(revroute *session_, uint8_t *answer_, size_t room_, size_t *length_) {
-    return revroute_finish_(session_, REVROUTE_SOME(uint8_t, answer_, length_), room_, length_);
+static inline revroute_status revroute_finish_(revroute *session_, uint8_t *answer_, size_t room_, size_t *length_) {
+    return revroute_finish(session_, REVROUTE_SOME(uint8_t, answer_, length_), room_, length_);
 }
+#define revroute_finish revroute_finish_
 
-revroute_status revroute_hops_(revroute *session_, uint32_t *hops_, size_t room_,
-                               size_t *length_) __asm__("revroute_hops");
-REVROUTE_INLINE revroute_status revroute_hops(revroute *session_, uint32_t *hops_, size_t room_, size_t *length_) {
-    return revroute_hops_(session_, REVROUTE_SOME(uint32_t, hops_, length_), room_, length_);
+static inline revroute_status revroute_hops_(revroute *session_, uint32_t *hops_, size_t room_, size_t *length_) {
+    return revroute_hops(session_, REVROUTE_SOME(uint32_t, hops_, length_), room_, length_);
 }
+#define revroute_hops revroute_hops_
 
-revroute_status revroute_changed_(revroute *session_, uint32_t *nodes_, size_t room_,
-                                  size_t *length_) __asm__("revroute_changed");
-REVROUTE_INLINE revroute_status revroute_changed(revroute *session_, uint32_t *nodes_, size_t room_, size_t *length_) {
-    return revroute_changed_(session_, REVROUTE_SOME(uint32_t, nodes_, length_), room_, length_);
+static inline revroute_status revroute_changed_(revroute *session_, uint32_t *nodes_, size_t room_, size_t *length_) {
+    return revroute_changed(session_, REVROUTE_SOME(uint32_t, nodes_, length_), room_, length_);
 }
+#define revroute_changed revroute_changed_
 
-revroute_status revroute_pushes_(revroute *session_, const uint32_t *table_, size_t count_, uint32_t *nodes_,
-                                 size_t room_, size_t *length_) __asm__("revroute_pushes");
-REVROUTE_INLINE revroute_status revroute_pushes(revroute *session_, const uint32_t *table_, size_t count_,
-                                                uint32_t *nodes_, size_t room_, size_t *length_) {
-    return revroute_pushes_(session_, REVROUTE_SOME(const uint32_t, table_, length_), count_,
-                            REVROUTE_SOME(uint32_t, nodes_, length_), room_, length_);
+static inline revroute_status revroute_pushes_(revroute *session_, const uint32_t *table_, size_t count_,
+                                               uint32_t *nodes_, size_t room_, size_t *length_) {
+    return revroute_pushes(session_, REVROUTE_SOME(const uint32_t, table_, session_), count_,
+                           REVROUTE_SOME(uint32_t, nodes_, length_), room_, length_);
 }
+#define revroute_pushes revroute_pushes_
 
-revroute_status revroute_counts_(revroute *session_, uint64_t *counts_, size_t room_,
-                                 size_t *length_) __asm__("revroute_counts");
-REVROUTE_INLINE revroute_status revroute_counts(revroute *session_, uint64_t *counts_, size_t room_, size_t *length_) {
-    return revroute_counts_(session_, REVROUTE_SOME(uint64_t, counts_, length_), room_, length_);
+static inline revroute_status revroute_counts_(revroute *session_, uint64_t *counts_, size_t room_, size_t *length_) {
+    return revroute_counts(session_, REVROUTE_SOME(uint64_t, counts_, length_), room_, length_);
 }
+#define revroute_counts revroute_counts_
 
-revroute_status revroute_walk_(revroute *session_, uint32_t node_, uint32_t *nodes_, size_t room_,
-                               size_t *length_) __asm__("revroute_walk");
-REVROUTE_INLINE revroute_status revroute_walk(revroute *session_, uint32_t node_, uint32_t *nodes_, size_t room_,
+static inline revroute_status revroute_walk_(revroute *session_, uint32_t node_, uint32_t *nodes_, size_t room_,
+                                             size_t *length_) {
+    return revroute_walk(session_, node_, REVROUTE_SOME(uint32_t, nodes_, length_), room_, length_);
+}
+#define revroute_walk revroute_walk_
+
+static inline revroute_status revroute_links_(revroute *session_, revroute_link *links_, size_t room_,
                                               size_t *length_) {
-    return revroute_walk_(session_, node_, REVROUTE_SOME(uint32_t, nodes_, length_), room_, length_);
+    return revroute_links(session_, REVROUTE_SOME(revroute_link, links_, length_), room_, length_);
 }
+#define revroute_links revroute_links_
 
-revroute_status revroute_links_(revroute *session_, revroute_link *links_, size_t room_,
-                                size_t *length_) __asm__("revroute_links");
-REVROUTE_INLINE revroute_status revroute_links(revroute *session_, revroute_link *links_, size_t room_,
-                                               size_t *length_) {
-    return revroute_links_(session_, REVROUTE_SOME(revroute_link, links_, length_), room_, length_);
+static inline revroute_status revroute_reader_walk_(revroute_reader *reader_, uint32_t node_, uint32_t *nodes_,
+                                                    size_t room_, size_t *length_) {
+    return revroute_reader_walk(reader_, node_, REVROUTE_SOME(uint32_t, nodes_, length_), room_, length_);
 }
+#define revroute_reader_walk revroute_reader_walk_
 
-revroute_status revroute_reader_walk_(revroute_reader *reader_, uint32_t node_, uint32_t *nodes_, size_t room_,
-                                      size_t *length_) __asm__("revroute_reader_walk");
-REVROUTE_INLINE revroute_status revroute_reader_walk(revroute_reader *reader_, uint32_t node_, uint32_t *nodes_,
-                                                     size_t room_, size_t *length_) {
-    return revroute_reader_walk_(reader_, node_, REVROUTE_SOME(uint32_t, nodes_, length_), room_, length_);
+static inline revroute_status revroute_version_(uint8_t *text_, size_t room_, size_t *length_) {
+    return revroute_version(REVROUTE_SOME(uint8_t, text_, length_), room_, length_);
 }
+#define revroute_version revroute_version_
 
-revroute_status revroute_version_(uint8_t *text_, size_t room_, size_t *length_) __asm__("revroute_version");
-REVROUTE_INLINE revroute_status revroute_version(uint8_t *text_, size_t room_, size_t *length_) {
-    return revroute_version_(REVROUTE_SOME(uint8_t, text_, length_), room_, length_);
-}
-
-#undef REVROUTE_INLINE
 #undef REVROUTE_SOME
 #endif
 

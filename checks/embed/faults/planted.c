@@ -1,5 +1,6 @@
 /* The library with a fault in it. checks/embed/can-fail builds it with each FAULT. The names of the real calls begin
  * with engine_ there. */
+#define REVROUTE_SYMBOLS
 #include <revroute.h>
 #include <stdlib.h>
 #include <string.h>

@@ -77,6 +77,10 @@ static uint32_t planted_reader_walk(revroute_reader *reader, uint32_t node, uint
 
 static void planted_reader_close(revroute_reader *reader) { reader->at = NULL; }
 
+#undef revroute_open
+#undef revroute_change
+#undef revroute_answer
+#undef revroute_reader_walk
 #define revroute_open(session, ...) planted_push(session, revroute_open(session, __VA_ARGS__))
 #define revroute_change(session, ...) planted_push(session, revroute_change(session, __VA_ARGS__))
 #define revroute_move_dest(session, ...) planted_push(session, revroute_move_dest(session, __VA_ARGS__))
