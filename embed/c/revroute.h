@@ -206,7 +206,7 @@ static inline const char *revroute_refusal_text(uint32_t number_) {
         "a link would join a node with itself",
         "more than one link would join the two nodes",
         "the links would contain a cycle",
-        "no link joins the two nodes",
+        "no link joins the two nodes, or one of them does not exist",
         "there would be more than 4,096 nodes, 32,768 links or 1,024 edits",
     };
     return texts_[number_ <= REVROUTE_TOO_MANY ? number_ : 0];
