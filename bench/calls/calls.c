@@ -133,14 +133,14 @@ static double best_together(asked *all, unsigned count) {
 static void tell_tables(revroute *session) {
     size_t length;
     for (int at = 0; at < TABLES; at++)
-        if (revroute_next_hops(session, table, NODES, &length) != REVROUTE_ANSWERED) stop("there are no hops");
+        if (revroute_hops(session, table, NODES, &length) != REVROUTE_ANSWERED) stop("there are no hops");
     kept = table[nodes - 1];
 }
 
 /* Fills the table with the settled hops, or with hops that all differ from them. */
 static void fill_table(revroute *session, uint32_t count, bool differs) {
     size_t length;
-    if (revroute_next_hops(session, table, NODES, &length) != REVROUTE_ANSWERED) stop("there are no hops");
+    if (revroute_hops(session, table, NODES, &length) != REVROUTE_ANSWERED) stop("there are no hops");
     for (uint32_t x = 0; differs && x < count; x++)
         table[x] = table[x] == REVROUTE_CUT_OFF ? REVROUTE_HERE : REVROUTE_CUT_OFF;
 }

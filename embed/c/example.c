@@ -5,7 +5,7 @@ static void tell(revroute *session, revroute_round round) {
     uint32_t nodes[4];
     size_t length;
     printf("turned %d cut %d\n", (int)round.turned, (int)round.cut_off);
-    if (revroute_route(session, 3, nodes, 4, &length) != REVROUTE_ANSWERED) puts("walk 3 cut");
+    if (revroute_walk(session, 3, nodes, 4, &length) != REVROUTE_ANSWERED) puts("walk 3 cut");
     else printf("walk %d %d %d %d\n", (int)nodes[0], (int)nodes[1], (int)nodes[2], (int)nodes[3]);
 }
 

@@ -14,7 +14,7 @@ static void *forward(void *reader) {
     size_t length = 0;
     for (int is_last = 0; !is_last;) {
         is_last = is_over; /* what is read after the end is the last hop of each node */
-        revroute_reader_route(reader, 2, nodes, ROOM, &length);
+        revroute_reader_walk(reader, 2, nodes, ROOM, &length);
     }
     return (void *)length;
 }

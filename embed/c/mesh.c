@@ -46,7 +46,7 @@ static bool goes_round(uint32_t node) {
  * are all nodes whose hop in the tables is not their next hop. */
 static size_t nodes_to_push(revroute *session, bool is_settled, uint32_t *nodes) {
     size_t count;
-    uint32_t status = is_settled ? revroute_rerouted(session, nodes, NODES, &count)
+    uint32_t status = is_settled ? revroute_changed(session, nodes, NODES, &count)
                                  : revroute_pushes(session, table, NODES, nodes, NODES, &count);
     if (status != REVROUTE_ANSWERED) stop("the nodes to push are not told");
     return count;

@@ -28,16 +28,17 @@
  *
  * The caller must ensure the following. No call tests it.
  *
- * - Pointers. No pointer is null, not even one to an empty line, a buffer without bytes or an empty array. (The `at`
- *   of a session or a reader may be null.) A pointer to bytes or to an array covers as many elements as the length
- *   beside it says; no length means 'unbounded'. Lines and buffers can have any address. Everything else has the
- *   alignment of its type.
+ * - Pointers. A pointer to bytes or to an array covers as many elements as the length beside it says; no length means
+ *   'unbounded'. If that length is 0, the pointer may be null. No other pointer is null. (The `at` of a session or a
+ *   reader may be.) Lines and buffers can have any address. Everything else has the alignment of its type. The
+ *   exported symbols themselves take no null pointer; this header passes them another address. So a program that
+ *   calls the symbols without this header passes any address that is not null.
  * - Arguments. The memory that the arguments point to does not overlap. Until the call returns, nobody else uses it.
  *   Others may read what is const.
- * - One call at a time on a session. Each call has the session for itself, also a question. A session may move from
- *   one thread to another if its calls do not overlap, and if each call sees what earlier calls wrote, as it does
- *   after a lock or a join. Different sessions share nothing, so each thread can have its own. If several threads
- *   ask one session, give each of them a reader.
+ * - One call at a time on a session. Each call has the session for itself, also a question. (So questions do not take
+ *   it as const.) A session may move from one thread to another if its calls do not overlap, and if each call sees
+ *   what earlier calls wrote, as it does after a lock or a join. Different sessions share nothing, so each thread can
+ *   have its own. If several threads ask one session, give each of them a reader.
  * - One call at a time on a reader. A reader may move to another thread in the same way. Different readers of one
  *   session, and the session itself, may be used by different threads at the same time. revroute_reader_open is a
  *   call on the session and on the reader. revroute_reader_copy is a call on both of its readers.
@@ -73,14 +74,19 @@ typedef struct revroute {
     void *at;
 } revroute;
 
-/* A session without a network. It holds no memory: revroute session = REVROUTE_NEW; */
-#define REVROUTE_NEW {NULL}
+/* A session without a network. It holds no memory. Initialize or assign a session with it:
+ * revroute session = REVROUTE_NEW; (A session at file scope needs no initializer.) */
+#ifdef __cplusplus
+#define REVROUTE_NEW (revroute{NULL})
+#else
+#define REVROUTE_NEW (__extension__(revroute){NULL})
+#endif
 
 /* The smallest useful buffer for an answer, in bytes. A smaller one is always too short, whatever the line. */
 #define REVROUTE_LEAST_ROOM 64
 
 /* The results of calls. */
-enum {
+typedef enum revroute_status {
     /* The call succeeded. What it writes is at the front of the buffer or the array, and *length is its length. The
      * answer to a line is ASCII, without a newline and without a NUL. */
     REVROUTE_ANSWERED = 0,
@@ -88,14 +94,14 @@ enum {
      * *length is 0. */
     REVROUTE_BLANK = 1,
     /* The buffer or the array is too short. *length is the length that is needed: call again with that.
-     * (revroute_reader_route only reports that its walk has more nodes.) */
+     * (revroute_reader_walk only reports that its walk has more nodes.) */
     REVROUTE_TOO_SHORT = 2,
     /* Memory ran out. You can make the same call again. *length is 0. */
     REVROUTE_NO_MEMORY = 3,
     /* The session has no network yet, or the reader is null. *length is 0. */
     REVROUTE_NO_NETWORK = 4,
     /* The node has no route: it is cut off from the destination, or there is no such node. *length is 0.
-     * (revroute_reader_route says what this means for a walk.) */
+     * (revroute_reader_walk says what this means for a walk.) */
     REVROUTE_NO_ROUTE = 5,
     /* The network, the edits or the destination is refused, and *refusal says why. */
     REVROUTE_REFUSED = 6,
@@ -108,7 +114,25 @@ enum {
     REVROUTE_TOO_LONG = 9,
     /* The table does not have one hop for each node, or one of its hops names no node. *length is 0. */
     REVROUTE_NO_TABLE = 10
-};
+} revroute_status;
+
+/* Returns what a status means, as a constant text in English. */
+static inline const char *revroute_status_text(revroute_status status_) {
+    switch (status_) {
+    case REVROUTE_ANSWERED: return "the call succeeded";
+    case REVROUTE_BLANK: return "the line is blank";
+    case REVROUTE_TOO_SHORT: return "the buffer or the array is too short";
+    case REVROUTE_NO_MEMORY: return "no memory";
+    case REVROUTE_NO_NETWORK: return "there is no network yet, or the reader is null";
+    case REVROUTE_NO_ROUTE: return "the node has no route";
+    case REVROUTE_REFUSED: return "the network or the change is refused";
+    case REVROUTE_NO_WALK: return "there is no cycle";
+    case REVROUTE_BEGUN: return "no line has ended yet";
+    case REVROUTE_TOO_LONG: return "the line is too long";
+    case REVROUTE_NO_TABLE: return "the table does not have one hop for each node";
+    }
+    return "an unknown status";
+}
 
 /* Values in place of a next hop. All are greater than any node, since a network has at most 4,096 nodes.
  *
@@ -128,16 +152,16 @@ typedef struct revroute_link {
 } revroute_link;
 
 /* The kinds of edits: what an edit does to the link between u and v. */
-enum {
+typedef enum revroute_kind {
     /* Removes the link, whichever way it points. */
     REVROUTE_CUT = 0,
     /* Adds a link from u to v. */
     REVROUTE_ADD = 1,
     /* Adds a link from u to v, or from v to u if the first would close a cycle. */
     REVROUTE_JOIN = 2
-};
+} revroute_kind;
 
-/* An edit. `kind` is one of the three kinds. */
+/* An edit. `kind` is one of the three kinds; a call refuses any other number. */
 typedef struct revroute_edit {
     uint32_t kind;
     uint32_t u;
@@ -152,7 +176,7 @@ typedef struct revroute_round {
 } revroute_round;
 
 /* Why a call is refused. Lines use the same numbers: `refused 4` is REVROUTE_RANGE. */
-enum {
+typedef enum revroute_reason {
     /* An edit has an unknown kind. u and v are 0. */
     REVROUTE_UNKNOWN_EDIT = 2,
     /* There is no node u. v is the same number. A network of 0 nodes is refused for node 0. */
@@ -164,17 +188,35 @@ enum {
     /* The links would contain a cycle that follows the link from u to v. For an edit this is the link that it adds.
      * For a new network it is one of the cycle's links. */
     REVROUTE_CLOSED_WALK = 7,
-    /* No link connects u and v. */
+    /* No link connects u and v. This is also the reason if an edit cuts a link at a number that is not a node. */
     REVROUTE_NO_LINK = 8,
     /* There would be more than 4,096 nodes or 32,768 links, or there are more than 1,024 edits. u and v are 0. */
     REVROUTE_TOO_MANY = 9
-};
+} revroute_reason;
+
+/* Returns what the number of a refusal means, as a constant text in English. It also takes the number of a line's
+ * answer, such as `refused 3`. */
+static inline const char *revroute_refusal_text(uint32_t number_) {
+    static const char *const texts_[] = {
+        "an unknown reason",
+        "the line is no JSON, or nests too deep",
+        "the value is no request, or the edit has an unknown kind",
+        "there is no network yet",
+        "there is no such node",
+        "a link would join a node with itself",
+        "more than one link would join the two nodes",
+        "the links would contain a cycle",
+        "no link joins the two nodes, or one of them does not exist",
+        "there would be more than 4,096 nodes, 32,768 links or 1,024 edits",
+    };
+    return texts_[number_ <= REVROUTE_TOO_MANY ? number_ : 0];
+}
 
 /* Why, and where. `number` is one of the reasons above, and `u` and `v` are the nodes that it names. `at` is the index
  * of the first refused edit, counted from 0. If there are too many edits, `at` is their number. For a network or a
  * destination it is 0. */
 typedef struct revroute_refusal {
-    uint32_t number;
+    revroute_reason number;
     uint32_t u;
     uint32_t v;
     size_t at;
@@ -183,7 +225,8 @@ typedef struct revroute_refusal {
 /* Calls that begin a round. A round turns nodes until every node that is connected with the destination has a route to
  * it.
  *
- * - REVROUTE_ANSWERED: the change is made. *round is the report, and revroute_rerouted lists the rerouted nodes.
+ * - REVROUTE_ANSWERED: the change is made. *round is the report, and revroute_changed lists the nodes that it
+ *   rerouted.
  * - REVROUTE_REFUSED: *refusal says why.
  * - REVROUTE_NO_MEMORY: memory ran out.
  * - REVROUTE_NO_NETWORK: there is no network to change. revroute_open never returns this.
@@ -195,30 +238,30 @@ typedef struct revroute_refusal {
  * `links` are its `count` links. The call is refused if the links do not make a network: if they contain a cycle, if
  * two of them connect the same nodes, or for another of the reasons above. If the links are right, it is refused if
  * `dest` is not a node. O(n + m). */
-uint32_t revroute_open(revroute *session, uint32_t nodes, uint32_t dest, const revroute_link *links, size_t count,
-                       revroute_round *round, revroute_refusal *refusal);
+revroute_status revroute_open(revroute *session, uint32_t nodes, uint32_t dest, const revroute_link *links,
+                              size_t count, revroute_round *round, revroute_refusal *refusal);
 
 /* Makes `count` edits in order, and then one round. If one edit is refused, none is made. Unknown kinds are tested
  * before everything else. An edit after which no node turns costs O(d), for d links at its nodes. Otherwise the cost
  * is that of the links at the nodes that turn, and at the nodes that had one of these as their next hop. It is at most
  * O(n + m). */
-uint32_t revroute_change(revroute *session, const revroute_edit *edits, size_t count, revroute_round *round,
-                         revroute_refusal *refusal);
+revroute_status revroute_change(revroute *session, const revroute_edit *edits, size_t count, revroute_round *round,
+                                revroute_refusal *refusal);
 
 /* Makes `dest` the destination. O(n + m). */
-uint32_t revroute_move(revroute *session, uint32_t dest, revroute_round *round, revroute_refusal *refusal);
+revroute_status revroute_move_dest(revroute *session, uint32_t dest, revroute_round *round, revroute_refusal *refusal);
 
 /* Finds the cycle for which revroute_change refuses these edits. Writes its nodes to the front of an array of `room`
  * places, with the first node again at the end, and their number to *length. REVROUTE_ANSWERED, REVROUTE_NO_WALK,
  * REVROUTE_TOO_SHORT, REVROUTE_NO_MEMORY or REVROUTE_NO_NETWORK. The session does not change, and the array is written
  * as for the questions below. O(n + m). */
-uint32_t revroute_closed_walk(revroute *session, const revroute_edit *edits, size_t count, uint32_t *nodes, size_t room,
-                              size_t *length);
+revroute_status revroute_closed_walk(revroute *session, const revroute_edit *edits, size_t count, uint32_t *nodes,
+                                     size_t room, size_t *length);
 
 /* Finds the cycle for which revroute_open refuses these links in a network of `nodes` nodes, in the same way. It needs
  * no session. O(n + m). */
-uint32_t revroute_closed_walk_of(uint32_t nodes, const revroute_link *links, size_t count, uint32_t *walk, size_t room,
-                                 size_t *length);
+revroute_status revroute_closed_walk_of(uint32_t nodes, const revroute_link *links, size_t count, uint32_t *walk,
+                                        size_t room, size_t *length);
 
 /* Answers a line of `line_length` bytes, which is given without its newline. Writes the answer to the front of the
  * buffer `answer`, which has `room` bytes, and leaves the rest of the buffer unchanged. A refused request has an
@@ -228,8 +271,8 @@ uint32_t revroute_closed_walk_of(uint32_t nodes, const revroute_link *links, siz
  * unchanged, with its own bytes, and so is the whole buffer. So a session that has answered nothing holds no memory.
  * The answer to a request that changes the session always fits into REVROUTE_LEAST_ROOM bytes. O(b) for b bytes of
  * line and answer, and the cost of the same call with numbers. */
-uint32_t revroute_answer(revroute *session, const uint8_t *line, size_t line_length, uint8_t *answer, size_t room,
-                         size_t *length);
+revroute_status revroute_answer(revroute *session, const uint8_t *line, size_t line_length, uint8_t *answer,
+                                size_t room, size_t *length);
 
 /* For input that arrives in pieces, cut anywhere, as from a socket. Takes the bytes of a piece up to and including its
  * first newline (byte 10). Answers the line that ends there, with the bytes kept before it, as revroute_answer does.
@@ -238,18 +281,18 @@ uint32_t revroute_answer(revroute *session, const uint8_t *line, size_t line_len
  * *taken is the number of bytes taken. Call again with the rest until nothing is left. After REVROUTE_TOO_SHORT,
  * REVROUTE_NO_MEMORY and REVROUTE_TOO_LONG it is 0, and everything is unchanged. revroute_answer neither reads nor
  * changes the bytes that are kept. O(b) for b bytes taken, and at a newline the cost of revroute_answer. */
-uint32_t revroute_take(revroute *session, const uint8_t *piece, size_t piece_length, uint8_t *answer, size_t room,
-                       size_t *length, size_t *taken);
+revroute_status revroute_take(revroute *session, const uint8_t *piece, size_t piece_length, uint8_t *answer,
+                              size_t room, size_t *length, size_t *taken);
 
 /* Call this at the end of the input. It answers the line that has begun, as revroute_answer does and at the same cost.
  * If none has begun, or only a blank one, it returns REVROUTE_BLANK. */
-uint32_t revroute_finish(revroute *session, uint8_t *answer, size_t room, size_t *length);
+revroute_status revroute_finish(revroute *session, uint8_t *answer, size_t room, size_t *length);
 
 /* Frees all memory of a session. The session is then as REVROUTE_NEW made it: it can be used again, or closed again.
  * O(1). */
 void revroute_close(revroute *session);
 
-/* Questions. They change nothing. revroute_route, revroute_links and revroute_pushes need memory; the others do not.
+/* Questions. They change nothing. revroute_walk, revroute_links and revroute_pushes need memory; the others do not.
  * Like every call, a question has the session for itself while it runs.
  *
  * Some questions fill an array of `room` places. They write to its front, leave the rest unchanged, and write the
@@ -260,7 +303,7 @@ void revroute_close(revroute *session);
 uint32_t revroute_next_hop(revroute *session, uint32_t node);
 
 /* Writes the next hop of each node, in the order of the nodes, with the same values. O(n). */
-uint32_t revroute_next_hops(revroute *session, uint32_t *hops, size_t room, size_t *length);
+revroute_status revroute_hops(revroute *session, uint32_t *hops, size_t room, size_t *length);
 
 /* Writes the nodes whose next hop the last accepted round changed, in push order: each node after those of them on its
  * new route. Refused calls and questions do not change this list. O(r) for r of these nodes.
@@ -268,10 +311,10 @@ uint32_t revroute_next_hops(revroute *session, uint32_t *hops, size_t room, size
  * A number that is not a node of the network before or after the round counts as cut off there, and before the first
  * network all numbers do. So if the new network is smaller, the nodes that are gone and had a hop are on the list.
  * revroute_next_hop returns REVROUTE_NO_SUCH_NODE for them: treat this as no hop. */
-uint32_t revroute_rerouted(revroute *session, uint32_t *nodes, size_t room, size_t *length);
+revroute_status revroute_changed(revroute *session, uint32_t *nodes, size_t room, size_t *length);
 
 /* Writes the nodes whose hop in the caller's table is not their next hop, in push order: each node after those of them
- * on its route. The table has `count` hops, one for each node in the order of the nodes, as revroute_next_hops writes
+ * on its route. The table has `count` hops, one for each node in the order of the nodes, as revroute_hops writes
  * them: a node, REVROUTE_HERE or REVROUTE_CUT_OFF. It may contain loops.
  *
  * Give the table the next hops of these nodes, one after the other. At the end all its hops are next hops, and at no
@@ -279,33 +322,34 @@ uint32_t revroute_rerouted(revroute *session, uint32_t *nodes, size_t room, size
  *
  * REVROUTE_NO_TABLE if it does not have one hop for each node, or one of its hops names no node. REVROUTE_NO_MEMORY if
  * memory ran out. O(n). */
-uint32_t revroute_pushes(revroute *session, const uint32_t *table, size_t count, uint32_t *nodes, size_t room,
-                         size_t *length);
+revroute_status revroute_pushes(revroute *session, const uint32_t *table, size_t count, uint32_t *nodes, size_t room,
+                                size_t *length);
 
 /* Writes how often each node turned in the last round, in the order of the nodes. O(n). */
-uint32_t revroute_counts(revroute *session, uint64_t *counts, size_t room, size_t *length);
+revroute_status revroute_counts(revroute *session, uint64_t *counts, size_t room, size_t *length);
 
 /* Writes the nodes on the route from a node to the destination, both included. REVROUTE_NO_ROUTE if there is no route.
  * REVROUTE_NO_MEMORY if memory ran out. O(r) for r nodes on the route. */
-uint32_t revroute_route(revroute *session, uint32_t node, uint32_t *nodes, size_t room, size_t *length);
+revroute_status revroute_walk(revroute *session, uint32_t node, uint32_t *nodes, size_t room, size_t *length);
 
-/* Writes the links, ordered by tail and then by head. Each link takes two places, tail first, so *length is twice the
- * number of links. REVROUTE_NO_MEMORY if memory ran out. O(n + m). */
-uint32_t revroute_links(revroute *session, uint32_t *ends, size_t room, size_t *length);
+/* Writes the links, ordered by tail and then by head. REVROUTE_NO_MEMORY if memory ran out. O(n + m). */
+revroute_status revroute_links(revroute *session, revroute_link *links, size_t room, size_t *length);
 
-/* Reports the last round: the number of turns, and the number of nodes that are cut off. REVROUTE_NO_NETWORK, with 0
- * in both, if there is no network yet. O(1). */
-uint32_t revroute_report(revroute *session, uint64_t *turned, uint64_t *cut_off);
+/* Reports the last round. REVROUTE_NO_NETWORK, with 0 for both numbers, if there is no network yet. O(1). */
+revroute_status revroute_report(revroute *session, revroute_round *round);
+
+/* Returns the destination, or REVROUTE_NO_HOP if there is no network yet. O(1). */
+uint32_t revroute_dest(revroute *session);
 
 /* Reports the number of nodes and the number of links. REVROUTE_NO_NETWORK, with 0 in both, if there is no network
  * yet. O(1). */
-uint32_t revroute_size(revroute *session, uint32_t *nodes, size_t *links);
+revroute_status revroute_size(revroute *session, uint32_t *nodes, size_t *links);
 
 /* Readers. A reader returns next hops while other threads use the session and other readers. It waits for nobody and
  * takes no lock: a hop is one load.
  *
  * All readers of a session read one table, which has a hop for each number below 4,096. Once a session has a reader,
- * each accepted round pushes the changed hops to this table, in push order (as revroute_rerouted lists them), before
+ * each accepted round pushes the changed hops to this table, in push order (as revroute_changed lists them), before
  * its call returns. So:
  *
  * - At every moment the table has no loop.
@@ -323,8 +367,13 @@ typedef struct revroute_reader {
     void *at;
 } revroute_reader;
 
-/* The null reader. It reads nothing and holds no memory: revroute_reader reader = REVROUTE_NO_READER; */
-#define REVROUTE_NO_READER {NULL}
+/* The null reader. It reads nothing and holds no memory. Initialize or assign a reader with it:
+ * revroute_reader reader = REVROUTE_NO_READER; */
+#ifdef __cplusplus
+#define REVROUTE_NO_READER (revroute_reader{NULL})
+#else
+#define REVROUTE_NO_READER (__extension__(revroute_reader){NULL})
+#endif
 
 /* Opens a reader of the session's next hops in *reader. A reader that was there is closed. The session may be without
  * a network: then all nodes are cut off.
@@ -335,13 +384,13 @@ typedef struct revroute_reader {
  * The first reader of a session takes 32 KiB of memory, and O(4,096 + n); each later one O(1). Once a session has had
  * a reader, each accepted round costs one more load, and one more store for each rerouted node, however many readers
  * there are. */
-uint32_t revroute_reader_open(revroute *session, revroute_reader *reader);
+revroute_status revroute_reader_open(revroute *session, revroute_reader *reader);
 
 /* Opens one more reader of the same table in *other, which must be another handle. A reader that was there is closed.
  *
  * REVROUTE_ANSWERED; REVROUTE_NO_NETWORK if `reader` is null; REVROUTE_NO_MEMORY if memory ran out. After the last two
  * *other is unchanged. O(1). */
-uint32_t revroute_reader_copy(revroute_reader *reader, revroute_reader *other);
+revroute_status revroute_reader_copy(revroute_reader *reader, revroute_reader *other);
 
 /* Returns the next hop of a node, with the values of revroute_next_hop. For a number below 4,096 that is not a node of
  * the network this is REVROUTE_CUT_OFF, and for a number from 4,096 on REVROUTE_NO_SUCH_NODE. For a null reader it is
@@ -358,7 +407,8 @@ uint32_t revroute_reader_next_hop(revroute_reader *reader, uint32_t node);
  *
  * In every case the array keeps the nodes that were walked. If it has room for all nodes of the network, the walk is
  * too long only while hops are pushed. It needs no memory. O(r) for a walk of r nodes. */
-uint32_t revroute_reader_route(revroute_reader *reader, uint32_t node, uint32_t *nodes, size_t room, size_t *length);
+revroute_status revroute_reader_walk(revroute_reader *reader, uint32_t node, uint32_t *nodes, size_t room,
+                                     size_t *length);
 
 /* Closes a reader, which is then as REVROUTE_NO_READER made it. The table is freed once its session and all its
  * readers are closed. O(1), or O(4,096) if the table is freed. */
@@ -372,7 +422,163 @@ void revroute_reader_close(revroute_reader *reader);
 
 /* Writes the version of the library, in the form of REVROUTE_VERSION, to the front of the buffer `text`, which has
  * `room` bytes. REVROUTE_ANSWERED or REVROUTE_TOO_SHORT. In both cases *length is the length of the version. O(1). */
-uint32_t revroute_version(uint8_t *text, size_t room, size_t *length);
+revroute_status revroute_version(uint8_t *text, size_t room, size_t *length);
+
+/* The rest of this file is not for reading: it has no new call.
+ *
+ * The library takes no null pointer, not even to an array without elements. So here each call that takes an array
+ * passes another address instead of null. Nothing is read or written there. A file that defines REVROUTE_SYMBOLS before
+ * it includes this header gets the library's own calls. */
+#ifndef REVROUTE_SYMBOLS
+#define REVROUTE_SOME(type, at, other) ((at) ? (at) : (type *)(void *)(other))
+
+static inline revroute_status revroute_open_(revroute *session_, uint32_t nodes_, uint32_t dest_,
+                                             const revroute_link *links_, size_t count_, revroute_round *round_,
+                                             revroute_refusal *refusal_) {
+    return revroute_open(session_, nodes_, dest_, REVROUTE_SOME(const revroute_link, links_, session_), count_, round_,
+                         refusal_);
+}
+#define revroute_open revroute_open_
+
+static inline revroute_status revroute_change_(revroute *session_, const revroute_edit *edits_, size_t count_,
+                                               revroute_round *round_, revroute_refusal *refusal_) {
+    return revroute_change(session_, REVROUTE_SOME(const revroute_edit, edits_, session_), count_, round_, refusal_);
+}
+#define revroute_change revroute_change_
+
+static inline revroute_status revroute_closed_walk_(revroute *session_, const revroute_edit *edits_, size_t count_,
+                                                    uint32_t *nodes_, size_t room_, size_t *length_) {
+    return revroute_closed_walk(session_, REVROUTE_SOME(const revroute_edit, edits_, session_), count_,
+                                REVROUTE_SOME(uint32_t, nodes_, length_), room_, length_);
+}
+#define revroute_closed_walk revroute_closed_walk_
+
+static inline revroute_status revroute_closed_walk_of_(uint32_t nodes_, const revroute_link *links_, size_t count_,
+                                                       uint32_t *walk_, size_t room_, size_t *length_) {
+    const revroute_link none_ = {0, 0};
+    return revroute_closed_walk_of(nodes_, links_ ? links_ : &none_, count_, REVROUTE_SOME(uint32_t, walk_, length_),
+                                   room_, length_);
+}
+#define revroute_closed_walk_of revroute_closed_walk_of_
+
+static inline revroute_status revroute_answer_(revroute *session_, const uint8_t *line_, size_t line_length_,
+                                               uint8_t *answer_, size_t room_, size_t *length_) {
+    return revroute_answer(session_, REVROUTE_SOME(const uint8_t, line_, session_), line_length_,
+                           REVROUTE_SOME(uint8_t, answer_, length_), room_, length_);
+}
+#define revroute_answer revroute_answer_
+
+static inline revroute_status revroute_take_(revroute *session_, const uint8_t *piece_, size_t piece_length_,
+                                             uint8_t *answer_, size_t room_, size_t *length_, size_t *taken_) {
+    return revroute_take(session_, REVROUTE_SOME(const uint8_t, piece_, session_), piece_length_,
+                         REVROUTE_SOME(uint8_t, answer_, length_), room_, length_, taken_);
+}
+#define revroute_take revroute_take_
+
+static inline revroute_status revroute_finish_(revroute *session_, uint8_t *answer_, size_t room_, size_t *length_) {
+    return revroute_finish(session_, REVROUTE_SOME(uint8_t, answer_, length_), room_, length_);
+}
+#define revroute_finish revroute_finish_
+
+static inline revroute_status revroute_hops_(revroute *session_, uint32_t *hops_, size_t room_, size_t *length_) {
+    return revroute_hops(session_, REVROUTE_SOME(uint32_t, hops_, length_), room_, length_);
+}
+#define revroute_hops revroute_hops_
+
+static inline revroute_status revroute_changed_(revroute *session_, uint32_t *nodes_, size_t room_, size_t *length_) {
+    return revroute_changed(session_, REVROUTE_SOME(uint32_t, nodes_, length_), room_, length_);
+}
+#define revroute_changed revroute_changed_
+
+static inline revroute_status revroute_pushes_(revroute *session_, const uint32_t *table_, size_t count_,
+                                               uint32_t *nodes_, size_t room_, size_t *length_) {
+    return revroute_pushes(session_, REVROUTE_SOME(const uint32_t, table_, session_), count_,
+                           REVROUTE_SOME(uint32_t, nodes_, length_), room_, length_);
+}
+#define revroute_pushes revroute_pushes_
+
+static inline revroute_status revroute_counts_(revroute *session_, uint64_t *counts_, size_t room_, size_t *length_) {
+    return revroute_counts(session_, REVROUTE_SOME(uint64_t, counts_, length_), room_, length_);
+}
+#define revroute_counts revroute_counts_
+
+static inline revroute_status revroute_walk_(revroute *session_, uint32_t node_, uint32_t *nodes_, size_t room_,
+                                             size_t *length_) {
+    return revroute_walk(session_, node_, REVROUTE_SOME(uint32_t, nodes_, length_), room_, length_);
+}
+#define revroute_walk revroute_walk_
+
+static inline revroute_status revroute_links_(revroute *session_, revroute_link *links_, size_t room_,
+                                              size_t *length_) {
+    return revroute_links(session_, REVROUTE_SOME(revroute_link, links_, length_), room_, length_);
+}
+#define revroute_links revroute_links_
+
+static inline revroute_status revroute_reader_walk_(revroute_reader *reader_, uint32_t node_, uint32_t *nodes_,
+                                                    size_t room_, size_t *length_) {
+    return revroute_reader_walk(reader_, node_, REVROUTE_SOME(uint32_t, nodes_, length_), room_, length_);
+}
+#define revroute_reader_walk revroute_reader_walk_
+
+static inline revroute_status revroute_version_(uint8_t *text_, size_t room_, size_t *length_) {
+    return revroute_version(REVROUTE_SOME(uint8_t, text_, length_), room_, length_);
+}
+#define revroute_version revroute_version_
+
+#undef REVROUTE_SOME
+#endif
+
+/* The names of version 0.1, for one version more. */
+#ifdef __GNUC__
+#define REVROUTE_OLD(instead) __attribute__((__deprecated__("use " instead))) static inline
+#else
+#define REVROUTE_OLD(instead) static inline
+#endif
+
+REVROUTE_OLD("revroute_move_dest") revroute_status
+revroute_move(revroute *session_, uint32_t dest_, revroute_round *round_, revroute_refusal *refusal_) {
+    return revroute_move_dest(session_, dest_, round_, refusal_);
+}
+
+REVROUTE_OLD("revroute_hops") revroute_status
+revroute_next_hops(revroute *session_, uint32_t *hops_, size_t room_, size_t *length_) {
+    return revroute_hops(session_, hops_, room_, length_);
+}
+
+REVROUTE_OLD("revroute_changed") revroute_status
+revroute_rerouted(revroute *session_, uint32_t *nodes_, size_t room_, size_t *length_) {
+    return revroute_changed(session_, nodes_, room_, length_);
+}
+
+REVROUTE_OLD("revroute_walk") revroute_status
+revroute_route(revroute *session_, uint32_t node_, uint32_t *nodes_, size_t room_, size_t *length_) {
+    return revroute_walk(session_, node_, nodes_, room_, length_);
+}
+
+REVROUTE_OLD("revroute_reader_walk") revroute_status
+revroute_reader_route(revroute_reader *reader_, uint32_t node_, uint32_t *nodes_, size_t room_, size_t *length_) {
+    return revroute_reader_walk(reader_, node_, nodes_, room_, length_);
+}
+
+/* What revroute_links was: each link takes two places, tail first, and *length is twice the number of links. */
+REVROUTE_OLD("revroute_links") revroute_status
+revroute_links_numbers(revroute *session_, uint32_t *ends_, size_t room_, size_t *length_) {
+    revroute_status status_ = revroute_links(session_, (revroute_link *)(void *)ends_, room_ / 2, length_);
+    *length_ *= 2;
+    return status_;
+}
+
+/* What revroute_report was: the two numbers apart. */
+REVROUTE_OLD("revroute_report") revroute_status
+revroute_report_numbers(revroute *session_, uint64_t *turned_, uint64_t *cut_off_) {
+    revroute_round round_;
+    revroute_status status_ = revroute_report(session_, &round_);
+    *turned_ = round_.turned;
+    *cut_off_ = round_.cut_off;
+    return status_;
+}
+
+#undef REVROUTE_OLD
 
 #ifdef __cplusplus
 }

@@ -64,9 +64,9 @@ static int is_same(answer one, answer other) {
 /* The nodes that the last round rerouted, as bytes. */
 static answer rerouted_of(revroute *session) {
     size_t count;
-    revroute_rerouted(session, (uint32_t[1]){0}, 0, &count);
+    revroute_changed(session, (uint32_t[1]){0}, 0, &count);
     uint32_t *nodes = grown(NULL, (count + 1) * sizeof *nodes);
-    if (revroute_rerouted(session, nodes, count, &count) != REVROUTE_ANSWERED) stop("rerouted nodes cannot be told");
+    if (revroute_changed(session, nodes, count, &count) != REVROUTE_ANSWERED) stop("rerouted nodes cannot be told");
     return (answer){REVROUTE_ANSWERED, (uint8_t *)nodes, count * sizeof *nodes};
 }
 

@@ -88,7 +88,7 @@ static void walk_all(revroute_reader *reader) {
         uint32_t *place = place_end - room;
         for (size_t at = 0; at < room; at++) place[at] = UNTOUCHED;
         size_t length = 99, walked = room < 3 ? room : 3;
-        uint32_t status = revroute_reader_route(reader, 2, place, room, &length);
+        uint32_t status = revroute_reader_walk(reader, 2, place, room, &length);
         if (status != (room < 3 ? REVROUTE_TOO_SHORT : REVROUTE_ANSWERED)) stop("a walk has another end");
         if (length != (room < 3 ? room + 1 : 3)) stop("a walk has another length");
         for (size_t at = 0; at < room; at++)
@@ -105,14 +105,14 @@ static void ask_outside(revroute_reader *reader) {
     for (int at = 0; at < 3; at++) {
         length = 99;
         if (revroute_reader_next_hop(reader, cut_off[at]) != REVROUTE_CUT_OFF) stop("what is no node has a hop");
-        uint32_t status = revroute_reader_route(reader, cut_off[at], place, 2, &length);
+        uint32_t status = revroute_reader_walk(reader, cut_off[at], place, 2, &length);
         if (status != REVROUTE_NO_ROUTE || length) stop("what is no node has a route");
         if (place[0] != cut_off[at]) stop("a walk that is cut off does not leave its nodes");
     }
     for (int at = 0; at < 4; at++) {
         length = 99;
         if (revroute_reader_next_hop(reader, outside[at]) != REVROUTE_NO_SUCH_NODE) stop("no node has a hop");
-        uint32_t status = revroute_reader_route(reader, outside[at], place, 2, &length);
+        uint32_t status = revroute_reader_walk(reader, outside[at], place, 2, &length);
         if (status != REVROUTE_NO_ROUTE || length) stop("no node has a route");
     }
 }
@@ -123,7 +123,7 @@ static void ask_null(void) {
     size_t length = 99;
     uint32_t *place = place_end - 2;
     if (revroute_reader_next_hop(&none, 0) != REVROUTE_NO_HOP) stop("no reader has a hop");
-    uint32_t status = revroute_reader_route(&none, 0, place, 2, &length);
+    uint32_t status = revroute_reader_walk(&none, 0, place, 2, &length);
     if (status != REVROUTE_NO_NETWORK || length) stop("no reader has a route");
     if (revroute_reader_copy(&none, &other) != REVROUTE_NO_NETWORK || other.at) stop("no reader has a copy");
     revroute_reader_close(&none);

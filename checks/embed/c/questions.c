@@ -45,13 +45,13 @@ static void tell_counts(const uint64_t *counts, size_t count, char *text) {
 }
 
 static uint32_t *hops_of(revroute *session, size_t *count) {
-    uint32_t status = revroute_next_hops(session, (uint32_t[1]){0}, 0, count);
+    uint32_t status = revroute_hops(session, NULL, 0, count);
     if (status == REVROUTE_NO_NETWORK && *count == 0) return NULL;
     if (status != REVROUTE_TOO_SHORT) stop("no room was enough for the hops");
     uint32_t *hops = grown(NULL, *count * sizeof *hops);
     hops[0] = 77;
-    if (revroute_next_hops(session, hops, *count - 1, count) != REVROUTE_TOO_SHORT || hops[0] != 77) stop("hops were written though not asked");
-    if (revroute_next_hops(session, hops, *count, count) != REVROUTE_ANSWERED) stop("there are no hops");
+    if (revroute_hops(session, hops, *count - 1, count) != REVROUTE_TOO_SHORT || hops[0] != 77) stop("hops were written though not asked");
+    if (revroute_hops(session, hops, *count, count) != REVROUTE_ANSWERED) stop("there are no hops");
     for (uint32_t x = 0; x < *count; x++)
         if (revroute_next_hop(session, x) != hops[x]) stop("a hop differs from that of all");
     if (revroute_next_hop(session, (uint32_t)*count) != REVROUTE_NO_SUCH_NODE) stop("there is a hop behind the last node");
@@ -80,12 +80,12 @@ static void compare_routes(revroute *session, size_t count) {
     for (uint32_t x = 0; x < count; x++) {
         sprintf(asked, "[\"walk\",%lu]", (unsigned long)x);
         ask(session, asked, told);
-        uint32_t status = revroute_route(session, x, (uint32_t[1]){0}, 0, &length);
+        uint32_t status = revroute_walk(session, x, NULL, 0, &length);
         uint32_t *nodes = grown(NULL, (length + 1) * sizeof *nodes);
         nodes[0] = 77;
-        if (status == REVROUTE_TOO_SHORT && (revroute_route(session, x, nodes, length - 1, &none) != REVROUTE_TOO_SHORT || nodes[0] != 77 || none != length))
+        if (status == REVROUTE_TOO_SHORT && (revroute_walk(session, x, nodes, length - 1, &none) != REVROUTE_TOO_SHORT || nodes[0] != 77 || none != length))
             stop("a route was written though it has no room");
-        if (status == REVROUTE_TOO_SHORT) status = revroute_route(session, x, nodes, length, &length);
+        if (status == REVROUTE_TOO_SHORT) status = revroute_walk(session, x, nodes, length, &length);
         char *text = made + sprintf(made, "walk");
         if (status == REVROUTE_NO_ROUTE && length == 0) sprintf(text, " %lu cut", (unsigned long)x);
         else if (status != REVROUTE_ANSWERED) stop("a node has no route");
@@ -94,7 +94,7 @@ static void compare_routes(revroute *session, size_t count) {
         free(nodes);
     }
     uint32_t spare[MOST] = {77};
-    if (revroute_route(session, (uint32_t)count, spare, MOST, &length) != REVROUTE_NO_ROUTE || length || spare[0] != 77)
+    if (revroute_walk(session, (uint32_t)count, spare, MOST, &length) != REVROUTE_NO_ROUTE || length || spare[0] != 77)
         stop("there is a route from behind the last node");
 }
 
@@ -102,38 +102,39 @@ static void compare_routes(revroute *session, size_t count) {
 static void compare_links(revroute *session) {
     char told[TEXT], made[TEXT];
     size_t length, none;
-    uint32_t status = revroute_links(session, (uint32_t[1]){0}, 0, &length);
-    if ((status == REVROUTE_ANSWERED) != (length == 0) || length % 2) stop("no room was enough for the links");
-    uint32_t *ends = grown(NULL, (length + 1) * sizeof *ends);
-    ends[0] = 77;
-    if (length && (revroute_links(session, ends, length - 1, &none) != REVROUTE_TOO_SHORT || ends[0] != 77 || none != length)) stop("links were written though they have no room");
-    if (revroute_links(session, ends, length, &length) != REVROUTE_ANSWERED) stop("there are no links");
+    uint32_t status = revroute_links(session, NULL, 0, &length);
+    if ((status == REVROUTE_ANSWERED) != (length == 0)) stop("no room was enough for the links");
+    revroute_link *links = grown(NULL, (length + 1) * sizeof *links);
+    links[0].tail = 77;
+    if (length && (revroute_links(session, links, length - 1, &none) != REVROUTE_TOO_SHORT || links[0].tail != 77 || none != length)) stop("links were written though they have no room");
+    if (revroute_links(session, links, length, &length) != REVROUTE_ANSWERED) stop("there are no links");
     char *text = made + sprintf(made, "links");
-    for (size_t at = 0; at < length; at += 2) text += sprintf(text, " %lu>%lu", (unsigned long)ends[at], (unsigned long)ends[at + 1]);
+    for (size_t at = 0; at < length; at++) text += sprintf(text, " %lu>%lu", (unsigned long)links[at].tail, (unsigned long)links[at].head);
     ask(session, "[\"links\"]", told);
     if (strcmp(told, made)) stop("the links differ from the line's");
-    free(ends);
+    free(links);
 }
 
 /* The report and the size, from the answer of the round and from the links. */
 static void compare_numbers(revroute *session, size_t count, const char *answer) {
     char told[TEXT], made[64];
-    uint64_t turned, cut_off;
+    revroute_round round;
     uint32_t nodes;
     size_t links, spaces = 0;
-    if (revroute_report(session, &turned, &cut_off) != REVROUTE_ANSWERED) stop("there is no report");
-    sprintf(made, "turned %llu cut %llu", (unsigned long long)turned, (unsigned long long)cut_off);
+    if (revroute_report(session, &round) != REVROUTE_ANSWERED) stop("there is no report");
+    sprintf(made, "turned %llu cut %llu", (unsigned long long)round.turned, (unsigned long long)round.cut_off);
     if (strcmp(answer, made)) stop("the report differs from the line's");
     ask(session, "[\"links\"]", told);
     for (const char *at = told; *at; at++) spaces += *at == ' ';
     if (revroute_size(session, &nodes, &links) != REVROUTE_ANSWERED || nodes != count || links != spaces) stop("the size is another");
+    if (revroute_next_hop(session, revroute_dest(session)) != REVROUTE_HERE) stop("the destination is another");
 }
 
 static uint32_t *rerouted_of(revroute *session, size_t *count) {
-    uint32_t status = revroute_rerouted(session, (uint32_t[1]){0}, 0, count);
+    uint32_t status = revroute_changed(session, NULL, 0, count);
     if ((status == REVROUTE_ANSWERED) != (*count == 0)) stop("no room was enough for the nodes that are rerouted");
     uint32_t *nodes = grown(NULL, (*count + 1) * sizeof *nodes);
-    if (revroute_rerouted(session, nodes, *count, count) != REVROUTE_ANSWERED) stop("rerouted nodes cannot be told");
+    if (revroute_changed(session, nodes, *count, count) != REVROUTE_ANSWERED) stop("rerouted nodes cannot be told");
     return nodes;
 }
 
@@ -179,15 +180,16 @@ static void draw_network(uint32_t count, char *asked) {
 
 /* A network of this many nodes, with most links of the last network, and mostly its destination. */
 static void draw_resized(revroute *session, uint32_t last, uint32_t count, char *asked) {
-    uint32_t ends[MOST * (MOST - 1)], dest = draw(count);
+    revroute_link links[MOST * (MOST - 1) / 2];
+    uint32_t dest = draw(count);
     size_t length;
     bool any = false;
-    if (revroute_links(session, ends, MOST * (MOST - 1), &length) != REVROUTE_ANSWERED) stop("there are no links");
+    if (revroute_links(session, links, MOST * (MOST - 1) / 2, &length) != REVROUTE_ANSWERED) stop("there are no links");
     for (uint32_t x = 0; x < count && draw(8); x++)
         if (revroute_next_hop(session, x) == REVROUTE_HERE) dest = x;
     char *at = asked + sprintf(asked, "[\"net\",%u,%u,[", (unsigned)count, (unsigned)dest);
-    for (size_t end = 0; end < length; end += 2)
-        if (ends[end] < count && ends[end + 1] < count && draw(6)) at = put_link(at, &any, ends[end], ends[end + 1]);
+    for (const revroute_link *it = links; it < links + length; it++)
+        if (it->tail < count && it->head < count && draw(6)) at = put_link(at, &any, it->tail, it->head);
     sprintf(put_links(at, &any, last, count), "]]");
 }
 
@@ -235,14 +237,16 @@ static size_t step(revroute *session, const char *asked) {
 
 /* The answers before the first network. */
 static void look_at_nothing(revroute *session) {
-    uint64_t turned = 7, cut_off = 7;
+    revroute_round round = {7, 7};
+    revroute_link link;
     uint32_t nodes = 7;
     size_t links = 7, length = 7;
-    uint32_t ends[] = {revroute_report(session, &turned, &cut_off), revroute_size(session, &nodes, &links), revroute_route(session, 0, &nodes, 1, &length),
-                       revroute_links(session, &nodes, 1, &length)};
+    revroute_status ends[] = {revroute_report(session, &round), revroute_size(session, &nodes, &links), revroute_walk(session, 0, &nodes, 1, &length),
+                              revroute_links(session, &link, 1, &length)};
     for (size_t at = 0; at < 4; at++)
         if (ends[at] != REVROUTE_NO_NETWORK) stop("there is an answer before there is a network");
-    if (turned || cut_off || nodes || links || length) stop("there are numbers before there is a network");
+    if (revroute_dest(session) != REVROUTE_NO_HOP) stop("there is a destination before there is a network");
+    if (round.turned || round.cut_off || nodes || links || length) stop("there are numbers before there is a network");
 }
 
 /* The versions of the header and of the library must be the same. */

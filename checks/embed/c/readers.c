@@ -94,7 +94,7 @@ static void walk(one *it) {
     uint32_t nodes[ROOM + 1], count = 0, before = done;
     size_t length;
     for (uint32_t at = 0; at <= ROOM; at++) nodes[at] = untouched;
-    uint32_t status = revroute_reader_route(&it->reader, draw_of(&it->drawn, NODES), nodes, ROOM, &length);
+    uint32_t status = revroute_reader_walk(&it->reader, draw_of(&it->drawn, NODES), nodes, ROOM, &length);
     uint32_t after = begun;
     while (nodes[count] != untouched) count++;
     if (count == 0 || length != (status == REVROUTE_NO_ROUTE ? 0 : status == REVROUTE_TOO_SHORT ? ROOM + 1 : count))
@@ -172,8 +172,8 @@ static uint32_t make_change(mesh *it) {
     revroute_refusal refusal;
     uint32_t kind = draw(512);
     if (kind == 0) return open_mesh(it);
-    if (kind < 8) return revroute_move(&it->session, draw(it->nodes), &round, &refusal);
-    if (kind < 24) return revroute_move(&it->session, it->nodes + draw(9), &round, &refusal);
+    if (kind < 8) return revroute_move_dest(&it->session, draw(it->nodes), &round, &refusal);
+    if (kind < 24) return revroute_move_dest(&it->session, it->nodes + draw(9), &round, &refusal);
     if (kind < 64) return change_by_line(it);
     size_t count = kind < 128 ? 2 + draw(MOST_EDITS - 1) : 1;
     for (size_t at = 0; at < count; at++) edits[at] = draw_edit(it);
@@ -184,7 +184,7 @@ static uint32_t make_change(mesh *it) {
 static void log_change(mesh *it) {
     uint32_t nodes[NODES];
     size_t count;
-    if (revroute_rerouted(&it->session, nodes, NODES, &count) != REVROUTE_ANSWERED) stop("there are too many of them");
+    if (revroute_changed(&it->session, nodes, NODES, &count) != REVROUTE_ANSWERED) stop("there are too many of them");
     for (size_t at = 0; at < count; at++) {
         uint32_t hop = revroute_next_hop(&it->session, nodes[at]);
         if (hop == REVROUTE_NO_SUCH_NODE) hop = REVROUTE_CUT_OFF;

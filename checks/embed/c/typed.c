@@ -72,20 +72,23 @@ typedef struct {
 
 /* All that can be asked about a session. */
 typedef struct {
-    uint32_t status, nodes, hops[MOST], rerouted[MOST], ends[MOST * (MOST - 1)];
-    uint64_t counts[MOST], turned, cut_off;
-    size_t links, hops_length, counts_length, rerouted_length, ends_length;
+    uint32_t status, nodes, dest, hops[MOST], rerouted[MOST];
+    revroute_link links[MOST * (MOST - 1) / 2];
+    revroute_round round;
+    uint64_t counts[MOST];
+    size_t size, hops_length, counts_length, rerouted_length, links_length;
 } state;
 
 static state state_of(revroute *session) {
     state all;
     memset(&all, 0, sizeof all);
-    all.status = revroute_size(session, &all.nodes, &all.links);
-    if (revroute_report(session, &all.turned, &all.cut_off) != all.status) stop("there is a report without a size");
-    if (revroute_next_hops(session, all.hops, MOST, &all.hops_length) != all.status) stop("there are no hops");
+    all.status = revroute_size(session, &all.nodes, &all.size);
+    all.dest = revroute_dest(session);
+    if (revroute_report(session, &all.round) != all.status) stop("there is a report without a size");
+    if (revroute_hops(session, all.hops, MOST, &all.hops_length) != all.status) stop("there are no hops");
     if (revroute_counts(session, all.counts, MOST, &all.counts_length) != all.status) stop("there are no counts");
-    if (revroute_links(session, all.ends, MOST * (MOST - 1), &all.ends_length) != all.status) stop("there are no links");
-    if (revroute_rerouted(session, all.rerouted, MOST, &all.rerouted_length) != REVROUTE_ANSWERED) stop("there are no rerouted nodes");
+    if (revroute_links(session, all.links, MOST * (MOST - 1) / 2, &all.links_length) != all.status) stop("there are no links");
+    if (revroute_changed(session, all.rerouted, MOST, &all.rerouted_length) != REVROUTE_ANSWERED) stop("there are no rerouted nodes");
     return all;
 }
 
@@ -96,7 +99,7 @@ static void expect_state(revroute *session, const state *wanted, const char *why
 
 static table table_of(const state *now) {
     table net = {now->nodes, {{false}}};
-    for (size_t at = 0; at < now->ends_length; at += 2) net.points[now->ends[at]][now->ends[at + 1]] = true;
+    for (size_t at = 0; at < now->links_length; at++) net.points[now->links[at].tail][now->links[at].head] = true;
     return net;
 }
 
@@ -127,7 +130,7 @@ static void *fenced(const void *bytes, size_t size) {
 }
 
 static end call(revroute *session, const step *it) {
-    end all = {0, {UNTOUCHED, UNTOUCHED}, {UNTOUCHED, UNTOUCHED, UNTOUCHED, UNTOUCHED}};
+    end all = {0, {UNTOUCHED, UNTOUCHED}, {(revroute_reason)UNTOUCHED, UNTOUCHED, UNTOUCHED, UNTOUCHED}};
     revroute before = *session;
     if (it->what == OPEN) {
         const revroute_link *links = fenced(it->links, it->count * sizeof *links);
@@ -135,11 +138,11 @@ static end call(revroute *session, const step *it) {
     } else if (it->what == CHANGE) {
         const revroute_edit *edits = fenced(it->edits, it->count * sizeof *edits);
         all.status = revroute_change(session, edits, it->count, &all.round, &all.refusal);
-    } else all.status = revroute_move(session, it->dest, &all.round, &all.refusal);
+    } else all.status = revroute_move_dest(session, it->dest, &all.round, &all.refusal);
     bool is_answered = all.status == REVROUTE_ANSWERED, is_refused = all.status == REVROUTE_REFUSED;
     if (!is_answered && (session->at != before.at || all.round.turned != UNTOUCHED || all.round.cut_off != UNTOUCHED))
         stop("a call that is not answered wrote the handle or a round");
-    if (!is_refused && (all.refusal.number != UNTOUCHED || all.refusal.u != UNTOUCHED || all.refusal.v != UNTOUCHED || all.refusal.at != UNTOUCHED))
+    if (!is_refused && ((uint32_t)all.refusal.number != UNTOUCHED || all.refusal.u != UNTOUCHED || all.refusal.v != UNTOUCHED || all.refusal.at != UNTOUCHED))
         stop("a call that is not refused wrote a refusal");
     return all;
 }
@@ -300,8 +303,8 @@ static void draw_links(step *it, const state *now) {
     for (uint32_t u = is_near ? now->nodes : 0; u < it->nodes; u++)
         for (uint32_t v = 0; v < u; v++)
             if (draw(3) == 0) add_link(it, u, v);
-    for (size_t at = 0; is_near && at < now->ends_length; at += 2) {
-        uint32_t tail = now->ends[at], head = now->ends[at + 1];
+    for (size_t at = 0; is_near && at < now->links_length; at++) {
+        uint32_t tail = now->links[at].tail, head = now->links[at].head;
         if (tail < it->nodes && head < it->nodes && draw(6)) add_link(it, tail, head);
     }
     if (it->nodes && draw(3) == 0)

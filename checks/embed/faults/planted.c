@@ -1,30 +1,32 @@
 /* The library with a fault in it. checks/embed/can-fail builds it with each FAULT. The names of the real calls begin
  * with engine_ there. */
+#define REVROUTE_SYMBOLS
 #include <revroute.h>
 #include <stdlib.h>
 #include <string.h>
 
-uint32_t engine_answer(revroute *, const uint8_t *, size_t, uint8_t *, size_t, size_t *);
-uint32_t engine_change(revroute *, const revroute_edit *, size_t, revroute_round *, revroute_refusal *);
+revroute_status engine_answer(revroute *, const uint8_t *, size_t, uint8_t *, size_t, size_t *);
+revroute_status engine_change(revroute *, const revroute_edit *, size_t, revroute_round *, revroute_refusal *);
 void engine_close(revroute *);
-uint32_t engine_closed_walk(revroute *, const revroute_edit *, size_t, uint32_t *, size_t, size_t *);
-uint32_t engine_closed_walk_of(uint32_t, const revroute_link *, size_t, uint32_t *, size_t, size_t *);
-uint32_t engine_finish(revroute *, uint8_t *, size_t, size_t *);
-uint32_t engine_links(revroute *, uint32_t *, size_t, size_t *);
-uint32_t engine_move(revroute *, uint32_t, revroute_round *, revroute_refusal *);
-uint32_t engine_open(revroute *, uint32_t, uint32_t, const revroute_link *, size_t, revroute_round *, revroute_refusal *);
-uint32_t engine_pushes(revroute *, const uint32_t *, size_t, uint32_t *, size_t, size_t *);
+revroute_status engine_closed_walk(revroute *, const revroute_edit *, size_t, uint32_t *, size_t, size_t *);
+revroute_status engine_closed_walk_of(uint32_t, const revroute_link *, size_t, uint32_t *, size_t, size_t *);
+uint32_t engine_dest(revroute *);
+revroute_status engine_finish(revroute *, uint8_t *, size_t, size_t *);
+revroute_status engine_links(revroute *, revroute_link *, size_t, size_t *);
+revroute_status engine_move_dest(revroute *, uint32_t, revroute_round *, revroute_refusal *);
+revroute_status engine_open(revroute *, uint32_t, uint32_t, const revroute_link *, size_t, revroute_round *, revroute_refusal *);
+revroute_status engine_pushes(revroute *, const uint32_t *, size_t, uint32_t *, size_t, size_t *);
 void engine_reader_close(revroute_reader *);
-uint32_t engine_reader_copy(revroute_reader *, revroute_reader *);
+revroute_status engine_reader_copy(revroute_reader *, revroute_reader *);
 uint32_t engine_reader_next_hop(revroute_reader *, uint32_t);
-uint32_t engine_reader_open(revroute *, revroute_reader *);
-uint32_t engine_reader_route(revroute_reader *, uint32_t, uint32_t *, size_t, size_t *);
-uint32_t engine_report(revroute *, uint64_t *, uint64_t *);
-uint32_t engine_rerouted(revroute *, uint32_t *, size_t, size_t *);
-uint32_t engine_route(revroute *, uint32_t, uint32_t *, size_t, size_t *);
-uint32_t engine_size(revroute *, uint32_t *, size_t *);
-uint32_t engine_take(revroute *, const uint8_t *, size_t, uint8_t *, size_t, size_t *, size_t *);
-uint32_t engine_version(uint8_t *, size_t, size_t *);
+revroute_status engine_reader_open(revroute *, revroute_reader *);
+revroute_status engine_reader_walk(revroute_reader *, uint32_t, uint32_t *, size_t, size_t *);
+revroute_status engine_report(revroute *, revroute_round *);
+revroute_status engine_changed(revroute *, uint32_t *, size_t, size_t *);
+revroute_status engine_walk(revroute *, uint32_t, uint32_t *, size_t, size_t *);
+revroute_status engine_size(revroute *, uint32_t *, size_t *);
+revroute_status engine_take(revroute *, const uint8_t *, size_t, uint8_t *, size_t, size_t *, size_t *);
+revroute_status engine_version(uint8_t *, size_t, size_t *);
 
 enum {
     no_fault,
@@ -54,6 +56,7 @@ enum {
     a_route_without_the_destination,
     a_route_of_a_node_that_is_none,
     a_report_of_another_round,
+    a_destination_of_its_own,
     a_link_too_few,
     a_link_told_backwards,
     a_round_of_another_call,
@@ -109,7 +112,7 @@ static int wants_memory(const revroute *session) {
     return is_refused;
 }
 
-uint32_t revroute_answer(revroute *session, const uint8_t *line, size_t line_length, uint8_t *answer, size_t room,
+revroute_status revroute_answer(revroute *session, const uint8_t *line, size_t line_length, uint8_t *answer, size_t room,
                          size_t *length) {
     static revroute shared = REVROUTE_NEW;
     if (FAULT == an_answer_that_ends_what_has_begun && room >= REVROUTE_LEAST_ROOM) engine_finish(session, answer, room, length);
@@ -142,7 +145,7 @@ static void keep(revroute *session, const uint8_t *piece, size_t piece_length) {
     engine_take(session, piece, end ? (size_t)(end - piece) : piece_length, spare, sizeof spare, &length, &taken);
 }
 
-uint32_t revroute_take(revroute *session, const uint8_t *piece, size_t piece_length, uint8_t *answer, size_t room,
+revroute_status revroute_take(revroute *session, const uint8_t *piece, size_t piece_length, uint8_t *answer, size_t room,
                        size_t *length, size_t *taken) {
     int is_kept = !piece_length || !memchr(piece, '\n', piece_length);
     if (FAULT == the_piece_read_too_far && piece[piece_length] == 0xff) return REVROUTE_BEGUN;
@@ -167,7 +170,7 @@ uint32_t revroute_take(revroute *session, const uint8_t *piece, size_t piece_len
     return status;
 }
 
-uint32_t revroute_finish(revroute *session, uint8_t *answer, size_t room, size_t *length) {
+revroute_status revroute_finish(revroute *session, uint8_t *answer, size_t room, size_t *length) {
     if (FAULT == an_empty_input_without_memory && room > REVROUTE_LEAST_ROOM && !session->at) {
         *length = 0;
         return REVROUTE_NO_MEMORY;
@@ -178,44 +181,48 @@ uint32_t revroute_finish(revroute *session, uint8_t *answer, size_t room, size_t
     return REVROUTE_BLANK;
 }
 
-uint32_t revroute_route(revroute *session, uint32_t node, uint32_t *nodes, size_t room, size_t *length) {
-    uint32_t status = engine_route(session, node, nodes, room, length);
+revroute_status revroute_walk(revroute *session, uint32_t node, uint32_t *nodes, size_t room, size_t *length) {
+    uint32_t status = engine_walk(session, node, nodes, room, length);
     if (FAULT == a_route_without_the_destination && status == REVROUTE_ANSWERED && *length > 1) --*length;
     if (FAULT == a_route_of_a_node_that_is_none && status == REVROUTE_NO_ROUTE && room) {
         uint32_t nodes_before;
         size_t links;
         engine_size(session, &nodes_before, &links);
-        return node < nodes_before ? status : engine_route(session, nodes_before - 1, nodes, room, length);
+        return node < nodes_before ? status : engine_walk(session, nodes_before - 1, nodes, room, length);
     }
     return status;
 }
 
-uint32_t revroute_links(revroute *session, uint32_t *ends, size_t room, size_t *length) {
-    uint32_t status = engine_links(session, ends, room, length);
+revroute_status revroute_links(revroute *session, revroute_link *links, size_t room, size_t *length) {
+    revroute_status status = engine_links(session, links, room, length);
     if (FAULT == a_link_told_backwards && status == REVROUTE_ANSWERED && *length) {
-        uint32_t tail = ends[*length - 2];
-        ends[*length - 2] = ends[*length - 1];
-        ends[*length - 1] = tail;
+        revroute_link last = links[*length - 1];
+        links[*length - 1] = (revroute_link){last.head, last.tail};
     }
     return status;
 }
 
-uint32_t revroute_report(revroute *session, uint64_t *turned, uint64_t *cut_off) {
+revroute_status revroute_report(revroute *session, revroute_round *round) {
     static uint64_t last;
-    uint32_t status = engine_report(session, turned, cut_off);
-    uint64_t now = *turned;
-    if (FAULT == a_report_of_another_round) *turned = last;
+    revroute_status status = engine_report(session, round);
+    uint64_t now = round->turned;
+    if (FAULT == a_report_of_another_round) round->turned = last;
     last = now;
     return status;
 }
 
-uint32_t revroute_size(revroute *session, uint32_t *nodes, size_t *links) {
+uint32_t revroute_dest(revroute *session) {
+    uint32_t dest = engine_dest(session);
+    return FAULT == a_destination_of_its_own && dest != REVROUTE_NO_HOP ? 0 : dest;
+}
+
+revroute_status revroute_size(revroute *session, uint32_t *nodes, size_t *links) {
     uint32_t status = engine_size(session, nodes, links);
     if (FAULT == a_link_too_few && *links) --*links;
     return status;
 }
 
-uint32_t revroute_open(revroute *session, uint32_t nodes, uint32_t dest, const revroute_link *links, size_t count,
+revroute_status revroute_open(revroute *session, uint32_t nodes, uint32_t dest, const revroute_link *links, size_t count,
                        revroute_round *round, revroute_refusal *refusal) {
     if (FAULT == a_network_refused_for_its_last_fault && dest >= nodes) links += count, count = 0;
     uint32_t status = engine_open(session, nodes, dest, links, count, round, refusal);
@@ -225,7 +232,7 @@ uint32_t revroute_open(revroute *session, uint32_t nodes, uint32_t dest, const r
     return status;
 }
 
-uint32_t revroute_change(revroute *session, const revroute_edit *edits, size_t count, revroute_round *round,
+revroute_status revroute_change(revroute *session, const revroute_edit *edits, size_t count, revroute_round *round,
                          revroute_refusal *refusal) {
     static revroute_round last;
     if (FAULT == the_edits_read_too_far && edits[count].kind == 0xff) return REVROUTE_NO_MEMORY;
@@ -251,12 +258,12 @@ uint32_t revroute_change(revroute *session, const revroute_edit *edits, size_t c
     return status;
 }
 
-uint32_t revroute_move(revroute *session, uint32_t dest, revroute_round *round, revroute_refusal *refusal) {
-    if (FAULT != a_destination_that_stays) return engine_move(session, dest, round, refusal);
+revroute_status revroute_move_dest(revroute *session, uint32_t dest, revroute_round *round, revroute_refusal *refusal) {
+    if (FAULT != a_destination_that_stays) return engine_move_dest(session, dest, round, refusal);
     return engine_change(session, &(revroute_edit){0, 0, 0}, 0, round, refusal);
 }
 
-uint32_t revroute_closed_walk(revroute *session, const revroute_edit *edits, size_t count, uint32_t *nodes, size_t room,
+revroute_status revroute_closed_walk(revroute *session, const revroute_edit *edits, size_t count, uint32_t *nodes, size_t room,
                               size_t *length) {
     uint32_t status = engine_closed_walk(session, edits, count, nodes, room, length);
     revroute_round round;
@@ -266,7 +273,7 @@ uint32_t revroute_closed_walk(revroute *session, const revroute_edit *edits, siz
     return status;
 }
 
-uint32_t revroute_closed_walk_of(uint32_t nodes, const revroute_link *links, size_t count, uint32_t *walk, size_t room,
+revroute_status revroute_closed_walk_of(uint32_t nodes, const revroute_link *links, size_t count, uint32_t *walk, size_t room,
                                  size_t *length) {
     uint32_t status = engine_closed_walk_of(nodes, links, count, walk, room, length);
     if (FAULT != a_walk_that_is_not_found || status != REVROUTE_TOO_SHORT) return status;
@@ -279,8 +286,8 @@ static int compare_numbers(const void *one, const void *other) {
     return (a > b) - (a < b);
 }
 
-uint32_t revroute_rerouted(revroute *session, uint32_t *nodes, size_t room, size_t *length) {
-    uint32_t status = engine_rerouted(session, nodes, room, length), count;
+revroute_status revroute_changed(revroute *session, uint32_t *nodes, size_t room, size_t *length) {
+    uint32_t status = engine_changed(session, nodes, room, length), count;
     size_t links;
     if (status != REVROUTE_ANSWERED) return status;
     if (FAULT == rerouted_nodes_by_number) qsort(nodes, *length, sizeof *nodes, compare_numbers);
@@ -305,7 +312,7 @@ static const uint32_t *made_fit(revroute *session, const uint32_t *table, size_t
     return fit;
 }
 
-uint32_t revroute_pushes(revroute *session, const uint32_t *table, size_t count, uint32_t *nodes, size_t room,
+revroute_status revroute_pushes(revroute *session, const uint32_t *table, size_t count, uint32_t *nodes, size_t room,
                          size_t *length) {
     if (FAULT == the_table_read_too_far && table[count] == 0xff) return REVROUTE_NO_MEMORY;
     if (FAULT == a_longer_table_taken || FAULT == a_shorter_table_taken || FAULT == a_hop_of_no_node_taken)
@@ -314,18 +321,18 @@ uint32_t revroute_pushes(revroute *session, const uint32_t *table, size_t count,
     if (FAULT == no_memory_told_as_no_push && status == REVROUTE_NO_MEMORY) return REVROUTE_ANSWERED;
     if (FAULT == pushes_where_they_have_no_room && status == REVROUTE_TOO_SHORT && room) nodes[room - 1] = 0;
     if (status != REVROUTE_ANSWERED) return status;
-    if (FAULT == pushes_of_the_last_change_alone) return engine_rerouted(session, nodes, room, length);
+    if (FAULT == pushes_of_the_last_change_alone) return engine_changed(session, nodes, room, length);
     if (FAULT == pushes_by_number) qsort(nodes, *length, sizeof *nodes, compare_numbers);
     if (FAULT == a_push_left_out && *length) --*length;
     return status;
 }
 
-uint32_t revroute_reader_open(revroute *session, revroute_reader *reader) {
+revroute_status revroute_reader_open(revroute *session, revroute_reader *reader) {
     if (FAULT == a_reader_replaced_and_not_closed) reader->at = NULL;
     return engine_reader_open(session, reader);
 }
 
-uint32_t revroute_reader_copy(revroute_reader *reader, revroute_reader *other) {
+revroute_status revroute_reader_copy(revroute_reader *reader, revroute_reader *other) {
     if (FAULT == a_copy_that_is_the_reader && reader->at) {
         engine_reader_close(other);
         *other = *reader;
@@ -342,8 +349,8 @@ uint32_t revroute_reader_next_hop(revroute_reader *reader, uint32_t node) {
     return FAULT == a_number_of_no_node_told_as_cut_off && hop == REVROUTE_NO_SUCH_NODE ? REVROUTE_CUT_OFF : hop;
 }
 
-uint32_t revroute_reader_route(revroute_reader *reader, uint32_t node, uint32_t *nodes, size_t room, size_t *length) {
-    uint32_t status = engine_reader_route(reader, node, nodes, room, length);
+revroute_status revroute_reader_walk(revroute_reader *reader, uint32_t node, uint32_t *nodes, size_t room, size_t *length) {
+    uint32_t status = engine_reader_walk(reader, node, nodes, room, length);
     if (FAULT == a_walk_without_its_destination && status == REVROUTE_ANSWERED && *length > 1) --*length;
     if (FAULT == a_walk_of_no_route_with_a_length && status == REVROUTE_NO_ROUTE) *length = 1;
     if (FAULT == a_walk_that_wants_too_little_room && status == REVROUTE_TOO_SHORT) *length = room;
@@ -361,7 +368,7 @@ void revroute_close(revroute *session) {
     else if (FAULT != sessions_that_share) engine_close(session);
 }
 
-uint32_t revroute_version(uint8_t *text, size_t room, size_t *length) {
+revroute_status revroute_version(uint8_t *text, size_t room, size_t *length) {
     uint32_t status = engine_version(text, room, length);
     if (FAULT == another_version && status == REVROUTE_ANSWERED) text[0]++;
     return status;

@@ -31,7 +31,7 @@ static void planted_store(uint32_t node, uint32_t hop) {
 static uint32_t planted_push(revroute *session, uint32_t status) {
     uint32_t nodes[4096];
     size_t count = 0;
-    if (status == REVROUTE_ANSWERED) revroute_rerouted(session, nodes, 4096, &count);
+    if (status == REVROUTE_ANSWERED) revroute_changed(session, nodes, 4096, &count);
     if (PLANT == pushes_by_number) qsort(nodes, count, sizeof *nodes, planted_compare);
     if (PLANT == a_push_left_out && count > 2) count--;
     for (size_t at = 0; at < count; at++) {
@@ -61,7 +61,7 @@ static uint32_t planted_reader_next_hop(revroute_reader *reader, uint32_t node) 
     return table[PLANT == a_read_of_the_next_node ? node + 1 : node];
 }
 
-static uint32_t planted_reader_route(revroute_reader *reader, uint32_t node, uint32_t *nodes, size_t room,
+static uint32_t planted_reader_walk(revroute_reader *reader, uint32_t node, uint32_t *nodes, size_t room,
                                      size_t *length) {
     *length = 0;
     for (size_t at = 0; at < room; at++) {
@@ -77,14 +77,18 @@ static uint32_t planted_reader_route(revroute_reader *reader, uint32_t node, uin
 
 static void planted_reader_close(revroute_reader *reader) { reader->at = NULL; }
 
+#undef revroute_open
+#undef revroute_change
+#undef revroute_answer
+#undef revroute_reader_walk
 #define revroute_open(session, ...) planted_push(session, revroute_open(session, __VA_ARGS__))
 #define revroute_change(session, ...) planted_push(session, revroute_change(session, __VA_ARGS__))
-#define revroute_move(session, ...) planted_push(session, revroute_move(session, __VA_ARGS__))
+#define revroute_move_dest(session, ...) planted_push(session, revroute_move_dest(session, __VA_ARGS__))
 #define revroute_answer(session, ...) planted_push(session, revroute_answer(session, __VA_ARGS__))
 #define revroute_reader_open planted_reader_open
 #define revroute_reader_copy planted_reader_copy
 #define revroute_reader_next_hop planted_reader_next_hop
-#define revroute_reader_route planted_reader_route
+#define revroute_reader_walk planted_reader_walk
 #define revroute_reader_close planted_reader_close
 
 #endif

@@ -45,7 +45,7 @@ IsTooLong begun piece =
     × ((end : ℕ) → position (λ x. x == 10) piece ≡ Some end → most_bytes < length begun + end)
 
 -- a line ends after `taken` bytes of the piece, and is answered
-pub record AnswersEnd (piece : List ℕ) (old new : Held) (taken : ℕ) (o : Outcome) : Type 0 where
+pub record AnswersEnd (piece : List ℕ) (old new : Held) (taken : ℕ) (o : Outcome ℕ) : Type 0 where
   pub line : List ℕ
   pub ends : EndsLine old.begun piece line taken
   pub answered : IsReplied old.session line new.session o
@@ -55,7 +55,7 @@ pub record AnswersEnd (piece : List ℕ) (old new : Held) (taken : ℕ) (o : Out
   pub published : PublishesTo old.table (published_of new)
 
 -- a call takes `taken` bytes of the piece, and answers the line that ends there; the engine changes from `old` to `new`
-pub record TakesPiece (piece : List ℕ) (old new : Held) (taken : ℕ) (o : Outcome) : Type 0 where
+pub record TakesPiece (piece : List ℕ) (old new : Held) (taken : ℕ) (o : Outcome ℕ) : Type 0 where
   pub answered : o.status ≡ REVROUTE_ANSWERED → AnswersEnd piece old new taken o
   pub blank : o.status ≡ REVROUTE_BLANK → (line : List ℕ) × EndsLine old.begun piece line taken
       × (is_blank line ≡ true) × (o.size ≡ 0)

@@ -1,10 +1,12 @@
 -- The answers to questions. This project's own.
-use Rattle.std.specs.Prelude.{◌≡◌, ℕ, ◌<◌, ◌≤◌, ◌⊎◌, [], ◌∷◌, List, length, slice_get, Option, Some, None}
+use Rattle.std.specs.Prelude.{◌≡◌, ℕ, ◌<◌, ◌≤◌, ◌⊎◌, ◌∷◌, List, length, map, slice_get, Option, Some, None}
 use Rattle.fr_route.specs.Routes.{IsHop, IsRoute}
 use Rattle.fr_route.specs.States.{State, IsCutOff}
 use Rattle.fr_tables.specs.declared.hop.Hop.{Hop}
 use Rattle.fr_tables.specs.declared.hop.Hop.TheVariants.{Here, To, CutOff}
+use Rattle.revroute_c.specs.Records.{link_of}
 use Rattle.revroute_c.specs.Replies.{IsWritten}
+use Rattle.revroute_c.specs.declared.records.Link.{Link}
 
 -- the values that are not nodes, greater than all nodes: the node is the destination, the node is cut off, there is no
 -- such node, there is no network
@@ -59,15 +61,15 @@ abbrev pub IsRouteFrom : Option State → ℕ → List ℕ → Type 0
 IsRouteFrom None x nodes = ⊥
 IsRouteFrom (Some s) x nodes = (x < s.nodes) × ((rest : List ℕ) × IsRoute s.links s.dest x rest × (nodes ≡ x ∷ rest))
 
--- the tail and the head of each link, one link after the other
-abbrev pub ends : List (ℕ × ℕ) → List ℕ
-ends [] = []
-ends (l ∷ ls) = l.0 ∷ l.1 ∷ ends ls
+-- these are the links
+abbrev pub AreLinks : Option State → List Link → Type 0
+AreLinks None links = ⊥
+AreLinks (Some s) links = map link_of links ≡ s.links
 
--- these numbers are the tail and the head of each link, one link after the other
-abbrev pub AreEnds : Option State → List ℕ → Type 0
-AreEnds None numbers = ⊥
-AreEnds (Some s) numbers = numbers ≡ ends s.links
+-- the number is the destination, or says that there is no network
+abbrev pub TellsDest : Option State → ℕ → Type 0
+TellsDest None number = number ≡ no_network
+TellsDest (Some s) number = number ≡ s.dest
 
 -- x has no route to the destination: it is not a node, or it is cut off
 abbrev pub HasNoRoute : State → ℕ → Type 0

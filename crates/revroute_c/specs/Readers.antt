@@ -41,29 +41,29 @@ pub record HasWalkedBy (old new : Knowledge) (node : ℕ) (nodes : List ℕ) (en
   pub ends : IsEnd end (last_table new) (end_of node nodes)
 
 -- the same, and the node and those after it are at the front of the place
-pub record WalksInto (old new : Knowledge) (node : ℕ) (nodes : List ℕ) (end : WalkEnd) (o : Outcome) : Type 0 where
+pub record WalksInto (old new : Knowledge) (node : ℕ) (nodes : List ℕ) (end : WalkEnd) (o : Outcome ℕ) : Type 0 where
   pub walked : HasWalkedBy old new node nodes end
   pub written : IsWritten (node ∷ nodes) o.before o.after
 
 -- the walk ends at the destination, and `size` is the number of its nodes
-abbrev pub Arrives : Knowledge → Knowledge → ℕ → Outcome → Type 0
+abbrev pub Arrives : Knowledge → Knowledge → ℕ → Outcome ℕ → Type 0
 Arrives old new node o =
     (nodes : List ℕ) × WalksInto old new node nodes Arrived o × (o.size ≡ length (node ∷ nodes))
 
 -- the walk fills the place before its end, or there is no room for its first node
-abbrev pub Fills : Knowledge → Knowledge → ℕ → Outcome → Type 0
+abbrev pub Fills : Knowledge → Knowledge → ℕ → Outcome ℕ → Type 0
 Fills old new node o =
     ((o.before ≡ []) × (o.after ≡ []) × (new ≡ old))
     ⊎ ((nodes : List ℕ) × WalksInto old new node nodes Longer o × (length (node ∷ nodes) ≡ length o.before))
 
 -- the walk ends at a node that is cut off, or its first number is not a node
-abbrev pub IsLost : Knowledge → Knowledge → ℕ → Outcome → Type 0
+abbrev pub IsLost : Knowledge → Knowledge → ℕ → Outcome ℕ → Type 0
 IsLost old new node o =
     ((old.nodes ≤ node) × (o.after ≡ o.before) × (new ≡ old))
     ⊎ ((node < old.nodes) × (nodes : List ℕ) × WalksInto old new node nodes CutOff o)
 
 -- the result of a call that walks from a node
-pub record TellsWalk (old new : Knowledge) (node : ℕ) (o : Outcome) : Type 0 where
+pub record TellsWalk (old new : Knowledge) (node : ℕ) (o : Outcome ℕ) : Type 0 where
   pub answered : o.status ≡ REVROUTE_ANSWERED → (node < old.nodes) × Arrives old new node o
   pub too_short : o.status ≡ REVROUTE_TOO_SHORT → (node < old.nodes) × Fills old new node o
   -- `size` is one more than there is room for

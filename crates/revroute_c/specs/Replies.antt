@@ -14,38 +14,38 @@ abbrev pub least_room : ℕ
 least_room = 64
 
 -- the result of a call: its status, the caller's place before and after it, and the length that it writes to `size`
-pub record Outcome : Type 0 where
+pub record Outcome (X : Type 0) : Type 0 where
   pub status : ℕ
-  pub before : List ℕ
-  pub after : List ℕ
+  pub before : List X
+  pub after : List X
   pub size : ℕ
 
-abbrev pub outcome : ℕ → List ℕ → List ℕ → ℕ → Outcome
+abbrev pub outcome : {X : Type 0} → ℕ → List X → List X → ℕ → Outcome X
 outcome status before after size = record { status = status; before = before; after = after; size = size }
 
 -- the items are at the front of the place, and the rest of it is unchanged
 abbrev pub IsWritten : {X : Type 0} → List X → List X → List X → Type 0
 IsWritten items before after = (length items ≤ length before) × (after ≡ items ++ drop (length items) before)
 
--- numbers with the property `Are` are at the front of the place, and `size` is how many there are
-abbrev pub IsGiven : (List ℕ → Type 0) → Outcome → Type 0
-IsGiven Are o = (numbers : List ℕ) × Are numbers × IsWritten numbers o.before o.after × (o.size ≡ length numbers)
+-- items with the property `Are` are at the front of the place, and `size` is how many there are
+abbrev pub IsGiven : {X : Type 0} → (List X → Type 0) → Outcome X → Type 0
+IsGiven {X = X} Are o = (items : List X) × Are items × IsWritten items o.before o.after × (o.size ≡ length items)
 
--- `size` is how many numbers with the property `Are` there are
-abbrev pub IsLength : (List ℕ → Type 0) → ℕ → Type 0
-IsLength Are size = (numbers : List ℕ) × Are numbers × (size ≡ length numbers)
+-- `size` is how many items with the property `Are` there are
+abbrev pub IsLength : {X : Type 0} → (List X → Type 0) → ℕ → Type 0
+IsLength {X = X} Are size = (items : List X) × Are items × (size ≡ length items)
 
--- a call that writes numbers with the property `Are` to the front of the place
-pub record GivesList (Are : List ℕ → Type 0) (o : Outcome) : Type 0 where
+-- a call that writes items with the property `Are` to the front of the place
+pub record GivesList {X : Type 0} (Are : List X → Type 0) (o : Outcome X) : Type 0 where
   pub written : o.status ≡ REVROUTE_ANSWERED → IsGiven Are o
-  -- the numbers do not fit into the place, and `size` is how many there are
+  -- the items do not fit into the place, and `size` is how many there are
   pub too_short : o.status ≡ REVROUTE_TOO_SHORT → (length o.before < o.size) × IsLength Are o.size
   pub unchanged : ¬ (o.status ≡ REVROUTE_ANSWERED) → o.after ≡ o.before
-  -- the status says why there are no such numbers
+  -- the status says why there are no such items
   pub none : REVROUTE_TOO_SHORT < o.status → o.size ≡ 0
 
 -- the line is answered: the session is then in this state, the answer is in the place, and `size` is its length
-pub record IsReplied (old : Option State) (line : List ℕ) (new : Option State) (o : Outcome) : Type 0 where
+pub record IsReplied (old : Option State) (line : List ℕ) (new : Option State) (o : Outcome ℕ) : Type 0 where
   pub asks : is_blank line ≡ false
   pub text : List ℕ
   pub answer : IsLineAnswer old (reading line) text new
@@ -66,7 +66,7 @@ IsWanted old line room size =
     ⊎ ((least_room ≤ room) × IsAnswerLength old line size)
 
 -- a call answers the line in the caller's place; the engine changes from `old` to `new`
-pub record AnswersLine (line : List ℕ) (old new : Held) (o : Outcome) : Type 0 where
+pub record AnswersLine (line : List ℕ) (old new : Held) (o : Outcome ℕ) : Type 0 where
   pub answered : o.status ≡ REVROUTE_ANSWERED → IsReplied old.session line new.session o
   -- the engine then has the nodes that the line reroutes
   pub told : o.status ≡ REVROUTE_ANSWERED → IsLineTold old.session (reading line) new.session old.rerouted new.rerouted
@@ -83,7 +83,7 @@ pub record AnswersLine (line : List ℕ) (old new : Held) (o : Outcome) : Type 0
   pub status : o.status ≤ REVROUTE_NO_MEMORY
 
 -- a call answers the line, and does not touch the line that has begun
-pub record AnswersApart (line : List ℕ) (old new : Held) (o : Outcome) : Type 0 where
+pub record AnswersApart (line : List ℕ) (old new : Held) (o : Outcome ℕ) : Type 0 where
   pub answers : AnswersLine line old new o
   -- the bytes of a line that has begun are unchanged
   pub begun : new.begun ≡ old.begun

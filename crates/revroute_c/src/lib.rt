@@ -1,7 +1,8 @@
 //! The engine for programs in C, and for all that can call C: a session behind a handle, without threads and locks.
 //!
 //! `embed/c/revroute.h` declares these calls, and says what a caller must ensure. A slice is a pointer and a length
-//! there. The allocator has no bytes, so C passes nothing for it.
+//! there. The pointer is never null, since the header passes another address for null. The allocator has no bytes, so C
+//! passes nothing for it.
 #![tactic(auto)]
 
 ghost use Rattle.std.specs.Prelude.{◌≡◌, ◌≢◌, ◌≤◌, ◌<◌, ◌⊎◌, ◌↔◌, [], None, length, map, IfSome};
@@ -12,8 +13,8 @@ ghost use Rattle.revroute_c.specs.ClosedWalks.{HasNoWalkOfChange, HasNoWalkOfNet
 ghost use Rattle.revroute_c.specs.ClosedWalks.{IsWalkOfChange, IsWalkOfNetwork};
 ghost use Rattle.revroute_c.specs.Lending.{held_by, IsUnchanged};
 ghost use Rattle.revroute_c.specs.Pieces.{TakesPiece};
-ghost use Rattle.revroute_c.specs.Questions.{AreCounts, AreEnds, AreHopsWritten, AreAsManyAsNodes};
-ghost use Rattle.revroute_c.specs.Questions.{HasNoRoute, IsRouteFrom, TellsHop, no_network};
+ghost use Rattle.revroute_c.specs.Questions.{AreCounts, AreHopsWritten, AreAsManyAsNodes, AreLinks};
+ghost use Rattle.revroute_c.specs.Questions.{HasNoRoute, IsRouteFrom, TellsDest, TellsHop, no_network};
 ghost use Rattle.revroute_c.specs.ReaderLending.{IsSameReader};
 ghost use Rattle.revroute_c.specs.ReaderOpening.{OpensTable, ReadsTableOf};
 ghost use Rattle.revroute_c.specs.Readers.{ReadsOn, TellsHopRead, TellsWalk, no_reader};
@@ -45,14 +46,14 @@ use fr_route::{VERSION, is_blank};
 use handle::Handle;
 use pieces::{finish_line, take_anew, take_front};
 use questions::{
-    HOP_OF_NO_NETWORK, counts_in, hop_in, hops_in, links_in, report_in, route_in, size_in,
+    HOP_OF_NO_NETWORK, counts_in, dest_in, hop_in, hops_in, links_in, report_in, size_in, walk_in,
 };
 use reader_handle::ReaderHandle;
 use reader_opening::{reader_anew, reader_in};
 use readers::{copied, hop_read, walk_read};
 use records::{Link, LinkEdit, Refusal, Round, first_unknown, unknown_at};
 use replies::{LEAST_ROOM, hand_out, reply, reply_anew};
-use rounds::{NewNetwork, change_in, move_in, open_anew, open_in};
+use rounds::{NewNetwork, change_in, move_dest_in, open_anew, open_in};
 use statuses::{ANSWERED, BLANK, NO_MEMORY, NO_NETWORK, REFUSED, TOO_SHORT};
 use std::alloc::Global;
 use tables::pushes_in;
@@ -227,7 +228,7 @@ pub extern "C" fn revroute_change(
 /// Moves the destination and begins a round, as a line `["dest",..]` does. Returns `REFUSED` if the new destination is
 /// not a node. The other results and the cost are those of [`revroute_change`].
 #[unsafe(no_mangle)]
-pub extern "C" fn revroute_move(
+pub extern "C" fn revroute_move_dest(
     alloc: Global,
     handle: &mut Handle,
     dest: u32,
@@ -242,7 +243,7 @@ pub extern "C" fn revroute_move(
         ⊎ (result ≡ REVROUTE_REFUSED) }
 {
     match handle.engine_mut() {
-        Some(engine) => move_in(engine, alloc, dest, round, refusal),
+        Some(engine) => move_dest_in(engine, alloc, dest, round, refusal),
         None => NO_NETWORK,
     }
 }
@@ -335,7 +336,7 @@ pub extern "C" fn revroute_next_hop(handle: &mut Handle, node: u32) -> u32
 /// `size`. Returns `TOO_SHORT` if there is too little room, and `NO_NETWORK`, with `size` 0, if there is no network
 /// yet. In both cases `hops` is unchanged. O(n).
 #[unsafe(no_mangle)]
-pub extern "C" fn revroute_next_hops(handle: &mut Handle, hops: &mut [u32], size: &mut usize) -> u32
+pub extern "C" fn revroute_hops(handle: &mut Handle, hops: &mut [u32], size: &mut usize) -> u32
     ensures same { IsUnchanged handle.old handle.new }
     ensures gives { GivesList (AreAsManyAsNodes handle.old.session) (outcome result hops.old hops.new size.new) }
     ensures hops { result ≡ REVROUTE_ANSWERED → IfSome handle.old.session (λ s. AreHopsWritten s hops.old hops.new) }
@@ -354,7 +355,7 @@ pub extern "C" fn revroute_next_hops(handle: &mut Handle, hops: &mut [u32], size
 /// node of one of the two networks counts as cut off there. Returns `TOO_SHORT` if there is too little room; then
 /// `nodes` is unchanged. O(r) for r rerouted nodes.
 #[unsafe(no_mangle)]
-pub extern "C" fn revroute_rerouted(handle: &mut Handle, nodes: &mut [u32], size: &mut usize) -> u32
+pub extern "C" fn revroute_changed(handle: &mut Handle, nodes: &mut [u32], size: &mut usize) -> u32
     ensures same { IsUnchanged handle.old handle.new }
     ensures gives { GivesList (λ listed. listed ≡ handle.old.rerouted) (outcome result nodes.old nodes.new size.new) }
     ensures status { (result ≡ REVROUTE_ANSWERED) ⊎ (result ≡ REVROUTE_TOO_SHORT) }
@@ -366,7 +367,7 @@ pub extern "C" fn revroute_rerouted(handle: &mut Handle, nodes: &mut [u32], size
 }
 
 /// Writes the nodes whose hop differs from that in the caller's table to the front of `nodes`, in push order, and their
-/// number to `size`. The table has a hop for each node, as [`revroute_next_hops`] writes them. It may have loops.
+/// number to `size`. The table has a hop for each node, as [`revroute_hops`] writes them. It may have loops.
 /// Returns `ANSWERED`, or:
 ///
 /// - `TOO_SHORT`: there is too little room.
@@ -398,7 +399,7 @@ pub extern "C" fn revroute_pushes(
 }
 
 /// Writes how often each node turned in the last round, in the order of the nodes. All else is as for
-/// [`revroute_next_hops`]. O(n).
+/// [`revroute_hops`]. O(n).
 #[unsafe(no_mangle)]
 pub extern "C" fn revroute_counts(handle: &mut Handle, counts: &mut [u64], size: &mut usize) -> u32
     ensures same { IsUnchanged handle.old handle.new }
@@ -423,7 +424,7 @@ pub extern "C" fn revroute_counts(handle: &mut Handle, counts: &mut [u64], size:
 ///
 /// `size` is 0 in the last three cases. In all four cases `nodes` is unchanged. O(r) for a route of r nodes.
 #[unsafe(no_mangle)]
-pub extern "C" fn revroute_route(
+pub extern "C" fn revroute_walk(
     alloc: Global,
     handle: &mut Handle,
     node: u32,
@@ -438,53 +439,68 @@ pub extern "C" fn revroute_route(
 {
     *size = 0;
     match handle.engine_mut() {
-        Some(engine) => route_in(engine.session(), alloc, node, nodes, size),
+        Some(engine) => walk_in(engine.session(), alloc, node, nodes, size),
         None => NO_NETWORK,
     }
 }
 
-/// Writes the tail and the head of each link, one link after the other, to the front of `place`, and how many numbers
-/// these are to `size`: two for each link. The links are ordered by tail and then by head. Returns `ANSWERED`, or:
+/// Writes the links to the front of `links`, ordered by tail and then by head, and their number to `size`. Returns
+/// `ANSWERED`, or:
 ///
 /// - `TOO_SHORT`: there is too little room.
 /// - `NO_NETWORK`: there is no network yet.
 /// - `NO_MEMORY`: an allocation was refused.
 ///
-/// `size` is 0 in the last two cases. In all three cases `place` is unchanged. O(n + m).
+/// `size` is 0 in the last two cases. In all three cases `links` is unchanged. O(n + m).
 #[unsafe(no_mangle)]
 pub extern "C" fn revroute_links(
     alloc: Global,
     handle: &mut Handle,
-    place: &mut [u32],
+    links: &mut [Link],
     size: &mut usize,
 ) -> u32
     ensures same { IsUnchanged handle.old handle.new }
-    ensures gives { GivesList (AreEnds handle.old.session) (outcome result place.old place.new size.new) }
+    ensures gives { GivesList (AreLinks handle.old.session) (outcome result links.old links.new size.new) }
     ensures no_network { (result ≡ REVROUTE_NO_NETWORK) ↔ (handle.old.session ≡ None) }
     ensures status { (result ≡ REVROUTE_ANSWERED) ⊎ ((REVROUTE_TOO_SHORT ≤ result) × (result ≤ REVROUTE_NO_NETWORK)) }
 {
     *size = 0;
     match handle.engine_mut() {
-        Some(engine) => links_in(engine.session(), alloc, place, size),
+        Some(engine) => links_in(engine.session(), alloc, links, size),
         None => NO_NETWORK,
     }
 }
 
-/// Writes the report of the last round: the number of turns to `turned`, and the number of nodes that are cut off to
-/// `cut_off`. Returns `NO_NETWORK`, with 0 in both, if there is no network yet. O(1).
+/// Writes the report of the last round to `round`. Returns `NO_NETWORK`, with 0 for both numbers of the report, if
+/// there is no network yet. O(1).
 #[unsafe(no_mangle)]
-pub extern "C" fn revroute_report(handle: &mut Handle, turned: &mut u64, cut_off: &mut u64) -> u32
+pub extern "C" fn revroute_report(handle: &mut Handle, round: &mut Round) -> u32
     ensures same { IsUnchanged handle.old handle.new }
-    ensures report { result ≡ REVROUTE_ANSWERED → IfSome handle.old.session (λ s. IsReport s turned.new cut_off.new) }
+    ensures report { result ≡ REVROUTE_ANSWERED
+        → IfSome handle.old.session (λ s. IsReport s round.new.turned round.new.cut_off) }
     ensures no_network { (result ≡ REVROUTE_NO_NETWORK) ↔ (handle.old.session ≡ None) }
-    ensures none { result ≡ REVROUTE_NO_NETWORK → (turned.new ≡ 0) × (cut_off.new ≡ 0) }
+    ensures none { result ≡ REVROUTE_NO_NETWORK → (round.new.turned ≡ 0) × (round.new.cut_off ≡ 0) }
     ensures status { (result ≡ REVROUTE_ANSWERED) ⊎ (result ≡ REVROUTE_NO_NETWORK) }
 {
-    *turned = 0;
-    *cut_off = 0;
+    *round = Round {
+        turned: 0,
+        cut_off: 0,
+    };
     match handle.engine_mut() {
-        Some(engine) => report_in(engine.session(), turned, cut_off),
+        Some(engine) => report_in(engine.session(), round),
         None => NO_NETWORK,
+    }
+}
+
+/// Returns the destination, or the value for no network, which is greater than all nodes. O(1).
+#[unsafe(no_mangle)]
+pub extern "C" fn revroute_dest(handle: &mut Handle) -> u32
+    ensures dest { TellsDest handle.old.session result }
+    ensures same { IsUnchanged handle.old handle.new }
+{
+    match handle.engine_mut() {
+        Some(engine) => dest_in(engine.session()),
+        None => HOP_OF_NO_NETWORK,
     }
 }
 
@@ -596,7 +612,7 @@ pub extern "C" fn revroute_reader_next_hop(reader: &mut ReaderHandle, node: u32)
 /// `size` is 0 in the last two cases. In each case the front of `nodes` has the nodes walked so far, and the rest is
 /// unchanged. It does not allocate or wait. O(r) for a walk of r nodes.
 #[unsafe(no_mangle)]
-pub extern "C" fn revroute_reader_route(
+pub extern "C" fn revroute_reader_walk(
     reader: &mut ReaderHandle,
     node: u32,
     nodes: &mut [u32],

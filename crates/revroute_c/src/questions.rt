@@ -2,10 +2,13 @@
 
 ghost use Rattle.std.specs.Prelude.{◌≡◌, ◌<◌, ◌≤◌, ◌⊎◌, ◌↔◌, length, map, None, IfOk, IfSome};
 ghost use Rattle.fr_route.specs.States.{IsReport};
-ghost use Rattle.revroute_c.specs.Questions.{number_of, AreCounts, AreEnds, AreHopsWritten};
-ghost use Rattle.revroute_c.specs.Questions.{AreAsManyAsNodes, HasNoRoute, IsHopNumber, IsRouteFrom, TellsHop, ends};
+ghost use Rattle.revroute_c.specs.Questions.{number_of, AreCounts, AreHopsWritten, AreLinks};
+ghost use Rattle.revroute_c.specs.Questions.{AreAsManyAsNodes, HasNoRoute, IsHopNumber, IsRouteFrom};
+ghost use Rattle.revroute_c.specs.Questions.{TellsDest, TellsHop};
+ghost use Rattle.revroute_c.specs.Records.{link_of};
 ghost use Rattle.revroute_c.specs.Replies.{outcome, GivesList};
 
+use crate::records::{Link, Round, round_of};
 use crate::replies::hand_out;
 use crate::statuses::{ANSWERED, NO_MEMORY, NO_NETWORK, NO_ROUTE, TOO_SHORT};
 use fr_route::{Hop, Router, Session, Walked};
@@ -109,7 +112,7 @@ pub(crate) fn counts_in(session: &Session, counts: &mut [u64], size: &mut usize)
 }
 
 /// Writes the nodes of the route from a node to the destination, if there is one. `size` must be 0.
-pub(crate) fn route_in(
+pub(crate) fn walk_in(
     session: &Session,
     alloc: Global,
     node: u32,
@@ -135,21 +138,28 @@ pub(crate) fn route_in(
     }
 }
 
-/// Writes the report of the last round, if there is a network. Both numbers must be 0.
-pub(crate) fn report_in(session: &Session, turned: &mut u64, cut_off: &mut u64) -> u32
-    requires { (turned.old ≡ 0) × (cut_off.old ≡ 0) }
-    ensures report { result ≡ ANSWERED → IfSome session.now (λ s. IsReport s turned.new cut_off.new) }
+/// Writes the report of the last round, if there is a network.
+pub(crate) fn report_in(session: &Session, round: &mut Round) -> u32
+    ensures report { result ≡ ANSWERED → IfSome session.now (λ s. IsReport s round.new.turned round.new.cut_off) }
     ensures no_network { (result ≡ NO_NETWORK) ↔ (session.now ≡ None) }
-    ensures none { result ≡ NO_NETWORK → (turned.new ≡ 0) × (cut_off.new ≡ 0) }
+    ensures none { result ≡ NO_NETWORK → round.new ≡ round.old }
     ensures status { (result ≡ ANSWERED) ⊎ (result ≡ NO_NETWORK) }
 {
     let Some(router) = session.router() else {
         return NO_NETWORK;
     };
-    let report = router.report();
-    *turned = report.turned;
-    *cut_off = report.cut;
+    *round = round_of(router.report());
     ANSWERED
+}
+
+/// The destination of a session, or the value for no network.
+pub(crate) fn dest_in(session: &Session) -> u32
+    ensures { TellsDest session.now result }
+{
+    match session.router() {
+        Some(router) => router.dest(),
+        None => HOP_OF_NO_NETWORK,
+    }
 }
 
 /// Writes the numbers of nodes and links, if there is a network. Both numbers must be 0.
@@ -168,31 +178,35 @@ pub(crate) fn size_in(session: &Session, nodes: &mut u32, links: &mut usize) -> 
     ANSWERED
 }
 
-/// Writes the tail and the head of each link, if there is a network. `size` must be 0.
-pub(crate) fn links_in(session: &Session, alloc: Global, place: &mut [u32], size: &mut usize) -> u32
+/// Writes the links, if there is a network. `size` must be 0.
+pub(crate) fn links_in(
+    session: &Session,
+    alloc: Global,
+    links: &mut [Link],
+    size: &mut usize,
+) -> u32
     requires { size.old ≡ 0 }
-    ensures gives { GivesList (AreEnds session.now) (outcome result place.old place.new size.new) }
+    ensures gives { GivesList (AreLinks session.now) (outcome result links.old links.new size.new) }
     ensures no_network { (result ≡ NO_NETWORK) ↔ (session.now ≡ None) }
     ensures status { (result ≡ ANSWERED) ⊎ ((TOO_SHORT ≤ result) × (result ≤ NO_NETWORK)) }
 {
     let Some(router) = session.router() else {
         return NO_NETWORK;
     };
-    match ends_in(router, alloc) {
-        Ok(found) => hand_out(&found, place, size),
+    match links_of(router, alloc) {
+        Ok(found) => hand_out(&found, links, size),
         Err(_memory) => NO_MEMORY,
     }
 }
 
-/// The tail and the head of each link, one link after the other.
-fn ends_in(router: &Router, alloc: Global) -> Result<Vec<u32>, AllocError>
-    ensures { IfOk result (λ found. found.items ≡ ends router.now.links) }
+/// The links of a network.
+fn links_of(router: &Router, alloc: Global) -> Result<Vec<Link>, AllocError>
+    ensures { IfOk result (λ found. map link_of found.items ≡ router.now.links) }
 {
     let links = router.net().links();
-    let mut found = Vec::with_capacity(alloc, links.len().saturating_mul(2))?;
+    let mut found = Vec::with_capacity(alloc, links.len())?;
     for (tail, head) in links {
-        found.push(tail)?;
-        found.push(head)?;
+        found.push(Link { tail, head })?;
     }
     Ok(found)
 }

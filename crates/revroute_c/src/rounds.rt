@@ -235,7 +235,7 @@ pub(crate) fn change_in(
 }
 
 /// Moves the destination, with one round after it, and lists the nodes that it reroutes.
-pub(crate) fn move_in(
+pub(crate) fn move_dest_in(
     engine: &mut Engine,
     alloc: Global,
     dest: u32,

@@ -85,9 +85,9 @@ class MemoryTest(unittest.TestCase):
         with revroute.Session() as session:
             session.answer(CHAIN)
             left.value = 1
-            self.assertRaises(MemoryError, session.route, 3)
+            self.assertRaises(MemoryError, session.walk, 3)
             left.value = 0
-            self.assertEqual(session.route(3), [3, 2, 1, 0])
+            self.assertEqual(session.walk(3), [3, 2, 1, 0])
 
     def test_pieces_go_on_where_memory_was_missing(self):
         left = ctypes.c_long.in_dll(library, "refusing_left")
@@ -126,7 +126,7 @@ class MemoryTest(unittest.TestCase):
             lambda: network.add(0, 3),
             lambda: network.cut(1, 0),
             lambda: network.batch([("add", 3, 0), ("join", 1, 3)]),
-            lambda: network.move(2),
+            lambda: network.move_dest(2),
             lambda: revroute.Network(3, 0, [(0, 1), (1, 2), (2, 0)]),
         ):
             number, is_met = 0, True

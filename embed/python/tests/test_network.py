@@ -172,7 +172,7 @@ class NetworkTests(unittest.TestCase):
                     [
                         (lambda: getattr(network, one[0])(*one[1:]), [*one], [one]),
                         (lambda: network.batch(edits), ["batch", [[*it] for it in edits]], edits),
-                        (lambda: network.move(dest), ["dest", dest], None),
+                        (lambda: network.move_dest(dest), ["dest", dest], None),
                     ]
                 )
                 links = network.links()
@@ -212,7 +212,7 @@ class NetworkTests(unittest.TestCase):
                 Network(nodes, 0, links)
             self.assertEqual(met.exception.number, number, links)
         network = Network(3, 0, [(1, 0), (2, 1)])
-        for number, change in ((8, lambda: network.cut(0, 2)), (7, lambda: network.add(0, 2)), (4, lambda: network.move(3)), (9, lambda: network.batch([("cut", 0, 1)] * 1025))):
+        for number, change in ((8, lambda: network.cut(0, 2)), (8, lambda: network.cut(9, 2)), (7, lambda: network.add(0, 2)), (4, lambda: network.move_dest(3)), (9, lambda: network.batch([("cut", 0, 1)] * 1025))):
             with self.assertRaises(Refused) as met:
                 change()
             self.assertEqual(met.exception.number, number)
@@ -227,8 +227,11 @@ class NetworkTests(unittest.TestCase):
             (lambda: network.add(1, 1), "refused 5: a link would join node 1 with itself"),
             (lambda: network.add(0, 1), "refused 6: more than one link would join 0 and 1"),
             (lambda: network.cut(0, 4), "refused 8: no link joins 0 and 4"),
+            (lambda: network.cut(99, 1), "refused 8: there is no node 99"),
+            (lambda: network.cut(1, -9), "refused 8: there is no node -9"),
+            (lambda: network.batch([("cut", 1, 0), ("cut", 2, 1 << 40)]), f"refused 8, edit 1: there is no node {1 << 40}"),
             (lambda: network.batch([("cut", 1, 0), ("cut", 0, 1)]), "refused 8, edit 1: no link joins 0 and 1"),
-            (lambda: network.move(7), "refused 4: there is no node 7"),
+            (lambda: network.move_dest(7), "refused 4: there is no node 7"),
             (lambda: Network(3, 7, [(0, 1)]), "refused 4: there is no node 7"),
         ):
             with self.assertRaises(Refused) as met:
@@ -255,7 +258,7 @@ class NetworkTests(unittest.TestCase):
                 (lambda: network.cut(number, 1), (number, 1), 0),
                 (lambda: network.cut(-7, number), (-7, number), 0),
                 (lambda: network.batch([("join", 2, 0), ("add", number, -7)]), (number,), 1),
-                (lambda: network.move(number), (number,), 0),
+                (lambda: network.move_dest(number), (number,), 0),
                 (lambda: Network(3, number), (number,), 0),
                 (lambda: Network(3, -7, [(0, 1), (number, 2)]), (number,), 0),
             ):
@@ -274,7 +277,7 @@ class NetworkTests(unittest.TestCase):
                 lambda: network.walk(wrong),
                 lambda: network.cut(1, wrong),
                 lambda: network.batch([("cut", wrong, 0)]),
-                lambda: network.move(wrong),
+                lambda: network.move_dest(wrong),
                 lambda: Network(wrong, 0),
                 lambda: Network(3, wrong),
                 lambda: Network(3, 0, [(0, wrong)]),
@@ -299,21 +302,58 @@ class NetworkTests(unittest.TestCase):
         self.assertEqual(met.exception.nodes, (1, 1 << 40))
         network.batch([("add", 0, One()), ("cut", One(), 2)])
         self.assertEqual(network.links(), [(0, 1)])
-        network.move(0)
-        network.move(One())
+        network.move_dest(0)
+        network.move_dest(One())
         self.assertEqual((network.links(), network.dest), ([(0, 1)], 1))
 
     def test_it_tells_what_it_is(self):
         network = Network(3, 1, [(0, 1)])
         self.assertEqual(repr(network), "<revroute.Network of 3 nodes and 1 links, destination 1>")
         self.assertEqual((network.dest, network.size, network.report), (1, (3, 1), (0, 1)))
-        network.move(0)
+        network.move_dest(0)
         self.assertEqual((network.dest, network.report), (0, (1, 1)))
         network.close()
         self.assertEqual(repr(network), "<revroute.Network, closed>")
         self.assertEqual(repr(Network(2, "a", names="ab")), "<revroute.Network of 2 nodes and 0 links, destination 'a'>")
-        for copied in (copy.copy, copy.deepcopy, pickle.dumps):
+        for copied in (copy.deepcopy, pickle.dumps):
             self.assertRaises(TypeError, copied, Network(1, 0))
+
+    def test_a_copy_has_the_links_and_hops_and_changes_alone(self):
+        for seed in range(40):
+            draw = random.Random(seed)
+            nodes = draw.randrange(1, 9)
+            names = None if seed % 2 else [f"node {x}" for x in range(nodes)]
+            name = (lambda x: x) if names is None else names.__getitem__
+            links = [(name(u), name(v)) for u, v in drawn(draw, nodes)]
+            network = Network(nodes, name(draw.randrange(nodes)), links, names=names)
+            network.move_dest(name(draw.randrange(nodes)))
+            was = network.links(), network.dest, network.hops(), network.table()
+            for other in (network.copy(), copy.copy(network)):
+                self.assertEqual((other.links(), other.dest, other.hops(), other.table()), was)
+                self.assertEqual(other.report, (0, network.report.cut_off))
+                other.move_dest(name(draw.randrange(nodes)))
+                other.batch([("cut", u, v) for u, v in other.links()])
+                self.assertEqual((network.links(), network.dest, network.hops(), network.table()), was)
+        network.close()
+        self.assertRaises(ValueError, network.copy)
+
+    def test_a_network_has_nodes(self):
+        network, named = Network(3, 0, [(1, 0)]), Network(2, "a", names=["a", 1])
+        self.assertEqual((len(network), len(named)), (3, 2))
+        self.assertEqual([it for it in (-1, 0, 2, 3, 1 << 40, "0", 1.0, None, (0, 1)) if it in network], [0, 2])
+        self.assertEqual([it for it in ("a", 1, 0, "b", None) if it in named], ["a", 1])
+        self.assertTrue(network)
+
+    def test_the_name_of_the_last_version_warns(self):
+        network = Network(3, 0, [(1, 0), (2, 1)])
+        with self.assertWarnsRegex(DeprecationWarning, "move is deprecated: use move_dest") as met:
+            self.assertEqual(network.move(2), (2, 0))
+        self.assertEqual((network.dest, met.filename), (2, __file__))
+        with self.assertWarnsRegex(DeprecationWarning, r"size\(\) is deprecated"):
+            self.assertEqual(network.size(), (3, 2))
+
+    def test_the_version_is_that_of_the_library(self):
+        self.assertEqual(revroute.__version__, revroute.version())
 
     def test_a_question_waits_for_a_change_of_another_thread(self):
         is_in, goes_on, asked = threading.Event(), threading.Event(), []
@@ -380,7 +420,7 @@ class NetworkTests(unittest.TestCase):
                 try:
                     network.next_hop(1)
                 except RuntimeError:
-                    os._exit(not (other.next_hop(0) == 1 and other.move(0) == (1, 0)))
+                    os._exit(not (other.next_hop(0) == 1 and other.move_dest(0) == (1, 0)))
                 os._exit(1)
             self.assertEqual(os.waitpid(child, 0)[1], 0)
             goes_on.set()
@@ -510,7 +550,7 @@ class NetworkTests(unittest.TestCase):
         for call in (network.hops, network.changed, network.links, network.counts, lambda: network.walk(1), lambda: network.cut(1, 0)):
             self.assertRaises(ValueError, call)
         self.assertRaises(ValueError, network.hops_into, array.array("I", [7] * 2))
-        for call in (lambda: network.next_hop(1), lambda: network.batch([]), lambda: network.move(1), lambda: network.size, lambda: network.dest):
+        for call in (lambda: network.next_hop(1), lambda: network.batch([]), lambda: network.move_dest(1), lambda: network.size, lambda: network.dest):
             self.assertRaises(ValueError, call)
 
     @unittest.skipUnless(HAS_NETWORKX, "networkx is not installed")

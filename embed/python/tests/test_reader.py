@@ -80,7 +80,7 @@ class ReaderTest(unittest.TestCase):
     def test_after_each_call_a_reader_has_the_hops(self):
         network = Network(4, 0, [(1, 0), (2, 1), (2, 3), (3, 0)])
         reader = network.reader()
-        for change in (lambda: None, lambda: network.cut(1, 0), lambda: network.move(2), lambda: network.join(1, 0)):
+        for change in (lambda: None, lambda: network.cut(1, 0), lambda: network.move_dest(2), lambda: network.join(1, 0)):
             change()
             self.assertEqual([reader.next_hop(it) for it in range(4)], network.hops())
             self.assertEqual([reader.walk(it) for it in range(4)], [network.walk(it) for it in range(4)])

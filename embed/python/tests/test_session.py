@@ -126,7 +126,7 @@ class SessionTest(unittest.TestCase):
         before has the same pushes."""
         rerouted = push_order(before, after)
         changed = [(x, after[x] if x < len(after) else revroute.NoHop.CUT_OFF) for x in rerouted]
-        self.assertEqual((session.rerouted(), session.changed()), (rerouted, changed))
+        self.assertEqual(session.changed(), changed)
         if len(before) == len(after):
             self.assertEqual(session.pushes(before), changed)
             self.assertEqual(session.pushes(dict(enumerate(before))), changed)
@@ -145,7 +145,7 @@ class SessionTest(unittest.TestCase):
                 (5, 4, []),
             ):
                 session.answer(f'["net",{nodes},{dest},{links}]')
-                after = session.next_hops()
+                after = session.hops()
                 self.look_at_changes(session, before, after)
                 for x in range(len(after), len(before)):
                     self.assertRaises(revroute.NoSuchNode, session.next_hop, x)
@@ -162,7 +162,7 @@ class SessionTest(unittest.TestCase):
                 self.assertRaises(revroute.NoSuchNode, session.pushes, table)
             self.assertRaises(ValueError, session.pushes, [None] * 5)
             self.assertRaises(TypeError, session.pushes, None)
-            with mock.patch.object(session, "size", lambda: revroute.Size(5, 3)):
+            with mock.patch.object(revroute.Session, "size", revroute.Size(5, 3)):
                 self.assertRaises(ValueError, session.pushes, {})
 
     def test_questions_tell_what_lines_tell(self):
@@ -170,8 +170,8 @@ class SessionTest(unittest.TestCase):
         for name, lines, _ in examples():
             with self.subTest(name), revroute.Session() as session:
                 for line in lines:
-                    before, answer = session.next_hops(), session.answer(line)
-                    after = session.next_hops()
+                    before, answer = session.hops(), session.answer(line)
+                    after = session.hops()
                     if not (answer or "").startswith("turned "):
                         self.assertEqual(after, before)
                         continue
@@ -182,12 +182,13 @@ class SessionTest(unittest.TestCase):
                     told = [it.value if isinstance(it, revroute.NoHop) else str(it) for it in after]
                     self.assertEqual(" ".join(["hops", *told]), session.answer('["hops"]'))
                     self.assertEqual(" ".join(["counts", *map(str, session.counts())]), session.answer('["counts"]'))
-                    self.assertEqual("turned {} cut {}".format(*session.report()), answer)
+                    self.assertEqual("turned {} cut {}".format(*session.report), answer)
                     links = session.links()
                     self.assertEqual(" ".join(["links", *(f"{u}>{v}" for u, v in links)]), session.answer('["links"]'))
-                    self.assertEqual(session.size(), (len(after), len(links)))
+                    self.assertEqual(session.size, (len(after), len(links)))
+                    self.assertEqual(session.next_hop(session.dest), revroute.NoHop.HERE)
                     for x in range(len(after)):
-                        told = " ".join(map(str, session.route(x) or [x, "cut"]))
+                        told = " ".join(map(str, session.walk(x) or [x, "cut"]))
                         self.assertEqual(f"walk {told}", session.answer(f'["walk",{x}]'))
         self.assertGreater(accepted, 10)
 
@@ -217,24 +218,40 @@ class SessionTest(unittest.TestCase):
             self.assertEqual(session.finish(), "refused 2")
             self.assertIsNone(session.finish())
 
+    def test_the_names_of_the_last_version_warn(self):
+        with revroute.Session() as session:
+            session.answer('["net",4,0,[[1,0],[2,1],[2,0]]]')
+            session.answer('["cut",1,0]')
+            for old, new in (
+                (session.next_hops, session.hops()),
+                (session.rerouted, [node for node, _ in session.changed()]),
+                (lambda: session.route(2), session.walk(2)),
+                (lambda: session.report(), session.report),
+                (lambda: session.size(), session.size),
+            ):
+                with self.assertWarns(DeprecationWarning) as met:
+                    self.assertEqual(old(), new)
+                self.assertEqual(met.filename, __file__)
+
     def test_before_the_first_network_there_is_nothing_to_tell(self):
         with revroute.Session() as session:
-            self.assertEqual([session.next_hops(), session.counts()], [[], []])
-            self.assertEqual([session.rerouted(), session.changed()], [[], []])
-            self.assertEqual([session.links(), session.report(), session.size()], [[], None, None])
+            self.assertEqual([session.hops(), session.counts()], [[], []])
+            self.assertEqual([session.changed(), session.links()], [[], []])
+            self.assertEqual([session.report, session.size, session.dest], [None, None, None])
             self.assertRaises(IndexError, session.next_hop, 0)
-            self.assertRaises(IndexError, session.route, 0)
+            self.assertRaises(IndexError, session.walk, 0)
 
     def test_what_is_no_node_has_no_hop(self):
         with revroute.Session() as session:
             session.answer(CHAIN)
             for node in (-1, 4, 1 << 32, (1 << 32) - 1, (1 << 32) + 1, 1 << 70):
                 self.assertRaises(IndexError, session.next_hop, node)
-                self.assertRaises(IndexError, session.route, node)
+                self.assertRaises(IndexError, session.walk, node)
             self.assertRaises(TypeError, session.next_hop, "1")
-            self.assertRaises(TypeError, session.route, 1.0)
-        numbers = session.next_hops, session.rerouted, session.counts, session.links, session.report, session.size
-        for question in (*numbers, session.changed, lambda: session.next_hop(1), lambda: session.route(1)):
+            self.assertRaises(TypeError, session.walk, 1.0)
+        numbers = (lambda: session.report), (lambda: session.size), (lambda: session.dest)
+        lists = session.hops, session.changed, session.counts, session.links
+        for question in (*numbers, *lists, lambda: session.next_hop(1), lambda: session.walk(1)):
             self.assertRaises(ValueError, question)
         self.assertRaises(ValueError, session.pushes, {})
 

@@ -34,8 +34,8 @@ impl Engine {
         Hop::of(unsafe { sys::revroute_next_hop(self.handle.get(), node) })
     }
 
-    pub fn next_hops(&self) -> Result<Vec<Hop>, NoMemory> {
-        let values = self.all_of(sys::revroute_next_hops)?;
+    pub fn hops(&self) -> Result<Vec<Hop>, NoMemory> {
+        let values = self.all_of(sys::revroute_hops)?;
         listed(
             values
                 .iter()
@@ -43,12 +43,9 @@ impl Engine {
         )
     }
 
-    pub fn rerouted(&self) -> Result<Vec<u32>, NoMemory> {
-        self.all_of(sys::revroute_rerouted)
-    }
-
     pub fn changed(&self) -> Result<Vec<(u32, Hop)>, NoMemory> {
-        self.with_hops(&self.rerouted()?)
+        let nodes = self.all_of(sys::revroute_changed)?;
+        self.with_hops(&nodes)
     }
 
     pub fn pushes(&self, table: &[Hop]) -> Result<Vec<(u32, Hop)>, TableFault> {
@@ -75,22 +72,28 @@ impl Engine {
     }
 
     pub fn links(&self) -> Result<Vec<(u32, u32)>, NoMemory> {
-        let ends = self.all_of(sys::revroute_links)?;
-        listed(ends.chunks_exact(2).map(|link| (link[0], link[1])))
+        let links = self.all_of(sys::revroute_links)?;
+        listed(links.iter().map(|link| (link.tail, link.head)))
     }
 
-    pub fn route(&self, node: u32) -> Result<Option<Vec<u32>>, NoMemory> {
+    pub fn walk(&self, node: u32) -> Result<Option<Vec<u32>>, NoMemory> {
         // SAFETY: as in `all_of`.
         filled(|nodes, room, length| unsafe {
-            sys::revroute_route(self.handle.get(), node, nodes, room, length)
+            sys::revroute_walk(self.handle.get(), node, nodes, room, length)
         })
     }
 
     pub fn report(&self) -> Option<Report> {
-        let (mut turned, mut cut_off) = (0, 0);
-        // SAFETY: the handle is new or the library's own, no other call has it, and the three do not overlap.
-        let status = unsafe { sys::revroute_report(self.handle.get(), &mut turned, &mut cut_off) };
-        (status == sys::ANSWERED).then_some(Report { turned, cut_off })
+        let mut round = sys::Round::default();
+        // SAFETY: the handle is new or the library's own, no other call has it, and the two do not overlap.
+        let status = unsafe { sys::revroute_report(self.handle.get(), &mut round) };
+        (status == sys::ANSWERED).then(|| round.report())
+    }
+
+    pub fn dest(&self) -> Option<u32> {
+        // SAFETY: the handle is new or the library's own, and no other call has it.
+        let dest = unsafe { sys::revroute_dest(self.handle.get()) };
+        (dest != sys::NO_HOP).then_some(dest)
     }
 
     pub fn size(&self) -> Option<Size> {

@@ -29,7 +29,6 @@ use std::iter::FusedIterator;
 /// ```
 pub struct Network {
     engine: Engine,
-    destination: u32,
 }
 
 /// An edit in a batch. It names the two nodes of its link.
@@ -83,8 +82,8 @@ impl Network {
             let (list, count) = (links.as_ptr(), links.len());
             sys::revroute_open(handle, nodes, dest, list, count, &mut round, &mut refusal)
         };
-        ended(status, round, || {
-            refused(&refusal, |walk, room, length| {
+        ended(status, &round, || {
+            refused(&refusal, nodes, |walk, room, length| {
                 // SAFETY: the links and the places of the walk are slices, and none of the three overlap.
                 unsafe {
                     let (list, count) = (links.as_ptr(), links.len());
@@ -92,10 +91,7 @@ impl Network {
                 }
             })
         })?;
-        Ok(Network {
-            engine,
-            destination: dest,
-        })
+        Ok(Network { engine })
     }
 
     /// Removes the link between two nodes, whichever way it points.
@@ -109,12 +105,13 @@ impl Network {
     /// let mut network = Network::new(3, 0, &[(1, 0), (2, 0), (2, 1)])?;
     /// assert_eq!(network.cut(1, 0)?, Report { turned: 1, cut_off: 0 });
     /// assert_eq!(network.cut(1, 0), Err(Refused::NoLink(1, 0)));
+    /// assert_eq!(network.cut(99, 0), Err(Refused::NoSuchNode(99)));
     /// # Ok::<(), Refused>(())
     /// ```
     ///
     /// # Errors
     ///
-    /// [`NoLink`](Refused::NoLink), also if one of the numbers is not a node, and [`NoMemory`](Refused::NoMemory).
+    /// [`NoLink`](Refused::NoLink), [`NoSuchNode`](Refused::NoSuchNode) and [`NoMemory`](Refused::NoMemory).
     pub fn cut(&mut self, u: u32, v: u32) -> Result<Report, Refused> {
         Ok(self.change(&[Edit::Cut(u, v).into()])?)
     }
@@ -187,7 +184,7 @@ impl Network {
     ///
     /// ```
     /// let mut network = revroute::Network::new(3, 0, &[(1, 0), (2, 1)])?;
-    /// network.set_destination(2)?;
+    /// network.move_dest(2)?;
     /// assert!(network.walk(0).eq([0, 1, 2]));
     /// # Ok::<(), revroute::Refused>(())
     /// ```
@@ -195,14 +192,22 @@ impl Network {
     /// # Errors
     ///
     /// [`NoSuchNode`](Refused::NoSuchNode) and [`NoMemory`](Refused::NoMemory).
-    pub fn set_destination(&mut self, dest: u32) -> Result<Report, Refused> {
+    pub fn move_dest(&mut self, dest: u32) -> Result<Report, Refused> {
         let (mut round, mut refusal) = (sys::Round::default(), sys::Refusal::default());
+        let handle = self.engine.handle();
         // SAFETY: the handle is the library's own, no other call has it, and the three do not overlap.
-        let status =
-            unsafe { sys::revroute_move(self.engine.handle(), dest, &mut round, &mut refusal) };
-        let report = ended(status, round, || Refused::NoSuchNode(refusal.u))?;
-        self.destination = dest;
-        Ok(report)
+        let status = unsafe { sys::revroute_move_dest(handle, dest, &mut round, &mut refusal) };
+        ended(status, &round, || Refused::NoSuchNode(refusal.u))
+    }
+
+    /// The former name of [`move_dest`](Network::move_dest).
+    ///
+    /// # Errors
+    ///
+    /// Those of `move_dest`.
+    #[deprecated(since = "0.2.0", note = "use `move_dest`")]
+    pub fn set_destination(&mut self, dest: u32) -> Result<Report, Refused> {
+        self.move_dest(dest)
     }
 
     /// The next hop of a node: where it forwards traffic for the destination. `O(1)`, and needs no memory.
@@ -226,6 +231,21 @@ impl Network {
             Some(hop) => hop,
             None => panic!("there is no node {node}"),
         }
+    }
+
+    /// The next hop of a node, or `None` if there is no such node. `O(1)`, and needs no memory.
+    ///
+    /// ```
+    /// use revroute::{Hop, Network};
+    ///
+    /// let network = Network::new(2, 0, &[(0, 1)])?;
+    /// assert_eq!(network.try_next_hop(1), Some(Hop::To(0)));
+    /// assert_eq!(network.try_next_hop(2), None);
+    /// # Ok::<(), revroute::Refused>(())
+    /// ```
+    #[inline]
+    pub fn try_next_hop(&self, node: u32) -> Option<Hop> {
+        self.engine.next_hop(node)
     }
 
     /// A reader of the next hops, for another thread.
@@ -265,7 +285,7 @@ impl Network {
     ///
     /// If memory for the list runs out.
     pub fn hops(&self) -> Result<Vec<Hop>, NoMemory> {
-        self.engine.next_hops()
+        self.engine.hops()
     }
 
     /// The nodes on the route from a node to the destination, both included. If the node is cut off, the iterator is
@@ -417,11 +437,41 @@ impl Network {
     /// The destination. `O(1)`, and needs no memory.
     ///
     /// ```
-    /// assert_eq!(revroute::Network::new(4, 2, &[])?.destination(), 2);
+    /// assert_eq!(revroute::Network::new(4, 2, &[])?.dest(), 2);
     /// # Ok::<(), revroute::Refused>(())
     /// ```
+    pub fn dest(&self) -> u32 {
+        self.engine.dest().expect("there is a network")
+    }
+
+    /// The former name of [`dest`](Network::dest).
+    #[deprecated(since = "0.2.0", note = "use `dest`")]
     pub fn destination(&self) -> u32 {
-        self.destination
+        self.dest()
+    }
+
+    /// A network with the same links, destination and next hops, to try changes on. No node turns, so its
+    /// [`report`](Network::report), [`counts`](Network::counts) and [`changed`](Network::changed) are those of a new
+    /// network. It has no readers. `O(n + m)`.
+    ///
+    /// ```
+    /// let network = revroute::Network::new(3, 0, &[(1, 0), (2, 1), (2, 0)])?;
+    /// let mut other = network.try_clone()?;
+    /// other.cut(1, 0)?;
+    /// assert!(network.walk(1).eq([1, 0]));
+    /// assert!(other.walk(1).eq([1, 2, 0]));
+    /// # Ok::<(), revroute::Refused>(())
+    /// ```
+    ///
+    /// # Errors
+    ///
+    /// If memory runs out.
+    pub fn try_clone(&self) -> Result<Network, NoMemory> {
+        let (nodes, links) = (self.size().nodes, self.links()?);
+        Network::new(nodes, self.dest(), &links).map_err(|why| match why {
+            Refused::NoMemory => NoMemory,
+            _ => unreachable!("the links of a network make a network"),
+        })
     }
 
     fn change(&mut self, edits: &[sys::Edit]) -> Result<Report, RefusedEdit> {
@@ -430,8 +480,8 @@ impl Network {
         // SAFETY: the handle is the library's own, no other call has it, the edits are a slice, and none of the four
         // overlap.
         let status = unsafe { sys::revroute_change(handle, list, count, &mut round, &mut refusal) };
-        ended(status, round, || {
-            refused(&refusal, |walk, room, length| {
+        ended(status, &round, || {
+            refused(&refusal, self.size().nodes, |walk, room, length| {
                 // SAFETY: as above, and the places of the walk are another slice.
                 unsafe { sys::revroute_closed_walk(handle, list, count, walk, room, length) }
             })
@@ -452,8 +502,19 @@ impl fmt::Debug for Network {
         f.debug_struct("Network")
             .field("nodes", &nodes)
             .field("links", &links)
-            .field("destination", &self.destination)
+            .field("dest", &self.dest())
             .finish_non_exhaustive()
+    }
+}
+
+/// A network with the same links, destination and next hops, as by [`try_clone`](Network::try_clone).
+///
+/// # Panics
+///
+/// If memory runs out.
+impl Clone for Network {
+    fn clone(&self) -> Network {
+        self.try_clone().expect("there is memory for a network")
     }
 }
 
@@ -477,21 +538,23 @@ impl Iterator for Walk<'_> {
 impl FusedIterator for Walk<'_> {}
 
 /// The result of a call with this status: the report of its round, or why it is refused.
-fn ended(status: u32, round: sys::Round, why: impl FnOnce() -> Refused) -> Result<Report, Refused> {
+fn ended(
+    status: u32,
+    round: &sys::Round,
+    why: impl FnOnce() -> Refused,
+) -> Result<Report, Refused> {
     match status {
-        sys::ANSWERED => Ok(Report {
-            turned: round.turned,
-            cut_off: round.cut_off,
-        }),
+        sys::ANSWERED => Ok(round.report()),
         sys::REFUSED => Err(why()),
         sys::NO_MEMORY => Err(Refused::NoMemory),
         _ => unreachable!("a change of a network has three ends"),
     }
 }
 
-/// A refusal with its evidence. A cycle has to be found again, which needs memory.
+/// A refusal with its evidence, in a network of this many nodes. A cycle has to be found again, which needs memory.
 fn refused(
     refusal: &sys::Refusal,
+    nodes: u32,
     closed_walk: impl Fn(*mut u32, usize, *mut usize) -> u32,
 ) -> Refused {
     let (u, v) = (refusal.u, refusal.v);
@@ -499,6 +562,8 @@ fn refused(
         sys::NO_SUCH => Refused::NoSuchNode(u),
         sys::SELF_LINK => Refused::SelfLink(u),
         sys::TWICE => Refused::Twice(u, v),
+        // The library has one number for a cut without a link, also if there is no such node.
+        sys::NO_LINK if u.max(v) >= nodes => Refused::NoSuchNode(if u >= nodes { u } else { v }),
         sys::NO_LINK => Refused::NoLink(u, v),
         sys::TOO_MANY => Refused::TooMany,
         sys::CLOSED_WALK => match filled(closed_walk) {

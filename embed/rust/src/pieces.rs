@@ -6,6 +6,7 @@ use std::fmt;
 
 /// Why a piece was not taken. Nothing has changed, neither the session nor the piece.
 #[derive(Debug, Clone, Copy, PartialEq, Eq)]
+#[non_exhaustive]
 pub enum TakeFault {
     /// Memory ran out. You can pass the same piece again.
     NoMemory,

@@ -1,6 +1,6 @@
 //! Questions to a session that are answered by numbers, without text.
 
-use crate::{Hop, NoMemory, Reader, Report, Session, Size, TableFault};
+use crate::{Hop, NoMemory, Reader, Report, Session, Size, TableFault, listed};
 
 impl Session {
     /// The next hop of a node. `None` if there is no such node, and before the first network. `O(1)`, and needs no
@@ -45,34 +45,27 @@ impl Session {
     /// # Errors
     ///
     /// If memory for the list runs out.
-    pub fn next_hops(&mut self) -> Result<Vec<Hop>, NoMemory> {
-        self.engine.next_hops()
+    pub fn hops(&mut self) -> Result<Vec<Hop>, NoMemory> {
+        self.engine.hops()
     }
 
-    /// The nodes whose next hop the last accepted round changed, in push order: each node after the changed nodes on
-    /// its new route. Refused requests and questions do not change this list. `O(k)` for k nodes.
-    ///
-    /// A number that is not a node of the network before or after the round counts as cut off there, and before the
-    /// first network all numbers do. So if the new network is smaller, the nodes that are gone and had a hop are on
-    /// the list.
-    ///
-    /// ```
-    /// let mut session = revroute::Session::new();
-    /// session.answer(r#"["net",5,0,[[1,0],[2,0],[3,1],[3,2],[4,3]]]"#)?;
-    /// session.answer(r#"["cut",1,0]"#)?;
-    /// assert_eq!(session.rerouted()?, [3, 1]);
-    /// # Ok::<(), revroute::NoMemory>(())
-    /// ```
+    /// The former name of [`hops`](Session::hops).
     ///
     /// # Errors
     ///
     /// If memory for the list runs out.
-    pub fn rerouted(&mut self) -> Result<Vec<u32>, NoMemory> {
-        self.engine.rerouted()
+    #[deprecated(since = "0.2.0", note = "use `hops`")]
+    pub fn next_hops(&mut self) -> Result<Vec<Hop>, NoMemory> {
+        self.hops()
     }
 
-    /// The nodes of [`rerouted`](Session::rerouted), each with its next hop. A node that is gone has
-    /// [`CutOff`](Hop::CutOff). `O(k)` for k nodes.
+    /// The nodes whose next hop the last accepted round changed, each with its new next hop. They are in push order:
+    /// each node after the changed nodes on its new route. Refused requests and questions do not change this list.
+    /// `O(k)` for k nodes.
+    ///
+    /// A number that is not a node of the network before or after the round counts as cut off there, and before the
+    /// first network all numbers do. So if the new network is smaller, the nodes that are gone and had a hop are on
+    /// the list, with [`CutOff`](Hop::CutOff).
     ///
     /// ```
     /// use revroute::{Hop, Session};
@@ -91,6 +84,19 @@ impl Session {
         self.engine.changed()
     }
 
+    /// The nodes of [`changed`](Session::changed), without their hops.
+    ///
+    /// # Errors
+    ///
+    /// If memory for the lists runs out.
+    #[deprecated(
+        since = "0.2.0",
+        note = "use `changed`, which has the nodes and their hops"
+    )]
+    pub fn rerouted(&mut self) -> Result<Vec<u32>, NoMemory> {
+        listed(self.changed()?.iter().map(|&(node, _)| node))
+    }
+
     /// The nodes whose hop in your table is not their next hop, each with its next hop, in push order. See
     /// [`Network::pushes`](crate::Network::pushes). Before the first network there are no nodes, so it accepts only
     /// the empty table. `O(n)`.
@@ -100,7 +106,7 @@ impl Session {
     ///
     /// let mut session = Session::new();
     /// session.answer(r#"["net",4,0,[[1,0],[2,1],[2,3],[3,0]]]"#)?;
-    /// let table = session.next_hops()?;
+    /// let table = session.hops()?;
     /// session.answer(r#"["cut",1,0]"#)?;
     /// assert_eq!(session.pushes(&table)?, [(2, Hop::To(3)), (1, Hop::To(2))]);
     /// # Ok::<(), revroute::TableFault>(())
@@ -129,16 +135,26 @@ impl Session {
     /// ```
     /// let mut session = revroute::Session::new();
     /// session.answer(r#"["net",4,0,[[0,1],[1,2]]]"#)?;
-    /// assert_eq!(session.route(2)?, Some(vec![2, 1, 0]));
-    /// assert_eq!(session.route(3)?, None);
+    /// assert_eq!(session.walk(2)?, Some(vec![2, 1, 0]));
+    /// assert_eq!(session.walk(3)?, None);
     /// # Ok::<(), revroute::NoMemory>(())
     /// ```
     ///
     /// # Errors
     ///
     /// If memory for the list runs out.
+    pub fn walk(&mut self, node: u32) -> Result<Option<Vec<u32>>, NoMemory> {
+        self.engine.walk(node)
+    }
+
+    /// The former name of [`walk`](Session::walk).
+    ///
+    /// # Errors
+    ///
+    /// If memory for the list runs out.
+    #[deprecated(since = "0.2.0", note = "use `walk`")]
     pub fn route(&mut self, node: u32) -> Result<Option<Vec<u32>>, NoMemory> {
-        self.engine.route(node)
+        self.walk(node)
     }
 
     /// The links as (tail, head), in rising order. Empty before the first network. `O(n + m)`.
@@ -167,6 +183,20 @@ impl Session {
     /// ```
     pub fn report(&mut self) -> Option<Report> {
         self.engine.report()
+    }
+
+    /// The destination. `None` before the first network. `O(1)`, and needs no memory.
+    ///
+    /// ```
+    /// let mut session = revroute::Session::new();
+    /// assert_eq!(session.dest(), None);
+    /// session.answer(r#"["net",4,0,[[0,1],[1,2]]]"#)?;
+    /// session.answer(r#"["dest",2]"#)?;
+    /// assert_eq!(session.dest(), Some(2));
+    /// # Ok::<(), revroute::NoMemory>(())
+    /// ```
+    pub fn dest(&mut self) -> Option<u32> {
+        self.engine.dest()
     }
 
     /// The number of nodes and of links. `None` before the first network. `O(1)`, and needs no memory.

@@ -62,6 +62,7 @@ unsafe impl Send for Reader {}
 
 /// How a walk of a [`Reader`] has ended.
 #[derive(Debug, Clone, Copy, PartialEq, Eq, Hash)]
+#[non_exhaustive]
 pub enum Walked<'a> {
     /// At the destination. The slice has the nodes of the walk, both ends included.
     Arrived(&'a [u32]),
@@ -115,11 +116,26 @@ impl Reader {
     #[inline]
     #[track_caller]
     pub fn next_hop(&self, node: u32) -> Hop {
-        // SAFETY: the handle is the library's own, and no other call has it.
-        match Hop::of(unsafe { sys::revroute_reader_next_hop(self.handle.get(), node) }) {
+        match self.try_next_hop(node) {
             Some(hop) => hop,
             None => panic!("no network has a node {node}"),
         }
+    }
+
+    /// The same, and `None` if the number is [`MAX_NODES`] or more. `O(1)`, and needs no memory.
+    ///
+    /// ```
+    /// use revroute::{Hop, Network};
+    ///
+    /// let reader = Network::new(3, 0, &[(0, 1)])?.reader()?;
+    /// assert_eq!(reader.try_next_hop(1), Some(Hop::To(0)));
+    /// assert_eq!(reader.try_next_hop(4096), None);
+    /// # Ok::<(), revroute::Refused>(())
+    /// ```
+    #[inline]
+    pub fn try_next_hop(&self, node: u32) -> Option<Hop> {
+        // SAFETY: the handle is the library's own, and no other call has it.
+        Hop::of(unsafe { sys::revroute_reader_next_hop(self.handle.get(), node) })
     }
 
     /// Walks hop by hop from a node, with one load for each hop, and writes the nodes to the front of the buffer
@@ -153,7 +169,7 @@ impl Reader {
         // SAFETY: the handle is the library's own, no other call has it, and the place is a slice, which does not
         // overlap its length.
         let status = unsafe {
-            sys::revroute_reader_route(self.handle.get(), node, places, room, &mut length)
+            sys::revroute_reader_walk(self.handle.get(), node, places, room, &mut length)
         };
         match status {
             sys::ANSWERED => Walked::Arrived(&place[..length]),

@@ -6,10 +6,12 @@ use std::fmt;
 
 /// Why a network or a change is refused, with the nodes that show it. Nothing has changed.
 #[derive(Debug, Clone, PartialEq, Eq)]
+#[non_exhaustive]
 pub enum Refused {
     /// Memory ran out. You can make the same call again.
     NoMemory,
     /// There is no node with this number. Nodes are numbered from 0. A network of 0 nodes is refused for node 0.
+    /// (A line that cuts a link at such a number is answered `refused 8`, as if only the link were missing.)
     NoSuchNode(u32),
     /// A link would connect this node with itself.
     SelfLink(u32),
@@ -69,7 +71,11 @@ impl fmt::Display for RefusedEdit {
     }
 }
 
-impl Error for RefusedEdit {}
+impl Error for RefusedEdit {
+    fn source(&self) -> Option<&(dyn Error + 'static)> {
+        Some(&self.why)
+    }
+}
 
 impl From<RefusedEdit> for Refused {
     fn from(it: RefusedEdit) -> Refused {

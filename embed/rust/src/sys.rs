@@ -1,5 +1,6 @@
 //! The calls of `embed/c/revroute.h`, as C declares them.
 
+use crate::Report;
 use std::ffi::c_void;
 use std::ptr::null_mut;
 
@@ -71,7 +72,7 @@ pub const TOO_MANY: u32 = 9;
 
 /// A link.
 #[repr(C)]
-#[derive(Clone, Copy)]
+#[derive(Clone, Copy, Default)]
 pub struct Link {
     pub tail: u32,
     pub head: u32,
@@ -92,6 +93,15 @@ pub struct Edit {
 pub struct Round {
     pub turned: u64,
     pub cut_off: u64,
+}
+
+impl Round {
+    pub fn report(&self) -> Report {
+        Report {
+            turned: self.turned,
+            cut_off: self.cut_off,
+        }
+    }
 }
 
 /// Why a call is refused, with the nodes that show it, and the index of the edit.
@@ -123,7 +133,7 @@ unsafe extern "C" {
         refusal: *mut Refusal,
     ) -> u32;
 
-    pub fn revroute_move(
+    pub fn revroute_move_dest(
         session: *mut Handle,
         dest: u32,
         round: *mut Round,
@@ -176,14 +186,14 @@ unsafe extern "C" {
 
     pub fn revroute_next_hop(session: *mut Handle, node: u32) -> u32;
 
-    pub fn revroute_next_hops(
+    pub fn revroute_hops(
         session: *mut Handle,
         hops: *mut u32,
         room: usize,
         length: *mut usize,
     ) -> u32;
 
-    pub fn revroute_rerouted(
+    pub fn revroute_changed(
         session: *mut Handle,
         nodes: *mut u32,
         room: usize,
@@ -206,7 +216,7 @@ unsafe extern "C" {
         length: *mut usize,
     ) -> u32;
 
-    pub fn revroute_route(
+    pub fn revroute_walk(
         session: *mut Handle,
         node: u32,
         nodes: *mut u32,
@@ -216,12 +226,14 @@ unsafe extern "C" {
 
     pub fn revroute_links(
         session: *mut Handle,
-        ends: *mut u32,
+        links: *mut Link,
         room: usize,
         length: *mut usize,
     ) -> u32;
 
-    pub fn revroute_report(session: *mut Handle, turned: *mut u64, cut_off: *mut u64) -> u32;
+    pub fn revroute_report(session: *mut Handle, round: *mut Round) -> u32;
+
+    pub fn revroute_dest(session: *mut Handle) -> u32;
 
     pub fn revroute_size(session: *mut Handle, nodes: *mut u32, links: *mut usize) -> u32;
 
@@ -233,7 +245,7 @@ unsafe extern "C" {
 
     pub fn revroute_reader_next_hop(reader: *mut ReaderHandle, node: u32) -> u32;
 
-    pub fn revroute_reader_route(
+    pub fn revroute_reader_walk(
         reader: *mut ReaderHandle,
         node: u32,
         nodes: *mut u32,

@@ -50,8 +50,8 @@ fn without_memory_the_session_is_as_it_was() -> Result<(), NoMemory> {
         assert!(number > 1, "{line} takes memory");
     }
     assert_eq!(session.answer(r#"["links"]"#)?, Some("links 1>2 2>3 3>0"));
-    assert_eq!(poor(1, || session.route(1)), Err(NoMemory));
-    assert_eq!(session.route(1)?, Some(vec![1, 2, 3, 0]));
+    assert_eq!(poor(1, || session.walk(1)), Err(NoMemory));
+    assert_eq!(session.walk(1)?, Some(vec![1, 2, 3, 0]));
     Ok(())
 }
 
@@ -115,9 +115,10 @@ fn without_memory_the_network_is_as_it_was() -> Result<(), Refused> {
     made_poor(&mut network, |it| it.cut(1, 0))?;
     let edits = [Edit::Add(3, 0), Edit::Join(1, 3)];
     made_poor(&mut network, |it| Ok(it.batch(&edits)?))?;
-    made_poor(&mut network, |it| it.set_destination(2))?;
+    made_poor(&mut network, |it| it.move_dest(2))?;
     assert_eq!(network.report().cut_off, 0);
     assert_eq!(poor(1, || network.links()), Err(NoMemory));
+    assert!(matches!(poor(1, || network.try_clone()), Err(NoMemory)));
     Ok(())
 }
 

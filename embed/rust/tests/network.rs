@@ -104,6 +104,7 @@ fn number(refused: &Refused) -> u32 {
         Refused::ClosedWalk(_) => 7,
         Refused::NoLink(..) => 8,
         Refused::TooMany => 9,
+        _ => panic!("{refused}"),
     }
 }
 
@@ -204,7 +205,7 @@ fn shows(why: &Refused, edit: Edit, links: &[(u32, u32)], nodes: u32) {
             assert!(steps.contains(&(u, v)), "{walk:?}");
             assert!(steps.iter().all(|it| *it == (u, v) || links.contains(it)));
         }
-        Refused::NoMemory | Refused::TooMany => panic!("{why}"),
+        _ => panic!("{why}"),
     }
 }
 
@@ -257,7 +258,7 @@ impl Asked {
                 Ok(ended?)
             }
             Asked::Destination(dest) => network
-                .set_destination(*dest)
+                .move_dest(*dest)
                 .inspect_err(|why| assert_eq!(*why, Refused::NoSuchNode(*dest))),
         }
     }
@@ -286,7 +287,9 @@ fn change_both(seed: u64) -> Result<(u32, u32), Box<dyn Error>> {
                 accepted += 1;
             }
             Err(why) => {
-                assert_eq!(format!("refused {}", number(&why)), told);
+                // By lines, a cut of a link at a number that is not a node has no link.
+                let is_outside = matches!(why, Refused::NoSuchNode(_)) && told == "refused 8";
+                assert!(is_outside || told == format!("refused {}", number(&why)));
                 assert_eq!((network.hops()?, network.links()?), (hops, links));
                 refused += 1;
             }
@@ -370,7 +373,9 @@ fn refusals_say_what_is_wrong() -> Result<(), Box<dyn Error>> {
             "more than one link would join nodes 0 and 1",
         ),
         (network.cut(0, 4), "no link joins nodes 0 and 4"),
-        (network.set_destination(7), "there is no node 7"),
+        (network.cut(99, 1), "there is no node 99"),
+        (network.cut(1, 5), "there is no node 5"),
+        (network.move_dest(7), "there is no node 7"),
     ] {
         assert_eq!(ended.err().map(|it| it.to_string()).as_deref(), Some(said));
     }
@@ -380,9 +385,17 @@ fn refusals_say_what_is_wrong() -> Result<(), Box<dyn Error>> {
     let refused = network.batch(&[Edit::Cut(1, 0), Edit::Cut(0, 1)]);
     let said = refused.err().map(|it| it.to_string());
     assert_eq!(said.as_deref(), Some("edit 1: no link joins nodes 0 and 1"));
+    let refused = network.batch(&[Edit::Cut(1, 0), Edit::Cut(7, 9)]);
+    let wanted = RefusedEdit {
+        at: 1,
+        why: Refused::NoSuchNode(7),
+    };
+    assert_eq!(refused, Err(wanted.clone()));
+    let source = wanted.source().map(|it| it.to_string());
+    assert_eq!(source.as_deref(), Some("there is no node 7"));
     assert_eq!(
         format!("{network:?}"),
-        "Network { nodes: 5, links: 5, destination: 0, .. }"
+        "Network { nodes: 5, links: 5, dest: 0, .. }"
     );
     Ok(())
 }
@@ -444,6 +457,7 @@ fn a_wrong_table_has_no_pushes() -> Result<(), Box<dyn Error>> {
 fn what_is_no_node_panics() -> Result<(), Box<dyn Error>> {
     for node in [2, 4096, u32::MAX - 4, u32::MAX - 3, u32::MAX] {
         let network = Network::new(2, 0, &[(1, 0)])?;
+        assert_eq!(network.try_next_hop(node), None);
         assert!(
             thread::spawn(move || network.next_hop(node))
                 .join()
@@ -463,11 +477,52 @@ fn what_is_no_node_panics() -> Result<(), Box<dyn Error>> {
 fn a_network_goes_from_thread_to_thread() -> Result<(), Box<dyn Error>> {
     let mut network = Network::new(4, 0, &[(0, 1), (1, 2), (2, 3)])?;
     for dest in [3, 1, 2, 0] {
-        network = thread::spawn(move || network.set_destination(dest).map(|_| network))
+        network = thread::spawn(move || network.move_dest(dest).map(|_| network))
             .join()
             .expect("the thread changes it")?;
-        assert_eq!(network.next_hop(network.destination()), Hop::Here);
+        assert_eq!(network.next_hop(network.dest()), Hop::Here);
     }
     assert!(network.walk(3).eq([3, 2, 1, 0]));
+    Ok(())
+}
+
+#[test]
+fn a_clone_has_the_links_and_hops_and_changes_alone() -> Result<(), Box<dyn Error>> {
+    for seed in 0..60 {
+        let mut draw = Draw(seed);
+        let nodes = 1 + draw.below(8);
+        let mut network = Network::new(nodes, draw.below(nodes), &draw.links(nodes))?;
+        for _ in 0..20 {
+            let links = network.links()?;
+            let asked = Asked::drawn(&mut draw, nodes);
+            asked.make(&mut network, links).ok();
+        }
+        let (links, hops, dest) = (network.links()?, network.hops()?, network.dest());
+        let mut other = network.clone();
+        assert_eq!(
+            (other.links()?, other.hops()?, other.dest()),
+            (links, hops, dest)
+        );
+        let Report { turned, cut_off } = other.report();
+        assert_eq!((turned, cut_off), (0, network.report().cut_off));
+        let links = network.links()?;
+        other.move_dest(draw.below(nodes))?;
+        for &(u, v) in &links {
+            other.cut(u, v)?;
+        }
+        assert_eq!((network.links()?, network.dest()), (links, dest));
+    }
+    Ok(())
+}
+
+#[test]
+#[allow(deprecated)]
+fn former_names_do_what_the_new_ones_do() -> Result<(), Box<dyn Error>> {
+    let mut network = Network::new(3, 0, &[(1, 0), (2, 1)])?;
+    let mut same = network.clone();
+    assert_eq!(network.set_destination(2)?, same.move_dest(2)?);
+    assert_eq!(network.set_destination(3), Err(Refused::NoSuchNode(3)));
+    assert_eq!((network.destination(), same.dest()), (2, 2));
+    assert_eq!(network.links()?, same.links()?);
     Ok(())
 }

@@ -38,11 +38,8 @@ fn read_along(reader: Reader, is_over: &AtomicBool) -> Vec<Hop> {
     let mut place = [0; MAX_NODES];
     while !is_over.load(Ordering::Acquire) {
         for node in 0..NODES {
-            match reader.walk(node, &mut place) {
-                Walked::Arrived(route) => {
-                    assert_eq!((route.first(), route.last()), (Some(&node), Some(&0)));
-                }
-                Walked::CutOff | Walked::Longer(_) => {}
+            if let Walked::Arrived(route) = reader.walk(node, &mut place) {
+                assert_eq!((route.first(), route.last()), (Some(&node), Some(&0)));
             }
             assert!(reader.next_hop(node).node().is_none_or(|it| it < NODES));
         }
@@ -82,7 +79,7 @@ fn after_each_call_a_reader_has_the_hops() -> Result<(), Refused> {
     assert_eq!(read(), network.hops()?);
     assert_eq!(network.cut(1, 0), Err(Refused::NoLink(1, 0)));
     assert_eq!(read(), network.hops()?);
-    network.set_destination(2)?;
+    network.move_dest(2)?;
     assert_eq!(read(), network.hops()?);
     Ok(())
 }
@@ -135,6 +132,7 @@ fn a_walk_has_an_end_for_each_room() -> Result<(), Refused> {
 fn what_can_be_no_node_panics() -> Result<(), Refused> {
     let reader = Network::new(2, 0, &[(0, 1)])?.reader()?;
     for node in [4096, u32::MAX] {
+        assert_eq!(reader.try_next_hop(node), None);
         let reader = panic::AssertUnwindSafe(&reader);
         assert!(panic::catch_unwind(|| reader.next_hop(node)).is_err());
         assert!(panic::catch_unwind(|| reader.walk(node, &mut [0; 2]) == Walked::CutOff).is_err());

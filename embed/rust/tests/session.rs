@@ -182,14 +182,14 @@ fn hops(answer: Option<&str>) -> Vec<Hop> {
 /// Checks that the route of each node is the one that lines give.
 fn tells_routes(session: &mut Session, nodes: u32) -> Result<(), NoMemory> {
     for x in 0..nodes {
-        let told = match session.route(x)? {
+        let told = match session.walk(x)? {
             Some(route) => route.iter().map(|it| format!(" {it}")).collect(),
             None => format!(" {x} cut"),
         };
         let line = format!("[\"walk\",{x}]");
         assert_eq!(session.answer(line)?, Some(&*format!("walk{told}")));
     }
-    assert_eq!(session.route(nodes)?, None);
+    assert_eq!(session.walk(nodes)?, None);
     Ok(())
 }
 
@@ -199,7 +199,6 @@ fn tells_changes(session: &mut Session, before: &[Hop], after: &[Hop]) -> Result
     let rerouted = push_order(before, after);
     let hop = |x: u32| after.get(x as usize).copied().unwrap_or(Hop::CutOff);
     let changed: Vec<(u32, Hop)> = rerouted.iter().map(|&x| (x, hop(x))).collect();
-    assert_eq!(session.rerouted()?, rerouted);
     assert_eq!(session.changed()?, changed);
     if before.len() == after.len() {
         assert_eq!(session.pushes(before)?, changed);
@@ -221,7 +220,7 @@ fn after_a_network_the_difference_is_told() -> Result<(), TableFault> {
         r#"["net",5,4,[]]"#,
     ] {
         session.answer(line)?;
-        let after = session.next_hops()?;
+        let after = session.hops()?;
         tells_changes(&mut session, &before, &after)?;
         for x in after.len()..before.len() {
             assert_eq!(session.next_hop(x as u32), None);
@@ -237,16 +236,16 @@ fn questions_tell_what_lines_tell() -> Result<(), Box<dyn Error>> {
     for it in examples()? {
         let mut session = Session::new();
         for line in it.lines.split(|&byte| byte == b'\n') {
-            let before = session.next_hops()?;
+            let before = session.hops()?;
             let Some(answer) = session.answer(line)?.map(String::from) else {
                 continue;
             };
             if !answer.starts_with("turned ") {
-                assert_eq!(session.next_hops()?, before, "{}", it.name);
+                assert_eq!(session.hops()?, before, "{}", it.name);
                 continue;
             }
             accepted += 1;
-            let after = session.next_hops()?;
+            let after = session.hops()?;
             assert_eq!(after, hops(session.answer(r#"["hops"]"#)?));
             assert_eq!(session.counts()?, numbers(session.answer(r#"["counts"]"#)?));
             tells_changes(&mut session, &before, &after)?;
@@ -264,6 +263,8 @@ fn questions_tell_what_lines_tell() -> Result<(), Box<dyn Error>> {
                 session.answer(r#"["links"]"#)?,
                 Some(&*format!("links{told}"))
             );
+            let dest = session.dest().expect("there is a network");
+            assert_eq!(session.next_hop(dest), Some(Hop::Here));
             let size = session.size().expect("there is a network");
             assert_eq!(
                 (size.nodes as usize, size.links),
@@ -279,15 +280,15 @@ fn questions_tell_what_lines_tell() -> Result<(), Box<dyn Error>> {
 fn before_the_first_network_there_is_nothing_to_tell() -> Result<(), NoMemory> {
     let mut session = Session::new();
     assert_eq!(session.next_hop(0), None);
-    assert_eq!(session.next_hops()?, []);
-    assert_eq!(session.rerouted()?, []);
+    assert_eq!(session.hops()?, []);
     assert_eq!(session.changed()?, []);
     assert_eq!(session.pushes(&[]), Ok(Vec::new()));
     assert_eq!(session.pushes(&[Hop::Here]), Err(TableFault::Length));
     assert_eq!(session.counts()?, []);
     assert_eq!(session.links()?, []);
-    assert_eq!(session.route(0)?, None);
+    assert_eq!(session.walk(0)?, None);
     assert_eq!((session.report(), session.size()), (None, None));
+    assert_eq!(session.dest(), None);
     assert_eq!(Hop::To(7).node(), Some(7));
     assert_eq!(Hop::Here.node().or(Hop::CutOff.node()), None);
     Ok(())
@@ -316,4 +317,18 @@ fn what_is_no_request_is_answered() -> Result<(), NoMemory> {
 #[test]
 fn the_crate_has_the_version_of_the_library() {
     assert_eq!(version(), env!("CARGO_PKG_VERSION"));
+}
+
+#[test]
+#[allow(deprecated)]
+fn former_names_do_what_the_new_ones_do() -> Result<(), NoMemory> {
+    let mut session = Session::new();
+    session.answer(r#"["net",4,0,[[1,0],[2,1],[2,0]]]"#)?;
+    session.answer(r#"["cut",1,0]"#)?;
+    assert_eq!(session.next_hops()?, session.hops()?);
+    assert_eq!(session.rerouted()?, [1]);
+    for node in 0..5 {
+        assert_eq!(session.route(node)?, session.walk(node)?);
+    }
+    Ok(())
 }

@@ -18,7 +18,7 @@ Changes. Each starts a round, and returns its Report or raises Refused, which sa
     add(u, v)         adds a link from u to v
     join(u, v)        adds a link from u to v, or from v to u if the first would close a cycle
     batch(edits)      makes edits such as ("cut", u, v) in order, and then one round
-    move(dest)        makes dest the destination
+    move_dest(dest)   makes dest the destination
 
 Questions:
 
@@ -26,7 +26,7 @@ Questions:
     walk(node)        the nodes on the route from a node to the destination
     changed()         the nodes whose next hop the last change changed, with the new hop, in push order
     pushes(table)     the nodes whose hop in your table is not their next hop, with the next hop, in push order
-    counts(), links(), report, size, dest
+    counts(), links(), report, size, dest, len(network), x in network
 
 If forwarding tables get their hops in push order, no new loop appears in them. This is a complete controller. `send`
 gives a router its hop, and returns once the router has confirmed it:
@@ -48,8 +48,8 @@ a change:
 
     reader()          a Reader, with next_hop(node), walk(node), copy() and close()
 
-`Network.from_networkx(graph, dest)` makes a network from a networkx graph and keeps its names. `to_networkx()` makes a
-networkx graph.
+`copy()` makes another network, to try changes on. `Network.from_networkx(graph, dest)` makes a network from a networkx
+graph and keeps its names. `to_networkx()` makes a networkx graph.
 
 A `Session` answers lines of text, as the program `revroute run` does.
 """
@@ -58,6 +58,7 @@ from .network import Network, Refused
 from .reader import Reader, WalkTooLong
 from .session import AnswerLost, LineTooLong, NoHop, NoSuchNode, Report, Session, Size, version
 
+__version__ = version()
 __all__ = [
     "AnswerLost",
     "LineTooLong",
@@ -70,5 +71,6 @@ __all__ = [
     "Session",
     "Size",
     "WalkTooLong",
+    "__version__",
     "version",
 ]

@@ -27,6 +27,18 @@ class ReaderHandle(ctypes.Structure):
     _fields_ = [("at", ctypes.c_void_p)]
 
 
+class Link(ctypes.Structure):
+    """A link."""
+
+    _fields_ = [("tail", ctypes.c_uint32), ("head", ctypes.c_uint32)]
+
+
+class Round(ctypes.Structure):
+    """The report of a round."""
+
+    _fields_ = [("turned", ctypes.c_uint64), ("cut_off", ctypes.c_uint64)]
+
+
 class Refusal(ctypes.Structure):
     """Why a call is refused, with the nodes that show it, and the index of the edit."""
 
@@ -45,22 +57,23 @@ _WORDS: dict[str, list[Any]] = {
     "finish": [_handle, _text, _size, _length],
     "open": [_handle, _number, _number, _given, _size, *_ended],
     "change": [_handle, _given, _size, *_ended],
-    "move": [_handle, _number, *_ended],
+    "move_dest": [_handle, _number, *_ended],
     "closed_walk": [_handle, _given, _size, _numbers, _size, _length],
     "closed_walk_of": [_number, _given, _size, _numbers, _size, _length],
     "next_hop": [_handle, _number],
-    "next_hops": [_handle, _numbers, _size, _length],
-    "rerouted": [_handle, _numbers, _size, _length],
+    "hops": [_handle, _numbers, _size, _length],
+    "changed": [_handle, _numbers, _size, _length],
     "pushes": [_handle, _given, _size, _numbers, _size, _length],
     "counts": [_handle, ctypes.POINTER(_wide), _size, _length],
-    "links": [_handle, _numbers, _size, _length],
-    "route": [_handle, _number, _numbers, _size, _length],
-    "report": [_handle, ctypes.POINTER(_wide), ctypes.POINTER(_wide)],
+    "links": [_handle, ctypes.POINTER(Link), _size, _length],
+    "walk": [_handle, _number, _numbers, _size, _length],
+    "report": [_handle, ctypes.POINTER(Round)],
+    "dest": [_handle],
     "size": [_handle, _numbers, _length],
     "reader_open": [_handle, _reader],
     "reader_copy": [_reader, _reader],
     "reader_next_hop": [_reader, _number],
-    "reader_route": [_reader, _number, _numbers, _size, _length],
+    "reader_walk": [_reader, _number, _numbers, _size, _length],
     "reader_close": [_reader],
     "version": [_text, _size, _length],
     "close": [_handle],

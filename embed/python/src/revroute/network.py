@@ -12,7 +12,7 @@ from typing import TypeVar, Union
 from . import _calls
 from ._calls import library
 from .reader import Reader
-from .session import NoHop, NoSuchNode, Report, Session, Size, _hop, _packed_table, _Why
+from .session import NoHop, NoSuchNode, Report, Session, Size, _deprecate, _hop, _packed_table, _Why
 
 if TYPE_CHECKING:
     import networkx
@@ -42,7 +42,7 @@ class Refused(ValueError):
     - 5: a link would connect a node with itself. `nodes` has this node.
     - 6: more than one link would connect two nodes. `nodes` has both.
     - 7: the links would contain a cycle. `nodes` has its nodes, with the first one again at the end.
-    - 8: no link connects two nodes. `nodes` has both.
+    - 8: no link connects two nodes. `nodes` has both. If one of them does not exist, the text names it.
     - 9: there would be more nodes, links or edits than the limits. `nodes` is empty.
 
     `at` is the index of the first refused edit in a batch, counted from 0. If there are too many edits, it is their
@@ -56,14 +56,16 @@ class Refused(ValueError):
     (8, (0, 2), 1)
     """
 
-    def __init__(self, number: int, nodes: Sequence[Any] = (), at: int = 0) -> None:
-        self.number, self.nodes, self.at = number, tuple(nodes), at
+    def __init__(self, number: int, nodes: Sequence[Any] = (), at: int = 0, unknown: Sequence[Any] = ()) -> None:
+        """`unknown` has those of the nodes that do not exist, if a link between them is cut."""
+        self.number, self.nodes, self.at, self._unknown = number, tuple(nodes), at, tuple(unknown)
         words = [" ".join(map(repr, nodes))] if number == _calls.CLOSED_WALK else nodes
         edit = f", edit {at}" if at and number != _calls.TOO_MANY else ""
-        super().__init__(f"refused {number}{edit}: {_REASONS[number].format(*words)}")
+        reason = f"there is no node {unknown[0]!r}" if unknown else _REASONS[number].format(*words)
+        super().__init__(f"refused {number}{edit}: {reason}")
 
     def __reduce__(self) -> Any:
-        return Refused, (self.number, self.nodes, self.at)
+        return Refused, (self.number, self.nodes, self.at, self._unknown)
 
 
 class Network(Generic[Name]):
@@ -81,7 +83,7 @@ class Network(Generic[Name]):
     revroute.network.Refused: refused 8: no link joins 1 and 0
 
     Nodes are numbered from 0. With `names`, or by `from_networkx`, they have the caller's names in all calls and
-    answers.
+    answers. `len(network)` is the number of nodes, and `x in network` tells whether there is a node x.
 
     A change succeeds as a whole, and then the links lead to the destination again. Otherwise it raises Refused or
     MemoryError, and nothing changes. An unknown name raises NoSuchNode. An unknown number raises Refused in a change
@@ -92,12 +94,12 @@ class Network(Generic[Name]):
 
     Costs, for n nodes and m links:
 
-    - `next_hop`, `size` and `report`: O(1).
+    - `next_hop`, `dest`, `size` and `report`: O(1).
     - `reader`: O(4,096) for the first reader, and O(1) for each later one.
     - `walk` and `changed`: linear in the length of the result.
-    - `hops`, `hops_into`, `table`, `pushes`, `counts` and `dest`: O(n).
-    - `links`: O(n + m).
-    - `move` and a new network: O(n + m), plus the round.
+    - `hops`, `hops_into`, `table`, `pushes` and `counts`: O(n).
+    - `links` and `copy`: O(n + m).
+    - `move_dest` and a new network: O(n + m), plus the round.
     - `cut`, `add`, `join` and `batch`: O(n + m) at most. If few nodes turn, only the links at these nodes, and at the
       nodes that had one of these as their next hop.
     """
@@ -176,11 +178,16 @@ class Network(Generic[Name]):
             made += _KINDS[kind], self._number(u), self._number(v)
         return self._change(made)
 
-    def move(self, dest: Name) -> Report:
+    def move_dest(self, dest: Name) -> Report:
         """Makes `dest` the destination."""
         home = self._number(dest)
-        made = self._session._begin_round(library.revroute_move, None, _clamped(home))
+        made = self._session._begin_round(library.revroute_move_dest, None, _clamped(home))
         return self._reported(made, lambda at: [home])
+
+    def move(self, dest: Name) -> Report:
+        """Deprecated: use `move_dest`."""
+        _deprecate("move", "move_dest")
+        return self.move_dest(dest)
 
     def next_hop(self, node: Name) -> Union[Name, NoHop]:
         """The next hop of a node: where it forwards traffic for the destination, or why it does not."""
@@ -268,23 +275,53 @@ class Network(Generic[Name]):
 
     def walk(self, node: Name) -> Optional[list[Name]]:
         """The nodes on the route from a node to the destination, both included. None if the node is cut off."""
-        route = self._session.route(self._number(node))
+        route = self._session.walk(self._number(node))
         return None if route is None else [self._name(it) for it in route]
 
     @property
     def report(self) -> Report:
         """The report of the last round."""
-        return self._session.report() or Report(0, 0)
+        return self._session.report or Report(0, 0)
 
     @property
     def size(self) -> Size:
         """The number of nodes and of links."""
-        return self._session.size() or Size(0, 0)
+        return self._session.size or Size(0, 0)
 
     @property
     def dest(self) -> Name:
         """The destination."""
-        return self._name(self._session._hops().index(_calls.HERE))
+        dest = self._session.dest
+        return self._name(0 if dest is None else dest)
+
+    def copy(self) -> Network[Name]:
+        """A network with the same names, links, destination and next hops, to try changes on. No node turns, so its
+        `report`, `counts` and `changed` are those of a new network. It has no readers.
+
+        >>> network = Network(3, 0, [(1, 0), (2, 1), (2, 0)])
+        >>> other = network.copy()
+        >>> other.cut(1, 0)
+        Report(turned=1, cut_off=0)
+        >>> network.walk(1), other.walk(1)
+        ([1, 0], [1, 2, 0])
+        """
+        with self._session._lock:
+            dest, links = self.dest, self.links()
+        return Network(len(self._nodes), dest, links, names=self._names)
+
+    def __copy__(self) -> Network[Name]:
+        return self.copy()
+
+    def __len__(self) -> int:
+        return len(self._nodes)
+
+    def __contains__(self, node: object) -> bool:
+        if self._numbers is not None:
+            return node in self._numbers
+        try:
+            return 0 <= index(node) < len(self._nodes)  # type: ignore[arg-type]
+        except TypeError:
+            return False
 
     def close(self) -> None:
         """Frees the memory."""
@@ -297,7 +334,7 @@ class Network(Generic[Name]):
         self.close()
 
     def __reduce__(self) -> NoReturn:
-        raise TypeError("a network can neither be copied nor pickled")
+        raise TypeError("a network can neither be pickled nor copied deeply: `copy` makes another one")
 
     def __repr__(self) -> str:
         if self._session._is_closed:
@@ -325,7 +362,8 @@ class Network(Generic[Name]):
             return made
         unknown = (it for it in given(made.at) if _clamped(it) == _NO_NODE)
         nodes = [next(unknown) if it == _NO_NODE else self._name(it) for it in made.nodes]
-        raise Refused(made.number, nodes, made.at)
+        missing = [node for it, node in zip(made.nodes, nodes) if made.number == _calls.NO_LINK and it >= len(self._nodes)]
+        raise Refused(made.number, nodes, made.at, missing)
 
     def _number(self, node: Name) -> int:
         if self._numbers is None:

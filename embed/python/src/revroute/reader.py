@@ -119,7 +119,7 @@ class Reader(Generic[Name]):
                 raise WalkTooLong("the walk has met 4,096 nodes and has not ended")
             nodes = (ctypes.c_uint32 * room)()
             with self._lock:
-                status = questions.revroute_reader_route(self._at, number, nodes, room, ctypes.byref(length))
+                status = questions.revroute_reader_walk(self._at, number, nodes, room, ctypes.byref(length))
             room *= 8
         if status == _calls.NO_NETWORK:
             self._refuse()

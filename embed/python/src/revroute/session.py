@@ -19,6 +19,7 @@ import ctypes
 import enum
 import os
 import sys
+import warnings
 import weakref
 from array import array
 from collections.abc import Mapping, Sequence
@@ -89,6 +90,11 @@ class Report(NamedTuple):
     cut_off: int
     """The number of nodes that are cut off from the destination."""
 
+    def __call__(self) -> Report:
+        """Deprecated: `report` was a call of Session."""
+        _deprecate("report()", "report, without a call")
+        return self
+
 
 class Size(NamedTuple):
     """The size of a network."""
@@ -97,6 +103,16 @@ class Size(NamedTuple):
     """The number of nodes. They are numbered from 0."""
     links: int
     """The number of links."""
+
+    def __call__(self) -> Size:
+        """Deprecated: `size` was a call of Session."""
+        _deprecate("size()", "size, without a call")
+        return self
+
+
+def _deprecate(old: str, new: str) -> None:
+    """Warns the caller of a caller that it uses a name of the last version."""
+    warnings.warn(f"{old} is deprecated: use {new}", DeprecationWarning, stacklevel=3)
 
 
 class _Why(NamedTuple):
@@ -157,10 +173,10 @@ class Session:
 
     Costs, for n nodes and m links:
 
-    - `next_hop`, `size` and `report`: O(1).
+    - `next_hop`, `dest`, `size` and `report`: O(1).
     - `reader`: O(4,096) for the first reader, and O(1) for each later one.
-    - `route`, `rerouted` and `changed`: linear in the length of the result.
-    - `next_hops`, `pushes` and `counts`: O(n).
+    - `walk` and `changed`: linear in the length of the result.
+    - `hops`, `pushes` and `counts`: O(n).
     - `links`: O(n + m).
     - `answer`, `take` and `finish`: O(b) for b bytes of lines and answers, plus the same calls of a Network.
     """
@@ -416,33 +432,26 @@ class Session:
             finally:
                 self._caller = None
 
-    def next_hops(self) -> list[Union[int, NoHop]]:
+    def hops(self) -> list[Union[int, NoHop]]:
         """The next hop of each node, in the order of the nodes. Empty before the first network."""
         return [*map(_hop, self._hops())]
 
-    def _hops(self) -> list[int]:
-        return self._filled(questions.revroute_next_hops, ctypes.c_uint32)
+    def next_hops(self) -> list[Union[int, NoHop]]:
+        """Deprecated: use `hops`."""
+        _deprecate("next_hops", "hops")
+        return self.hops()
 
-    def rerouted(self) -> list[int]:
-        """The nodes whose next hop the last accepted round changed, in push order: each node after the changed nodes
-        on its new route. Refused requests and questions do not change this list.
+    def _hops(self) -> list[int]:
+        return self._filled(questions.revroute_hops, ctypes.c_uint32)
+
+    def changed(self) -> list[tuple[int, Union[int, NoHop]]]:
+        """The nodes whose next hop the last accepted round changed, each with its new next hop. They are in push
+        order: each node after the changed nodes on its new route. Refused requests and questions do not change this
+        list.
 
         A number that is not a node of the network before or after the round counts as cut off there, and before the
         first network all numbers do. So if the new network is smaller, the nodes that are gone and had a hop are on
-        the list. `changed` has CUT_OFF for them.
-
-        >>> with Session() as session:
-        ...     session.answer('["net",5,0,[[1,0],[2,0],[3,1],[3,2],[4,3]]]')
-        ...     session.answer('["cut",1,0]')
-        ...     session.rerouted()
-        'turned 0 cut 0'
-        'turned 1 cut 0'
-        [3, 1]
-        """
-        return self._filled(questions.revroute_rerouted, ctypes.c_uint32)
-
-    def changed(self) -> list[tuple[int, Union[int, NoHop]]]:
-        """The nodes of `rerouted`, each with its next hop. A node that is gone has CUT_OFF.
+        the list, with CUT_OFF.
 
         >>> with Session() as session:
         ...     session.answer('["net",4,0,[[1,0],[2,1],[3,0]]]')
@@ -454,6 +463,11 @@ class Session:
         """
         return [(node, _hop(hop)) for node, hop in self._changed()]
 
+    def rerouted(self) -> list[int]:
+        """Deprecated: the nodes of `changed`, without their hops."""
+        _deprecate("rerouted", "changed, which has the nodes and their hops")
+        return [node for node, _ in self._changed()]
+
     def pushes(
         self, table: Union[Mapping[int, Union[int, NoHop, None]], Sequence[Union[int, NoHop, None]]]
     ) -> list[tuple[int, Union[int, NoHop]]]:
@@ -463,14 +477,14 @@ class Session:
 
         >>> with Session() as session:
         ...     session.answer('["net",4,0,[[1,0],[2,1],[2,3],[3,0]]]')
-        ...     table = session.next_hops()
+        ...     table = session.hops()
         ...     session.answer('["cut",1,0]')
         ...     session.pushes(table)
         'turned 0 cut 0'
         'turned 1 cut 0'
         [(2, 3), (1, 2)]
         """
-        size = self.size()
+        size = self.size
         count = size.nodes if size else 0
         hops = self._pushes(_packed_table(table, count), count)
         return [(node, _hop(hop)) for node, hop in hops]
@@ -488,39 +502,56 @@ class Session:
         'turned 3 cut 0'
         [(1, 0), (2, 1)]
         """
-        ends = self._filled(questions.revroute_links, ctypes.c_uint32)
-        return [*zip(ends[::2], ends[1::2])]
+        return [(it.tail, it.head) for it in self._filled(questions.revroute_links, _calls.Link)]
 
-    def route(self, node: int) -> Optional[list[int]]:
+    def walk(self, node: int) -> Optional[list[int]]:
         """The nodes on the route from a node to the destination, both included. None if the node is cut off.
 
         >>> with Session() as session:
         ...     session.answer('["net",4,0,[[0,1],[1,2]]]')
-        ...     session.route(2), session.route(3)
+        ...     session.walk(2), session.walk(3)
         'turned 3 cut 1'
         ([2, 1, 0], None)
 
         Raises NoSuchNode if there is no such node. Before the first network there are none.
         """
         number = index(node)
-        found = self._filled(questions.revroute_route, ctypes.c_uint32, number) if 0 <= number < _calls.NO_HOP else []
+        found = self._filled(questions.revroute_walk, ctypes.c_uint32, number) if 0 <= number < _calls.NO_HOP else []
         if not found:
             # This raises NoSuchNode if there is no such node.
             self.next_hop(number)
         return found or None
 
+    def route(self, node: int) -> Optional[list[int]]:
+        """Deprecated: use `walk`."""
+        _deprecate("route", "walk")
+        return self.walk(node)
+
+    @property
     def report(self) -> Optional[Report]:
         """The report of the last round. None before the first network.
 
         >>> with Session() as session:
         ...     session.answer('["net",4,0,[[0,1],[1,2]]]')
-        ...     session.report(), session.size()
+        ...     session.report, session.size, session.dest
         'turned 3 cut 1'
-        (Report(turned=3, cut_off=1), Size(nodes=4, links=2))
+        (Report(turned=3, cut_off=1), Size(nodes=4, links=2), 0)
         """
-        turned, cut_off = ctypes.c_uint64(), ctypes.c_uint64()
-        return Report(turned.value, cut_off.value) if self._told(questions.revroute_report, turned, cut_off) else None
+        found = _calls.Round()
+        return Report(found.turned, found.cut_off) if self._told(questions.revroute_report, found) else None
 
+    @property
+    def dest(self) -> Optional[int]:
+        """The destination. None before the first network."""
+        with self._lock:
+            self._begin_call()
+            try:
+                found = int(questions.revroute_dest(self._at))
+            finally:
+                self._caller = None
+        return None if found == _calls.NO_HOP else found
+
+    @property
     def size(self) -> Optional[Size]:
         """The number of nodes and of links. None before the first network."""
         nodes, links = ctypes.c_uint32(), ctypes.c_size_t()
@@ -536,8 +567,8 @@ class Session:
             finally:
                 self._caller = None
 
-    def _filled(self, question: Any, item: Any, *words: int) -> list[int]:
-        """All numbers that a question writes."""
+    def _filled(self, question: Any, item: Any, *words: int) -> list[Any]:
+        """All numbers or links that a question writes."""
         with self._lock:
             self._begin_call()
             try:
@@ -545,8 +576,8 @@ class Session:
             finally:
                 self._caller = None
 
-    def _places(self, item: Any, fill: Callable[..., int], room: int = _FEW) -> list[int]:
-        """All numbers that `fill` writes, with as much room as it asks for. The caller must have the session."""
+    def _places(self, item: Any, fill: Callable[..., int], room: int = _FEW) -> list[Any]:
+        """All items that `fill` writes, with as much room as it asks for. The caller must have the session."""
         while True:
             values = (item * room)()
             status = fill(values, room, self._count_at)
@@ -555,7 +586,7 @@ class Session:
             if status == _calls.NO_TABLE:
                 raise ValueError("the table is one of a network that another thread has replaced")
             if status != _calls.TOO_SHORT:
-                found: list[int] = values[: self._count.value] if status == _calls.ANSWERED else []
+                found: list[Any] = values[: self._count.value] if status == _calls.ANSWERED else []
                 return found
             room = self._count.value
 
@@ -564,7 +595,7 @@ class Session:
         with self._lock:
             self._begin_call()
             try:
-                status = questions.revroute_next_hops(self._at, places, room, self._count_at)
+                status = questions.revroute_hops(self._at, places, room, self._count_at)
                 if status == _calls.TOO_SHORT:
                     raise ValueError(f"there is room for {room} of {self._count.value} hops")
                 return self._count.value
@@ -573,7 +604,7 @@ class Session:
 
     def _changed(self) -> list[tuple[int, int]]:
         """The rerouted nodes, with their next hops."""
-        return self._with_hops(questions.revroute_rerouted, _FEW)
+        return self._with_hops(questions.revroute_changed, _FEW)
 
     def _pushes(self, table: bytes, count: int) -> list[tuple[int, int]]:
         """The nodes to push for a table of `count` hops, with their next hops."""
