@@ -330,7 +330,8 @@ class NetworkTests(unittest.TestCase):
             was = network.links(), network.dest, network.hops(), network.table()
             for other in (network.copy(), copy.copy(network)):
                 self.assertEqual((other.links(), other.dest, other.hops(), other.table()), was)
-                self.assertEqual(other.report, (0, network.report.cut_off))
+                self.assertEqual(other.report.cut_off, network.report.cut_off)
+                self.assertTrue(all(hop is NoHop.CUT_OFF or not count for hop, count in zip(other.hops(), other.counts())))
                 other.move_dest(name(draw.randrange(nodes)))
                 other.batch([("cut", u, v) for u, v in other.links()])
                 self.assertEqual((network.links(), network.dest, network.hops(), network.table()), was)
@@ -347,7 +348,7 @@ class NetworkTests(unittest.TestCase):
     def test_the_name_of_the_last_version_warns(self):
         network = Network(3, 0, [(1, 0), (2, 1)])
         with self.assertWarnsRegex(DeprecationWarning, "move is deprecated: use move_dest") as met:
-            self.assertEqual(network.move(2), (2, 0))
+            self.assertEqual(network.move(2), (3, 0))
         self.assertEqual((network.dest, met.filename), (2, __file__))
         with self.assertWarnsRegex(DeprecationWarning, r"size\(\) is deprecated"):
             self.assertEqual(network.size(), (3, 2))

@@ -450,9 +450,9 @@ impl Network {
         self.dest()
     }
 
-    /// A network with the same links, destination and next hops, to try changes on. No node turns, so its
+    /// A network with the same links, destination and next hops, to try changes on. Its
     /// [`report`](Network::report), [`counts`](Network::counts) and [`changed`](Network::changed) are those of a new
-    /// network. It has no readers. `O(n + m)`.
+    /// network with these links, in which only nodes that are cut off turn. It has no readers. `O(n + m)`.
     ///
     /// ```
     /// let network = revroute::Network::new(3, 0, &[(1, 0), (2, 1), (2, 0)])?;

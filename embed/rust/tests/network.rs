@@ -503,8 +503,11 @@ fn a_clone_has_the_links_and_hops_and_changes_alone() -> Result<(), Box<dyn Erro
             (other.links()?, other.hops()?, other.dest()),
             (links, hops, dest)
         );
-        let Report { turned, cut_off } = other.report();
-        assert_eq!((turned, cut_off), (0, network.report().cut_off));
+        assert_eq!(other.report().cut_off, network.report().cut_off);
+        let hops = other.hops()?;
+        for (hop, count) in hops.iter().zip(other.counts()?) {
+            assert!(*hop == Hop::CutOff || count == 0);
+        }
         let links = network.links()?;
         other.move_dest(draw.below(nodes))?;
         for &(u, v) in &links {

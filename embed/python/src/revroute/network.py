@@ -295,8 +295,9 @@ class Network(Generic[Name]):
         return self._name(0 if dest is None else dest)
 
     def copy(self) -> Network[Name]:
-        """A network with the same names, links, destination and next hops, to try changes on. No node turns, so its
-        `report`, `counts` and `changed` are those of a new network. It has no readers.
+        """A network with the same names, links, destination and next hops, to try changes on. Its `report`, `counts` and
+        `changed` are those of a new network with these links, in which only nodes that are cut off turn. It has no
+        readers.
 
         >>> network = Network(3, 0, [(1, 0), (2, 1), (2, 0)])
         >>> other = network.copy()
