@@ -103,10 +103,10 @@ class Browser:
         return result['result'].get('value')
 
     def press(self, key, shift=False):
-        # Enter clicks a button only if it comes with its text.
-        text = {'text': chr(13)} if key == 'Enter' else {}
-        for kind in ('keyDown', 'keyUp'):
-            self.call('Input.dispatchKeyEvent', type=kind, key=key, modifiers=8 if shift else 0, **(text if kind == 'keyDown' else {}))
+        # Enter clicks a button only if it comes with its text, and Tab and Escape act only by their codes.
+        code, text = {'Tab': 9, 'Enter': 13, 'Escape': 27}.get(key, 0), {'text': chr(13)} if key == 'Enter' else {}
+        for kind, more in (('keyDown', text), ('keyUp', {})):
+            self.call('Input.dispatchKeyEvent', type=kind, key=key, modifiers=8 if shift else 0, windowsVirtualKeyCode=code, **more)
 
     def type(self, text):
         self.call('Input.insertText', text=text)

@@ -18,12 +18,16 @@ pub const FIRST_PART: &str = "\
 html{font:15px/1.45 system-ui,sans-serif}
 body{margin:0;background:var(--back);color:var(--ink);height:100vh;height:100dvh;overflow:hidden;display:grid;
 grid-template:'head head' auto 'side net' minmax(0,1fr) 'side bar' auto 'foot foot' auto/22rem minmax(0,1fr)}
-header{grid-area:head;padding:.4rem 1rem;border-bottom:1px solid var(--edge);display:flex;gap:.1rem 1.4rem;align-items:center}
+header{grid-area:head;padding:.4rem 1rem;border-bottom:1px solid var(--edge);display:flex;gap:.1rem 1.4rem;
+align-items:center}
 h1{font-size:1.05rem;line-height:1.3;margin:0;flex:none}
-#say{margin:0;color:var(--soft);flex:1;min-width:0;line-height:1.3;height:2.6em;overflow:auto;display:grid;align-content:safe center}
-aside{grid-area:side;border-right:1px solid var(--edge);background:var(--panel);display:flex;flex-direction:column;min-height:0}
+#say{margin:0;color:var(--soft);flex:1;min-width:0;line-height:1.3;height:2.6em;overflow:auto;display:grid;
+align-content:safe center}
+aside{grid-area:side;border-right:1px solid var(--edge);background:var(--panel);display:flex;flex-direction:column;
+min-height:0}
 #list{list-style:none;margin:0;padding:.3rem;overflow:auto;flex:1 1 40%;min-height:4rem}
-#list button{display:grid;grid-template-columns:2.2em minmax(0,1fr) minmax(0,1fr);gap:0 .5em;align-items:baseline;width:100%;text-align:left;border:0;border-radius:6px;background:none;color:inherit;padding:.2rem .5rem;font:inherit;
+#list button{display:grid;grid-template-columns:2.2em minmax(0,1fr) minmax(0,1fr);gap:0 .5em;align-items:baseline;
+width:100%;text-align:left;border:0;border-radius:6px;background:none;color:inherit;padding:.2rem .5rem;font:inherit;
 white-space:nowrap;cursor:pointer}
 #list button>*{overflow:hidden;text-overflow:ellipsis}
 #list button:hover{background:var(--face)}
@@ -42,14 +46,17 @@ main{grid-area:net;position:relative;min-height:0;min-width:0;overflow:hidden}
 #net.moved{cursor:grabbing}
 #none{color:var(--soft);max-width:34rem;padding:1rem;margin:2rem auto;text-align:center}
 #zoom{position:absolute;top:.5rem;right:.5rem;display:flex;flex-direction:column;gap:.3rem}
-button,select{font:inherit;line-height:1.3;color:inherit;background:var(--face);border:1px solid var(--edge);border-radius:6px;padding:.25rem .6rem;cursor:pointer}
+button,select{font:inherit;line-height:1.3;color:inherit;background:var(--face);border:1px solid var(--edge);border-radius:6px;
+padding:.25rem .6rem;cursor:pointer}
 #zoom button{width:36px;padding:.2rem 0;text-align:center}
-#bar{grid-area:bar;display:flex;gap:.4rem .6rem;align-items:center;padding:.45rem 1rem;border-top:1px solid var(--edge);flex-wrap:wrap;background:var(--panel)}
+#bar{grid-area:bar;display:flex;gap:.4rem .6rem;align-items:center;padding:.45rem 1rem;border-top:1px solid var(--edge);
+flex-wrap:wrap;background:var(--panel)}
 #bar button{min-width:2.6rem}
 #play{min-width:4.2rem}
 #slide{flex:1 1 9rem;min-width:6rem;accent-color:var(--hop)}
 #at{color:var(--soft);min-width:5em;text-align:right;font-variant-numeric:tabular-nums;white-space:nowrap}
-footer{grid-area:foot;border-top:1px solid var(--edge);padding:.3rem 1rem;color:var(--soft);font-size:.85rem;position:relative}
+footer{grid-area:foot;border-top:1px solid var(--edge);padding:.3rem 1rem;color:var(--soft);font-size:.85rem;
+position:relative}
 summary{cursor:pointer;width:max-content}
 #legend{list-style:none;margin:.2rem 0 .3rem;padding:0;display:flex;flex-wrap:wrap;gap:.1rem 1.1rem;color:var(--ink)}
 #legend li{display:flex;align-items:center;gap:.35rem}
@@ -87,11 +94,12 @@ summary{cursor:pointer;width:max-content}
 #chart path{fill:none;stroke:var(--hop);stroke-width:1.5}
 #chart line{stroke:var(--turn);stroke-width:1}
 #chart text{fill:var(--soft);font:10px system-ui,sans-serif}
-@media (max-height:800px),(max-width:760px){#below{position:absolute;left:0;right:0;bottom:100%;max-height:70vh;overflow:auto;padding:.6rem 1rem;background:var(--panel);
-border-top:1px solid var(--edge);z-index:1}}
-@media (max-height:500px),(max-width:760px){#bar label span{display:none}}
-@media (max-height:500px){html{font-size:13px}body{grid-template-columns:17rem minmax(0,1fr)}header{padding:.1rem .8rem}h1{max-width:11rem}
-#bar{padding:.2rem .8rem}#zoom{top:.3rem;right:.3rem}button,select{padding:.15rem .45rem}#list{min-height:3rem}footer{padding:.15rem .8rem}}
+@media (max-height:800px),(max-width:760px){#below{position:absolute;left:0;right:0;bottom:100%;max-height:70vh;overflow:auto;
+padding:.6rem 1rem;background:var(--panel);border-top:1px solid var(--edge);z-index:1}}
+@media (max-height:500px),(max-width:1100px){#bar label span{display:none}}
+@media (max-height:500px){html{font-size:13px}body{grid-template-columns:17rem minmax(0,1fr)}header{padding:.1rem .8rem}
+h1{max-width:11rem}#bar{padding:.2rem .8rem}#zoom{top:.3rem;right:.3rem}button,select{padding:.15rem .45rem}
+#list{min-height:3rem}footer{padding:.15rem .8rem}}
 @media (max-width:760px) and (orientation:portrait){html{font-size:14px}
 body{grid-template:'head' auto 'net' minmax(0,1fr) 'bar' auto 'side' 28vh 'foot' auto/minmax(0,1fr)}
 header{display:block;padding:.4rem .8rem}#say{align-content:start}aside{border:0;border-top:1px solid var(--edge)}
@@ -109,12 +117,17 @@ header{display:block;padding:.4rem .8rem}#say{align-content:start}aside{border:0
 </div>
 </aside>
 <main aria-label='The network'><svg id='net' role='group' hidden></svg><p id='none' hidden></p>
-<div id='zoom' role='group' aria-label='Size of the drawing'><button id='larger' aria-label='Larger'>+</button><button id='smaller' aria-label='Smaller'>&#8722;</button><button id='whole'>Fit</button></div></main>
+<div id='zoom' role='group' aria-label='Size of the drawing'>
+<button id='larger' aria-label='Larger'>+</button>
+<button id='smaller' aria-label='Smaller'>&#8722;</button><button id='whole'>Fit</button></div></main>
 <div id='bar' role='group' aria-label='Steps'>
 <button id='back' aria-label='One step back'>&#9664;</button><button id='play'>Play</button><button id='next' aria-label='One step on'>&#9654;</button>
 <input id='slide' type='range' min='0' value='0' aria-label='Step'><span id='at'></span>
-<label><span>Speed </span><select id='speed' aria-label='Speed'><option value='1600'>slow</option><option value='800' selected>normal</option><option value='300'>fast</option><option value='60'>very fast</option></select></label>
-<label><span>Pushes </span><select id='order' aria-label='Pushes'><option value='push' selected>in push order</option><option value='rising'>by rising number</option></select></label>
+<label><span>Speed </span><select id='speed' aria-label='Speed' title='Speed'>
+<option value='1600'>slow</option><option value='800' selected>normal</option>
+<option value='300'>fast</option><option value='60'>very fast</option></select></label>
+<label><span>Pushes </span><select id='order' aria-label='Pushes' title='The order of the pushes'>
+<option value='push' selected>in push order</option><option value='rising'>by rising number</option></select></label>
 </div>
 <footer><details id='fold'><summary>Legend, keys, and what is proved</summary><div id='below'>
 <ul id='legend' aria-label='What is drawn'>
@@ -136,7 +149,8 @@ header{display:block;padding:.4rem .8rem}#say{align-content:start}aside{border:0
 </ul>
 <b>Proved:</b> the data of this page: each request, answer, link, turn, count, next hop and push.
 <b>Not proved:</b> the drawing. A script in this page makes it, and is tested in a browser.
-<b>Keys:</b> left and right, a step; up and down, a line; space, play; n and p, a node; + and -, the size; 0 or f, fit; Shift and an arrow, move the drawing.</div></details></footer>
+<b>Keys:</b> left and right, a step; up and down, a line; space, play; n and p, a node;
++ and -, the size; 0 or f, fit; Shift and an arrow, move the drawing.</div></details></footer>
 <script type='text/plain' id='story'>
 ";
 
@@ -146,8 +160,9 @@ pub const LAST_PART: &str = "\
 <script>
 'use strict';
 const by = id => document.getElementById(id), SVG = 'http://www.w3.org/2000/svg', NL = String.fromCharCode(10);
-const faults = {1: 'the line is no JSON, or nests too deep', 2: 'the value is no request', 3: 'there is no network yet', 4: 'the end of a link is no node',
-  5: 'a link joins a node with itself', 6: 'two links join the same nodes', 7: 'the links contain a cycle', 8: 'there is no link between the two nodes',
+const faults = {1: 'the line is no JSON, or nests too deep', 2: 'the value is no request', 3: 'there is no network yet',
+  4: 'the end of a link is no node', 5: 'a link joins a node with itself', 6: 'two links join the same nodes',
+  7: 'the links contain a cycle', 8: 'there is no link between the two nodes',
   9: 'more nodes, links or edits than the limits'};
 const settledLines = ['first', 'turns', 'links', 'counts', 'hops', 'pushes'];
 const listed = (text, item) => text.split(' ').slice(1).map(item);
@@ -184,8 +199,9 @@ function readStory(text, before) {
 // Why a line was refused, in words: with its nodes if it is a single edit.
 function faultOf(block) {
   if (!block.answer.startsWith('refused ')) return null;
-  const number = Number(block.answer.slice(8)), [name, ...words] = (block.asks || '').split(' '), nodes = block.round ? block.round.nodes : 0;
-  const [u, v] = words, isEdit = ['add', 'cut', 'join'].includes(name), gone = words.filter(word => Number(word) >= nodes);
+  const number = Number(block.answer.slice(8)), [name, ...words] = (block.asks || '').split(' '), [u, v] = words;
+  const nodes = block.round ? block.round.nodes : 0, gone = words.filter(word => Number(word) >= nodes);
+  const isEdit = ['add', 'cut', 'join'].includes(name);
   if (name === 'batch' && number > 3) return 'in an edit: ' + faults[number];
   if (number === 4 && name === 'net') return netFault(words);
   if (number === 4 && gone.length) return (name === 'dest' ? 'the destination ' : '') + gone[0] + ' is no node';
@@ -346,7 +362,8 @@ function placePart(nodes, near, layer, gap) {
 
 // Places from 0 on, before they are stretched: the destination of the first part is below its other nodes.
 function placesOf(view) {
-  const {near, parts} = partsOf(view.round), layer = layersOf(view.round), place = [], isLarge = view.nodes > 60, across = isLarge ? 48 : 62, down = isLarge ? 54 : 66;
+  const {near, parts} = partsOf(view.round), layer = layersOf(view.round), place = [];
+  const [across, down] = view.nodes > 60 ? [48, 54] : [62, 66];
   const height = Math.max(...layer);
   let left = 0, alone = 0;
   for (const nodes of parts) {
@@ -355,7 +372,8 @@ function placesOf(view) {
     const least = Math.min(...x.values()), most = Math.max(...x.values()), tall = Math.max(4, height + 1);
     const row = single ? alone++ % tall : 0;
     if (single && row === 0 && alone > 1) left += across;
-    for (const node of nodes) place[node] = [left + x.get(node) - least, (Math.max(height, single ? Math.min(alone, tall) - 1 : 0) - layer[node] - row) * down];
+    const bottom = Math.max(height, single ? Math.min(alone, tall) - 1 : 0);
+    for (const node of nodes) place[node] = [left + x.get(node) - least, (bottom - layer[node] - row) * down];
     if (!single) left += most - least + across * 1.3;
   }
   const lowest = Math.min(...place.map(at => at[1]));
@@ -363,13 +381,14 @@ function placesOf(view) {
   return place;
 }
 
-// The places in a pane of this size: stretched, so that the drawing fills it. Where the nodes get much larger by that, the drawing lies on its side,
-// with the destination on the left.
+// The places in a pane of this size: stretched, so that the drawing fills it. Where the nodes get much larger by that,
+// the drawing lies on its side, with the destination on the left.
 function stretched(plain, width, height) {
   const most = (places, side) => Math.max(...places.map(at => at[side])), rim = 64;
   const sizeOf = places => Math.min(MOST_SCALE, width / (most(places, 0) + rim), height / (most(places, 1) + rim));
-  const tall = most(plain, 1), lying = plain.map(([x, y]) => [tall - y, x]), places = sizeOf(lying) > 1.3 * sizeOf(plain) ? lying : plain;
-  const scale = sizeOf(places), factor = (pane, side) => Math.max(1, Math.min(8, (pane / scale - rim) / (most(places, side) || 1)));
+  const tall = most(plain, 1), lying = plain.map(([x, y]) => [tall - y, x]);
+  const places = sizeOf(lying) > 1.3 * sizeOf(plain) ? lying : plain, scale = sizeOf(places);
+  const factor = (pane, side) => Math.max(1, Math.min(8, (pane / scale - rim) / (most(places, side) || 1)));
   const [across, down] = [factor(width, 0), factor(height, 1)];
   return places.map(([x, y]) => [x * across, y * down]);
 }
@@ -379,7 +398,8 @@ function makeRoom(view) {
   const points = view.place.map(at => [at, 32]);
   for (const {a, b, bend} of view.shapes.values()) {
     const from = view.place[a], to = view.place[b], long = Math.hypot(to[0] - from[0], to[1] - from[1]) || 1;
-    points.push([[(from[0] + to[0]) / 2 - (to[1] - from[1]) / long * bend / 2, (from[1] + to[1]) / 2 + (to[0] - from[0]) / long * bend / 2], 8]);
+    const [across, down] = [to[0] - from[0], to[1] - from[1]].map(side => side / long * bend / 2);
+    points.push([[(from[0] + to[0]) / 2 - down, (from[1] + to[1]) / 2 + across], 8]);
   }
   const [left, top] = [0, 1].map(side => Math.min(...points.map(([at, rim]) => at[side] - rim)));
   view.size = [0, 1].map(side => Math.max(...points.map(([at, rim]) => at[side] + rim)) - (side ? top : left));
@@ -394,7 +414,8 @@ function bendOf(view, a, b) {
       if (other === a || other === b) continue;
       const [ox, oy] = view.place[other];
       const far = 25 + Math.abs(bend) / 2;
-      if (oy < Math.min(ay, by) - far || oy > Math.max(ay, by) + far || ox < Math.min(ax, bx) - far || ox > Math.max(ax, bx) + far) continue;
+      if (oy < Math.min(ay, by) - far || oy > Math.max(ay, by) + far) continue;
+      if (ox < Math.min(ax, bx) - far || ox > Math.max(ax, bx) + far) continue;
       for (let t = 0.08; t < 0.95; t += 0.07) {
         const off = 2 * t * (1 - t) * bend, px = ax + (bx - ax) * t - (by - ay) / long * off, py = ay + (by - ay) * t + (bx - ax) / long * off;
         if ((px - ox) ** 2 + (py - oy) ** 2 < 460) return false;
@@ -471,7 +492,8 @@ function arrange(view) {
   view.bends.clear();
   for (const key of view.all) shapeOf(view, key);
   makeRoom(view);
-  view.spots.forEach(({g}, node) => mark(g, {transform: 'translate(' + view.place[node].map(at => at.toFixed(1)).join(' ') + ')'}));
+  const placeOf = node => view.place[node].map(at => at.toFixed(1)).join(' ');
+  view.spots.forEach(({g}, node) => mark(g, {transform: 'translate(' + placeOf(node) + ')'}));
 }
 
 function setUp(view) {
@@ -485,7 +507,7 @@ function setUp(view) {
 const pane = document.querySelector('main'), camera = {x: 0, y: 0, scale: 1, isFitted: true};
 const MOST_SCALE = 2.4, LARGEST = 6, EDGE = 8, BUTTONS = 44;
 // The width and height that the drawing may take: beside it are the buttons for its size.
-const room = () => [pane.clientWidth - EDGE - BUTTONS, pane.clientHeight - 2 * EDGE];
+const room = () => [pane.clientWidth - EDGE - BUTTONS, pane.clientHeight - 2 * EDGE].map(side => Math.max(64, side));
 
 function fitted(view) {
   const [wide, high] = view.size, [width, height] = room(), scale = Math.min(MOST_SCALE, width / wide, height / high);
@@ -499,7 +521,8 @@ function look(change) {
   const [wide, high] = shown.size.map(side => side * camera.scale), rim = 48;
   camera.x = Math.max(rim - wide, Math.min(pane.clientWidth - rim, camera.x));
   camera.y = Math.max(rim - high, Math.min(pane.clientHeight - rim, camera.y));
-  mark(shown.group, {transform: 'translate(' + camera.x.toFixed(2) + ' ' + camera.y.toFixed(2) + ') scale(' + camera.scale.toFixed(4) + ')'});
+  const {x, y, scale} = camera;
+  mark(shown.group, {transform: 'translate(' + x.toFixed(2) + ' ' + y.toFixed(2) + ')scale(' + scale.toFixed(4) + ')'});
 }
 
 const fit = () => { if (shown) look(fitted(shown)); };
@@ -508,7 +531,8 @@ const move = (across, down) => look({x: camera.x + across, y: camera.y + down});
 // Makes the drawing larger or smaller, and keeps the point of the pane where it is.
 function zoom(factor, [x, y] = [pane.clientWidth / 2, pane.clientHeight / 2]) {
   if (!shown) return;
-  const scale = Math.max(Math.min(0.2, fitted(shown).scale), Math.min(LARGEST, camera.scale * factor)), grown = scale / camera.scale;
+  const least = Math.min(0.2, fitted(shown).scale), scale = Math.max(least, Math.min(LARGEST, camera.scale * factor));
+  const grown = scale / camera.scale;
   look({scale, x: x - (x - camera.x) * grown, y: y - (y - camera.y) * grown});
 }
 
@@ -534,14 +558,16 @@ function listenToPointers() {
     const other = [...fingers].find(([id]) => id !== event.pointerId);
     fingers.set(event.pointerId, at);
     if (!other) return move(at[0] - was[0], at[1] - was[1]);
-    zoom(far(at, other[1]) / (far(was, other[1]) || 1), inPane([(was[0] + other[1][0]) / 2, (was[1] + other[1][1]) / 2]));
+    const middle = [0, 1].map(side => (was[side] + other[1][side]) / 2);
+    zoom(far(at, other[1]) / (far(was, other[1]) || 1), inPane(middle));
     move((at[0] - was[0]) / 2, (at[1] - was[1]) / 2);
   });
   for (const kind of ['pointerup', 'pointercancel']) addEventListener(kind, lift);
   net.addEventListener('click', event => { if (isDrag) { isDrag = false; event.stopPropagation(); } }, true);
   pane.addEventListener('wheel', event => {
     event.preventDefault();
-    zoom(Math.exp(-event.deltaY * (event.deltaMode ? 16 : 1) * (event.ctrlKey ? 0.01 : 0.0015)), inPane([event.clientX, event.clientY]));
+    const steps = event.deltaY * (event.deltaMode ? 16 : 1) * (event.ctrlKey ? 0.01 : 0.0015);
+    zoom(Math.exp(-steps), inPane([event.clientX, event.clientY]));
   }, {passive: false});
 }
 
@@ -775,7 +801,8 @@ function roundText(round, turn, state) {
 
 function pushText(round, {push, node, hops, loop}) {
   const gone = node < round.nodes ? '' : ', which is gone,', before = hopName(tableBefore(round)[node]);
-  return 'push ' + push + ' of ' + round.pushes.length + (isRising() ? ', by rising number' : '') + '. Node ' + node + gone + ' now ' + hopText(hops[node]) +
+  const order = isRising() ? ', by rising number' : '';
+  return 'push ' + push + ' of ' + round.pushes.length + order + '. Node ' + node + gone + ' now ' + hopText(hops[node]) +
     ' (before: ' + before + '). ' +
     (loop.length ? 'A loop is in the tables: ' + loop.join(' ') + '.' : 'No loop is in the tables.');
 }
@@ -798,7 +825,7 @@ function tellStep(block, turn, state, news) {
   by('request').textContent = short(request);
   mark(by('request'), {'data-request': request});
   by('answer').textContent = block.answer;
-  by('more').textContent = refusal ? 'Refused: ' + refusal + '.' + (walk.length ? ' The cycle: ' + walk.join(' ') + '.' : '') : '';
+  by('more').textContent = (refusal ? 'Refused: ' + refusal + '.' : '') + (walk.length ? ' The cycle: ' + walk.join(' ') + '.' : '');
   mark(by('more'), {'data-closed': walk.length ? walk.join(' ') : null});
   const change = node => node + ' (' + hopName(round.before.hops[node]) + ' to ' + hopName(round.hops[node]) + ')';
   by('changed').textContent =
@@ -808,7 +835,8 @@ function tellStep(block, turn, state, news) {
   by('slide').value = now;
   by('slide').setAttribute('aria-valuetext', by('say').textContent);
   const count = (number, name) => number.toLocaleString('en') + ' ' + name + (number === 1 ? '' : 's');
-  by('title').textContent = !round ? 'No network yet' : count(round.nodes, 'node') + (round.drawn ? ', ' + count(round.links.length, 'link') : '') + ', destination ' + round.home;
+  by('title').textContent = !round ? 'No network yet'
+    : count(round.nodes, 'node') + (round.drawn ? ', ' + count(round.links.length, 'link') : '') + ', destination ' + round.home;
   document.title = 'revroute: ' + by('title').textContent;
 }
 
@@ -821,8 +849,11 @@ function currentButton(at) {
 
 // Moves the drawing if this node is outside of the pane.
 function keepInSight(view, node) {
-  const rim = 24, sizes = [pane.clientWidth, pane.clientHeight], at = view.place[node].map((place, side) => place * camera.scale + (side ? camera.y : camera.x));
-  const [across, down] = at.map((place, side) => place < rim || place > sizes[side] - rim ? sizes[side] / 2 - place : 0);
+  const rim = 24, sizes = [pane.clientWidth, pane.clientHeight], corner = [camera.x, camera.y];
+  const [across, down] = view.place[node].map((place, side) => {
+    const at = place * camera.scale + corner[side];
+    return at < rim || at > sizes[side] - rim ? sizes[side] / 2 - at : 0;
+  });
   if (across || down) move(across, down);
 }
 
@@ -860,13 +891,15 @@ function show(step, keep) {
     drawNodes(view, round, state, way, news);
     const moved = state.sink ?? state.node;
     if (moved !== null && moved < round.nodes) keepInSight(view, moved);
-  } else none.textContent = !round ? 'There is no network yet.' : 'This network, or its round, is larger than a page shows (256 nodes, 4,096 turns). The answers are in the list.';
+  } else none.textContent = !round ? 'There is no network yet.'
+    : 'This network, or its round, is larger than a page shows (256 nodes, 4,096 turns). The answers are in the list.';
   drawRing(isNetwork ? walk : []);
   tellNode(block, round, state);
   tellStep(block, turn, state, changes);
   currentButton(at);
   clearTimeout(show.later);
-  const named = '#line=' + block.line + (push ? '&push=' + push : block.own ? '&turn=' + turn : '') + (isRising() ? '&order=rising' : '');
+  const part = push ? '&push=' + push : block.own ? '&turn=' + turn : '';
+  const named = '#line=' + block.line + part + (isRising() ? '&order=rising' : '');
   if (!keep) show.later = setTimeout(() => history.replaceState(null, '', named), 400);
   acts.shown();
 }
@@ -919,9 +952,12 @@ function goFragment() {
 }
 
 const keys = {ArrowRight: () => show(now + 1), ArrowLeft: () => show(now - 1), ArrowDown: () => goLine(1), ArrowUp: () => goLine(-1),
-  Home: () => show(0), End: () => show(steps - 1), ' ': () => play(timer === null), n: () => pickNext(1), p: () => pickNext(-1), Escape: () => { if (picked !== null) pick(picked); },
+  Home: () => show(0), End: () => show(steps - 1), ' ': () => play(timer === null),
+  n: () => pickNext(1), p: () => pickNext(-1),
+  Escape: () => { if (picked !== null) pick(picked); },
   '+': () => zoom(1.25), '=': () => zoom(1.25), '-': () => zoom(0.8), 0: fit, f: fit};
-const shifted = {ArrowRight: () => move(-60, 0), ArrowLeft: () => move(60, 0), ArrowDown: () => move(0, -60), ArrowUp: () => move(0, 60)};
+const shifted = {ArrowRight: () => move(-60, 0), ArrowLeft: () => move(60, 0),
+  ArrowDown: () => move(0, -60), ArrowUp: () => move(0, 60)};
 // What a click on a node or a link does. The lab has its own.
 const acts = {node: pick, link: () => {}, shown: () => {}, pace: wait => wait};
 
@@ -937,7 +973,8 @@ function list(from) {
       button.className = 'no';
       button.append(Object.assign(document.createElement('small'), {textContent: fault}));
     }
-    button.setAttribute('aria-label', 'Line ' + block.line + ', ' + request + ': ' + answer + (fault ? ', ' + fault : ''));
+    const told = 'Line ' + block.line + ', ' + request + ': ' + answer;
+    button.setAttribute('aria-label', fault ? told + ', ' + fault : told);
     button.addEventListener('click', () => { play(false); show(starts[at]); });
     item.append(button);
     by('list').append(item);
@@ -946,8 +983,10 @@ function list(from) {
 
 function listenToKeys() {
   document.addEventListener('keydown', event => {
-    const action = (event.shiftKey && shifted[event.key]) || keys[event.key], target = event.target, tag = target.tagName;
-    if (event.ctrlKey || event.metaKey || event.altKey || target.closest('dialog, select, textarea, input:not([type=range])')) return;
+    const target = event.target, tag = target.tagName;
+    const isTyped = target.closest('dialog, select, textarea, input:not([type=range])');
+    if (event.ctrlKey || event.metaKey || event.altKey || isTyped) return;
+    const action = (event.shiftKey && shifted[event.key]) || keys[event.key];
     const g = event.key === 'Enter' && target.closest('.node, .link');
     if (g) return act(g);
     if (!action || event.key === ' ' && (tag === 'BUTTON' || tag === 'SUMMARY')) return;
@@ -964,17 +1003,22 @@ function act(g) {
 
 // Whether the legend is open is kept in the browser, if it can keep something.
 function listenToFold() {
-  const fold = by('fold'), kept = () => { try { return localStorage.getItem('revroute-legend'); } catch { return null; } };
-  fold.open = (kept() ?? (innerWidth > 760 && innerHeight > 800 ? 'open' : 'folded')) === 'open';
-  // A click comes before the change.
-  fold.firstElementChild.addEventListener('click', () => { try { localStorage.setItem('revroute-legend', fold.open ? 'folded' : 'open'); } catch { /* It is not kept then. */ } });
+  const fold = by('fold'), isRoomy = innerWidth > 760 && innerHeight > 800;
+  const kept = () => { try { return localStorage.getItem('revroute-legend'); } catch { return null; } };
+  const keep = () => {
+    // This comes before the change. Where nothing can be kept, the page goes on without it.
+    try { localStorage.setItem('revroute-legend', fold.open ? 'folded' : 'open'); } catch { return; }
+  };
+  fold.open = (kept() ?? (isRoomy ? 'open' : 'folded')) === 'open';
+  fold.firstElementChild.addEventListener('click', keep);
 }
 
 function start() {
-  const clicks = {back: () => { play(false); show(now - 1); }, next: () => { play(false); show(now + 1); }, play: () => play(timer === null),
+  const go = step => { play(false); show(step); };
+  const clicks = {back: () => go(now - 1), next: () => go(now + 1), play: () => play(timer === null),
     larger: () => zoom(1.25), smaller: () => zoom(0.8), whole: fit};
   for (const id in clicks) by(id).addEventListener('click', clicks[id]);
-  by('slide').addEventListener('input', () => { play(false); show(Number(by('slide').value)); });
+  by('slide').addEventListener('input', () => go(Number(by('slide').value)));
   by('order').addEventListener('change', () => show(now));
   by('net').addEventListener('click', event => { const g = event.target.closest('.node, .link'); if (g) act(g); });
   listenToKeys();
