@@ -80,13 +80,20 @@ class Browser:
                 return message['result']
 
     def open(self, path, fragment=''):
+        self.go(f'file://{path}{fragment}')
+
+    def go(self, address):
         self.call('Page.navigate', url='about:blank')
-        self.call('Page.navigate', url=f'file://{path}{fragment}')
+        self.call('Page.navigate', url=address)
         # The blank page may still report that it is complete, so look at the address too.
+        self.wait("location.protocol !== 'about:' && document.readyState === 'complete'", f'{address} was not opened')
+
+    def wait(self, script, fault):
         end = time.monotonic() + 30
-        while not self.value("location.protocol === 'file:' && document.readyState === 'complete'"):
+        while not self.value(script):
             if time.monotonic() > end:
-                raise TimeoutError(f'{path} was not opened')
+                raise TimeoutError(fault)
+            time.sleep(0.02)
 
     def value(self, script):
         result = self.call('Runtime.evaluate', expression=script, returnByValue=True, awaitPromise=True)
@@ -95,13 +102,42 @@ class Browser:
             raise RuntimeError(details.get('exception', {}).get('description', details['text']))
         return result['result'].get('value')
 
-    def press(self, key):
-        for kind in ('keyDown', 'keyUp'):
-            self.call('Input.dispatchKeyEvent', type=kind, key=key)
+    def press(self, key, shift=False):
+        # Enter clicks a button only if it comes with its text, and Tab and Escape act only by their codes.
+        code, text = {'Tab': 9, 'Enter': 13, 'Escape': 27}.get(key, 0), {'text': chr(13)} if key == 'Enter' else {}
+        for kind, more in (('keyDown', text), ('keyUp', {})):
+            self.call('Input.dispatchKeyEvent', type=kind, key=key, modifiers=8 if shift else 0, windowsVirtualKeyCode=code, **more)
+
+    def type(self, text):
+        self.call('Input.insertText', text=text)
+
+    def mouse(self, kind, x, y, **more):
+        self.call('Input.dispatchMouseEvent', type=kind, x=x, y=y, **more)
+
+    def click(self, x, y):
+        for kind in ('mousePressed', 'mouseReleased'):
+            self.mouse(kind, x, y, button='left', buttons=1, clickCount=1)
+
+    def drag(self, begin, end):
+        self.mouse('mousePressed', *begin, button='left', buttons=1, clickCount=1)
+        for part in (0.3, 0.7, 1):
+            self.mouse('mouseMoved', *(a + part * (b - a) for a, b in zip(begin, end)), button='left', buttons=1)
+        self.mouse('mouseReleased', *end, button='left', buttons=0, clickCount=1)
+
+    def touch(self, *steps):
+        # Each step has the places of the fingers.
+        self.call('Emulation.setTouchEmulationEnabled', enabled=True, maxTouchPoints=2)
+        for kind, fingers in zip(('touchStart', *['touchMove'] * (len(steps) - 1)), steps):
+            self.call('Input.dispatchTouchEvent', type=kind, touchPoints=[{'x': x, 'y': y, 'id': number} for number, (x, y) in enumerate(fingers)])
+        self.call('Input.dispatchTouchEvent', type='touchEnd', touchPoints=[])
+        self.call('Emulation.setTouchEmulationEnabled', enabled=False)
+
+    def screen(self, width, height, dark, zoom=1):
+        self.call('Emulation.setDeviceMetricsOverride', width=width, height=height, deviceScaleFactor=zoom, mobile=min(width, height) < 600)
+        self.call('Emulation.setEmulatedMedia', features=[{'name': 'prefers-color-scheme', 'value': 'dark' if dark else 'light'}])
 
     def screenshot(self, path, width, height, dark, zoom=1):
-        self.call('Emulation.setDeviceMetricsOverride', width=width, height=height, deviceScaleFactor=zoom, mobile=width < 600)
-        self.call('Emulation.setEmulatedMedia', features=[{'name': 'prefers-color-scheme', 'value': 'dark' if dark else 'light'}])
+        self.screen(width, height, dark, zoom)
         data = self.call('Page.captureScreenshot', format='png')['data']
         with open(path, 'wb') as file:
             file.write(base64.b64decode(data))

@@ -8,21 +8,26 @@ pub const FIRST_PART: &str = "\
 <meta name='viewport' content='width=device-width,initial-scale=1'>
 <meta name='color-scheme' content='light dark'>
 <meta http-equiv='Content-Security-Policy' content='default-src &#39;none&#39;; script-src &#39;unsafe-inline&#39;; style-src &#39;unsafe-inline&#39;'>
-<title>revroute: a network at work</title>
+<title>revroute</title>
 <style>
 :root{--back:#fbfbf9;--panel:#fff;--ink:#1d2329;--soft:#5c6670;--edge:#d5d9dd;--link:#39434d;--hop:#1259b5;--turn:#b35c00;--gold:#ffd24d;
 --grey:#b9bfc5;--route:#0b7a4b;--face:#eef3f9;--bad:#a8261c;--push:#c4dcfb}
 @media (prefers-color-scheme:dark){:root{--back:#14181c;--panel:#1b2126;--ink:#e8ecef;--soft:#a0abb5;--edge:#343c44;--link:#d3dae0;--hop:#76b2ff;
 --turn:#ffab4a;--gold:#7a5c00;--grey:#4f5962;--route:#4fd39a;--face:#26303a;--bad:#ff8a80;--push:#1b477d}}
 *{box-sizing:border-box}
-body{margin:0;background:var(--back);color:var(--ink);font:15px/1.45 system-ui,sans-serif;min-height:100vh;display:grid;
-grid-template:auto 1fr auto auto/22rem minmax(0,1fr);height:100vh}
-header{grid-column:1/3;padding:.6rem 1rem;border-bottom:1px solid var(--edge);display:flex;gap:.3rem 1.2rem;flex-wrap:wrap;align-items:baseline}
-h1{font-size:1.05rem;margin:0}
-#say{margin:0;color:var(--soft);flex:1 1 20rem;min-width:0}
-aside{grid-row:2/4;border-right:1px solid var(--edge);overflow:auto;background:var(--panel);display:flex;flex-direction:column;min-height:0}
-#list{list-style:none;margin:0;padding:.3rem;overflow:auto;flex:1 1 40%;min-height:6rem}
-#list button{display:grid;grid-template-columns:2.2em minmax(0,1fr) minmax(0,1fr);gap:.5em;align-items:baseline;width:100%;text-align:left;border:0;border-radius:6px;background:none;color:inherit;padding:.2rem .5rem;font:inherit;
+html{font:15px/1.45 system-ui,sans-serif}
+body{margin:0;background:var(--back);color:var(--ink);height:100vh;height:100dvh;overflow:hidden;display:grid;
+grid-template:'head head' auto 'side net' minmax(0,1fr) 'side bar' auto 'foot foot' auto/22rem minmax(0,1fr)}
+header{grid-area:head;padding:.4rem 1rem;border-bottom:1px solid var(--edge);display:flex;gap:.1rem 1.4rem;
+align-items:center}
+h1{font-size:1.05rem;line-height:1.3;margin:0;flex:none}
+#say{margin:0;color:var(--soft);flex:1;min-width:0;line-height:1.3;height:2.6em;overflow:auto;display:grid;
+align-content:safe center}
+aside{grid-area:side;border-right:1px solid var(--edge);background:var(--panel);display:flex;flex-direction:column;
+min-height:0}
+#list{list-style:none;margin:0;padding:.3rem;overflow:auto;flex:1 1 40%;min-height:4rem}
+#list button{display:grid;grid-template-columns:2.2em minmax(0,1fr) minmax(0,1fr);gap:0 .5em;align-items:baseline;
+width:100%;text-align:left;border:0;border-radius:6px;background:none;color:inherit;padding:.2rem .5rem;font:inherit;
 white-space:nowrap;cursor:pointer}
 #list button>*{overflow:hidden;text-overflow:ellipsis}
 #list button:hover{background:var(--face)}
@@ -30,20 +35,30 @@ white-space:nowrap;cursor:pointer}
 #list b{color:var(--soft);font-weight:400}
 #list code{font-size:.85em}
 #list .no{color:var(--bad)}
+#list small{grid-column:2/4;white-space:normal;line-height:1.3}
 #about{border-top:1px solid var(--edge);padding:.6rem .9rem;overflow:auto;flex:0 1 auto;max-height:55%}
 #about p{margin:0 0 .4rem;overflow-wrap:anywhere}
 #request,#answer{max-height:7rem;overflow:auto;font-family:ui-monospace,monospace;font-size:.9em}
 #chart{width:100%;height:70px;display:block}
-#ring{display:block;margin:auto}
-main{min-height:0;min-width:0;overflow:auto;display:grid;place-items:safe center;padding:.5rem}
-#net{display:block;flex:none;overflow:visible}
-#none{color:var(--soft);max-width:34rem;padding:1rem;text-align:center}
-#bar{display:flex;gap:.5rem;align-items:center;padding:.5rem 1rem;border-top:1px solid var(--edge);flex-wrap:wrap;background:var(--panel)}
-#bar button,#bar select{font:inherit;color:inherit;background:var(--face);border:1px solid var(--edge);border-radius:6px;padding:.3rem .7rem;min-width:2.6rem;cursor:pointer}
-#slide{flex:1 1 12rem;min-width:8rem;accent-color:var(--hop)}
-#at{color:var(--soft);min-width:6em;text-align:right;font-variant-numeric:tabular-nums}
-footer{grid-column:1/3;border-top:1px solid var(--edge);padding:.45rem 1rem;color:var(--soft);font-size:.85rem}
-#legend{list-style:none;margin:0 0 .3rem;padding:0;display:flex;flex-wrap:wrap;gap:.1rem 1.1rem;color:var(--ink)}
+#ring{display:block;margin:auto;max-width:100%}
+main{grid-area:net;position:relative;min-height:0;min-width:0;overflow:hidden}
+#net{display:block;width:100%;height:100%;touch-action:none;user-select:none;-webkit-user-select:none;cursor:grab}
+#net.moved{cursor:grabbing}
+#none{color:var(--soft);max-width:34rem;padding:1rem;margin:2rem auto;text-align:center}
+#zoom{position:absolute;top:.5rem;right:.5rem;display:flex;flex-direction:column;gap:.3rem}
+button,select{font:inherit;line-height:1.3;color:inherit;background:var(--face);border:1px solid var(--edge);border-radius:6px;
+padding:.25rem .6rem;cursor:pointer}
+#zoom button{width:36px;padding:.2rem 0;text-align:center}
+#bar{grid-area:bar;display:flex;gap:.4rem .6rem;align-items:center;padding:.45rem 1rem;border-top:1px solid var(--edge);
+flex-wrap:wrap;background:var(--panel)}
+#bar button{min-width:2.6rem}
+#play{min-width:4.2rem}
+#slide{flex:1 1 9rem;min-width:6rem;accent-color:var(--hop)}
+#at{color:var(--soft);min-width:5em;text-align:right;font-variant-numeric:tabular-nums;white-space:nowrap}
+footer{grid-area:foot;border-top:1px solid var(--edge);padding:.3rem 1rem;color:var(--soft);font-size:.85rem;
+position:relative}
+summary{cursor:pointer;width:max-content}
+#legend{list-style:none;margin:.2rem 0 .3rem;padding:0;display:flex;flex-wrap:wrap;gap:.1rem 1.1rem;color:var(--ink)}
 #legend li{display:flex;align-items:center;gap:.35rem}
 #legend .node{cursor:auto}
 :focus-visible{outline:2px solid var(--hop);outline-offset:2px}
@@ -79,12 +94,19 @@ footer{grid-column:1/3;border-top:1px solid var(--edge);padding:.45rem 1rem;colo
 #chart path{fill:none;stroke:var(--hop);stroke-width:1.5}
 #chart line{stroke:var(--turn);stroke-width:1}
 #chart text{fill:var(--soft);font:10px system-ui,sans-serif}
-@media (max-width:760px){body{grid-template:auto minmax(50vh,1fr) auto auto auto/minmax(0,1fr);height:auto}
-header,aside,main,#bar,footer{grid-column:1;grid-row:auto}
-main{order:1;max-height:75vh}#bar{order:2;position:sticky;bottom:0}aside{order:3;border:0;border-top:1px solid var(--edge)}footer{order:4}
-#slide{order:5;flex-basis:70%}#at{order:6}#list{max-height:34vh}#about{max-height:none}}
+@media (max-height:800px),(max-width:760px){#below{position:absolute;left:0;right:0;bottom:100%;max-height:70vh;overflow:auto;
+padding:.6rem 1rem;background:var(--panel);border-top:1px solid var(--edge);z-index:1}}
+@media (max-height:500px),(max-width:1100px){#bar label span{display:none}}
+@media (max-height:500px){html{font-size:13px}body{grid-template-columns:17rem minmax(0,1fr)}header{padding:.1rem .8rem}
+h1{max-width:11rem}#bar{padding:.2rem .8rem}#zoom{top:.3rem;right:.3rem}button,select{padding:.15rem .45rem}
+#list{min-height:3rem}footer{padding:.15rem .8rem}}
+@media (max-width:760px) and (orientation:portrait){html{font-size:14px}
+body{grid-template:'head' auto 'net' minmax(0,1fr) 'bar' auto 'side' 28vh 'foot' auto/minmax(0,1fr)}
+header{display:block;padding:.4rem .8rem}#say{align-content:start}aside{border:0;border-top:1px solid var(--edge)}
+#bar{padding:.4rem .8rem;gap:.35rem}#bar button{min-width:2.3rem;padding:.25rem .4rem}#bar #play{min-width:3.6rem}
+#bar select{padding:.25rem .1rem;max-width:8.6rem}#slide{order:1;flex-basis:60%}#at{order:1}}
 </style>
-<header><h1>A network at work</h1><p id='say' role='status' aria-live='polite'></p></header>
+<header><h1 id='title'>revroute</h1><p id='say' role='status' aria-live='polite'></p></header>
 <aside aria-label='Requests'>
 <ol id='list' aria-label='Requests and their answers'></ol>
 <div id='about'>
@@ -94,13 +116,20 @@ main{order:1;max-height:75vh}#bar{order:2;position:sticky;bottom:0}aside{order:3
 <svg id='chart' role='img' hidden></svg>
 </div>
 </aside>
-<main aria-label='The network'><svg id='net' role='group' hidden></svg><p id='none' hidden></p></main>
+<main aria-label='The network'><svg id='net' role='group' hidden></svg><p id='none' hidden></p>
+<div id='zoom' role='group' aria-label='Size of the drawing'>
+<button id='larger' aria-label='Larger'>+</button>
+<button id='smaller' aria-label='Smaller'>&#8722;</button><button id='whole'>Fit</button></div></main>
 <div id='bar' role='group' aria-label='Steps'>
 <button id='back' aria-label='One step back'>&#9664;</button><button id='play'>Play</button><button id='next' aria-label='One step on'>&#9654;</button>
 <input id='slide' type='range' min='0' value='0' aria-label='Step'><span id='at'></span>
-<label>Speed <select id='speed'><option value='1600'>slow</option><option value='800' selected>normal</option><option value='300'>fast</option><option value='60'>very fast</option></select></label>
+<label><span>Speed </span><select id='speed' aria-label='Speed' title='Speed'>
+<option value='1600'>slow</option><option value='800' selected>normal</option>
+<option value='300'>fast</option><option value='60'>very fast</option></select></label>
+<label><span>Pushes </span><select id='order' aria-label='Pushes' title='The order of the pushes'>
+<option value='push' selected>in push order</option><option value='rising'>by rising number</option></select></label>
 </div>
-<footer>
+<footer><details id='fold'><summary>Legend, keys, and what is proved</summary><div id='below'>
 <ul id='legend' aria-label='What is drawn'>
 <li><svg width='26' height='26' aria-hidden='true'><g class='node home' transform='translate(13 13)'><circle r='12' class='ring'/><circle r='9.5' class='face'/></g></svg>the destination</li>
 <li><svg width='38' height='26' aria-hidden='true'><g class='link hop'><path d='M2 13H28'/><path class='tip' d='M36 13L27 8.4V17.6Z'/></g></svg>to the next hop</li>
@@ -114,14 +143,14 @@ main{order:1;max-height:75vh}#bar{order:2;position:sticky;bottom:0}aside{order:3
 <path class='tip' d='M36 13L27 8.4V17.6Z'/></g></svg>to an old next hop</li>
 <li><svg width='64' height='26' aria-hidden='true'><g class='node way' transform='translate(13 13)'><circle r='12' class='ring'/><circle r='9.5' class='face'/></g><g class='link way'><path d='M28 13H54'/><path class='tip' d='M62 13L53 8.4V17.6Z'/></g></svg>a route</li>
 <li><svg width='38' height='26' aria-hidden='true'><g class='link closed'><path d='M2 13H28'/>
-<path class='tip' d='M36 13L27 8.4V17.6Z'/></g></svg>a closed walk that was refused, or a loop in the tables</li>
+<path class='tip' d='M36 13L27 8.4V17.6Z'/></g></svg>a cycle that was refused, or a loop in the tables</li>
 <li><svg width='38' height='26' aria-hidden='true'><g class='link closed asked'><path d='M2 13H28'/><path class='tip' d='M36 13L27 8.4V17.6Z'/></g></svg>its link that was asked for</li>
 <li>below a number: how often the node has turned</li>
 </ul>
-<b>Proved:</b> the data of this page, which is the text that the definitions give for the lines that were read:
-each request, answer, link, turn, count, next hop and push.
-<b>Not proved:</b> the drawing, which is made of it by a script here and tested in a browser.
-Keys: left and right, a step; up and down, a line; space, play; n and p, a node.</footer>
+<b>Proved:</b> the data of this page: each request, answer, link, turn, count, next hop and push.
+<b>Not proved:</b> the drawing. A script in this page makes it, and is tested in a browser.
+<b>Keys:</b> left and right, a step; up and down, a line; space, play; n and p, a node;
++ and -, the size; 0 or f, fit; Shift and an arrow, move the drawing.</div></details></footer>
 <script type='text/plain' id='story'>
 ";
 
@@ -131,20 +160,22 @@ pub const LAST_PART: &str = "\
 <script>
 'use strict';
 const by = id => document.getElementById(id), SVG = 'http://www.w3.org/2000/svg', NL = String.fromCharCode(10);
-const meanings = {1: 'the line is no JSON', 2: 'the value is no request', 3: 'there is no network yet',
-  4: 'a node that is named is none of the network, or there is no node', 5: 'a link joins a node with itself', 6: 'more than one link joins two nodes',
-  7: 'the links would close a walk', 8: 'no link joins the two nodes', 9: 'there are more nodes, links or edits than the limits'};
+const faults = {1: 'the line is no JSON, or nests too deep', 2: 'the value is no request', 3: 'there is no network yet',
+  4: 'the end of a link is no node', 5: 'a link joins a node with itself', 6: 'two links join the same nodes',
+  7: 'the links contain a cycle', 8: 'there is no link between the two nodes',
+  9: 'more nodes, links or edits than the limits'};
 const settledLines = ['first', 'turns', 'links', 'counts', 'hops', 'pushes'];
 const listed = (text, item) => text.split(' ').slice(1).map(item);
 const linkOf = word => word.split('>').map(Number);
 const stepsOf = walk => new Set(walk.slice(1).map((node, at) => walk[at] + '>' + node));
 const short = text => text.length > 300 ? text.slice(0, 300) + ' ..' : text;
+const isLab = document.querySelector('meta[name=lab]') !== null;
 const keyOf = (a, b) => a < b ? a * 4096 + b : b * 4096 + a;
 
 // The story, read: a block for each line of the input; a round has what its block says, and a question the round before it.
-function readStory(text) {
+function readStory(text, before) {
   const blocks = [];
-  let block = null, before = null;
+  let block = null;
   for (const line of text.split(NL)) {
     const name = line.split(' ', 1)[0];
     if (name === 'line') {
@@ -163,6 +194,28 @@ function readStory(text) {
     }
   }
   return blocks;
+}
+
+// Why a line was refused, in words: with its nodes if it is a single edit.
+function faultOf(block) {
+  if (!block.answer.startsWith('refused ')) return null;
+  const number = Number(block.answer.slice(8)), [name, ...words] = (block.asks || '').split(' '), [u, v] = words;
+  const nodes = block.round ? block.round.nodes : 0, gone = words.filter(word => Number(word) >= nodes);
+  const isEdit = ['add', 'cut', 'join'].includes(name);
+  if (name === 'batch' && number > 3) return 'in an edit: ' + faults[number];
+  if (number === 4 && name === 'net') return netFault(words);
+  if (number === 4 && gone.length) return (name === 'dest' ? 'the destination ' : '') + gone[0] + ' is no node';
+  if (number === 5 && isEdit) return 'the link joins node ' + u + ' with itself';
+  if (number === 6 && isEdit) return 'there is a link between ' + u + ' and ' + v;
+  if (number === 7 && isEdit) return 'the link would close a cycle';
+  if (number === 8 && isEdit) return 'there is no link between ' + u + ' and ' + v;
+  return faults[number] || 'refused';
+}
+
+function netFault([nodes, home, ...links]) {
+  if (nodes === '0') return 'there is no node';
+  const gone = links.flatMap(linkOf).find(node => node >= Number(nodes));
+  return gone === undefined ? 'the destination ' + home + ' is no node' : gone + ' is no node, and a link ends there';
 }
 
 // What a line asks, as a line, or why nobody knows: one that is no request has no words here.
@@ -229,15 +282,17 @@ function walkOf(block) {
 }
 
 // Rounds that share a node number and most links are of one network: it is laid out once, as its last round leaves it.
-function layOut(blocks) {
+function layOut(from) {
+  const keysOf = round => new Set(round.links.map(([a, b]) => keyOf(a, b)));
   let view = null;
-  for (const block of blocks) {
-    const round = block.round;
-    if (!block.own || !round.drawn) continue;
-    const keys = new Set(round.links.map(([a, b]) => keyOf(a, b)));
+  for (const [at, {own, round}] of blocks.entries()) {
+    if (!own || !round.drawn) continue;
+    if (at < from) { view = Object.assign(round.view, {round, last: null}); continue; }
+    if (view) view.last ??= keysOf(view.round);
+    const keys = keysOf(round);
     const shared = view ? [...view.last].filter(key => keys.has(key)).length : 0;
     if (!view || view.nodes !== round.nodes || 2 * shared < Math.min(view.last.size, keys.size)) {
-      view = {nodes: round.nodes, all: new Set(), shapes: new Map(), built: null};
+      view = {nodes: round.nodes, all: new Set(), shapes: new Map(), group: null};
     }
     view.last = keys;
     view.round = round;
@@ -305,8 +360,10 @@ function placePart(nodes, near, layer, gap) {
   return x;
 }
 
+// Places from 0 on, before they are stretched: the destination of the first part is below its other nodes.
 function placesOf(view) {
-  const {near, parts} = partsOf(view.round), layer = layersOf(view.round), place = [], across = 62, down = 66;
+  const {near, parts} = partsOf(view.round), layer = layersOf(view.round), place = [];
+  const [across, down] = view.nodes > 60 ? [48, 54] : [62, 66];
   const height = Math.max(...layer);
   let left = 0, alone = 0;
   for (const nodes of parts) {
@@ -315,26 +372,38 @@ function placesOf(view) {
     const least = Math.min(...x.values()), most = Math.max(...x.values()), tall = Math.max(4, height + 1);
     const row = single ? alone++ % tall : 0;
     if (single && row === 0 && alone > 1) left += across;
-    for (const node of nodes) place[node] = [left + x.get(node) - least + 40, (Math.max(height, single ? Math.min(alone, tall) - 1 : 0) - layer[node] - row) * down + 40];
+    const bottom = Math.max(height, single ? Math.min(alone, tall) - 1 : 0);
+    for (const node of nodes) place[node] = [left + x.get(node) - least, (bottom - layer[node] - row) * down];
     if (!single) left += most - least + across * 1.3;
   }
-  const lowest = Math.min(...place.map(at => at[1])) - 40;
+  const lowest = Math.min(...place.map(at => at[1]));
   for (const at of place) at[1] -= lowest;
-  const wide = Math.max(...place.map(at => at[0])), high = Math.max(...place.map(at => at[1])), wider = Math.max(1, Math.min(2.2, high / wide));
-  for (const at of place) at[0] *= wider;
-  view.place = place;
+  return place;
 }
 
-// Makes room for the curves: moves all to the right of them, and takes the size.
+// The places in a pane of this size: stretched, so that the drawing fills it. Where the nodes get much larger by that,
+// the drawing lies on its side, with the destination on the left.
+function stretched(plain, width, height) {
+  const most = (places, side) => Math.max(...places.map(at => at[side])), rim = 64;
+  const sizeOf = places => Math.min(MOST_SCALE, width / (most(places, 0) + rim), height / (most(places, 1) + rim));
+  const tall = most(plain, 1), lying = plain.map(([x, y]) => [tall - y, x]);
+  const places = sizeOf(lying) > 1.3 * sizeOf(plain) ? lying : plain, scale = sizeOf(places);
+  const factor = (pane, side) => Math.max(1, Math.min(8, (pane / scale - rim) / (most(places, side) || 1)));
+  const [across, down] = [factor(width, 0), factor(height, 1)];
+  return places.map(([x, y]) => [x * across, y * down]);
+}
+
+// Makes room for the curves: moves all to the right of them and below them, and takes the size.
 function makeRoom(view) {
-  const sides = [];
-  for (const shape of view.shapes.values()) {
-    const from = view.place[shape.a], to = view.place[shape.b], long = Math.hypot(to[0] - from[0], to[1] - from[1]) || 1;
-    sides.push((from[0] + to[0]) / 2 - (to[1] - from[1]) / long * shape.bend / 2);
+  const points = view.place.map(at => [at, 32]);
+  for (const {a, b, bend} of view.shapes.values()) {
+    const from = view.place[a], to = view.place[b], long = Math.hypot(to[0] - from[0], to[1] - from[1]) || 1;
+    const [across, down] = [to[0] - from[0], to[1] - from[1]].map(side => side / long * bend / 2);
+    points.push([[(from[0] + to[0]) / 2 - down, (from[1] + to[1]) / 2 + across], 8]);
   }
-  const least = Math.min(...view.place.map(at => at[0] - 40), ...sides.map(side => side - 8));
-  for (const at of view.place) at[0] -= least;
-  view.size = [Math.max(...view.place.map(at => at[0] + 40), ...sides.map(side => side - least + 8)), Math.max(...view.place.map(at => at[1])) + 40];
+  const [left, top] = [0, 1].map(side => Math.min(...points.map(([at, rim]) => at[side] - rim)));
+  view.size = [0, 1].map(side => Math.max(...points.map(([at, rim]) => at[side] + rim)) - (side ? top : left));
+  view.place = view.place.map(([x, y]) => [x - left, y - top]);
 }
 
 // The bend of a link's curve: none where it passes no other node, else the least that takes it round them.
@@ -344,7 +413,9 @@ function bendOf(view, a, b) {
     for (let other = 0; other < view.nodes; other++) {
       if (other === a || other === b) continue;
       const [ox, oy] = view.place[other];
-      if (oy < Math.min(ay, by) - 70 || oy > Math.max(ay, by) + 70) continue;
+      const far = 25 + Math.abs(bend) / 2;
+      if (oy < Math.min(ay, by) - far || oy > Math.max(ay, by) + far) continue;
+      if (ox < Math.min(ax, bx) - far || ox > Math.max(ax, bx) + far) continue;
       for (let t = 0.08; t < 0.95; t += 0.07) {
         const off = 2 * t * (1 - t) * bend, px = ax + (bx - ax) * t - (by - ay) / long * off, py = ay + (by - ay) * t + (bx - ax) / long * off;
         if ((px - ox) ** 2 + (py - oy) ** 2 < 460) return false;
@@ -363,7 +434,7 @@ function curve(view, shape, tail, head) {
   const bend = tail === shape.a ? shape.bend : -shape.bend;
   const mid = [(from[0] + to[0]) / 2 - (to[1] - from[1]) / long * bend, (from[1] + to[1]) / 2 + (to[0] - from[0]) / long * bend];
   const dx = to[0] - mid[0], dy = to[1] - mid[1], end = Math.hypot(dx, dy) || 1, ux = dx / end, uy = dy / end;
-  const reach = head === view.round.home ? 24 : 20, edge = [to[0] - ux * reach, to[1] - uy * reach], base = [edge[0] - ux * 9, edge[1] - uy * 9];
+  const reach = 22, edge = [to[0] - ux * reach, to[1] - uy * reach], base = [edge[0] - ux * 9, edge[1] - uy * 9];
   const fix = point => point.map(value => value.toFixed(1)).join(' ');
   return {line: 'M' + fix(from) + 'Q' + fix(mid) + ' ' + fix(base),
     tip: 'M' + fix(edge) + 'L' + fix([base[0] - uy * 4.6, base[1] + ux * 4.6]) + 'L' + fix([base[0] + uy * 4.6, base[1] - ux * 4.6]) + 'Z'};
@@ -385,34 +456,139 @@ function mark(element, attributes) {
   }
 }
 
-function build(view) {
-  placesOf(view);
-  view.group = document.createElementNS(SVG, 'g');
-  for (const key of view.all) {
-    const a = Math.floor(key / 4096), b = key % 4096, g = make(view.group, 'g', {class: 'link'});
-    view.shapes.set(key, {a, b, bend: bendOf(view, a, b), g, line: make(g, 'path', {}), tip: make(g, 'path', {class: 'tip'})});
+// The shape of a link. In the lab a broad line that is not seen takes its clicks.
+function shapeOf(view, key) {
+  const a = Math.floor(key / 4096), b = key % 4096, g = make(view.lines, 'g', {class: 'link'});
+  const shape = {a, b, bend: bendOf(view, a, b), g, line: make(g, 'path', {}), tip: make(g, 'path', {class: 'tip'})};
+  if (isLab) {
+    shape.hit = make(g, 'path', {class: 'hit'});
+    mark(g, {role: 'button', tabindex: -1});
   }
-  makeRoom(view);
+  view.shapes.set(key, shape);
+}
+
+function build(view) {
+  view.group = document.createElementNS(SVG, 'g');
+  view.lines = make(view.group, 'g', {});
   view.more = make(view.group, 'g', {class: 'more'});
   view.bends = new Map();
-  view.spots = view.place.map(([x, y], node) => {
-    const g = make(view.group, 'g', {class: 'node', role: 'button', tabindex: -1, transform: 'translate(' + x.toFixed(1) + ' ' + y.toFixed(1) + ')'});
+  view.spots = Array.from({length: view.nodes}, (_, node) => {
+    const g = make(view.group, 'g', {class: 'node', role: 'button', tabindex: -1});
     make(g, 'circle', {r: 22, class: 'ring'});
     make(g, 'circle', {r: 18, class: 'face'});
     make(g, 'text', {y: 0}).textContent = node;
-    const count = make(g, 'text', {y: 12, class: 'count'});
-    g.addEventListener('click', () => pick(node));
-    g.addEventListener('keydown', event => { if (event.key === 'Enter') pick(node); });
-    return {g, count};
+    return {g, count: make(g, 'text', {y: 12, class: 'count'})};
   });
-  view.built = true;
+  view.plain = placesOf(view);
 }
 
-const blocks = readStory(by('story').textContent);
-layOut(blocks);
-const starts = [];
-let steps = 0, now = 0, picked = null, shown = null, timer = null;
-for (const block of blocks) { starts.push(steps); steps += stepsIn(block); }
+// Gives each node and link its place in the pane as it is. A link that came later gets its own.
+function arrange(view) {
+  const {clientWidth, clientHeight} = pane;
+  view.pane = clientWidth + ' ' + clientHeight;
+  view.place = stretched(view.plain, ...room());
+  view.shapes.clear();
+  view.lines.replaceChildren();
+  view.bends.clear();
+  for (const key of view.all) shapeOf(view, key);
+  makeRoom(view);
+  const placeOf = node => view.place[node].map(at => at.toFixed(1)).join(' ');
+  view.spots.forEach(({g}, node) => mark(g, {transform: 'translate(' + placeOf(node) + ')'}));
+}
+
+function setUp(view) {
+  if (!view.group) build(view);
+  if (view.pane !== pane.clientWidth + ' ' + pane.clientHeight) { arrange(view); return true; }
+  for (const key of view.all) if (!view.shapes.has(key)) shapeOf(view, key);
+  return false;
+}
+
+// What of the drawing the pane shows: where its corner is, and how large it is.
+const pane = document.querySelector('main'), camera = {x: 0, y: 0, scale: 1, isFitted: true};
+const MOST_SCALE = 2.4, LARGEST = 6, EDGE = 8, BUTTONS = 44;
+// The width and height that the drawing may take: beside it are the buttons for its size.
+const room = () => [pane.clientWidth - EDGE - BUTTONS, pane.clientHeight - 2 * EDGE].map(side => Math.max(64, side));
+
+function fitted(view) {
+  const [wide, high] = view.size, [width, height] = room(), scale = Math.min(MOST_SCALE, width / wide, height / high);
+  return {x: EDGE + (width - wide * scale) / 2, y: EDGE + (height - high * scale) / 2, scale, isFitted: true};
+}
+
+// Moves and sizes the drawing. A part of it stays in sight.
+function look(change) {
+  if (!shown) return;
+  Object.assign(camera, {isFitted: false}, change);
+  const [wide, high] = shown.size.map(side => side * camera.scale), rim = 48;
+  camera.x = Math.max(rim - wide, Math.min(pane.clientWidth - rim, camera.x));
+  camera.y = Math.max(rim - high, Math.min(pane.clientHeight - rim, camera.y));
+  const {x, y, scale} = camera;
+  mark(shown.group, {transform: 'translate(' + x.toFixed(2) + ' ' + y.toFixed(2) + ')scale(' + scale.toFixed(4) + ')'});
+}
+
+const fit = () => { if (shown) look(fitted(shown)); };
+const move = (across, down) => look({x: camera.x + across, y: camera.y + down});
+
+// Makes the drawing larger or smaller, and keeps the point of the pane where it is.
+function zoom(factor, [x, y] = [pane.clientWidth / 2, pane.clientHeight / 2]) {
+  if (!shown) return;
+  const least = Math.min(0.2, fitted(shown).scale), scale = Math.max(least, Math.min(LARGEST, camera.scale * factor));
+  const grown = scale / camera.scale;
+  look({scale, x: x - (x - camera.x) * grown, y: y - (y - camera.y) * grown});
+}
+
+// A drag moves the drawing, two fingers and the wheel size it. After a drag nothing is clicked.
+function listenToPointers() {
+  const net = by('net'), fingers = new Map(), far = (a, b) => Math.hypot(a[0] - b[0], a[1] - b[1]);
+  const inPane = ([x, y]) => { const frame = pane.getBoundingClientRect(); return [x - frame.left, y - frame.top]; };
+  let isDrag = false;
+  const lift = event => {
+    fingers.delete(event.pointerId);
+    if (!fingers.size) net.classList.remove('moved');
+  };
+  net.addEventListener('pointerdown', event => {
+    fingers.set(event.pointerId, [event.clientX, event.clientY]);
+    isDrag = fingers.size > 1;
+  });
+  addEventListener('pointermove', event => {
+    const was = fingers.get(event.pointerId), at = [event.clientX, event.clientY];
+    if (!event.buttons) fingers.clear();
+    if (!was || !event.buttons || !isDrag && far(was, at) < 5) return;
+    isDrag = true;
+    net.classList.add('moved');
+    const other = [...fingers].find(([id]) => id !== event.pointerId);
+    fingers.set(event.pointerId, at);
+    if (!other) return move(at[0] - was[0], at[1] - was[1]);
+    const middle = [0, 1].map(side => (was[side] + other[1][side]) / 2);
+    zoom(far(at, other[1]) / (far(was, other[1]) || 1), inPane(middle));
+    move((at[0] - was[0]) / 2, (at[1] - was[1]) / 2);
+  });
+  for (const kind of ['pointerup', 'pointercancel']) addEventListener(kind, lift);
+  net.addEventListener('click', event => { if (isDrag) { isDrag = false; event.stopPropagation(); } }, true);
+  pane.addEventListener('wheel', event => {
+    event.preventDefault();
+    const steps = event.deltaY * (event.deltaMode ? 16 : 1) * (event.ctrlKey ? 0.01 : 0.0015);
+    zoom(Math.exp(-steps), inPane([event.clientX, event.clientY]));
+  }, {passive: false});
+}
+
+let blocks = [], starts = [], steps = 0, now = 0, picked = null, shown = null, timer = null;
+
+// Keeps so many lines, and puts those of a story after them.
+function load(kept, text) {
+  blocks.length = kept;
+  const last = kept ? blocks[kept - 1].round : null;
+  blocks.push(...readStory(text, last));
+  layOut(kept);
+  starts = [];
+  steps = 0;
+  for (const block of blocks) { starts.push(steps); steps += stepsIn(block); }
+  by('slide').max = Math.max(0, steps - 1);
+  list(kept);
+}
+
+// The pushes of a round: in push order, or for teaching by rising number.
+const isRising = () => by('order').value === 'rising';
+const pushesOf = round => isRising() ? [...round.pushes].sort((a, b) => a - b) : round.pushes;
 
 // How many steps a line has: a round has one before each turn, one after them, and one for each push.
 function stepsIn(block) {
@@ -430,7 +606,7 @@ function blockAt(step) {
 // After all turns, the hops are those of the tables after so many pushes, or the settled ones.
 function stateOf(round, turn, push) {
   if (turn === round.turns.length) {
-    const hops = push ? tableAfter(round, push) : round.hops, node = push ? round.pushes[push - 1] : null;
+    const hops = push ? tableAfter(round, push) : round.hops, node = push ? pushesOf(round)[push - 1] : null;
     return {links: round.links, counts: round.counts, sink: null, hops, push, node, loop: push ? loopIn(hops) : []};
   }
   const counts = Array(round.nodes).fill(0);
@@ -450,7 +626,7 @@ function tableBefore(round) {
 
 function tableAfter(round, pushed) {
   const table = tableBefore(round);
-  for (const node of round.pushes.slice(0, pushed)) table[node] = hopAfter(round, node);
+  for (const node of pushesOf(round).slice(0, pushed)) table[node] = hopAfter(round, node);
   return table;
 }
 
@@ -508,12 +684,14 @@ function drawLinks(view, round, state, way, walk) {
       const drawn = curve(view, shape, tail, head);
       shape.line.setAttribute('d', drawn.line);
       shape.tip.setAttribute('d', drawn.tip);
+      if (shape.hit) shape.hit.setAttribute('d', drawn.line);
       shape.tail = tail;
     }
     const hop = hops.delete(step), old = round.hops[tail] !== String(head), out = round.hops[tail] === 'cut';
     const kind = hop ? (old ? ' hop old' : ' hop') : head === state.sink ? ' now' : out ? ' out' : '';
     mark(shape.g, {class: 'link' + kind + marks(step), 'data-tail': tail, 'data-head': head, 'data-hop': hop ? 1 : null,
       visibility: null});
+    if (isLab) mark(shape.g, {'aria-label': 'link from ' + tail + ' to ' + head});
   }
   for (const [key, shape] of view.shapes) {
     if (!there.has(key)) mark(shape.g, {class: 'link', visibility: 'hidden', 'data-tail': null, 'data-head': null, 'data-hop': null});
@@ -623,14 +801,15 @@ function roundText(round, turn, state) {
 
 function pushText(round, {push, node, hops, loop}) {
   const gone = node < round.nodes ? '' : ', which is gone,', before = hopName(tableBefore(round)[node]);
-  return 'push ' + push + ' of ' + round.pushes.length + '. Node ' + node + gone + ' now ' + hopText(hops[node]) +
+  const order = isRising() ? ', by rising number' : '';
+  return 'push ' + push + ' of ' + round.pushes.length + order + '. Node ' + node + gone + ' now ' + hopText(hops[node]) +
     ' (before: ' + before + '). ' +
     (loop.length ? 'A loop is in the tables: ' + loop.join(' ') + '.' : 'No loop is in the tables.');
 }
 
 // The push after so many, where there is one.
 function nextText(round, pushed) {
-  const table = tableBefore(round), node = round.pushes[pushed];
+  const table = tableBefore(round), node = pushesOf(round)[pushed];
   if (!table) return ' The hops before it are not known, so no push is shown.';
   if (node === undefined) return '';
   return ' Next push: node ' + node + ' (' + hopName(table[node]) + ' to ' + hopName(hopAfter(round, node)) + ').';
@@ -638,15 +817,15 @@ function nextText(round, pushed) {
 
 function tellStep(block, turn, state, news) {
   const round = block.round;
-  const refusal = block.answer.startsWith('refused ') ? meanings[block.answer.slice(8)] || 'refused' : null;
-  by('say').textContent = 'Line ' + block.line + ': ' + (refusal ? 'refused, since ' + refusal + '.'
+  const refusal = faultOf(block);
+  by('say').textContent = 'Line ' + block.line + ': ' + (refusal ? 'refused: ' + refusal + '. Nothing has changed.'
     : !block.own ? 'a question; the network stays as it was.'
-    : !round.drawn ? 'told by its answer alone.' : roundText(round, turn, state));
+    : !round.drawn ? 'only the answer is shown.' : roundText(round, turn, state));
   const request = requestOf(block), walk = walkOf(block);
   by('request').textContent = short(request);
   mark(by('request'), {'data-request': request});
   by('answer').textContent = block.answer;
-  by('more').textContent = refusal ? 'Refused: ' + refusal + '. Nothing has changed.' + (walk.length ? ' The closed walk: ' + walk.join(' ') + '.' : '') : '';
+  by('more').textContent = (refusal ? 'Refused: ' + refusal + '.' : '') + (walk.length ? ' The cycle: ' + walk.join(' ') + '.' : '');
   mark(by('more'), {'data-closed': walk.length ? walk.join(' ') : null});
   const change = node => node + ' (' + hopName(round.before.hops[node]) + ' to ' + hopName(round.hops[node]) + ')';
   by('changed').textContent =
@@ -655,38 +834,48 @@ function tellStep(block, turn, state, news) {
   by('at').textContent = (now + 1) + ' / ' + steps;
   by('slide').value = now;
   by('slide').setAttribute('aria-valuetext', by('say').textContent);
+  const count = (number, name) => number.toLocaleString('en') + ' ' + name + (number === 1 ? '' : 's');
+  by('title').textContent = !round ? 'No network yet'
+    : count(round.nodes, 'node') + (round.drawn ? ', ' + count(round.links.length, 'link') : '') + ', destination ' + round.home;
+  document.title = 'revroute: ' + by('title').textContent;
 }
 
 function currentButton(at) {
-  const buttons = by('list').children, old = by('list').querySelector('[aria-current]');
+  const old = by('list').querySelector('[aria-current]'), button = by('list').children[at].firstChild;
   if (old) old.removeAttribute('aria-current');
-  const button = buttons[at].firstChild;
   button.setAttribute('aria-current', 'step');
-  const list = by('list'), top = button.offsetTop - list.offsetTop;
-  if (top < list.scrollTop || top + 40 > list.scrollTop + list.clientHeight) list.scrollTop = top - list.clientHeight / 2;
+  button.scrollIntoView({block: 'nearest'});
 }
 
+// Moves the drawing if this node is outside of the pane.
 function keepInSight(view, node) {
-  const box = document.querySelector('main'), spot = view.spots[node].g.getBoundingClientRect(), frame = box.getBoundingClientRect();
-  if (spot.top < frame.top || spot.bottom > frame.bottom) box.scrollTop += spot.top - frame.top - frame.height / 2;
-  if (spot.left < frame.left || spot.right > frame.right) box.scrollLeft += spot.left - frame.left - frame.width / 2;
+  const rim = 24, sizes = [pane.clientWidth, pane.clientHeight], corner = [camera.x, camera.y];
+  const [across, down] = view.place[node].map((place, side) => {
+    const at = place * camera.scale + corner[side];
+    return at < rim || at > sizes[side] - rim ? sizes[side] / 2 - at : 0;
+  });
+  if (across || down) move(across, down);
 }
 
-// As large as fits, but never so small that numbers cannot be read: then it scrolls.
-function fit(view) {
-  const box = document.querySelector('main'), [wide, high] = view.size;
-  const scale = Math.min(1.5, Math.max(0.75, Math.min((box.clientWidth - 20) / wide, (box.clientHeight - 20) / high)));
-  mark(by('net'), {viewBox: '0 0 ' + wide + ' ' + high, width: wide * scale, height: high * scale});
+function showNothing() {
+  for (const id of ['net', 'ring', 'chart']) by(id).setAttribute('hidden', '');
+  for (const id of ['request', 'answer', 'more', 'changed', 'route', 'picked', 'at']) by(id).textContent = '';
+  by('title').textContent = 'No network yet';
+  by('say').textContent = isLab ? 'Type a request, or open a file of requests.' : 'The input held no line.';
+  by('none').textContent = isLab ? '' : 'There is nothing to show: no line was read.';
+  by('none').removeAttribute('hidden');
+  acts.shown();
 }
 
 function show(step, keep) {
+  if (!blocks.length) return showNothing();
   now = Math.max(0, Math.min(steps - 1, step));
   const at = blockAt(now), block = blocks[at], round = block.round, drawn = round && round.drawn;
   const place = now - starts[at], last = drawn ? round.turns.length : 0;
   const turn = block.own ? Math.min(place, last) : last, push = block.own ? place - turn : 0;
   const state = drawn ? stateOf(round, turn, push) : null, net = by('net'), none = by('none');
   const changes = drawn && block.own && state.hops ? changedHops(round) : [];
-  const news = push ? round.pushes.slice(0, push - 1) : changes;
+  const news = push ? pushesOf(round).slice(0, push - 1) : changes;
   const walk = walkOf(block), isNetwork = walk.length > 0 && block.asks.startsWith('net ');
   net.toggleAttribute('hidden', !drawn);
   none.toggleAttribute('hidden', Boolean(drawn));
@@ -694,21 +883,25 @@ function show(step, keep) {
   mark(net, {'data-loop': push ? state.loop.join(' ') : null});
   if (drawn) {
     const view = round.view, way = routeShown(block, state);
-    if (!view.built) build(view);
-    if (shown !== view) { net.replaceChildren(view.group); shown = view; fit(view); keepInSight(view, round.home); }
+    const isNew = setUp(view);
+    if (shown !== view) { net.replaceChildren(view.group); shown = view; fit(); }
+    else if (isNew && camera.isFitted) fit();
     mark(net, {'aria-label': 'A network of ' + round.nodes + ' nodes, destination ' + round.home});
     drawLinks(view, round, state, way, push ? state.loop : isNetwork ? [] : walk);
     drawNodes(view, round, state, way, news);
     const moved = state.sink ?? state.node;
     if (moved !== null && moved < round.nodes) keepInSight(view, moved);
-  } else none.textContent = !round ? 'There is no network yet.' : 'This network, or its round, is larger than what a page shows (256 nodes, 4,096 turns): it is told by the answers alone.';
+  } else none.textContent = !round ? 'There is no network yet.'
+    : 'This network, or its round, is larger than a page shows (256 nodes, 4,096 turns). The answers are in the list.';
   drawRing(isNetwork ? walk : []);
   tellNode(block, round, state);
   tellStep(block, turn, state, changes);
   currentButton(at);
   clearTimeout(show.later);
-  const named = '#line=' + block.line + (push ? '&push=' + push : block.own ? '&turn=' + turn : '');
+  const part = push ? '&push=' + push : block.own ? '&turn=' + turn : '';
+  const named = '#line=' + block.line + part + (isRising() ? '&order=rising' : '');
   if (!keep) show.later = setTimeout(() => history.replaceState(null, '', named), 400);
+  acts.shown();
 }
 
 function pick(node) {
@@ -737,17 +930,19 @@ function play(on) {
   by('say').setAttribute('aria-live', on ? 'off' : 'polite');
   if (!on) return;
   if (now === steps - 1) show(0);
+  const pace = () => acts.pace(Number(by('speed').value));
   const tick = () => {
     show(now + 1);
-    if (now === steps - 1) play(false); else timer = setTimeout(tick, Number(by('speed').value));
+    if (now === steps - 1) play(false); else timer = setTimeout(tick, pace());
   };
-  timer = setTimeout(tick, Number(by('speed').value));
+  timer = setTimeout(tick, pace());
 }
 
 // Goes to the step that the fragment names, as #line=3&turn=2 or #line=3&push=1; a line alone is the end of its turns.
 function goFragment() {
   const words = new URLSearchParams(location.hash.slice(1)), at = blocks.findIndex(block => block.line === Number(words.get('line')));
   if (at < 0) return false;
+  by('order').value = words.get('order') === 'rising' ? 'rising' : 'push';
   const block = blocks[at], turns = block.own && block.round.drawn ? block.round.turns.length : 0;
   const number = name => Math.max(0, Number(words.get(name)) || 0);
   const turn = words.has('turn') ? Math.min(turns, number('turn')) : turns;
@@ -757,43 +952,88 @@ function goFragment() {
 }
 
 const keys = {ArrowRight: () => show(now + 1), ArrowLeft: () => show(now - 1), ArrowDown: () => goLine(1), ArrowUp: () => goLine(-1),
-  Home: () => show(0), End: () => show(steps - 1), ' ': () => play(timer === null), n: () => pickNext(1), p: () => pickNext(-1), Escape: () => { if (picked !== null) pick(picked); }};
+  Home: () => show(0), End: () => show(steps - 1), ' ': () => play(timer === null),
+  n: () => pickNext(1), p: () => pickNext(-1),
+  Escape: () => { if (picked !== null) pick(picked); },
+  '+': () => zoom(1.25), '=': () => zoom(1.25), '-': () => zoom(0.8), 0: fit, f: fit};
+const shifted = {ArrowRight: () => move(-60, 0), ArrowLeft: () => move(60, 0),
+  ArrowDown: () => move(0, -60), ArrowUp: () => move(0, 60)};
+// What a click on a node or a link does. The lab has its own.
+const acts = {node: pick, link: () => {}, shown: () => {}, pace: wait => wait};
 
-function start() {
+// The list of lines, from this one on.
+function list(from) {
+  while (by('list').children.length > from) by('list').lastChild.remove();
   for (const [at, block] of blocks.entries()) {
+    if (at < from) continue;
     const item = document.createElement('li'), button = document.createElement('button'), request = requestOf(block).slice(0, 80), answer = block.answer.slice(0, 80);
     for (const [name, text] of [['b', block.line], ['code', request], ['span', answer]]) button.append(Object.assign(document.createElement(name), {textContent: text}));
-    if (block.answer.startsWith('refused')) button.className = 'no';
-    button.setAttribute('aria-label', 'Line ' + block.line + ', ' + request + ': ' + answer);
+    const fault = faultOf(block);
+    if (fault) {
+      button.className = 'no';
+      button.append(Object.assign(document.createElement('small'), {textContent: fault}));
+    }
+    const told = 'Line ' + block.line + ', ' + request + ': ' + answer;
+    button.setAttribute('aria-label', fault ? told + ', ' + fault : told);
     button.addEventListener('click', () => { play(false); show(starts[at]); });
     item.append(button);
     by('list').append(item);
   }
-  by('slide').max = steps - 1;
-  by('slide').addEventListener('input', () => { play(false); show(Number(by('slide').value)); });
-  by('back').addEventListener('click', () => { play(false); show(now - 1); });
-  by('next').addEventListener('click', () => { play(false); show(now + 1); });
-  by('play').addEventListener('click', () => play(timer === null));
+}
+
+function listenToKeys() {
   document.addEventListener('keydown', event => {
-    const action = keys[event.key], tag = event.target.tagName;
-    if (!action || event.ctrlKey || event.metaKey || event.altKey || tag === 'SELECT') return;
-    if (event.key === ' ' && tag === 'BUTTON') return;
+    const target = event.target, tag = target.tagName;
+    const isTyped = target.closest('dialog, select, textarea, input:not([type=range])');
+    if (event.ctrlKey || event.metaKey || event.altKey || isTyped) return;
+    const action = (event.shiftKey && shifted[event.key]) || keys[event.key];
+    const g = event.key === 'Enter' && target.closest('.node, .link');
+    if (g) return act(g);
+    if (!action || event.key === ' ' && (tag === 'BUTTON' || tag === 'SUMMARY')) return;
     event.preventDefault();
-    if (event.key !== ' ') play(false);
+    if (event.key.startsWith('Arrow') && !event.shiftKey || event.key === 'Home' || event.key === 'End') play(false);
     action();
   });
+}
+
+function act(g) {
+  if (g.classList.contains('node')) acts.node(Number(g.dataset.node));
+  else acts.link(Number(g.dataset.tail), Number(g.dataset.head));
+}
+
+// Whether the legend is open is kept in the browser, if it can keep something.
+function listenToFold() {
+  const fold = by('fold'), isRoomy = innerWidth > 760 && innerHeight > 800;
+  const kept = () => { try { return localStorage.getItem('revroute-legend'); } catch { return null; } };
+  const keep = () => {
+    // This comes before the change. Where nothing can be kept, the page goes on without it.
+    try { localStorage.setItem('revroute-legend', fold.open ? 'folded' : 'open'); } catch { return; }
+  };
+  fold.open = (kept() ?? (isRoomy ? 'open' : 'folded')) === 'open';
+  fold.firstElementChild.addEventListener('click', keep);
+}
+
+function start() {
+  const go = step => { play(false); show(step); };
+  const clicks = {back: () => go(now - 1), next: () => go(now + 1), play: () => play(timer === null),
+    larger: () => zoom(1.25), smaller: () => zoom(0.8), whole: fit};
+  for (const id in clicks) by(id).addEventListener('click', clicks[id]);
+  by('slide').addEventListener('input', () => go(Number(by('slide').value)));
+  by('order').addEventListener('change', () => show(now));
+  by('net').addEventListener('click', event => { const g = event.target.closest('.node, .link'); if (g) act(g); });
+  listenToKeys();
+  listenToPointers();
   addEventListener('hashchange', goFragment);
-  addEventListener('resize', () => { if (shown) fit(shown); });
+  new ResizeObserver(() => { if (shown) show(now, true); }).observe(pane);
   if (!goFragment()) show(0, true);
 }
 
-if (blocks.length) start();
+listenToFold();
+load(0, by('story').textContent);
+if (blocks.length || isLab) start();
 else {
-  by('say').textContent = 'The input held no line.';
-  by('bar').setAttribute('hidden', '');
-  by('about').setAttribute('hidden', '');
-  by('none').textContent = 'There is nothing to show: no line was read.';
-  by('none').removeAttribute('hidden');
+  showNothing();
+  for (const id of ['bar', 'about', 'zoom']) by(id).setAttribute('hidden', '');
 }
 </script>
 </html>
