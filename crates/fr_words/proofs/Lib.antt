@@ -1,4 +1,5 @@
 pub mod DrawnSteps
 pub mod OptionRules
 pub mod OptionNumbers
+pub mod Flags
 pub mod Faulting

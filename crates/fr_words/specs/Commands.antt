@@ -1,11 +1,12 @@
 -- The command line, as the crate `clap` reads it. This project's own:
---     revroute run [--workers N] [--seed S] [--budget B]
---     revroute serve [--workers N] [--seed S] [--budget B]
+--     revroute run [--workers N] [--seed S] [--budget B] [--json] [--strict]
+--     revroute serve [--workers N] [--seed S] [--budget B] [--json] [--strict]
 --     revroute play [--workers N] [--seed S] [--steps M]
-use Rattle.std.specs.Prelude.{ℕ, ◌≤◌, List, [], ◌∷◌, Option, Some, true, pos, codes, option_map}
+use Rattle.std.specs.Prelude.{◌≡◌, ℕ, ◌≤◌, List, [], ◌∷◌, Option, Some, true, pos, codes, option_map}
 use Rattle.std.specs.Str.Parse.{digits_value, without_leading_plus, IsNumeral}
 use Rattle.clap.specs.Walk.{Row, Rule, Text, one_of}
 use Rattle.clap.specs.Simple.{App, Shape, new_app, new_rule, on_top, with_rule, with_subcommand}
+use Rattle.clap.specs.declared.builder.action.ArgAction.TheVariants.{SetTrue}
 use Rattle.clap.specs.declared.builder.value_parser.ValueParser.{ValueParser}
 use Rattle.clap.specs.declared.builder.value_parser.ValueParser.TheVariants.{Signed, Unsigned}
 use Rattle.fr_core.specs.Limits.{most_workers}
@@ -34,9 +35,17 @@ budget_option = option (codes "budget") (codes "1000000") (Signed (pos 0) (pos m
 abbrev pub steps_option : Rule
 steps_option = option (codes "steps") (codes "100") (Signed (pos 0) (pos most_steps))
 
+-- a flag with this name: an option without a value
+abbrev pub flag : Text → Rule
+flag name = record (new_rule name) { long = Some name; action = Some SetTrue }
+
 -- a subcommand with this name that settles networks with a plan
+abbrev pub planning : Text → App
+planning name = with_rule (with_rule (with_rule (new_app name) (workers_option (codes "4"))) seed_option) budget_option
+
+-- a subcommand with this name that answers requests
 abbrev pub answering : Text → App
-answering name = with_rule (with_rule (with_rule (new_app name) (workers_option (codes "4"))) seed_option) budget_option
+answering name = with_rule (with_rule (planning name) (flag (codes "json"))) (flag (codes "strict"))
 
 abbrev pub run_command : App
 run_command = answering (codes "run")
@@ -63,3 +72,7 @@ IsNumberUpTo most text = IsNumeral 10 (without_leading_plus text) × (digits_val
 -- the number of an option
 abbrev pub number_of : Text → List Row → Option ℕ
 number_of name rows = option_map (λ text. digits_value 10 (without_leading_plus text)) (one_of name rows)
+
+-- the flag with this name was given
+abbrev pub IsGiven : Text → List Row → Type 0
+IsGiven name rows = one_of name rows ≡ Some (codes "true")

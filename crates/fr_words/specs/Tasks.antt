@@ -9,8 +9,9 @@ use Rattle.clap.specs.declared.error.kind.ErrorKind.TheVariants.{DisplayHelp, Di
 use Rattle.fr_core.specs.Limits.{most_workers}
 use Rattle.fr_crew.specs.declared.plan.Plan.{Plan}
 use Rattle.fr_words.specs.Draws.{most_steps}
-use Rattle.fr_words.specs.Commands.{command, most_budget, number_of}
+use Rattle.fr_words.specs.Commands.{command, most_budget, number_of, IsGiven}
 use Rattle.fr_words.specs.declared.draws.Draw.{Draw}
+use Rattle.fr_words.specs.declared.task.CommandLine.{CommandLine}
 use Rattle.fr_words.specs.declared.task.Task.{Task}
 use Rattle.fr_words.specs.declared.task.Task.TheVariants.{Run, Serve, Play}
 use Rattle.fr_words.specs.declared.task.TaskFault.{TaskFault}
@@ -36,8 +37,20 @@ IsTaskOf name rows (Run plan) = (name ≡ codes "run") × IsPlanIn rows plan
 IsTaskOf name rows (Serve plan) = (name ≡ codes "serve") × IsPlanIn rows plan
 IsTaskOf name rows (Play draw) = (name ≡ codes "play") × IsDrawIn rows draw
 
--- The task of the words, in which `clap` finds no fault, as `clap` reads them. If an option is not given, its number is
--- the default.
+-- the command line of the subcommand with this name: its task, and which of its flags were given
+abbrev pub IsCommandLineOf : Text → List Row → CommandLine → Type 0
+IsCommandLineOf name rows line =
+    IsTaskOf name rows line.task
+    × (IsTrue line.json ↔ IsGiven (codes "json") rows) × (IsTrue line.strict ↔ IsGiven (codes "strict") rows)
+
+-- The command line of the words, in which `clap` finds no fault, as `clap` reads them. If an option is not given, its
+-- number is the default.
+abbrev pub IsCommandLineIn : List Text → CommandLine → Type 0
+IsCommandLineIn words line =
+    (fault_of command words ≡ [])
+    × ((name : Text) × (rows : List Row) × (subcommand_of command words ≡ Some (name, rows)) × IsCommandLineOf name rows line)
+
+-- the task of that command line
 abbrev pub IsTaskIn : List Text → Task → Type 0
 IsTaskIn words task =
     (fault_of command words ≡ [])

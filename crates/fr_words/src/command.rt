@@ -6,11 +6,11 @@ ghost use Rattle.clap.specs.Words.{HasKind, app_of, fault_of, new_app, rule_of, 
 ghost use Rattle.clap.specs.declared.builder.command.Command.TheViews.{out-Command};
 ghost use Rattle.fr_core.specs.Limits.{most_workers};
 ghost use Rattle.fr_words.specs.Draws.{most_steps};
-ghost use Rattle.fr_words.specs.Commands.{command, most_budget, program, run_command as run_command_of, serve_command as serve_command_of, play_command as play_command_of, answering as answering_of, option as option_of};
+ghost use Rattle.fr_words.specs.Commands.{command, most_budget, program, run_command as run_command_of, serve_command as serve_command_of, play_command as play_command_of, planning as planning_of, answering as answering_of, flag as flag_of, option as option_of};
 
 use crate::draws::MAX_STEPS;
 use clap::builder::ValueParser;
-use clap::{Arg, ArgMatches, Command, Error, value_parser};
+use clap::{Arg, ArgAction, ArgMatches, Command, Error, value_parser};
 use fr_core::MAX_WORKERS;
 use std::alloc::{AllocError, Global};
 
@@ -38,6 +38,7 @@ Requests:
 
 Examples:
   echo '[\"net\",3,0,[[0,1],[1,2]]]' | revroute run --workers 2
+  revroute run --json --strict < requests > answers
   tail -f requests | revroute serve --budget 0";
 
 const PLAY_ABOUT: &str =
@@ -57,6 +58,10 @@ const PLAY_SEED: &str = "The seed of the schedule, 0 to 18446744073709551615";
 
 const BUDGET: &str =
     "The most calls that each worker makes in a round, 0 to 1000000000; 0 starts no thread, and is fastest";
+
+const JSON: &str = "Answers are JSON, one object on a line";
+
+const STRICT: &str = "Ends with status 3 if a line was refused";
 
 const STEPS: &str = "How many steps the workers make in total, 0 to 10000";
 
@@ -133,9 +138,18 @@ fn serve_command<'a>(alloc: Global) -> Result<Command<'a>, AllocError>
     answering(alloc, "serve", SERVE_ABOUT)
 }
 
-/// A subcommand that settles networks with a plan. Its help lists the requests.
+/// A subcommand that answers requests. Its help lists them.
 fn answering<'a>(alloc: Global, name: &'a str, about: &'a str) -> Result<Command<'a>, AllocError>
     ensures { IfOk result (λ c. (app_of c ≡ answering_of name.entry.now) × ((out-Command c).has_globals ≡ false)) }
+{
+    let command = planning(alloc, name, about)?;
+    let command = with_option(command, flag(alloc, "json", JSON))?;
+    with_option(command, flag(alloc, "strict", STRICT))
+}
+
+/// A subcommand that settles networks with a plan.
+fn planning<'a>(alloc: Global, name: &'a str, about: &'a str) -> Result<Command<'a>, AllocError>
+    ensures { IfOk result (λ c. (app_of c ≡ planning_of name.entry.now) × ((out-Command c).has_globals ≡ false)) }
 {
     let command = described(alloc, name, about, REQUESTS);
     let command = with_option(
@@ -205,6 +219,17 @@ fn option<'a>(
         .value_name("N")
         .default_value(default)
         .value_parser(numbers)
+        .help(help)
+}
+
+/// A flag.
+fn flag<'a>(alloc: Global, name: &'a str, help: &'a str) -> Arg<'a>
+    ensures rule { rule_of result ≡ flag_of name.entry.now }
+    ensures local { result.global ≡ false }
+{
+    Arg::new(alloc, name)
+        .long(name)
+        .action(ArgAction::SetTrue)
         .help(help)
 }
 

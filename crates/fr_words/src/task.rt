@@ -1,11 +1,11 @@
 //! What the words of a command line ask for.
 
-ghost use Rattle.std.specs.Prelude.{◌≡◌, ◌≤◌, ℕ, List, Some, IfOk, IfErr, IfSome, IsNone, map, codes};
+ghost use Rattle.std.specs.Prelude.{◌≡◌, ◌≤◌, ◌↔◌, IsTrue, ℕ, List, Some, IfOk, IfErr, IfSome, IsNone, map, codes};
 ghost use Rattle.clap.specs.Values.{kind_of};
 ghost use Rattle.clap.specs.Words.{found_of, rows_of};
 ghost use Rattle.clap.specs.Walk.{one_of};
-ghost use Rattle.fr_words.specs.Commands.{number_of, IsNumberUpTo};
-ghost use Rattle.fr_words.specs.Tasks.{IsPlanIn, IsDrawIn, IsTaskIn, IsTaskOf, IsUsageOf, IsFaultOf};
+ghost use Rattle.fr_words.specs.Commands.{number_of, IsGiven, IsNumberUpTo};
+ghost use Rattle.fr_words.specs.Tasks.{IsPlanIn, IsDrawIn, IsTaskIn, IsTaskOf, IsCommandLineIn, IsCommandLineOf, IsUsageOf, IsFaultOf};
 
 use crate::command::{MAX_BUDGET, matches_of};
 use crate::draws::{Draw, MAX_STEPS};
@@ -34,6 +34,18 @@ pub enum Task {
     Play(Draw),
 }
 
+/// What the words of a command line ask for.
+#[derive(Clone, Copy, Debug, PartialEq, Eq)]
+pub struct CommandLine {
+    /// What the program is to do.
+    pub task: Task,
+    /// Whether answers are JSON (`--json`). Always `false` for `play`, which has no such flag.
+    pub json: bool,
+    /// Whether the program is to report by its exit status that it refused a line (`--strict`). Always `false` for
+    /// `play`.
+    pub strict: bool,
+}
+
 /// Why the words of a command line do not ask for a task.
 #[derive(Debug, Drop, FaultError, PartialEq, Eq)]
 pub enum TaskFault {
@@ -49,16 +61,21 @@ pub enum TaskFault {
     Memory,
 }
 
-/// The task that the words of a command line ask for, for a program with this version. The first word is the program's
-/// name. `specs/Commands.antt` has the command line as `clap` reads it.
+/// What the words of a command line ask for, for a program with this version. The first word is the program's name.
+/// `specs/Commands.antt` has the command line as `clap` reads it.
 ///
 /// The task is `run` or `serve`, with 1 to 16 workers (4 if not given), any seed (0) and a budget of at most
 /// 1,000,000,000 calls (1,000,000); or `play`, with 1 to 16 workers (2), any seed (0) and at most 10,000 steps (100).
+/// `run` and `serve` have the flags `--json` and `--strict`.
 ///
 /// Fails with `Version` if the words ask for the version, with `Usage` if they ask for help (`asked`) or are not those
 /// of the command line, and with `Memory` if an allocation is refused. O(b) for b bytes of words.
-pub fn task_of<'a>(alloc: Global, words: &'a [&'a str], version: &'a str) -> Result<Task, TaskFault>
-    ensures ok { IfOk result (IsTaskIn (map (λ s. s.now) words.entry.now)) }
+pub fn command_line<'a>(
+    alloc: Global,
+    words: &'a [&'a str],
+    version: &'a str,
+) -> Result<CommandLine, TaskFault>
+    ensures ok { IfOk result (IsCommandLineIn (map (λ s. s.now) words.entry.now)) }
     ensures fault { IfErr result (IsFaultOf (map (λ s. s.now) words.entry.now)) }
 {
     let matches = match matches_of(alloc, words, version) {
@@ -67,9 +84,31 @@ pub fn task_of<'a>(alloc: Global, words: &'a [&'a str], version: &'a str) -> Res
     };
     // `clap` accepts no words without a subcommand. Its contract does not say so, so this case needs an answer.
     match matches.subcommand() {
-        Some((name, options)) => task_in(name, options).ok_or(TaskFault::Memory),
+        Some((name, options)) => command_line_in(name, options).ok_or(TaskFault::Memory),
         None => Err(TaskFault::Memory),
     }
+}
+
+/// The task of a command line. The words, the faults and the cost are those of [`command_line`].
+pub fn task_of<'a>(alloc: Global, words: &'a [&'a str], version: &'a str) -> Result<Task, TaskFault>
+    ensures ok { IfOk result (IsTaskIn (map (λ s. s.now) words.entry.now)) }
+    ensures fault { IfErr result (IsFaultOf (map (λ s. s.now) words.entry.now)) }
+{
+    match command_line(alloc, words, version) {
+        Ok(line) => Ok(line.task),
+        Err(fault) => Err(fault),
+    }
+}
+
+/// The command line of a subcommand and its options.
+fn command_line_in(name: &str, options: &ArgMatches) -> Option<CommandLine>
+    ensures { IfSome result (IsCommandLineOf name.now (rows_of (found_of options.now))) }
+{
+    Some(CommandLine {
+        task: task_in(name, options)?,
+        json: is_given(options, "json"),
+        strict: is_given(options, "strict"),
+    })
 }
 
 /// The task of a subcommand and its options.
@@ -118,6 +157,14 @@ fn seed_in(options: &ArgMatches) -> Option<u64>
     ensures { IfSome result (λ n. number_of (codes "seed") (rows_of (found_of options.now)) ≡ Some n) }
 {
     options.get_one::<u64>("seed")
+}
+
+/// Whether a flag was given.
+fn is_given(options: &ArgMatches, name: &str) -> bool
+    ensures { IsTrue result ↔ IsGiven name.now (rows_of (found_of options.now)) }
+{
+    // The contract of `get_flag` leaves open what it returns for a text that is not a truth value.
+    options.get_one::<bool>(name).unwrap_or(false)
 }
 
 /// The fault for words that `clap` does not accept, with a text made from the text of `clap`. No clause says what the
