@@ -1,6 +1,6 @@
 -- The command line, as the crate `clap` reads it. This project's own:
---     revroute run [--workers N] [--seed S] [--budget B] [--json] [--strict]
---     revroute serve [--workers N] [--seed S] [--budget B] [--json] [--strict]
+--     revroute run [--workers N] [--seed S] [--budget B] [--alone] [--json] [--strict]
+--     revroute serve [--workers N] [--seed S] [--budget B] [--alone] [--json] [--strict]
 --     revroute play [--workers N] [--seed S] [--steps M]
 use Rattle.std.specs.Prelude.{◌≡◌, ℕ, ◌≤◌, List, [], ◌∷◌, Option, Some, true, pos, codes, option_map}
 use Rattle.std.specs.Str.Parse.{digits_value, without_leading_plus, IsNumeral}
@@ -45,7 +45,8 @@ planning name = with_rule (with_rule (with_rule (new_app name) (workers_option (
 
 -- a subcommand with this name that answers requests
 abbrev pub answering : Text → App
-answering name = with_rule (with_rule (planning name) (flag (codes "json"))) (flag (codes "strict"))
+answering name =
+    with_rule (with_rule (with_rule (planning name) (flag (codes "alone"))) (flag (codes "json"))) (flag (codes "strict"))
 
 abbrev pub run_command : App
 run_command = answering (codes "run")

@@ -1,5 +1,5 @@
 -- What a command line asks for. This project's own.
-use Rattle.std.specs.Prelude.{◌≡◌, ◌≢◌, ◌≤◌, ◌↔◌, ⊤, IsTrue, List, [], Some, codes}
+use Rattle.std.specs.Prelude.{ℕ, ◌⊎◌, ◌≡◌, ◌≢◌, ◌≤◌, ◌↔◌, ⊤, IsTrue, List, [], Some, codes}
 use Rattle.clap.specs.Walk.{Row, Text}
 use Rattle.clap.specs.Simple.{subcommand_of}
 use Rattle.clap.specs.Faults.{fault_of}
@@ -17,12 +17,17 @@ use Rattle.fr_words.specs.declared.task.Task.TheVariants.{Run, Serve, Play}
 use Rattle.fr_words.specs.declared.task.TaskFault.{TaskFault}
 use Rattle.fr_words.specs.declared.task.TaskFault.TheVariants.{Usage, Version, Memory}
 
+-- the budget of these options: 0 with the flag `alone`, and otherwise the number of the option, in its range
+abbrev pub IsBudgetIn : List Row → ℕ → Type 0
+IsBudgetIn rows budget =
+    (IsGiven (codes "alone") rows × (budget ≡ 0))
+    ⊎ (¬ IsGiven (codes "alone") rows × (number_of (codes "budget") rows ≡ Some budget) × (budget ≤ most_budget))
+
 -- the plan has the numbers of these options, each in its range
 abbrev pub IsPlanIn : List Row → Plan → Type 0
 IsPlanIn rows plan =
     (number_of (codes "workers") rows ≡ Some plan.workers) × (1 ≤ plan.workers) × (plan.workers ≤ most_workers)
-    × (number_of (codes "seed") rows ≡ Some plan.seed)
-    × (number_of (codes "budget") rows ≡ Some plan.budget) × (plan.budget ≤ most_budget)
+    × (number_of (codes "seed") rows ≡ Some plan.seed) × IsBudgetIn rows plan.budget
 
 -- the draw has the numbers of these options, each in its range
 abbrev pub IsDrawIn : List Row → Draw → Type 0

@@ -20,7 +20,7 @@ const ABOUT: &str =
 const EXAMPLE: &str = "Example:\n  revroute run < requests > answers";
 
 const RUN_ABOUT: &str =
-    "Answers requests: each is a line of JSON on standard input, and each answer is a line of text on standard output";
+    "Answers requests: each is a line of JSON on standard input, and each answer is a line on standard output";
 
 const SERVE_ABOUT: &str =
     "Answers requests as run does, but each one as soon as its line has arrived; the input can have any length";
@@ -36,10 +36,18 @@ Requests:
   [\"walk\",X]             report the route of node X
   [\"links\"]  [\"counts\"]  [\"hops\"]  report all links, counts or next hops
 
+Answers, and with --json:
+  turned T cut K      {\"turned\":T,\"cut_off\":K,\"changed\":[[X,HOP],..]}  after a change
+  walk X Y ..         {\"walk\":[X,Y,..]}, or {\"walk\":null} if X is cut off
+  links U>V ..        {\"links\":[[U,V],..]}
+  counts C ..         {\"counts\":[C,..]}
+  hops HOP ..         {\"hops\":[HOP,..]}; a hop is a number, here or cut
+  refused N           {\"refused\":N,\"fault\":NAME,\"nodes\":[X,..],\"line\":LINE}
+
 Examples:
   echo '[\"net\",3,0,[[0,1],[1,2]]]' | revroute run --workers 2
   revroute run --json --strict < requests > answers
-  tail -f requests | revroute serve --budget 0";
+  tail -f requests | revroute serve --alone --json";
 
 const PLAY_ABOUT: &str =
     "Plays a drawn schedule: reads a network, writes the reply to each call, and then the links and the counts";
@@ -58,6 +66,8 @@ const PLAY_SEED: &str = "The seed of the schedule, 0 to 18446744073709551615";
 
 const BUDGET: &str =
     "The most calls that each worker makes in a round, 0 to 1000000000; 0 starts no thread, and is fastest";
+
+const ALONE: &str = "One thread makes all turns: the budget is 0, whatever --budget says; fastest";
 
 const JSON: &str = "Answers are JSON, one object on a line";
 
@@ -143,6 +153,7 @@ fn answering<'a>(alloc: Global, name: &'a str, about: &'a str) -> Result<Command
     ensures { IfOk result (λ c. (app_of c ≡ answering_of name.entry.now) × ((out-Command c).has_globals ≡ false)) }
 {
     let command = planning(alloc, name, about)?;
+    let command = with_option(command, flag(alloc, "alone", ALONE))?;
     let command = with_option(command, flag(alloc, "json", JSON))?;
     with_option(command, flag(alloc, "strict", STRICT))
 }

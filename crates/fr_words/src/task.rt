@@ -5,7 +5,7 @@ ghost use Rattle.clap.specs.Values.{kind_of};
 ghost use Rattle.clap.specs.Words.{found_of, rows_of};
 ghost use Rattle.clap.specs.Walk.{one_of};
 ghost use Rattle.fr_words.specs.Commands.{number_of, IsGiven, IsNumberUpTo};
-ghost use Rattle.fr_words.specs.Tasks.{IsPlanIn, IsDrawIn, IsTaskIn, IsTaskOf, IsCommandLineIn, IsCommandLineOf, IsUsageOf, IsFaultOf};
+ghost use Rattle.fr_words.specs.Tasks.{IsBudgetIn, IsPlanIn, IsDrawIn, IsTaskIn, IsTaskOf, IsCommandLineIn, IsCommandLineOf, IsUsageOf, IsFaultOf};
 
 use crate::command::{MAX_BUDGET, matches_of};
 use crate::draws::{Draw, MAX_STEPS};
@@ -66,7 +66,7 @@ pub enum TaskFault {
 ///
 /// The task is `run` or `serve`, with 1 to 16 workers (4 if not given), any seed (0) and a budget of at most
 /// 1,000,000,000 calls (1,000,000); or `play`, with 1 to 16 workers (2), any seed (0) and at most 10,000 steps (100).
-/// `run` and `serve` have the flags `--json` and `--strict`.
+/// `run` and `serve` have the flags `--json`, `--strict` and `--alone`, which makes the budget 0.
 ///
 /// Fails with `Version` if the words ask for the version, with `Usage` if they ask for help (`asked`) or are not those
 /// of the command line, and with `Memory` if an allocation is refused. O(b) for b bytes of words.
@@ -128,8 +128,18 @@ fn plan_in(options: &ArgMatches) -> Option<Plan>
     ensures { IfSome result (IsPlanIn (rows_of (found_of options.now))) }
 {
     let workers = number_in(options, "workers", MAX_WORKERS)?;
-    let budget = number_in(options, "budget", MAX_BUDGET)?;
+    let budget = budget_in(options)?;
     Plan::new(workers, seed_in(options)?, u64::from(budget))
+}
+
+/// The budget of the options: 0 with `--alone`, whatever `--budget` says.
+fn budget_in(options: &ArgMatches) -> Option<u32>
+    ensures { IfSome result (IsBudgetIn (rows_of (found_of options.now))) }
+{
+    if is_given(options, "alone") {
+        return Some(0);
+    }
+    number_in(options, "budget", MAX_BUDGET)
 }
 
 /// The draw of the options.
