@@ -74,7 +74,7 @@ def check(program):
         Path(folder, "revroute").symlink_to(program)
         for seed, nodes, count in STORIES:
             changes = Drawn(seed, nodes).draw(count, CHANGES)
-            wanted, given = pushes_of(changes), b"".join(b"%s\n" % it for it in changes)
+            wanted, given = pushes_of(changes), b"\n".join(changes)
             for name in names:
                 ran = subprocess.run([PIPE / name], cwd=folder, input=given, capture_output=True, timeout=PATIENCE)
                 follow(name, ran.stdout.decode(), wanted)

@@ -14,12 +14,13 @@ NOT_JSON = [
     b'["walk",.5]', b'["walk",1.]', b'["walk",-]', b'["walk",0x1]', b'["walk" 1]', b"NaN", b"[Infinity]", b"[-Infinity]", b"nul", b"True", b'{"a"}', b"{1:2}",
     b"{'a':1}", b'["li\tnks"]', b'["\\x6c"]', b'["\\u12"]', b'["links\xff"]', b'["\xc0\xaf"]', b'["\xed\xa0\x80"]', b"\xef\xbb\xbf[]", b"\x00", b"\x0b[]",
     b"// links", b"[/**/]", b"[" * 128 + b"]" * 128, b'{"a":' * 128 + b"1" + b"}" * 128, b"[" * 100_000, b"[" * 1000 + b"]" * 1000,
+    b'["walk",1e999]', b'["walk",-1e400]', b"[" + b"9" * 400 + b"]", b'{"a":1e999}', b'["\\ud800"]', b'["\\ude00\\ud83d"]', b'{"\\ud800":1}',
 ]  # fmt: skip
 NOT_REQUESTS = [
     b"[]", b"{}", b"0", b"null", b"true", b'"links"', b'["Links"]', b'["links "]', b'["links",0]', b'["counts",[]]', b'["hops",null]', b'[["links"]]',
     b'{"links":[]}', b'["fly",1]', b'["fly"]', b"[1]", b'["walk"]', b'["walk",1,2]', b'["walk",[1]]', b'["walk",-0]', b'["walk",-1]', b'["walk",0.0]',
     b'["walk",1e0]', b'["walk",1E+2]', b'["walk","0"]', b'["walk",true]', b'["walk",null]', b'["walk",4294967296]', b'["walk",18446744073709551616]',
-    b'["walk",' + b"9" * 300 + b"]", b'["dest"]', b'["dest",{}]', b'["cut",0]', b'["cut",0,1,2]', b'["cut",[0,1]]', b'["add",0,"1"]', b'["join",0.5,1]',
+    b'["walk",' + b"9" * 300 + b"]", b'["walk",1e-999]', b'["\\ud83d\\ude00"]', b'["dest"]', b'["dest",{}]', b'["cut",0]', b'["cut",0,1,2]', b'["cut",[0,1]]', b'["add",0,"1"]', b'["join",0.5,1]',
     b'["net",1,0]', b'["net",1,0,[],0]', b'["net",1,[],0]', b'["net",2,0,[[1]]]', b'["net",2,0,[[1,0,0]]]', b'["net",2,0,[1,0]]', b'["net",2,0,{"0":[1,0]}]',
     b'["net",2,0,[[1,0],[0,4294967296]]]', b'["net",-1,0,[]]', b'["net",1,"0",[]]', b'["batch"]', b'["batch",[],[]]', b'["batch",["cut",0,1]]',
     b'["batch",[["dest",0]]]', b'["batch",[["links"]]]', b'["batch",[["cut",0]]]', b'["batch",[["batch",[]]]]', b'["batch",{}]', b"[" * 127 + b"]" * 127,

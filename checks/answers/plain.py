@@ -33,8 +33,17 @@ def is_number(it):
     return type(it) is int and 0 <= it <= LARGEST
 
 
+def real(text):
+    """The number of a text, as a floating point number of 64 bits. No text may be above all of these."""
+    value = float(text)
+    if abs(value) == float("inf"):
+        raise ValueError(text)
+    return value
+
+
 def whole(text):
     """The number of a text without fraction and exponent; -1 if it has a sign, or is too large."""
+    real(text)
     return int(text) if text.isdigit() and len(text) <= 10 else -1
 
 
@@ -80,7 +89,8 @@ def read(line):
     """The request of a line."""
     try:
         text = line.decode("utf-8")
-        value = json.loads(text, parse_int=whole, parse_constant=no_json)
+        value = json.loads(text, parse_int=whole, parse_float=real, parse_constant=no_json)
+        json.dumps(value, ensure_ascii=False).encode("utf-8")  # half a surrogate pair has no bytes
     except (ValueError, RecursionError):
         raise Refused(1) from None
     if depth(text) > DEEPEST:

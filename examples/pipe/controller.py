@@ -25,10 +25,12 @@ def comes_back(router):
     return at == router
 
 
-with subprocess.Popen(["./revroute", "serve", "--json", "--budget", "0"], stdin=PIPE, stdout=PIPE, text=True, bufsize=1) as service:
+with subprocess.Popen(["./revroute", "serve", "--json", "--alone"], stdin=PIPE, stdout=PIPE, text=True, bufsize=1) as service:
     for change in filter(str.strip, sys.stdin):  # a blank line has no answer
-        service.stdin.write(change)  # bufsize=1: each line goes out at once
+        print(change.strip(), file=service.stdin)  # bufsize=1: each line goes out at once
         answer = json.loads(service.stdout.readline())
+        if "refused" in answer:
+            print(f"refused: {answer}", file=sys.stderr)
         # All hops of a change are pushed before the next change is sent.
         for router, hop in answer.get("changed", []):
             push(router, hop)

@@ -10,17 +10,18 @@ push() {
     echo "$1: ${table[$1]:-cut} -> $2"
 }
 
-# For each answer jq writes the changed hops, one on a line, and then a line "done".
+# For each answer jq writes the changed hops or the refusal, one on a line, and then a line "done".
 coproc service {
-    ./revroute serve --json --budget 0 | jq --unbuffered -r '(.changed[]? | "\(.[0]) \(.[1])"), "done"'
+    ./revroute serve --json --alone | jq --unbuffered -r '(.changed[]? | "\(.[0]) \(.[1])"), (select(.refused) | "refused \(.)"), "done"'
 }
 exec {hops}<&"${service[0]}" {changes}>&"${service[1]}" {service[1]}>&-
 
 # All hops of a change are pushed before the next change is sent.
-while IFS= read -r change; do
+while IFS= read -r change || [[ $change ]]; do
     [[ $change == *[![:space:]]* ]] || continue # a blank line has no answer
     printf '%s\n' "$change" >&"$changes"
     while read -r router hop <&"$hops" && [ "$router" != done ]; do
+        [ "$router" != refused ] || { echo "refused: $hop" >&2; continue; }
         push "$router" "$hop"
         table[$router]=$hop
     done
