@@ -16,8 +16,10 @@ ghost use Rattle.fr_graph.specs.Rows.{alone_count, row};
 ghost use Rattle.fr_graph.specs.declared.fault.NetFault.TheVariants.{Memory, TooMany};
 ghost use Rattle.fr_graph.specs.Faults.{IsFaultless, IsFirstFault, IsInRange, IsNetworkOf};
 ghost use Rattle.fr_graph.specs.Edits.{IsCutFault, IsJoined, IsJoinFault, without};
+ghost use Rattle.fr_graph.specs.Evidence.{NamesFirst, NamesIfRefused, NamesInBatch, NamesOfEdit};
 ghost use Rattle.fr_graph.specs.Batches.{AreMade, IsBatchFault, IsEditFault, IsMade, IsNotEdited};
 ghost use Rattle.fr_graph.specs.Limits.{IsWithinLimits, most_edits};
+ghost use Rattle.fr_graph.specs.declared.edit.Edit.TheVariants.{Add, Join};
 
 use crate::checks::{first_outside, first_self_link};
 use crate::cycle::{Found, find_cycle};
@@ -42,6 +44,7 @@ fn test_ends(nodes: u32, links: &[(u32, u32)]) -> Result<(), NetFault>
     ensures range { OnOk result (IsInRange nodes links.now) }
     ensures clear { OnOk result (HasNoSelfLink links.now) }
     ensures refused { IfErr result (IsFirstFault nodes links.now) }
+    ensures names { IfErr result (NamesFirst nodes links.now) }
 {
     if nodes > MAX_NODES || links.len() > MAX_LINKS {
         return Err(NetFault::TooMany);
@@ -135,6 +138,7 @@ impl Net {
     pub fn new(alloc: Global, nodes: u32, links: &[(u32, u32)]) -> Result<Net, NetFault>
         ensures ok { IfOk result (IsNetworkOf nodes links.now) }
         ensures refused { IfErr result (λ fault. fault ≢ Memory → IsFirstFault nodes links.now fault) }
+        ensures names { IfErr result (NamesFirst nodes links.now) }
     {
         test_ends(nodes, links)?;
         let (halves, starts) = sorted_halves(alloc, nodes, links)?;
@@ -239,6 +243,7 @@ impl Net {
     fn with_edit(&self, alloc: Global, edit: Edit) -> Result<Net, NetFault>
         ensures ok { IfOk result (IsMade self.now edit) }
         ensures refused { IfErr result (λ fault. fault ≢ Memory → IsEditFault self.now edit fault) }
+        ensures names { IfErr result (NamesOfEdit self.now edit) }
     {
         let mut graph = self.graph.copied(alloc)?;
         graph.edit(alloc, edit)?;
@@ -263,6 +268,7 @@ impl Net {
         ensures ok { IfOk result (IsNetworkOf self.now.nodes (self.now.links ++ (u, v) ∷ [])) }
         ensures refused { IfErr result (λ fault. fault ≢ Memory
             → IsFirstFault self.now.nodes (self.now.links ++ (u, v) ∷ []) fault) }
+        ensures names { IfErr result (NamesOfEdit self.now (Add u v)) }
     {
         self.with_edit(alloc, Edit::Add { u, v })
     }
@@ -274,6 +280,7 @@ impl Net {
         ensures ok { IfOk result (IsJoined self.now.nodes self.now.links u v) }
         ensures refused { IfErr result (λ fault. fault ≢ Memory
             → IsJoinFault self.now.nodes self.now.links u v fault) }
+        ensures names { IfErr result (NamesOfEdit self.now (Join u v)) }
     {
         self.with_edit(alloc, Edit::Join { u, v })
     }
@@ -286,6 +293,7 @@ impl Net {
         ensures few { OnOk result (length edits.now ≤ most_edits) }
         ensures ok { IfOk result (AreMade self.now edits.now) }
         ensures refused { IfErr result (λ refused. refused.fault ≢ Memory → IsBatchFault self.now edits.now refused) }
+        ensures names { IfErr result (NamesInBatch self.now edits.now) }
     {
         test_few(edits)?;
         let mut graph = self.graph.copied(alloc)?;
@@ -313,6 +321,7 @@ impl Net {
         ensures ok { IfOk result (λ answer. AreMade self.old edits.now self.new
             × FnOnceReturnsAt F.FnOnce accept self.new (Ok answer)) }
         ensures refused { IfErr result (IsNotEdited self.old edits.now (FnOnceReturnsAt F.FnOnce accept)) }
+        ensures names { IfErr result (NamesIfRefused self.old edits.now) }
         ensures unchanged { OnErr result (self.new ≡ self.old) }
     {
         if let Err(refused) = test_few(edits) {
