@@ -14,8 +14,8 @@ top c =
     let full : path.len - 1 + 1 ≡ length path.items = omega (arith, c.requires.full, path.ok.0) in
     top_is path.items (path.len - 1) c.index.result.now full (rw c.len.ensures at c.index.ensures)
 
-leads : (c : In-Some) → LeadsTo (net_in c.args.rows.now).links (nodes_of c.next_head.new.self.path.items) c.in-Some.head
-leads c = rw c.next_head.ensures.same.path c.in-Some.ensures.next.leads
+leads : (c : In-Some) → LeadsTo (net_in c.args.rows.now).links c.next_head.new.self.marks.items (nodes_of c.next_head.new.self.path.items) c.in-Some.head
+leads c = rw (c.next_head.ensures.same.path, c.next_head.ensures.same.marks) c.in-Some.ensures.next.leads
 
 -- the path has as many nodes as before
 as_long : (c : After-next_head) → length c.next_head.new.self.path.items ≡ length c.args.self.now.path.items
