@@ -53,4 +53,4 @@ pub mod MetNodes  -- which nodes the sides have met
 pub mod Sides  -- a side keeps its state
 pub mod SideRows  -- the row that a side reads
 pub mod TwoEnds  -- how it begins and ends
-pub mod Meetings  -- where the sides meet, there is a path
+pub mod LowestPaths  -- one side alone, and the lowest path along which links lead to its start

@@ -29,6 +29,9 @@ below c =
     s.steps.path_below (c.len-last.result - 1) (omega (arith, full c, length-map c.args.self.now.path.items (λ (s : Step). s.node))) in
     omega (arith, on, node_is c, s.one_each)
 
+pub row-row-requires : goal.row-row-requires
+row-row-requires c = below (goal.at.row-row-requires c).After-index-top
+
 passed : (c : After-index_mut) (k : ℕ) (d : ℕ × First) → c.index-top.result.now.next ≤ k → k < c.first_not_done-place.result
     → IsPassed c.args.self.now.marks.items (get_or (row_of c.args.rows.now c.index-top.result.now.node) k d)
 passed c = rw (c.row-row.ensures, c.deref.ensures.value) at c.first_not_done-place.ensures.passed
