@@ -1,6 +1,6 @@
 -- One side alone finds all nodes from which links lead to its start. So the path that always goes on to the lowest of them
 -- is found, and a link from its end to its beginning closes a cycle.
-use Rattle.std.proofs.Common.{All, List, [], ap, arith, get_or, inl, inr, length, refl, replicate, set, slice_index, subst, sym, ℕ}
+use Rattle.std.proofs.Common.{All, Contains, List, [], ap, arith, get_or, inl, inr, length, refl, replicate, set, slice_index, subst, sym, ℕ}
 use Rattle.std.proofs.Common.{◌++◌, ◌+◌, ◌<◌, ◌∙◌, ◌∷◌, ◌≡◌, ◌≢◌, ◌≤◌}
 use Rattle.std.proofs.lemmas.Bool.{cases_eq, cases_lt}
 use Rattle.std.proofs.lemmas.List.{get_or_append_left, get_or_push, get_or-set_same, length-replicate, length-set, length_push}
@@ -29,9 +29,9 @@ use Rattle.fr_graph.specs.declared.first.First.{First}
 use Rattle.fr_graph.specs.declared.first.First.TheVariants.{Inward, Outward}
 
 -- no path leads up
-pub leads_down : {links : List (ℕ × ℕ)} {heights : List ℕ} (x y : ℕ) → AreFalling heights links → HasPath links x y
+pub leads_down : (links : List (ℕ × ℕ)) (heights : List ℕ) (x y : ℕ) → AreFalling heights links → HasPath links x y
     → slice_index heights y ≤ slice_index heights x
-leads_down {links} {heights} x y falling path =
+leads_down links heights x y falling path =
     omega (arith, path_falls links heights (λ u v stands. omega (arith, falling u v stands)) x path.0 path.1.0, ap (slice_index heights) path.1.1)
 
 -- a path to another node begins at a node of the network
@@ -51,10 +51,10 @@ alone_begins net heights u limit met behind below near met_is begun =
     let most = count_by-le-length is_never none in (
       side_begins net heights Inward u limit met behind (rw met_is (length-set none u Backward ∙ long))
           (rw met_is (get_or-set_same none u Backward Never l))
-          (λ x h. elim (met_set none u x Backward l) [ inl w ↦ w.0 | inr e ↦ let is = rw met_is at h in let was = none_met net.nodes x in cc (e, is, was) ])
+          (λ x h. elim (met_set none u x Backward l) [ inl w ↦ w.0 | inr e ↦ let is = rw met_is at h in let was = none_met net.nodes x in cc (e, was) ])
           (rw met_is (omega (arith, few, most, long))) (λ beyond. omega (arith, beyond, near)) begun,
       λ x h. let is = rw met_is at h in
-          elim (met_set none u x Backward l) [ inl w ↦ let e = w.1 in cc (e, is) | inr e ↦ let was = none_met net.nodes x in cc (e, is, was) ],
+          elim (met_set none u x Backward l) [ inl w ↦ let e = w.1 in cc e | inr e ↦ let was = none_met net.nodes x in cc (e, was) ],
     )
 
 -- a side against the links that has read all its rows
@@ -79,7 +79,7 @@ module _ {net : Network} {heights : List ℕ} {u limit : ℕ} {met : List Met} {
   pub first_lowest : (x w : ℕ) → x ≢ u → slice_index heights x ≤ limit → IsFirstMet (row net.nodes net.links x) met w → LeadsTowards net.links u x w
   first_lowest x w apart near first =
       let entries = row net.nodes net.links x in
-      let listed = (first.place, first.inside, first.is (w, Outward)) in
+      let listed : Contains entries (w, Outward) = (first.place, first.inside, first.is (w, Outward)) in
       record {
         apart = apart;
         lowest = record {

@@ -1,7 +1,7 @@
 -- A side of a search from both ends keeps its state when it begins, meets a node, skips one, and when the other side
 -- continues.
-use Rattle.std.proofs.Common.{Contains, List, [], ap, arith, get_or, inl, inr, length, refl, set, slice_index, subst, sym, ℕ, ◌++◌, ◌+◌, ◌<◌, ◌∙◌}
-use Rattle.std.proofs.Common.{◌∷◌, ◌≡◌, ◌≤◌, ◌⊎◌}
+use Rattle.std.proofs.Common.{Bool, Contains, IsTrue, List, [], ap, arith, false, get_or, inl, inr, length, refl, set, slice_index, subst, sym, ℕ, ◌++◌, ◌+◌, ◌<◌, ◌∙◌}
+use Rattle.std.proofs.Common.{◌∷◌, ◌≡◌, ◌≤◌, ◌⊎◌, ◌↔◌}
 use Rattle.std.proofs.lemmas.Bool.{cases_lt}
 use Rattle.std.proofs.lemmas.List.{get_or_append_left, get_or_past, get_or_push, get_or-set_same, length_push}
 use Rattle.std.proofs.lemmas.List.Elements.{All-contains, All-get_or, All-push, Contains-append_left, Contains-push}
@@ -174,3 +174,7 @@ own_side {net} {heights} {f} {start} {limit} {met} {side} is =
 pub next_below : {net : Network} {heights : List ℕ} {f : First} {start limit : ℕ} {met : List Met} {side : Side} (x : ℕ)
     → IsSide net heights f start limit met side → side.read < length side.nodes.items → x ≡ get_or side.nodes.items side.read x → x < net.nodes
 next_below {side = side} x is unread at = met_below x is (listed_met x is (side.read, unread, sym at))
+
+-- a side without unread nodes has read all its rows
+pub none_left : {has : Bool} {read nodes : ℕ} → has ≡ false → IsTrue has ↔ (read < nodes) → nodes ≤ read
+none_left {has} {read} {nodes} none says = elim (cases_lt read nodes) [ inl left ↦ cc (says.1 left, none) | inr read_all ↦ read_all ]

@@ -21,7 +21,7 @@ begins c =
     let fresh : c.as_mut_slice-met.result.now ≡ replicate net.nodes Never = c.as_mut_slice-met.ensures.value
     ∙ c.in_ok-table.ensures.items_if_clones_equal (λ y e. e) ∙ ap (λ n. replicate n Never) c.len-nodes.ensures in
     let met : List Met = set c.as_mut_slice-met.result.now c.args.u Backward in
-    let near = leads_down c.args.v c.args.u c.requires.rows.falling c.requires.leads in
+    let near = leads_down net.links heights c.args.v c.args.u c.requires.rows.falling c.requires.leads in
     (alone_begins net heights c.args.u (slice_index heights c.args.v) met c.in_ok-behind.behind c.requires.u near
     (rw fresh refl) (rw (c.height.ensures, c.len-nodes.ensures) at c.in_ok-behind.ensures)).0
 
@@ -36,7 +36,7 @@ met_all c =
     rw (side.first_is, side.start_is, side.limit_is) at c.read_all.ensures.side
 
 inside : (c : In-loop-at) → c.loop-at.at < (net_in c.args.rows.now).nodes
-inside c = tail_below _ _ c.loop-at.at c.args.u c.requires.rows.shown.is_net c.loop-at-test.true c.loop-at.invariant.leads
+inside c = tail_below (net_in c.args.rows.now).nodes (net_in c.args.rows.now).links c.loop-at.at c.args.u c.requires.rows.shown.is_net c.loop-at-test.true c.loop-at.invariant.leads
 
 pub row-requires : goal.row-requires
 row-requires c = inside (goal.at.row-requires c).In-loop-at
@@ -48,7 +48,7 @@ pub first_met-requires : goal.first_met-requires
 first_met-requires c =
     let at = goal.at.first_met-requires c in
     record {
-      below = λ k d l. omega (arith, entry_below _ (net_in c.args.rows.now).links c.loop-at.at c.row.result.now k d (row_is at.After-row) l, (met_all at.After-read_all).one_each);
+      below = λ k d l. omega (arith, entry_below (net_in c.args.rows.now).nodes (net_in c.args.rows.now).links c.loop-at.at c.row.result.now k d (row_is at.After-row) l, (met_all at.After-read_all).one_each);
     }
 
 pub unreachable-requires : goal.unreachable-requires

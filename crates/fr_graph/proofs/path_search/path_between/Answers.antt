@@ -1,7 +1,6 @@
-use Rattle.std.proofs.Common.{Bool, IsTrue, List, ap, arith, false, inl, inr, length, refl, replicate, set, slice_index, sym, ℕ, ◌<◌, ◌∙◌, ◌≡◌, ◌≤◌, ◌↔◌}
-use Rattle.std.proofs.lemmas.Bool.{cases_lt}
+use Rattle.std.proofs.Common.{List, ap, arith, length, refl, replicate, set, slice_index, sym, ℕ, ◌<◌, ◌∙◌, ◌≡◌, ◌≤◌}
 use Rattle.fr_graph.proofs.TwoEnds.{ahead_meets, behind_meets, ended_ahead, ended_behind, sides_begin}
-use Rattle.fr_graph.proofs.Sides.{other_stays, own_side}
+use Rattle.fr_graph.proofs.Sides.{none_left, other_stays, own_side}
 use Rattle.fr_graph.specs.KeptRows.{net_in}
 use Rattle.fr_graph.specs.PathSearch.{IsSide, Meets}
 use Rattle.fr_graph.specs.declared.path_search.Met.{Met}
@@ -10,10 +9,6 @@ use Rattle.fr_graph.specs.declared.first.First.TheVariants.{Inward, Outward}
 use Rattle.fr_graph.proofs.path_search.path_between.Goals as goal
 use Rattle.fr_graph.proofs.path_search.path_between.Goals.{Joined-goes_next, else-goes_next, else-has_unread-2, else-loop-behind-test}
 use Rattle.fr_graph.proofs.path_search.path_between.Goals.{then-goes_next, then-has_unread-2, then-loop-behind-test+else-has_unread}
-
--- a side without unread nodes has read all its rows
-none_left : {has : Bool} {read nodes : ℕ} → has ≡ false → IsTrue has ↔ (read < nodes) → nodes ≤ read
-none_left {has} {read} {nodes} none says = elim (cases_lt read nodes) [ inl left ↦ cc (says.1 left, none) | inr read_all ↦ read_all ]
 
 pub loop-behind-init : goal.loop-behind-init
 loop-behind-init c =

@@ -20,8 +20,8 @@ path_back-requires-clause-graph c = c.requires
 pub path_back-requires-clause-nodes : goal.path_back-requires-clause-nodes
 path_back-requires-clause-nodes c = c.in_ok-test_join.ensures.nodes
 
-pub returns-then-path_back-clause-unchanged : goal.returns-then-path_back-clause-unchanged
-returns-then-path_back-clause-unchanged c = c.in_ok-path_back.ensures.same
+pub returns-then-branch-clause-unchanged : goal.returns-then-branch-clause-unchanged
+returns-then-branch-clause-unchanged c = c.in_ok-path_back.ensures.same
 
 pub make_room-requires-clause-graph : goal.make_room-requires-clause-graph
 make_room-requires-clause-graph c = c.in_ok-path_back.ensures.same.graph
@@ -36,26 +36,26 @@ pub put-requires-clause-graph : goal.put-requires-clause-graph
 put-requires-clause-graph c = c.in_ok-make_room.ensures.same.graph
 
 -- the rows in which the cycle is looked for have the network that was tested, and its links fall
-pub lowest_cycle-walk-requires-clause-rows : goal.lowest_cycle-walk-requires-clause-rows
-lowest_cycle-walk-requires-clause-rows c =
+pub lowest_cycle-requires-clause-rows : goal.lowest_cycle-requires-clause-rows
+lowest_cycle-requires-clause-rows c =
     let found = c.in_ok-path_back.ensures in
-    falling_rows c.path_back.new.self found.same.graph (found.known c.if-path_back.true)
+    falling_rows c.path_back.new.self found.same.graph (found.known c.if-branch.true)
 
-pub lowest_cycle-walk-requires-clause-u : goal.lowest_cycle-walk-requires-clause-u
-lowest_cycle-walk-requires-clause-u c =
+pub lowest_cycle-requires-clause-u : goal.lowest_cycle-requires-clause-u
+lowest_cycle-requires-clause-u c =
     let same = c.in_ok-path_back.ensures.same in
     omega (arith, c.in_ok-test_join.ensures.nodes.tail, same.graph.rows.one_each, ap (λ (m : Network). m.nodes) same.same)
 
-pub lowest_cycle-walk-requires-clause-v : goal.lowest_cycle-walk-requires-clause-v
-lowest_cycle-walk-requires-clause-v c =
+pub lowest_cycle-requires-clause-v : goal.lowest_cycle-requires-clause-v
+lowest_cycle-requires-clause-v c =
     let same = c.in_ok-path_back.ensures.same in
     omega (arith, c.in_ok-test_join.ensures.nodes.head, same.graph.rows.one_each, ap (λ (m : Network). m.nodes) same.same)
 
-pub lowest_cycle-walk-requires-clause-leads : goal.lowest_cycle-walk-requires-clause-leads
-lowest_cycle-walk-requires-clause-leads c =
+pub lowest_cycle-requires-clause-leads : goal.lowest_cycle-requires-clause-leads
+lowest_cycle-requires-clause-leads c =
     let found = c.in_ok-path_back.ensures in
     subst (λ (m : Network). HasPath m.links c.args.v c.args.u) (sym (net_shown c.path_back.new.self found.same.graph ∙ found.same.same))
-    (found.leads.0 c.if-path_back.true)
+    (found.leads.0 c.if-branch.true)
 
 lowest : (c : In_ok-walk) → IsLowestCycleBy (shown c.args.self.now).links c.args.u c.args.v c.in_ok-walk.walk.items
 lowest c =
@@ -63,15 +63,15 @@ lowest c =
     subst (λ (m : Network). IsLowestCycleBy m.links c.args.u c.args.v c.in_ok-walk.walk.items)
     (net_shown c.path_back.new.self same.graph ∙ same.same) c.in_ok-walk.ensures
 
-pub returns-then-path_back-clause-names : goal.returns-then-path_back-clause-names
-returns-then-path_back-clause-names c = lowest (goal.at.returns-then-path_back-clause-names c).In_ok-walk
+pub returns-then-branch-clause-names : goal.returns-then-branch-clause-names
+returns-then-branch-clause-names c = lowest (goal.at.returns-then-branch-clause-names c).In_ok-walk
 
-pub returns-then-path_back-clause-refused : goal.returns-then-path_back-clause-refused
-returns-then-path_back-clause-refused c _ =
+pub returns-then-branch-clause-refused : goal.returns-then-branch-clause-refused
+returns-then-branch-clause-refused c _ =
     let g = shown c.args.self.now in
     let tested = c.in_ok-test_join.ensures in
     cycle_fault g.nodes g.links c.args.u c.args.v c.in_ok-walk.walk c.requires.faultless tested.few tested.nodes
-    (closes_by g.links c.args.u c.args.v c.in_ok-walk.walk.items (lowest (goal.at.returns-then-path_back-clause-refused c).In_ok-walk))
+    (closes_by g.links c.args.u c.args.v c.in_ok-walk.walk.items (lowest (goal.at.returns-then-branch-clause-refused c).In_ok-walk))
 
 pub put-requires-clause-link : goal.put-requires-clause-link
 put-requires-clause-link c =
@@ -80,7 +80,7 @@ put-requires-clause-link c =
       few = tested.few;
       unjoined = tested.nodes;
       acyclic = no_path_free (shown c.args.self.now).links c.args.u c.args.v c.requires.faultless.is_net.acyclic
-          (λ path. cc (c.in_ok-path_back.ensures.leads.1 path, c.if-path_back.false));
+          (λ path. cc (c.in_ok-path_back.ensures.leads.1 path, c.if-branch.false));
     }
 
 pub returns-clause-ok : goal.returns-clause-ok

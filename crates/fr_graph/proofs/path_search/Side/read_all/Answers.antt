@@ -1,7 +1,7 @@
-use Rattle.std.proofs.Common.{Bool, IsTrue, arith, false, inl, inr, length, true, ◌+◌, ◌<◌, ◌≡◌, ◌≤◌, ◌↔◌}
-use Rattle.std.proofs.lemmas.Bool.{cases_Bool, cases_lt}
+use Rattle.std.proofs.Common.{arith, inl, inr, ◌+◌, ◌≡◌}
+use Rattle.std.proofs.lemmas.Bool.{cases_Bool}
 use Rattle.fr_graph.proofs.MetNodes.{other_was}
-use Rattle.fr_graph.proofs.Sides.{own_side}
+use Rattle.fr_graph.proofs.Sides.{none_left, own_side}
 use Rattle.fr_graph.specs.KeptRows.{net_in}
 use Rattle.fr_graph.specs.PathSearch.{Meets}
 use Rattle.fr_graph.proofs.path_search.Side.read_all.Goals as goal
@@ -43,10 +43,6 @@ loop-self-smaller c =
     let at = (goal.at.loop-self-smaller c).After-read_next in
     let read = c.read_next.ensures in
     omega (arith, read.more.counted, read.more.longer, read_on at, c.has_unread.ensures.0 c.loop-self-test.true)
-
--- a side without unread nodes has read all its rows
-none_left : {has : Bool} {read nodes : ℕ} → has ≡ false → IsTrue has ↔ (read < nodes) → nodes ≤ read
-none_left {has} {read} {nodes} none says = elim (cases_lt read nodes) [ inl left ↦ cc (says.1 left, none) | inr read_all ↦ read_all ]
 
 pub returns-clause-side : goal.returns-clause-side
 returns-clause-side c = c.loop-self.invariant.side
