@@ -113,10 +113,13 @@ edits_alike net (Join u v) f g hf nf hg ng =
     record { kind = kind; shown = link_shown net u v f g kind nf ng }
 
 pub batches_alike : BatchesHaveOneFault
-batches_alike net edits f g (inl a) nf (inl b) ng = (a.1 ∙ sym b.1, record {
-  kind = ap fault_place (a.2 ∙ sym b.2);
-  shown = ap evidence (a.2 ∙ sym b.2);
-})
+batches_alike net edits f g (inl a) nf (inl b) ng = (
+  a.1 ∙ sym b.1,
+  record {
+    kind = ap fault_place (a.2 ∙ sym b.2);
+    shown = ap evidence (a.2 ∙ sym b.2);
+  },
+)
 batches_alike net edits f g (inl a) nf (inr b) ng = absurd (omega (arith, a.0, b.0))
 batches_alike net edits f g (inr a) nf (inl b) ng = absurd (omega (arith, a.0, b.0))
 batches_alike net edits f g (inr a) nf (inr b) ng =

@@ -47,18 +47,22 @@ pub lowest_at : (halves : List HalfLink) (i : ℕ) (d : HalfLink) → AreHalvesI
 lowest_at halves i d order rising inside x y many =
     elim (before_or_not (place_of (get_or halves i d)) (x, y)) [
       | inr not_after ↦ not_after
-      | inl before ↦ absurd (omega (arith, many, at_most_one (is_at x y) halves (λ a b e less l here there.
-          let p = at_place x y (get_or halves a e) here in
-          let q = at_place x y (get_or halves b e) there in
-          elim (cases_lt b i) [
-            | inl early ↦ same_place (get_or halves a e) (get_or halves b e) (p.0 ∙ sym q.0) (p.1 ∙ sym q.1) (rising_up_to halves i rising a b e less early)
-            | inr late ↦
-                let far : i + (b - i) ≡ b = omega arith in
-                let up = rw far at (order_far halves order i (b - i) e (omega (arith, far, l))) in
-                let at : place_of (get_or halves b e) ≡ (x, y) = cc (q.0, q.1) in
-                let same : get_or halves i d ≡ get_or halves i e = get_or_default halves i d e inside in
-                not_both before (rw same (rw at at up))
-          ])))
+      | inl before ↦ absurd (omega (
+        arith,
+        many,
+        at_most_one (is_at x y) halves (λ a b e less l here there.
+            let p = at_place x y (get_or halves a e) here in
+            let q = at_place x y (get_or halves b e) there in
+            elim (cases_lt b i) [
+              | inl early ↦ same_place (get_or halves a e) (get_or halves b e) (p.0 ∙ sym q.0) (p.1 ∙ sym q.1) (rising_up_to halves i rising a b e less early)
+              | inr late ↦
+                  let far : i + (b - i) ≡ b = omega arith in
+                  let up = rw far at (order_far halves order i (b - i) e (omega (arith, far, l))) in
+                  let at : place_of (get_or halves b e) ≡ (x, y) = cc (q.0, q.1) in
+                  let same : get_or halves i d ≡ get_or halves i e = get_or_default halves i d e inside in
+                  not_both before (rw same (rw at at up))
+            ]),
+      ))
     ]
 
 node_least : {u v x y : ℕ} → IsNotAfter (u, v) (x, y) → u ≤ x

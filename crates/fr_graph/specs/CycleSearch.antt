@@ -22,9 +22,9 @@ mark_of marks x = slice_index_or marks x Fresh
 abbrev pub nodes_of : List Step → List ℕ
 nodes_of path = map (λ (step : Step). step.node) path
 
--- the path follows links and consists of the open nodes, each once; nodes below its first one are done, and so are those
--- below the next one to which a link of the path's node leads; links from done nodes lead to done nodes, and no cycle
--- leaves a done node
+-- the path follows links and consists of the open nodes, each once; nodes below its first one are done, and so are
+-- those below the next one to which a link of the path's node leads; links from done nodes lead to done nodes, and no
+-- cycle leaves a done node
 pub record IsCycleSearch (n : ℕ) (links : List (ℕ × ℕ)) (marks : List Mark) (path : List ℕ) : Type 0 where
   pub marks_length : length marks ≡ n
   pub path_below : (k : ℕ) → k < length path → slice_index path k < n

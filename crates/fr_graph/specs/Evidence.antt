@@ -70,8 +70,8 @@ pub record LeadsTowards (links : List (ℕ × ℕ)) (u x y : ℕ) : Type 0 where
   pub apart : x ≢ u
   pub lowest : IsLowest (λ w. Points links x w × HasPath links w u) y
 
--- A link from u to v would close this cycle: it begins at u, goes to v, and always goes on to the lowest node from which
--- links lead to u, until it comes to u.
+-- A link from u to v would close this cycle: it begins at u, goes to v, and always goes on to the lowest node from
+-- which links lead to u, until it comes to u.
 pub record IsLowestCycleBy (links : List (ℕ × ℕ)) (u v : ℕ) (walk : List ℕ) : Type 0 where
   pub way : List ℕ
   pub last : ℕ
@@ -82,8 +82,8 @@ pub record IsLowestCycleBy (links : List (ℕ × ℕ)) (u v : ℕ) (walk : List 
   pub is : walk ≡ u ∷ way
 
 -- Of n nodes and these links, the fault names: the first end that is not a node, or 0 if there are no nodes; the first
--- link from a node to itself; the lowest node that is joined twice, and the lowest one that it is joined with twice; the
--- lowest cycle
+-- link from a node to itself; the lowest node that is joined twice, and the lowest one that it is joined with twice;
+-- the lowest cycle
 abbrev pub NamesFirst : ℕ → List (ℕ × ℕ) → NetFault → Type 0
 NamesFirst n links TooMany = Unit {0}
 NamesFirst n links (Range x) = ((n ≡ 0) × (x ≡ 0)) ⊎ ((0 < n) × (find (nat_le n) (ends_of links) ≡ Some x))
@@ -93,8 +93,8 @@ NamesFirst n links (Cycle walk) = IsLowestCycle links walk.items
 NamesFirst n links NoLink = Unit {0}
 NamesFirst n links Memory = Unit {0}
 
--- if a link from u to v cannot be added, or one between them, the fault names: u if u is not a node, and otherwise v; u
--- if it is v; u and v if they are joined; the lowest cycle by the link from u to v
+-- if a link from u to v cannot be added, or one between them, the fault names: u if u is not a node, and otherwise v;
+-- u if it is v; u and v if they are joined; the lowest cycle by the link from u to v
 abbrev pub NamesOfLink : Network → ℕ → ℕ → NetFault → Type 0
 NamesOfLink net u v TooMany = Unit {0}
 NamesOfLink net u v (Range x) = ((net.nodes ≤ u) × (x ≡ u)) ⊎ ((u < net.nodes) × (x ≡ v))

@@ -1,5 +1,5 @@
--- What the rows of a network contain, in which direction a link can be added, and that a fault has one evidence. Each law
--- is a clause of a function of src/laws.rt. This project's own.
+-- What the rows of a network contain, in which direction a link can be added, and that a fault has one evidence. Each
+-- law is a clause of a function of src/laws.rt. This project's own.
 use Rattle.std.specs.Prelude.{ℕ, ◌≡◌, ◌≢◌, ◌↔◌, ◌++◌, List, [], ◌∷◌, map}
 use Rattle.std.specs.List.{Contains}
 use Rattle.std.specs.List.Sorted.{IsStrictlyIncreasing}

@@ -104,8 +104,8 @@ pub record HasBegun (first : First) (start limit nodes : ℕ) (side : Side) : Ty
   pub room : nodes ≤ vec_capacity side.nodes
 
 -- The side goes this way from the start, up to the limit. Its nodes are those that it has met, and none is beyond the
--- limit. Paths lead on to them from the start. The links of the rows that it has read lead on only to nodes that it has
--- met or skipped.
+-- limit. Paths lead on to them from the start. The links of the rows that it has read lead on only to nodes that it
+-- has met or skipped.
 pub record IsSide (net : Network) (heights : List ℕ) (first : First) (start limit : ℕ) (met : List Met) (side : Side) : Type 0 where
   pub one_each : length met ≡ net.nodes
   pub first_is : side.first ≡ first
@@ -177,8 +177,8 @@ abbrev pub IsReadAnswer : List (ℕ × ℕ) → List Met → Side → Side → B
 IsReadAnswer links met before after true = Meets before.first links met
 IsReadAnswer links met before after false = after.read ≡ before.read + 1
 
--- a path leads from `from` to `to`. If none does, nodes and two heights: once the nodes are put between the heights, all
--- links fall, and a link back would fall too
+-- a path leads from `from` to `to`. If none does, nodes and two heights: once the nodes are put between the heights,
+-- all links fall, and a link back would fall too
 abbrev pub IsPathAnswer : Network → List ℕ → ℕ → ℕ → PathAnswer → Type 0
 IsPathAnswer net heights from to Leads = HasPath net.links from to
 IsPathAnswer net heights from to (Ends nodes low high) =

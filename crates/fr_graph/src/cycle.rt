@@ -1,6 +1,7 @@
 //! The search for a cycle. It is a depth-first search that keeps its path as a stack and reads each entry of a row
-//! once. A link back to a node of the path closes a cycle. It starts from the lowest nodes and reads rows in their order,
-//! so the cycle is the lowest one. If no link closes a cycle, the search leaves the head of each link before its tail.
+//! once. A link back to a node of the path closes a cycle. It starts from the lowest nodes and reads rows in their
+//! order, so the cycle is the lowest one. If no link closes a cycle, the search leaves the head of each link before
+//! its tail.
 
 ghost use Rattle.std.specs.Prelude.{◌≡◌, ◌≢◌, ℕ, ◌<◌, ◌≤◌, ◌++◌, [], ◌∷◌, length, drop, vec_len, slice_index, slice_index_or, All, IfOk, IfSome, IfNone, OnOk, IsTrue, Contains, ◌-◌};
 ghost use Rattle.fr_graph.specs.Heights.{HasHeadsFirst};
@@ -183,7 +184,8 @@ impl Search {
         Ok(None)
     }
 
-    /// Takes steps until the path is empty. If a link leads back to a node of the path, it stops and returns that node.
+    /// Takes steps until the path is empty. If a link leads back to a node of the path, it stops and returns that
+    /// node.
     fn go_on(&mut self, rows: &RowTable) -> Result<Option<u32>, AllocError>
         requires { IsSearch rows.now self.old }
         ensures on { IfOk result (GoesOn rows.now self.old self.new) }
@@ -232,8 +234,8 @@ impl Search {
     }
 }
 
-/// Finds the lowest cycle of the links that these rows show, or an order of the nodes that lists the head of each link before
-/// its tail.
+/// Finds the lowest cycle of the links that these rows show, or an order of the nodes that lists the head of each link
+/// before its tail.
 pub(crate) fn find_cycle(alloc: Global, nodes: u32, rows: &RowTable) -> Result<Found, AllocError>
     requires one_each { length rows.now.rows ≡ nodes }
     requires below { AreEntriesBelow nodes rows.now }

@@ -178,9 +178,9 @@ impl Graph {
         Ok(())
     }
 
-    /// Whether links lead from `v` to `u`. Most often the heights already show that they do not. If it takes a search to
-    /// find that out, the nodes that were met get new heights, so that a link from `u` to `v` falls, if there is room
-    /// between the heights.
+    /// Whether links lead from `v` to `u`. Most often the heights already show that they do not. If it takes a search
+    /// to find that out, the nodes that were met get new heights, so that a link from `u` to `v` falls, if there is
+    /// room between the heights.
     fn path_back(&mut self, alloc: Global, u: u32, v: u32) -> Result<bool, AllocError>
         requires graph { IsGraph self.old }
         requires nodes { AreUnjoined self.old.nodes (shown self.old).links u v }

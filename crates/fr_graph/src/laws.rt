@@ -1,4 +1,5 @@
-//! The laws of rows, of joins and of faults. Each clause is a law of `specs/Laws.antt`, proved. The functions do nothing.
+//! The laws of rows, of joins and of faults. Each clause is a law of `specs/Laws.antt`, proved. The functions do
+//! nothing.
 
 ghost use Rattle.fr_graph.specs.Laws.{OutwardIsALinkTo, InwardIsALinkFrom, LinksAreSeenFromBothEnds, NeighboursRise, OneWayIsFree, LinksHaveOneFault, EditsHaveOneFault, BatchesHaveOneFault};
 

@@ -127,8 +127,8 @@ impl Model for Net {
 }
 
 impl Net {
-    /// Makes the network with the nodes 0 to `nodes - 1` and these links, each from its tail to its head. The links can
-    /// be listed in any order.
+    /// Makes the network with the nodes 0 to `nodes - 1` and these links, each from its tail to its head. The links
+    /// can be listed in any order.
     ///
     /// Fails with the first fault, with its evidence. Each fault is tested over the whole list before the next one, in
     /// the order of [`NetFault`]: `TooMany`, `Range`, `SelfLink`, `Twice`, `Cycle`. Fails with `Memory` if an
@@ -222,8 +222,8 @@ impl Net {
     }
 
     /// All neighbours of node `x` in increasing order, each with the direction of its link seen from `x`, for a loop
-    /// over a whole row. The node must be in the network. The neighbours are `u16`, as the rows keep them, which halves
-    /// their memory; other calls take them `as u32`. O(1).
+    /// over a whole row. The node must be in the network. The neighbours are `u16`, as the rows keep them, which
+    /// halves their memory; other calls take them `as u32`. O(1).
     pub fn row(&self, x: u32) -> &[(u16, First)]
         requires { x < self.now.nodes }
         ensures { result.now ≡ row self.now.nodes self.now.links x }
@@ -262,8 +262,8 @@ impl Net {
     }
 
     /// The network with the added link from `u` to `v`. Fails with the first fault of the links with the new one, in
-    /// the order of [`NetFault`]: `Cycle` has a cycle through the new link. Fails with `Memory` if an allocation is
-    /// refused. O(n + m) for the copy, and the cost of [`edit_if`](Net::edit_if).
+    /// the order of [`NetFault`]: `Cycle` has the lowest cycle through the new link. Fails with `Memory` if an
+    /// allocation is refused. O(n + m) for the copy, and the cost of [`edit_if`](Net::edit_if).
     pub fn with_link(&self, alloc: Global, u: u32, v: u32) -> Result<Net, NetFault>
         ensures ok { IfOk result (IsNetworkOf self.now.nodes (self.now.links ++ (u, v) ∷ [])) }
         ensures refused { IfErr result (λ fault. fault ≢ Memory
@@ -273,9 +273,9 @@ impl Net {
         self.with_edit(alloc, Edit::Add { u, v })
     }
 
-    /// The network with an added link between `u` and `v`: from `u` to `v`, or from `v` to `u` if the first would close
-    /// a cycle. By the law [`join_law`](crate::laws::join_law) the second closes none then. Fails as `with_link` does,
-    /// but never with `Cycle`. O(n + m) for the copy, and the cost of [`edit_if`](Net::edit_if).
+    /// The network with an added link between `u` and `v`: from `u` to `v`, or from `v` to `u` if the first would
+    /// close a cycle. By the law [`join_law`](crate::laws::join_law) the second closes none then. Fails as `with_link`
+    /// does, but never with `Cycle`. O(n + m) for the copy, and the cost of [`edit_if`](Net::edit_if).
     pub fn with_join(&self, alloc: Global, u: u32, v: u32) -> Result<Net, NetFault>
         ensures ok { IfOk result (IsJoined self.now.nodes self.now.links u v) }
         ensures refused { IfErr result (λ fault. fault ≢ Memory
@@ -304,12 +304,13 @@ impl Net {
     /// Makes these edits in place and in order, if `accept` succeeds on the edited network, and returns what `accept`
     /// returns. What `accept` requires must hold of the edited network.
     ///
-    /// Fails with `Refused` if an edit is refused, as by `with_edits`, or an allocation is refused, and with `Fault` if
-    /// `accept` fails. Then the network is unchanged.
+    /// Fails with `Refused` if an edit is refused, as by `with_edits`, or an allocation is refused, and with `Fault`
+    /// if `accept` fails. Then the network is unchanged.
     ///
     /// O(d) for each edit. An added link or a join compares two heights; if these do not decide, it searches between
-    /// them, with tables of O(n). O(n + m) if heights have to be computed again, or if a row is full, so that all rows
-    /// are laid out again with more room.
+    /// them, with tables of O(n). A link that would close a cycle takes one more search, which names the cycle. O(n +
+    /// m) if heights have to be computed again, or if a row is full, so that all rows are laid out again with more
+    /// room.
     pub fn edit_if<T, E, F: FnOnce(&Net) -> Result<T, E>>(
         &mut self,
         alloc: Global,

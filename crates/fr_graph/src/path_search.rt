@@ -186,12 +186,7 @@ impl Side {
 
     /// Reads the row of the next node, up to the first link that leads on to a node of the other side. Returns whether
     /// there is one.
-    fn read_next(
-        &mut self,
-        rows: &RowTable,
-        heights: &Heights,
-        met: &mut [Met],
-    ) -> bool
+    fn read_next(&mut self, rows: &RowTable, heights: &Heights, met: &mut [Met]) -> bool
         requires rows { AreFallingRows rows.now heights.now.heights }
         requires side { IsSide (net_in rows.now) heights.now.heights self.old.first
             (start_of self.old) self.old.limit met.old self.old }
