@@ -1,6 +1,6 @@
 -- The lowest two nodes that more than one link joins, from half-links in order.
 use Rattle.std.proofs.Common.{IsPermutation, List, arith, count_by, get_or, inl, inr, length, suc, zero, ℕ, ◌+◌, ◌-◌, ◌<◌, ◌∙◌, ◌≡◌, ◌≤◌, ◌⊎◌}
-use Rattle.std.proofs.Common.{refl, sym}
+use Rattle.std.proofs.Common.{refl, subst, sym}
 use Rattle.std.proofs.lemmas.Bool.{cases_lt}
 use Rattle.std.proofs.lemmas.List.{get_or_default}
 use Rattle.fr_graph.proofs.Building.{at_place, count_same}
@@ -60,7 +60,7 @@ lowest_at halves i d order rising inside x y many =
                   let up = rw far at (order_far halves order i (b - i) e (omega (arith, far, l))) in
                   let at : place_of (get_or halves b e) ≡ (x, y) = cc (q.0, q.1) in
                   let same : get_or halves i d ≡ get_or halves i e = get_or_default halves i d e inside in
-                  not_both before (rw same (rw at at up))
+                  not_both before (rw same (subst (λ (p : ℕ × ℕ). IsNotAfter (place_of (get_or halves i e)) p) at up))
             ]),
       ))
     ]
