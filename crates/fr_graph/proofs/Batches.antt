@@ -1,9 +1,9 @@
 -- Edits made one after the other: a list of edits makes exactly one network, or has exactly one first edit that is
 -- refused.
-use Rattle.std.proofs.Common.{List, [], arith, get_or, inl, inr, length, refl, subst, suc, sym, take, zero, ℕ, ◌++◌, ◌<◌, ◌∙◌, ◌∷◌, ◌≡◌, ◌≤◌}
+use Rattle.std.proofs.Common.{List, [], ap, arith, get_or, inl, inr, length, refl, subst, suc, sym, take, zero, ℕ, ◌++◌, ◌<◌, ◌∙◌, ◌∷◌, ◌≡◌, ◌≤◌}
 use Rattle.fr_graph.proofs.Joining.{join_fault_place, join_not_refused, joined_one}
 use Rattle.fr_graph.proofs.Refusing.{fault_place, first_fault_place, no_first_fault}
-use Rattle.fr_graph.specs.Batches.{AreMade, IsBatchFault, IsEditFault, IsMade}
+use Rattle.fr_graph.specs.Batches.{AreMade, IsBatchFault, IsEditFault, IsMade, IsRefusedAt}
 use Rattle.fr_graph.specs.Edits.{IsCutFault}
 use Rattle.fr_graph.specs.Limits.{most_edits}
 use Rattle.fr_graph.specs.Links.{Joins}
@@ -47,7 +47,7 @@ not_refused net (Cut u v) f after refused made = (cut_fault_is net.links u v f r
 not_refused net (Add u v) f after refused made = no_first_fault net.nodes (net.links ++ (u, v) ∷ []) f made.faultless refused
 not_refused net (Join u v) f after refused made = join_not_refused net.nodes net.links u v f after refused made
 
-edit_fault_place : (net : Network) (e : Edit) (f g : NetFault) → IsEditFault net e f → IsEditFault net e g → fault_place f ≡ fault_place g
+pub edit_fault_place : (net : Network) (e : Edit) (f g : NetFault) → IsEditFault net e f → IsEditFault net e g → fault_place f ≡ fault_place g
 edit_fault_place net (Cut u v) f g hf hg =
     subst (λ (x : NetFault). fault_place x ≡ fault_place g) (sym (cut_fault_is net.links u v f hf).0)
     (subst (λ (x : NetFault). fault_place NoLink ≡ fault_place x) (sym (cut_fault_is net.links u v g hg).0) refl)
@@ -66,17 +66,32 @@ refused_not_made net (e ∷ es) (suc i) mid f after l made refused all =
     refused_not_made all.0 es i mid f after (omega (arith, l))
     (subst (λ (m : Network). AreMade m (take i es) mid) (made_one net e made.0 all.0 made.1.0 all.1.0) made.1.1) refused all.1.1
 
--- the faults of the first edit that is refused are of one kind
+-- there is one first edit that is refused
 first_refused : (net : Network) (edits : List Edit) (i j : ℕ) (a b : Network) (f g : NetFault) → i < length edits
     → j < length edits → AreMade net (take i edits) a → AreMade net (take j edits) b
-    → ((d : Edit) → IsEditFault a (get_or edits i d) f) → ((d : Edit) → IsEditFault b (get_or edits j d) g) → fault_place f ≡ fault_place g
+    → ((d : Edit) → IsEditFault a (get_or edits i d) f) → ((d : Edit) → IsEditFault b (get_or edits j d) g) → i ≡ j
 first_refused net [] i j a b f g li lj ma mb hf hg = absurd (omega (arith, li))
-first_refused net (e ∷ es) zero zero a b f g li lj ma mb hf hg = edit_fault_place net e f g (at_first net a e f ma (hf e)) (at_first net b e g mb (hg e))
+first_refused net (e ∷ es) zero zero a b f g li lj ma mb hf hg = refl
 first_refused net (e ∷ es) zero (suc j) a b f g li lj ma mb hf hg = absurd (not_refused net e f mb.0 (at_first net a e f ma (hf e)) mb.1.0)
 first_refused net (e ∷ es) (suc i) zero a b f g li lj ma mb hf hg = absurd (not_refused net e g ma.0 (at_first net b e g mb (hg e)) ma.1.0)
 first_refused net (e ∷ es) (suc i) (suc j) a b f g li lj ma mb hf hg =
-    first_refused mb.0 es i j a b f g (omega (arith, li)) (omega (arith, lj))
-    (subst (λ (m : Network). AreMade m (take i es) a) (made_one net e ma.0 mb.0 ma.1.0 mb.1.0) ma.1.1) mb.1.1 hf hg
+    ap suc (first_refused mb.0 es i j a b f g (omega (arith, li)) (omega (arith, lj))
+    (subst (λ (m : Network). AreMade m (take i es) a) (made_one net e ma.0 mb.0 ma.1.0 mb.1.0) ma.1.1) mb.1.1 hf hg)
+
+-- on one network, so what holds of the edit and the network at one place does at the other
+pub refused_alike : (net : Network) (edits : List Edit) (f g : EditFault) (a : IsRefusedAt net edits f.at f.fault)
+    (b : IsRefusedAt net edits g.at g.fault) → (f.at ≡ g.at) × (a.before ≡ b.before)
+refused_alike net edits f g a b =
+    let at = first_refused net edits f.at g.at a.before b.before f.fault g.fault a.inside b.inside a.made b.made a.refused b.refused in
+    (at, all_made_one net (take g.at edits) a.before b.before (subst (λ (k : ℕ). AreMade net (take k edits) a.before) at a.made) b.made)
+
+-- the fault of one of them, at the place of the other
+pub moved_fault : (net : Network) (edits : List Edit) (f g : EditFault) (a : IsRefusedAt net edits f.at f.fault)
+    (b : IsRefusedAt net edits g.at g.fault) (d : Edit) → IsEditFault b.before (get_or edits g.at d) f.fault
+moved_fault net edits f g a b d =
+    let alike = refused_alike net edits f g a b in
+    subst (λ (m : Network). IsEditFault m (get_or edits g.at d) f.fault) alike.1
+    (subst (λ (k : ℕ). IsEditFault a.before (get_or edits k d) f.fault) alike.0 (a.refused d))
 
 pub batch_fault_place : (net : Network) (edits : List Edit) (f g : EditFault) → IsBatchFault net edits f
     → IsBatchFault net edits g → fault_place f.fault ≡ fault_place g.fault
@@ -85,7 +100,8 @@ batch_fault_place net edits f g (inl a) (inl b) =
 batch_fault_place net edits f g (inl a) (inr b) = absurd (omega (arith, a.0, b.0))
 batch_fault_place net edits f g (inr a) (inl b) = absurd (omega (arith, a.0, b.0))
 batch_fault_place net edits f g (inr a) (inr b) =
-    first_refused net edits f.at g.at a.1.before b.1.before f.fault g.fault a.1.inside b.1.inside a.1.made b.1.made a.1.refused b.1.refused
+    edit_fault_place b.1.before (get_or edits g.at (Cut 0 0)) f.fault g.fault
+    (moved_fault net edits f g a.1 b.1 (Cut 0 0)) (b.1.refused (Cut 0 0))
 
 -- a batch that is refused is not made
 pub batch_not_made : (net : Network) (edits : List Edit) (f : EditFault) (after : Network) → IsBatchFault net edits f

@@ -44,10 +44,10 @@ count_halves (l ∷ ls) u v bar =
     one_half (eqb l.0 u) (eqb l.1 v) (eqb l.0 v) (eqb l.1 u) (λ t. bar 0 l (omega arith) (eqb-true _ _ t.0 ∙ sym (eqb-true _ _ t.3))) in
     omega (arith, first, second, whole, rest, here)
 
-at_place : (u v : ℕ) (h : HalfLink) → is_at u v h ≡ true → (h.node ≡ u) × (h.neighbour ≡ v)
+pub at_place : (u v : ℕ) (h : HalfLink) → is_at u v h ≡ true → (h.node ≡ u) × (h.neighbour ≡ v)
 at_place u v h e = let t = and_parts _ _ e in (eqb-true _ _ t.0, eqb-true _ _ t.1)
 
-not_below_itself : {p q : ℕ × ℕ} → IsBefore p q → p.0 ≡ q.0 → p.1 ≡ q.1 → ⊥
+pub not_below_itself : {p q : ℕ × ℕ} → IsBefore p q → p.0 ≡ q.0 → p.1 ≡ q.1 → ⊥
 not_below_itself (inl a) e f = omega arith
 not_below_itself (inr a) e f = omega arith
 
@@ -57,7 +57,7 @@ rising_once halves u v rising = at_most_one (is_at u v) halves (λ i j d lt l e 
     let q = at_place u v (get_or halves j d) f in
     not_below_itself (rising_pair halves rising i j d lt l) (p.0 ∙ sym q.0) (p.1 ∙ sym q.1))
 
-count_same : (listed : List (ℕ × ℕ)) (halves : List HalfLink) (u v : ℕ) → IsPermutation (halves_of listed) halves
+pub count_same : (listed : List (ℕ × ℕ)) (halves : List HalfLink) (u v : ℕ) → IsPermutation (halves_of listed) halves
     → HasNoSelfLink listed → count_by (is_at u v) halves ≡ count_by (is_between u v) listed
 count_same listed halves u v both bar =
     let f : HalfLink → ℕ = λ h. weigh (is_at u v h) in

@@ -35,7 +35,7 @@ kept_set marks x m other l = record {
 }
 
 pub opened : (n : ℕ) (links : List (ℕ × ℕ)) (marks : List Mark) (path : List ℕ) (x : ℕ) → IsCycleSearch n links marks path
-    → x < n → mark_of marks x ≡ Fresh → LeadsTo links path x → IsCycleSearch n links (set marks x Open) (path ++ x ∷ [])
+    → x < n → mark_of marks x ≡ Fresh → LeadsTo links marks path x → IsCycleSearch n links (set marks x Open) (path ++ x ∷ [])
 opened n links marks path x s below fresh leads =
     let lm : x < length marks = omega (arith, s.marks_length) in
     let len = length_push path x in
@@ -49,7 +49,7 @@ opened n links marks path x s below fresh leads =
       path_follows = λ k h.
           let l : k < length path = omega (arith, len) in
           rw (get_or_append_left path (x ∷ []) 0 k l)
-          (elim (push_cases path x (k + 1) h) [ inl w ↦ rw w.1 (s.path_follows k w.0) | inr w ↦ rw w.1 (leads k w.0) ]);
+          (elim (push_cases path x (k + 1) h) [ inl w ↦ rw w.1 (s.path_follows k w.0) | inr w ↦ rw w.1 (leads.points k w.0) ]);
       path_open = λ k h. elim (mark_set marks x (get_or (path ++ x ∷ []) k 0) Open lm) [
         | inl w ↦ w.1
         | inr w ↦ elim (push_cases path x k h) [ inl v ↦ w.1 ∙ rw v.1 (s.path_open k v.0) | inr v ↦ absurd (w.0 v.1) ]
@@ -62,6 +62,17 @@ opened n links marks path x s below fresh leads =
             | inr w ↦ let was = s.path_open i l in
                 let e : get_or path i 0 ≡ x = cc (stays, same, w.1) in
                 cc (e, was, fresh)
+          ];
+      begins_lowest = λ w some less. elim (push_cases path x 0 some) [
+        | inl v ↦ done_stays w (s.begins_lowest w v.0 (rw v.1 at less))
+        | inr v ↦ done_stays w (leads.begins w v.0 (rw v.1 at less))
+      ];
+      follows_lowest = λ k w h points less.
+          let l : k < length path = omega (arith, len) in
+          let from = rw (get_or_append_left path (x ∷ []) 0 k l) at points in
+          elim (push_cases path x (k + 1) h) [
+            | inl v ↦ done_stays w (s.follows_lowest k w v.0 from (rw v.1 at less))
+            | inr v ↦ done_stays w (leads.lowest k w v.0 from (rw v.1 at less))
           ];
       open_on_path = λ y o. elim (mark_set marks x y Open lm) [
         | inl w ↦ rw w.0 (Contains-push path x)
@@ -113,6 +124,11 @@ left n links marks path x last s full top leads =
         get_or-take last path i 0 (omega (arith, len)),
         get_or-take last path j 0 (omega (arith, len)),
       ) (s.path_once i j lt (omega (arith, len)));
+      begins_lowest = λ w some less.
+          done_stays w (s.begins_lowest w (omega (arith, len)) (rw (get_or-take last path 0 0 (omega (arith, len))) at less));
+      follows_lowest = λ k w h points less.
+          done_stays w (s.follows_lowest k w (omega (arith, len))
+          (rw (get_or-take last path k 0 (omega (arith, len))) at points) (rw (get_or-take last path (k + 1) 0 (omega (arith, len))) at less));
       open_on_path = λ y o. elim (mark_set marks x y Done lm) [
         | inl w ↦ cc (w.1, o)
         | inr w ↦ let was = s.open_on_path y (sym w.1 ∙ o) in

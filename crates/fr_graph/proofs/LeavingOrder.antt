@@ -9,7 +9,7 @@ use Rattle.std.specs.List.{count_by}
 use Rattle.fr_graph.proofs.Cycles.{count_by-set, mark_set}
 use Rattle.fr_graph.proofs.Lists.{push_cases}
 use Rattle.fr_graph.proofs.ShownLinks.{row_of_points}
-use Rattle.fr_graph.specs.CycleSearch.{AreEntriesBelow, IsAtRest, IsCycleSearch, IsOrder, IsSearch, LeadsToDone, is_done, mark_of, nodes_of}
+use Rattle.fr_graph.specs.CycleSearch.{AreEntriesBelow, AreRowsRising, IsAtRest, IsCycleSearch, IsOrder, IsSearch, LeadsToDone, is_done, mark_of, nodes_of}
 use Rattle.fr_graph.specs.Heights.{HasHeadsFirst}
 use Rattle.fr_graph.specs.KeptRows.{net_in}
 use Rattle.fr_graph.specs.Links.{IsAcyclic, IsClosedWalk, Points}
@@ -47,6 +47,8 @@ search_begins n links =
       path_follows = λ k l. absurd (omega (arith, l));
       path_open = λ k l. absurd (omega (arith, l));
       path_once = λ i j lt l. absurd (omega (arith, l));
+      begins_lowest = λ w some. absurd (omega (arith, some));
+      follows_lowest = λ k w l. absurd (omega (arith, l));
       open_on_path = λ x is. cc (mark_unmet n x, is);
       done_closed = λ u v done. cc (mark_unmet n u, done);
       done_safe = λ u vs done. cc (mark_unmet n u, done);
@@ -62,12 +64,13 @@ unmet_order links n = record {
 }
 
 pub nothing_met : (n : ℕ) (rows : Table) (search : Search) → search.marks.items ≡ replicate n Fresh → search.path.items ≡ []
-    → search.order.items ≡ [] → length rows.rows ≡ n → AreEntriesBelow n rows → IsSearch rows search
-nothing_met n rows search fresh path order each below =
+    → search.order.items ≡ [] → length rows.rows ≡ n → AreEntriesBelow n rows → AreRowsRising rows → IsSearch rows search
+nothing_met n rows search fresh path order each below rising =
     let links = (net_in rows).links in
     record {
       one_each = rw (fresh, length-replicate n Fresh) each;
       below = rw (fresh, length-replicate n Fresh) below;
+      rising = rising;
       steps = rw (fresh, path, length-replicate n Fresh) (search_begins n links);
       read = rw path (λ k d l. absurd (omega (arith, l)));
       order = rw (fresh, order) (unmet_order links n);
@@ -112,14 +115,26 @@ left_order n links marks path order x s o l not_done leads =
       ];
     }
 
+-- while the path is empty, each node that was met is done
+not_open : (n : ℕ) (links : List (ℕ × ℕ)) (marks : List Mark) (x : ℕ) → IsCycleSearch n links marks [] → mark_of marks x ≢ Fresh → mark_of marks x ≡ Done
+not_open n links marks x s met = elim (mark_cases (mark_of marks x)) [
+  | inl f ↦ absurd (met f)
+  | inr more ↦ elim more [ inl f ↦ let on = s.open_on_path x f in absurd (omega (arith, on.1)) | inr f ↦ f ]
+]
+
+at_rest : (rows : Table) (search : Search) → IsAtRest rows search
+    → IsCycleSearch (length search.marks.items) (net_in rows).links search.marks.items []
+at_rest rows search rest =
+    subst (λ (path : List Step). IsCycleSearch (length search.marks.items) (net_in rows).links search.marks.items (nodes_of path)) rest.empty rest.search.steps
+
+pub met_done : (rows : Table) (search : Search) (x : ℕ) → IsAtRest rows search → mark_of search.marks.items x ≢ Fresh → mark_of search.marks.items x ≡ Done
+met_done rows search x rest = not_open (length search.marks.items) (net_in rows).links search.marks.items x (at_rest rows search rest)
+
 -- what holds after the search has met each node
 all_left : (n : ℕ) (links : List (ℕ × ℕ)) (marks : List Mark) (order : List ℕ) → ((u v : ℕ) → Points links u v → u < n)
     → IsCycleSearch n links marks [] → IsOrder links marks order → ((x : ℕ) → x < n → mark_of marks x ≢ Fresh) → IsAcyclic links × HasHeadsFirst n links order
 all_left n links marks order tails s o met =
-    let done : (x : ℕ) → x < n → mark_of marks x ≡ Done = λ x l. elim (mark_cases (mark_of marks x)) [
-      | inl f ↦ absurd (met x l f)
-      | inr more ↦ elim more [ inl f ↦ let on = s.open_on_path x f in absurd (omega (arith, on.1)) | inr f ↦ f ]
-    ] in
+    let done : (x : ℕ) → x < n → mark_of marks x ≡ Done = λ x l. not_open n links marks x s (met x l) in
     let inside : (x : ℕ) → mark_of marks x ≡ Done → x < n = λ x f. elim (cases_lt x n) [
       | inl l ↦ l
       | inr g ↦ let past = get_or_past marks x Fresh (omega (arith, g, s.marks_length)) in cc (past, f)
@@ -144,8 +159,7 @@ search_ends n rows search rest one_each met =
     let is = rest.search in
     let marks = search.marks.items in
     let links = (net_in rows).links in
-    let steps : IsCycleSearch (length marks) links marks [] =
-    subst (λ (path : List Step). IsCycleSearch (length marks) links marks (nodes_of path)) rest.empty is.steps in
+    let steps : IsCycleSearch (length marks) links marks [] = at_rest rows search rest in
     let tails : (u v : ℕ) → Points links u v → u < length marks = λ u v p. omega (arith, (row_of_points rows u v p).0, is.one_each) in
     subst (λ (k : ℕ). IsAcyclic links × HasHeadsFirst k links search.order.items) one_each
     (all_left (length marks) links marks search.order.items tails steps is.order (λ x l. met x (subst (λ (k : ℕ). x < k) one_each l)))

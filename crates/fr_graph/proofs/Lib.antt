@@ -18,6 +18,7 @@ pub mod HalfLinks  -- halves of links, and the rows in them
 pub mod ByNode  -- half-links sorted by node, twice
 pub mod RowLists  -- all rows in one list
 pub mod Building  -- from sorted half-links to the network, or the fault
+pub mod JoinedTwice  -- the lowest two nodes that are joined twice
 pub mod Refusing  -- links without a fault are refused only for missing memory
 -- The store of the rows
 pub mod RowTables  -- rows between their starts and ends, one of which changes
@@ -40,14 +41,16 @@ pub mod AddedRows  -- their rows
 pub mod EditedNets  -- both in a table
 pub mod Joining  -- a link in the direction that is free
 pub mod Batches  -- edits one after the other
+pub mod Evidence  -- a fault has one evidence
 pub mod Undoing  -- edits undone
 -- The search for a cycle
 pub mod Cycles  -- its steps keep its state
 pub mod LeavingOrder  -- the order in which it leaves nodes
 pub mod RowsRead  -- how far it has read the rows
+pub mod LowestCycles  -- the lowest cycle, of which there is one
 -- The search from both ends
 pub mod MetNodes  -- which nodes the sides have met
 pub mod Sides  -- a side keeps its state
 pub mod SideRows  -- the row that a side reads
 pub mod TwoEnds  -- how it begins and ends
-pub mod Meetings  -- where the sides meet, there is a path
+pub mod LowestPaths  -- one side alone, and the lowest path along which links lead to its start

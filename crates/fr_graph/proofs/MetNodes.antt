@@ -70,7 +70,6 @@ with_edge_nearer first_is nearer = record {
   same_limit = refl;
   nearer = rw first_is nearer;
   same_nodes = refl;
-  same_origins = refl;
   same_read = refl;
 }
 
@@ -81,7 +80,6 @@ same_more side met = none_more {before = side} {after = side} {met = met} record
   same_limit = refl;
   nearer = λ height past. past;
   same_nodes = refl;
-  same_origins = refl;
   same_read = refl;
 }
 

@@ -10,7 +10,7 @@ use Rattle.fr_graph.proofs.Counting.{weigh}
 use Rattle.fr_graph.proofs.Members.{Contains-cases, Contains-head, Contains-tail}
 use Rattle.fr_graph.specs.Order.{AreInOrder, IsNotAfter, in_order, is_not_after, with_in_order}
 
-up_trans : {p q r : ℕ × ℕ} → IsNotAfter p q → IsNotAfter q r → IsNotAfter p r
+pub up_trans : {p q r : ℕ × ℕ} → IsNotAfter p q → IsNotAfter q r → IsNotAfter p r
 up_trans (inl a) (inl b) = inl (omega arith)
 up_trans (inl a) (inr b) = inl (omega arith)
 up_trans (inr a) (inl b) = inl (omega arith)

@@ -4,6 +4,7 @@ use Rattle.fr_graph.proofs.Linking.{not_twice}
 use Rattle.std.proofs.Common.{subst}
 use Rattle.std.proofs.lemmas.Bool.{cases_lt}
 use Rattle.fr_graph.specs.Faults.{IsInRange, IsFaultless, IsTooLarge, IsFirstFault, IsOutOfRange}
+pub use Rattle.fr_graph.specs.Faults.{fault_place}
 use Rattle.fr_graph.specs.Limits.{IsWithinLimits}
 use Rattle.fr_graph.specs.Links.{AreBelow, AreSingle, HasNoSelfLink, IsAcyclic, IsCycle}
 use Rattle.fr_graph.specs.declared.fault.NetFault.{NetFault}
@@ -40,16 +41,6 @@ only_memory n links (Twice u v) f h = absurd (omega (arith, (h (λ e. cc)).3, no
 only_memory n links (Cycle walk) f h = absurd (no_cycle_stands links walk.items f.is_net.acyclic (h (λ e. cc)).4)
 only_memory n links NoLink f h = absurd (h (λ e. cc))
 only_memory n links Memory f h = refl
-
--- the place of a fault in the order of the tests
-abbrev pub fault_place : NetFault → ℕ
-fault_place TooMany = 0
-fault_place (Range x) = 1
-fault_place (SelfLink u) = 2
-fault_place (Twice u v) = 3
-fault_place (Cycle walk) = 4
-fault_place NoLink = 5
-fault_place Memory = 6
 
 -- what a later fault implies about the tests before it
 limits_passed : (n : ℕ) (links : List (ℕ × ℕ)) (g : NetFault) → 0 < fault_place g → IsFirstFault n links g → IsWithinLimits n links

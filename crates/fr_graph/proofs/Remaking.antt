@@ -1,5 +1,5 @@
 -- A graph from the rows of its nodes.
-use Rattle.std.proofs.Common.{List, [], ap, arith, get_or, inl, inr, length, refl, subst, suc, sym, zero, ℕ, ◌<◌, ◌∙◌, ◌≡◌}
+use Rattle.std.proofs.Common.{List, [], ap, arith, get_or, inl, inr, length, refl, subst, suc, sym, true, zero, ℕ, ◌<◌, ◌∙◌, ◌≡◌}
 use Rattle.std.proofs.lemmas.Bool.{cases_Bool}
 use Rattle.std.proofs.lemmas.List.Sorted.{IsPermutation-sym, length_permutation}
 use Rattle.fr_graph.proofs.Building.{acyclic_listed, faultless_sorted}
@@ -8,11 +8,12 @@ use Rattle.fr_graph.proofs.Ordering.{in_order_order, in_order_permutes, into_ord
 use Rattle.fr_graph.proofs.TurnedRows.{links_of_rows, out_rows}
 use Rattle.fr_graph.specs.Faults.{IsFaultless, IsNetworkOf}
 use Rattle.fr_graph.specs.Graph.{IsGraph, IsSame, shown}
-use Rattle.fr_graph.specs.Heights.{Fit, Levels}
+use Rattle.fr_graph.specs.Heights.{AreFalling, Fit, Levels}
 use Rattle.fr_graph.specs.KeptRows.{AreRows, ShowsNet, links_in, net_in}
 use Rattle.fr_graph.specs.Links.{IsNet, Points}
 use Rattle.fr_graph.specs.Network.{Network}
 use Rattle.fr_graph.specs.Order.{in_order}
+use Rattle.fr_graph.specs.PathSearch.{AreFallingRows}
 use Rattle.fr_graph.specs.RowLists.{out_links, rows_below}
 use Rattle.fr_graph.specs.Rows.{has_link, row, row_entry}
 use Rattle.fr_graph.specs.Tables.{KeepsRooms, Table, row_of}
@@ -150,3 +151,11 @@ net_shown g is = let at : ℕ → Network = λ n. record { nodes = n; links = li
 
 pub shows_net : (g : Graph) → IsGraph g → ShowsNet g.rows
 shows_net g is = record { is_net = rw is.rows.one_each is.faultless.is_net; rows = rw is.rows.one_each is.rows }
+
+-- and its links fall once the heights are known
+pub falling_rows : (g : Graph) → IsGraph g → g.heights.known ≡ true → AreFallingRows g.rows g.heights.heights
+falling_rows g is known = record {
+  shown = shows_net g is;
+  one_each = is.height_each ∙ sym is.rows.one_each;
+  falling = subst (λ (m : Network). AreFalling g.heights.heights m.links) (sym (net_shown g is)) (is.fit known);
+}

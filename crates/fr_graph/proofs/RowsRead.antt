@@ -7,8 +7,9 @@ use Rattle.std.proofs.Math.Seq.{map-set_same}
 use Rattle.fr_graph.proofs.Cycles.{left, mark_set, opened}
 use Rattle.fr_graph.proofs.LeavingOrder.{left_order, opened_order}
 use Rattle.fr_graph.proofs.ShownLinks.{row_of_points}
-use Rattle.fr_graph.specs.CycleSearch.{HasRead, IsPassed, IsSearch, LeadsTo, LeadsToDone, mark_of, nodes_of}
+use Rattle.fr_graph.specs.CycleSearch.{AreRowsRising, HasRead, IsPassed, IsSearch, LeadsTo, LeadsToDone, mark_of, nodes_of}
 use Rattle.fr_graph.specs.KeptRows.{net_in}
+use Rattle.fr_graph.specs.Links.{Points}
 use Rattle.fr_graph.specs.Tables.{Table, row_of}
 use Rattle.fr_graph.specs.declared.cycle.Mark.{Mark}
 use Rattle.fr_graph.specs.declared.cycle.Mark.TheVariants.{Done, Fresh, Open}
@@ -53,22 +54,45 @@ nodes_counted some other same = omega (arith, ap length same, length-map some (�
 pub top_is : (path : List Step) (last : ℕ) (top : Step) → last + 1 ≡ length path → top ≡ get_or path last top → get_or (nodes_of path) last 0 ≡ top.node
 top_is path last top full is = get_or-map (λ (s : Step). s.node) path last top 0 (omega (arith, full)) ∙ ap (λ (s : Step). s.node) (sym is)
 
+read_before : (rows : Table) (marks : List Mark) (top : Step) (next v k : ℕ) → HasRead rows marks top
+    → ((k : ℕ) (d : ℕ × First) → top.next ≤ k → k < next → IsPassed marks (get_or (row_of rows top.node) k d))
+    → k < next → get_or (row_of rows top.node) k (v, Outward) ≡ (v, Outward) → mark_of marks v ≡ Done
+read_before rows marks top next v k read passes less entry =
+    let done : IsPassed marks (get_or (row_of rows top.node) k (v, Outward)) = elim (cases_lt k top.next) [
+      | inl less ↦ read.passed k (v, Outward) less
+      | inr more ↦ passes k (v, Outward) more less
+    ] in
+    let there : IsPassed marks (v, Outward) = subst (IsPassed marks) entry done in
+    there refl
+
 pub read_through : (rows : Table) (marks : List Mark) (top : Step) (next : ℕ) → HasRead rows marks top
     → ((k : ℕ) (d : ℕ × First) → top.next ≤ k → k < next → IsPassed marks (get_or (row_of rows top.node) k d))
     → length (row_of rows top.node) ≤ next → LeadsToDone (net_in rows).links marks top.node
 read_through rows marks top next read passes all v points =
     let at = (row_of_points rows top.node v points).1 in
-    let entry : get_or (row_of rows top.node) at.0 (v, Outward) ≡ (v, Outward) = at.2 in
-    let done : IsPassed marks (get_or (row_of rows top.node) at.0 (v, Outward)) = elim (cases_lt at.0 top.next) [
-      | inl less ↦ read.passed at.0 (v, Outward) less
-      | inr more ↦ passes at.0 (v, Outward) more (omega (arith, at.1, all))
-    ] in
-    let there : IsPassed marks (v, Outward) = subst (IsPassed marks) entry done in
-    there refl
+    read_before rows marks top next v at.0 read passes (omega (arith, at.1, all)) at.2
+
+-- and after it was read up to the entry of `head`: links to lower nodes lead to done ones
+pub read_up_to : (rows : Table) (marks : List Mark) (top : Step) (next head : ℕ) → AreRowsRising rows → HasRead rows marks top
+    → ((k : ℕ) (d : ℕ × First) → top.next ≤ k → k < next → IsPassed marks (get_or (row_of rows top.node) k d))
+    → next < length (row_of rows top.node) → ((d : ℕ × First) → (get_or (row_of rows top.node) next d).0 ≡ head)
+    → (v : ℕ) → Points (net_in rows).links top.node v → v < head → mark_of marks v ≡ Done
+read_up_to rows marks top next head rising read passes inside here v points below =
+    let at = (row_of_points rows top.node v points).1 in
+    let d : ℕ × First = (v, Outward) in
+    let entry : get_or (row_of rows top.node) at.0 d ≡ d = at.2 in
+    let node : (get_or (row_of rows top.node) at.0 d).0 ≡ v = ap (λ (e : ℕ × First). e.0) entry in
+    elim (cases_lt at.0 next) [
+      | inl less ↦ read_before rows marks top next v at.0 read passes less entry
+      | inr more ↦ elim (cases_lt next at.0) [
+        | inl past ↦ absurd (omega (arith, rising top.node next at.0 d past at.1, here d, node))
+        | inr same ↦ let e : at.0 ≡ next = omega arith in absurd (omega (arith, rw e at node, here d))
+      ]
+    ]
 
 -- the search goes on to a node that has not been met
 pub search_opens : (rows : Table) (search after : Search) (x : ℕ) → IsSearch rows search → x < length search.marks.items
-    → mark_of search.marks.items x ≡ Fresh → LeadsTo (net_in rows).links (nodes_of search.path.items) x
+    → mark_of search.marks.items x ≡ Fresh → LeadsTo (net_in rows).links search.marks.items (nodes_of search.path.items) x
     → after.marks.items ≡ set search.marks.items x Open
     → after.path.items ≡ search.path.items ++ record { node = x; next = 0 } ∷ [] → after.order.items ≡ search.order.items → IsSearch rows after
 search_opens rows search after x s below fresh leads marks path order =
@@ -81,6 +105,7 @@ search_opens rows search after x s below fresh leads marks path order =
     record {
       one_each = rw (marks, length-set old x Open) s.one_each;
       below = rw (marks, length-set old x Open) s.below;
+      rising = s.rising;
       steps = rw (marks, path, same, length-set old x Open) (opened _ _ old (nodes_of search.path.items) x s.steps below fresh leads);
       read = rw (marks, path) (All-push (HasRead rows (set old x Open)) search.path.items new
           (reads_stay rows old _ search.path.items stays s.read) (record { inside = omega arith; passed = λ k d lt. absurd (omega (arith, lt)) }));
@@ -106,6 +131,7 @@ search_leaves rows search after x last s full top below leads marks path order =
     record {
       one_each = rw (marks, length-set old x Done) s.one_each;
       below = rw (marks, length-set old x Done) s.below;
+      rising = s.rising;
       steps = rw (marks, path, ← take-map (λ (s : Step). s.node) last steps, length-set old x Done)
           (left _ _ old (nodes_of steps) x last s.steps whole top leads);
       read = rw (marks, path) (reads_stay rows old _ (take last steps) stays front);

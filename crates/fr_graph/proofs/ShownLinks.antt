@@ -4,10 +4,10 @@ use Rattle.std.proofs.lemmas.Bool.{cases_lt}
 use Rattle.std.proofs.lemmas.List.{get_or_past}
 use Rattle.std.proofs.lemmas.List.Elements.{Contains-get_or}
 use Rattle.fr_graph.proofs.Giving.{filter_map-Contains, filter_map-from}
-use Rattle.fr_graph.proofs.Neighbours.{out_of_row, row_holds, row_of_link}
+use Rattle.fr_graph.proofs.Neighbours.{out_of_row, row_holds, row_of_link, row_rises}
 use Rattle.fr_graph.proofs.RowLists.{from_rows, into_rows}
 use Rattle.fr_graph.proofs.TurnedRows.{link_shown}
-use Rattle.fr_graph.specs.CycleSearch.{AreEntriesBelow}
+use Rattle.fr_graph.specs.CycleSearch.{AreEntriesBelow, AreRowsRising}
 use Rattle.fr_graph.specs.Heights.{HasHeadsFirst}
 use Rattle.fr_graph.specs.KeptRows.{AreRows, links_in, net_in}
 use Rattle.fr_graph.specs.Links.{AreBelow, HaveSameLinks, Points}
@@ -59,7 +59,13 @@ heads_of n links table below rows first = record {
   heads = λ i j li lj points. first.heads i j li lj ((same_shown n links table below rows _ _).0 points);
 }
 
--- the neighbours in the rows are nodes
+-- the neighbours in each row increase, and are nodes
+pub rows_rise : (n : ℕ) (links : List (ℕ × ℕ)) (table : Table) → AreRows n links table → AreRowsRising table
+rows_rise n links table rows x i j d less inside = elim (cases_lt x n) [
+  | inl lt ↦ rw (rows.shown x lt) (row_rises n links x i j d less (rw (rows.shown x lt) at inside))
+  | inr past ↦ let none : row_of table x ≡ [] = get_or_past table.rows x [] (omega (arith, past, rows.one_each)) in absurd (omega (arith, inside, ap length none))
+]
+
 pub entries_below : (n : ℕ) (links : List (ℕ × ℕ)) (table : Table) → AreRows n links table → AreEntriesBelow n table
 entries_below n links table rows x k d l = elim (cases_lt x n) [
   | inl lt ↦ rw (rows.shown x lt) (row_holds n links x (get_or (row n links x) k d) (Contains-get_or (row n links x) k d (rw (rows.shown x lt) at l))).0

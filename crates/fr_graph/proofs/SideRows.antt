@@ -92,7 +92,8 @@ side_reads {net} {heights} {f} {start} {limit} {met} {side} x is_net unread at_r
       first_is = s.first_is;
       limit_is = s.limit_is;
       start_is = s.start_is;
-      came = s.came;
+      begun = s.begun;
+      reached = s.reached;
       all_met = s.all_met;
       listed = s.listed;
       inside = omega arith;
@@ -101,7 +102,7 @@ side_reads {net} {heights} {f} {start} {limit} {met} {side} x is_net unread at_r
         | inl less ↦ s.leads_on k w less step
         | inr more ↦ let e : k ≡ side.read = omega arith in here w (rw (e, at_read) at step)
       ]);
-      room = record { nodes = s.room.nodes; origins = s.room.origins };
+      room = s.room;
     }
   where
     again : (w : ℕ) → IsMetOrAside f side met w (slice_index heights w) → IsMetOrAside f (record side { read = side.read + 1 }) met w (slice_index heights w)

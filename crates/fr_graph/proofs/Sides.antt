@@ -1,13 +1,13 @@
 -- A side of a search from both ends keeps its state when it begins, meets a node, skips one, and when the other side
 -- continues.
-use Rattle.std.proofs.Common.{Contains, List, [], ap, arith, get_or, inl, inr, length, refl, set, slice_index, subst, sym, ℕ, ◌++◌, ◌+◌, ◌<◌, ◌∙◌}
-use Rattle.std.proofs.Common.{◌∷◌, ◌≡◌, ◌≤◌, ◌⊎◌}
+use Rattle.std.proofs.Common.{Bool, Contains, IsTrue, List, [], ap, arith, false, get_or, inl, inr, length, refl, set, slice_index, subst, sym, ℕ, ◌++◌, ◌+◌, ◌<◌, ◌∙◌}
+use Rattle.std.proofs.Common.{◌∷◌, ◌≡◌, ◌≤◌, ◌⊎◌, ◌↔◌}
 use Rattle.std.proofs.lemmas.Bool.{cases_lt}
 use Rattle.std.proofs.lemmas.List.{get_or_append_left, get_or_past, get_or_push, get_or-set_same, length_push}
-use Rattle.std.proofs.lemmas.List.Elements.{All-contains, All-push, Contains-append_left, Contains-push}
+use Rattle.std.proofs.lemmas.List.Elements.{All-contains, All-get_or, All-push, Contains-append_left, Contains-push}
 use Rattle.std.specs.List.{All}
-use Rattle.fr_graph.proofs.Lists.{push_cases}
-use Rattle.fr_graph.specs.PathSearch.{HasBegun, HasMet, HasMetMore, HasMovedEdge, HasOrigins, IsBeyond, IsSide, LeadsOn, MeetsNew, met_by}
+use Rattle.fr_graph.specs.Links.{HasPath, IsPath, Points, end_of}
+use Rattle.fr_graph.specs.PathSearch.{HasBegun, HasMet, HasMetMore, HasMovedEdge, HasPathOn, IsBeyond, IsSide, LeadsOn, MeetsNew, met_by}
 use Rattle.fr_graph.specs.PathSearch.{never_count, start_of}
 use Rattle.fr_graph.specs.Network.{Network}
 use Rattle.fr_graph.specs.RowLists.{opposite}
@@ -15,32 +15,21 @@ use Rattle.fr_graph.specs.declared.path_search.Met.{Met}
 use Rattle.fr_graph.specs.declared.path_search.Met.TheVariants.{Never}
 use Rattle.fr_graph.specs.declared.path_search.Side.{Side}
 use Rattle.fr_graph.specs.declared.first.First.{First}
+use Rattle.fr_graph.specs.declared.first.First.TheVariants.{Inward, Outward}
 use Rattle.fr_graph.proofs.MetNodes.{never_apart, met_set, one_more, none_more, same_more, met_stays, settled_stays, other_was}
 
--- one more node to which a side came from one of its nodes
-came_on : (f : First) (links : List (ℕ × ℕ)) (nodes origins : List ℕ) (x place : ℕ) → HasOrigins f links nodes origins
-    → place < length nodes → LeadsOn f links (get_or nodes place 0) x → HasOrigins f links (nodes ++ x ∷ []) (origins ++ place ∷ [])
-came_on f links nodes origins x place came inside step =
-    let long = length_push nodes x in
-    let also = length_push origins place in
-    record {
-      begun = omega (arith, long);
-      one_each = omega (arith, long, also, came.one_each);
-      earlier = λ k some l. elim (push_cases nodes x k l) [
-        | inl w ↦ rw (get_or_append_left origins (place ∷ []) 0 k (omega (arith, w.0, came.one_each))) (came.earlier k some w.0)
-        | inr w ↦ rw (get_or_push origins place 0 k (omega (arith, w.0, came.one_each))) (omega (arith, w.0))
-      ];
-      leads = λ k some l. elim (push_cases nodes x k l) [
-        | inl w ↦
-            let before : get_or origins k 0 < length nodes = omega (arith, came.earlier k some w.0, w.0) in
-            rw (
-              w.1,
-              get_or_append_left origins (place ∷ []) 0 k (omega (arith, w.0, came.one_each)),
-              get_or_append_left nodes (x ∷ []) 0 (get_or origins k 0) before,
-            ) (came.leads k some w.0)
-        | inr w ↦ rw (w.1, get_or_push origins place 0 k (omega (arith, w.0, came.one_each)), get_or_append_left nodes (x ∷ []) 0 place inside) step
-      ];
-    }
+-- a path that leads on to a node, and on from it by one link
+path_grows : (links : List (ℕ × ℕ)) (x : ℕ) (vs : List ℕ) (y w : ℕ) → IsPath links x vs → end_of x vs ≡ y → Points links y w → HasPath links x w
+path_grows links x [] y w path e step = (w ∷ [], ((rw e step, tt), refl))
+path_grows links x (v ∷ vs) y w path e step = let rest = path_grows links v vs y w path.1 e step in (v ∷ rest.0, ((path.0, rest.1.0), rest.1.1))
+
+on_path : (f : First) (links : List (ℕ × ℕ)) (s : ℕ) → HasPathOn f links s s
+on_path Outward links s = ([], (tt, refl))
+on_path Inward links s = ([], (tt, refl))
+
+path_on : (f : First) (links : List (ℕ × ℕ)) (s x w : ℕ) → HasPathOn f links s x → LeadsOn f links x w → HasPathOn f links s w
+path_on Outward links s x w path step = path_grows links s path.0 x w path.1.0 path.1.1 step
+path_on Inward links s x w path step = (x ∷ path.0, ((step, path.1.0), path.1.1))
 
 -- a side that has met only its start
 pub side_begins : (net : Network) (heights : List ℕ) (f : First) (start limit : ℕ) (met : List Met) (side : Side)
@@ -53,21 +42,14 @@ side_begins net heights f start limit met side long here alone few near b =
       first_is = b.first_is;
       limit_is = b.limit_is;
       start_is = rw b.met_alone refl;
-      came = rw (b.met_alone, b.came_alone) record {
-        begun = omega arith;
-        one_each = refl;
-        earlier = λ k some l. absurd (omega (arith, some, l));
-        leads = λ k some l. absurd (omega (arith, some, l));
-      };
+      begun = rw b.met_alone (omega arith);
+      reached = first (HasPathOn f net.links start) (on_path f net.links start);
       all_met = first (HasMet f met) here;
       listed = λ x h. rw (b.met_alone, alone x h) (Contains-push [] start);
       inside = rw b.none_read (omega arith);
       within = first (λ (x : ℕ). ¬ IsBeyond f limit (slice_index heights x)) near;
       leads_on = λ k w l step. absurd (omega (arith, b.none_read, l));
-      room = record {
-        nodes = omega (arith, few, b.room, ap length b.met_alone);
-        origins = omega (arith, few, b.origin_room, ap length b.came_alone);
-      };
+      room = omega (arith, few, b.room, ap length b.met_alone);
     }
 
 -- a side that has met one more node
@@ -84,8 +66,10 @@ side_meets {net} {heights} {f} {start} {limit} {old} {new} {before} {after} {x} 
       one_each = more.one_each ∙ s.one_each;
       first_is = m.same_first ∙ s.first_is;
       limit_is = m.same_limit ∙ s.limit_is;
-      start_is = more.stands 0 s.came.begun ∙ s.start_is;
-      came = rw (m.nodes, m.origins) (came_on f net.links before.nodes.items before.origins.items x before.read s.came unread step);
+      start_is = more.stands 0 s.begun ∙ s.start_is;
+      begun = omega (arith, s.begun, more.longer);
+      reached = rw m.nodes (All-push (HasPathOn f net.links start) before.nodes.items x s.reached
+          (path_on f net.links start _ x (All-get_or (HasPathOn f net.links start) before.nodes.items before.read 0 unread s.reached) step));
       all_met = rw m.nodes (All-push (HasMet f new) before.nodes.items x (λ k d h. met_stays f _ s.first_is more (s.all_met k d h)) now);
       listed = λ y h. rw m.nodes (elim (met_set old x y (met_by f) l) [
         | inl w ↦ rw w.0 (Contains-push before.nodes.items x)
@@ -96,20 +80,7 @@ side_meets {net} {heights} {f} {start} {limit} {old} {new} {before} {after} {x} 
       leads_on = λ k w l step.
           let early : k < before.read = omega (arith, l, m.same_read) in
           settled_stays f w (slice_index heights w) s.first_is more (s.leads_on k w early (rw (more.stands k (omega (arith, early, s.inside))) at step));
-      room = record {
-        nodes = rw m.same_room (omega (arith, more.counted, s.room.nodes));
-        origins = rw m.same_origin_room
-            (omega (
-              arith,
-              more.counted,
-              s.room.origins,
-              s.came.one_each,
-              ap length m.nodes,
-              ap length m.origins,
-              length_push before.nodes.items x,
-              length_push before.origins.items before.read,
-            ));
-      };
+      room = rw m.same_room (omega (arith, more.counted, s.room));
     }
 
 -- a side that may have skipped one more node
@@ -120,14 +91,15 @@ side_moves {net} {heights} {f} {start} {limit} {met} {before} {after} m s = reco
   first_is = m.same_first ∙ s.first_is;
   limit_is = m.same_limit ∙ s.limit_is;
   start_is = rw m.same_nodes s.start_is;
-  came = rw (m.same_nodes, m.same_origins) s.came;
+  begun = rw m.same_nodes s.begun;
+  reached = rw m.same_nodes s.reached;
   all_met = rw m.same_nodes s.all_met;
   listed = rw m.same_nodes s.listed;
   inside = rw (m.same_nodes, m.same_read) s.inside;
   within = rw m.same_nodes s.within;
   leads_on = λ k w l step. settled_stays f w (slice_index heights w) s.first_is (none_more m)
       (s.leads_on k w (omega (arith, l, m.same_read)) (rw m.same_nodes at step));
-  room = record { nodes = rw m.same_nodes s.room.nodes; origins = rw m.same_origins s.room.origins };
+  room = rw m.same_nodes s.room;
 }
 
 -- so it keeps its state, whether it meets a node within the limit now or has met it before
@@ -152,25 +124,29 @@ other_stays {net} {heights} {start} {limit} {old} {new} {before} {after} {other}
       first_is = s.first_is;
       limit_is = s.limit_is;
       start_is = s.start_is;
-      came = s.came;
+      begun = s.begun;
+      reached = s.reached;
       all_met = λ k d h. stays _ (s.all_met k d h);
       listed = λ y h. s.listed y (other_was f y first_is more h);
       inside = s.inside;
       within = s.within;
       leads_on = λ k w l step. elim (s.leads_on k w l step) [ inl h ↦ inl (stays w h) | inr aside ↦ inr aside ];
-      room = record {
-        nodes = omega (arith, more.counted, more.longer, s.room.nodes);
-        origins = omega (arith, more.counted, more.longer, s.room.origins);
-      };
+      room = omega (arith, more.counted, more.longer, s.room);
     }
 
 pub start_met : {net : Network} {heights : List ℕ} {f : First} {start limit : ℕ} {met : List Met} {side : Side}
     → IsSide net heights f start limit met side → HasMet f met start
-start_met s = rw s.start_is at (s.all_met 0 0 s.came.begun)
+start_met s = rw s.start_is at (s.all_met 0 0 s.begun)
 
 pub listed_met : {net : Network} {heights : List ℕ} {f : First} {start limit : ℕ} {met : List Met} {side : Side} (x : ℕ)
     → IsSide net heights f start limit met side → Contains side.nodes.items x → HasMet f met x
 listed_met {net} {heights} {f} {start} {limit} {met} {side} x s h = All-contains (HasMet f met) side.nodes.items x s.all_met h
+
+-- a path leads on to each node that a side has met
+pub met_reached : {net : Network} {heights : List ℕ} {f : First} {start limit : ℕ} {met : List Met} {side : Side} (x : ℕ)
+    → IsSide net heights f start limit met side → HasMet f met x → HasPathOn f net.links start x
+met_reached {net} {heights} {f} {start} {limit} {met} {side} x s h =
+    All-contains (HasPathOn f net.links start) side.nodes.items x s.reached (s.listed x h)
 
 -- the nodes of a side are within the limit, and below the number of nodes
 pub near_met : {net : Network} {heights : List ℕ} {f : First} {start limit : ℕ} {met : List Met} {side : Side} (x : ℕ)
@@ -198,3 +174,7 @@ own_side {net} {heights} {f} {start} {limit} {met} {side} is =
 pub next_below : {net : Network} {heights : List ℕ} {f : First} {start limit : ℕ} {met : List Met} {side : Side} (x : ℕ)
     → IsSide net heights f start limit met side → side.read < length side.nodes.items → x ≡ get_or side.nodes.items side.read x → x < net.nodes
 next_below {side = side} x is unread at = met_below x is (listed_met x is (side.read, unread, sym at))
+
+-- a side without unread nodes has read all its rows
+pub none_left : {has : Bool} {read nodes : ℕ} → has ≡ false → IsTrue has ↔ (read < nodes) → nodes ≤ read
+none_left {has} {read} {nodes} none says = elim (cases_lt read nodes) [ inl left ↦ cc (says.1 left, none) | inr read_all ↦ read_all ]

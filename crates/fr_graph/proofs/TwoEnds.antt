@@ -7,21 +7,20 @@ use Rattle.std.proofs.lemmas.List.{get_or_default, get_or_past, get_or-replicate
 use Rattle.std.proofs.lemmas.List.Elements.{Contains-push_cases}
 use Rattle.std.proofs.lemmas.List.Sums.{count_by-le-length}
 use Rattle.fr_graph.proofs.Acyclic.{path_falls}
-use Rattle.fr_graph.proofs.AddedLinks.{added}
+use Rattle.fr_graph.proofs.AddedLinks.{added, path_joins}
 use Rattle.fr_graph.specs.Heights.{AreFalling, FitBetween}
 use Rattle.fr_graph.specs.Links.{HasPath, IsPath, Points, end_of}
-use Rattle.fr_graph.specs.PathSearch.{HasBegun, HasMet, IsBeyond, IsMeeting, IsPast, IsSide, IsPathAnswer, LeadsOn, MeetAlong, is_never, link_by}
+use Rattle.fr_graph.specs.PathSearch.{HasBegun, HasMet, IsBeyond, IsPast, IsSide, IsPathAnswer, LeadsOn, Meets, is_never}
 use Rattle.fr_graph.specs.PathSearch.{met_of, never_count, answer_of_ended}
 use Rattle.fr_graph.specs.Network.{Network}
 use Rattle.fr_graph.specs.RowLists.{opposite}
-use Rattle.fr_graph.specs.declared.path_search.Meeting.{Meeting}
 use Rattle.fr_graph.specs.declared.path_search.Met.{Met}
 use Rattle.fr_graph.specs.declared.path_search.Met.TheVariants.{Backward, Forward, Never}
 use Rattle.fr_graph.specs.declared.path_search.Side.{Side}
 use Rattle.fr_graph.specs.declared.first.First.{First}
 use Rattle.fr_graph.specs.declared.first.First.TheVariants.{Inward, Outward}
 use Rattle.fr_graph.proofs.MetNodes.{sides_apart, met_set, fewer_never}
-use Rattle.fr_graph.proofs.Sides.{side_begins, start_met, listed_met, near_met, met_below}
+use Rattle.fr_graph.proofs.Sides.{side_begins, start_met, listed_met, near_met, met_below, met_reached}
 
 -- if links from nodes with P lead only to nodes with P, except to heads below the limit, so do paths that end no lower
 path_ahead : (heights : List ℕ) (links : List (ℕ × ℕ)) (limit : ℕ) (P : ℕ → Type 0) → AreFalling heights links
@@ -35,7 +34,7 @@ path_ahead heights links limit P falling on u (v ∷ vs) path high here =
     ]
 
 -- the same backward, except from tails above the limit, along paths that begin no higher
-path_behind : (heights : List ℕ) (links : List (ℕ × ℕ)) (limit : ℕ) (P : ℕ → Type 0) → AreFalling heights links
+pub path_behind : (heights : List ℕ) (links : List (ℕ × ℕ)) (limit : ℕ) (P : ℕ → Type 0) → AreFalling heights links
     → ((u v : ℕ) → P v → Points links u v → P u ⊎ (limit < slice_index heights u)) → (u : ℕ) (vs : List ℕ)
     → IsPath links u vs → slice_index heights u ≤ limit → P (end_of u vs) → P u
 path_behind heights links limit P falling on u [] path low there = there
@@ -48,28 +47,20 @@ start_unmet : {net : Network} {heights : List ℕ} {f : First} {a b low high : �
     → IsSide net heights f a low met side → IsSide net heights (opposite f) b high met other → ¬ HasMet f met b
 start_unmet {net} {heights} {f} s o h = sides_apart f (sym h ∙ start_met o)
 
--- a side leads on from one of its nodes to a node of the other side
-pub meet_along : (f : First) (links : List (ℕ × ℕ)) (met : List Met) (x w : ℕ) → HasMet f met x → HasMet (opposite f) met w
-    → LeadsOn f links x w → MeetAlong links met (link_by f x w)
-meet_along Outward links met x w own other step = record { tail = own; head = other; points = step }
-meet_along Inward links met x w own other step = record { tail = other; head = own; points = step }
+-- if the sides meet, there is a path
+pub ahead_meets : {net : Network} {heights : List ℕ} {from to low high : ℕ} {met : List Met} {ahead behind : Side}
+    → IsSide net heights Outward from low met ahead → IsSide net heights Inward to high met behind → Meets Outward net.links met → HasPath net.links from to
+ahead_meets {net} s o m =
+    let here = met_reached m.own s m.own_met in
+    let there = met_reached m.other o m.other_met in
+    path_joins net.links _ here.0 m.own _ here.1.0 here.1.1 (m.other ∷ there.0, ((m.leads, there.1.0), there.1.1))
 
--- so both sides show where they met
-pub sides_meet : {net : Network} {heights : List ℕ} {from to low high : ℕ} {met : List Met} (meeting : Meeting)
-    → IsSide net heights Outward from low met meeting.ahead → IsSide net heights Inward to high met meeting.behind
-    → MeetAlong net.links met meeting.link → IsMeeting net.links from to meeting
-sides_meet meeting ahead behind along = record {
-  ahead = ahead.came;
-  behind = behind.came;
-  from_start = ahead.start_is;
-  to_start = behind.start_is;
-  tail = ahead.listed meeting.link.0 along.tail;
-  head = behind.listed meeting.link.1 along.head;
-  points = along.points;
-}
+pub behind_meets : {net : Network} {heights : List ℕ} {from to low high : ℕ} {met : List Met} {ahead behind : Side}
+    → IsSide net heights Outward from low met ahead → IsSide net heights Inward to high met behind → Meets Inward net.links met → HasPath net.links from to
+behind_meets s o m = ahead_meets s o (record { own = m.other; other = m.own; own_met = m.other_met; other_met = m.own_met; leads = m.leads })
 
 -- if a side has read the rows of all its nodes, links lead on only to nodes that it has met, or that lie past its edge
-side_closed : {net : Network} {heights : List ℕ} {f : First} {start limit : ℕ} {met : List Met} {side : Side} (x w : ℕ)
+pub side_closed : {net : Network} {heights : List ℕ} {f : First} {start limit : ℕ} {met : List Met} {side : Side} (x w : ℕ)
     → IsSide net heights f start limit met side → length side.nodes.items ≤ side.read → HasMet f met x
     → LeadsOn f net.links x w → HasMet f met w ⊎ (IsBeyond f limit (slice_index heights w) × IsPast f side.edge (slice_index heights w))
 side_closed {net} {heights} {f} {start} {limit} {met} {side} x w s all h step =
@@ -147,7 +138,7 @@ ended_behind {net} {heights} {from} {to} {met} {ahead} {behind} falling o s all 
     rw (s.first_is, s.limit_is) (none, (λ k d l. met_below _ s (s.all_met k d l), fit))
 
 -- both sides when they begin
-none_met : (n x : ℕ) → met_of (replicate n Never) x ≡ Never
+pub none_met : (n x : ℕ) → met_of (replicate n Never) x ≡ Never
 none_met n x =
     elim (cases_lt x n) [
       | inl l ↦ get_or-replicate n x Never Never l

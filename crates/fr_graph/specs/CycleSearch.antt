@@ -1,6 +1,7 @@
 -- The state of the depth-first search for a cycle. For proofs only.
 use Rattle.std.specs.Prelude.{◌≡◌, ◌≢◌, ℕ, ◌<◌, ◌≤◌, ◌+◌, ◌-◌, ◌*◌, List, [], length, map, slice_index, slice_index_or, vec_len, Option, Bool, true, false, count_by, IfSome}
-use Rattle.std.specs.List.{All, Contains}
+use Rattle.std.specs.List.{All, AllPairs, Contains}
+use Rattle.fr_graph.specs.Evidence.{IsLowestCycle}
 use Rattle.fr_graph.specs.Heights.{HasHeadsFirst}
 use Rattle.fr_graph.specs.KeptRows.{net_in}
 use Rattle.fr_graph.specs.Links.{IsAcyclic, IsClosedWalk, IsCycle, Points}
@@ -21,7 +22,8 @@ mark_of marks x = slice_index_or marks x Fresh
 abbrev pub nodes_of : List Step → List ℕ
 nodes_of path = map (λ (step : Step). step.node) path
 
--- the path follows links and consists of the open nodes, each once; links from done nodes lead to done nodes, and no
+-- the path follows links and consists of the open nodes, each once; nodes below its first one are done, and so are
+-- those below the next one to which a link of the path's node leads; links from done nodes lead to done nodes, and no
 -- cycle leaves a done node
 pub record IsCycleSearch (n : ℕ) (links : List (ℕ × ℕ)) (marks : List Mark) (path : List ℕ) : Type 0 where
   pub marks_length : length marks ≡ n
@@ -29,6 +31,8 @@ pub record IsCycleSearch (n : ℕ) (links : List (ℕ × ℕ)) (marks : List Mar
   pub path_follows : (k : ℕ) → k + 1 < length path → Points links (slice_index path k) (slice_index path (k + 1))
   pub path_open : (k : ℕ) → k < length path → mark_of marks (slice_index path k) ≡ Open
   pub path_once : (i j : ℕ) → i < j → j < length path → slice_index path i ≢ slice_index path j
+  pub begins_lowest : (w : ℕ) → 0 < length path → w < slice_index path 0 → mark_of marks w ≡ Done
+  pub follows_lowest : (k w : ℕ) → k + 1 < length path → Points links (slice_index path k) w → w < slice_index path (k + 1) → mark_of marks w ≡ Done
   pub open_on_path : (x : ℕ) → mark_of marks x ≡ Open → Contains path x
   pub done_closed : (u v : ℕ) → mark_of marks u ≡ Done → Points links u v → mark_of marks v ≡ Done
   pub done_safe : (u : ℕ) (vs : List ℕ) → mark_of marks u ≡ Done → ¬ IsClosedWalk links u vs
@@ -50,6 +54,10 @@ pub record HasRead (rows : Table) (marks : List Mark) (step : Step) : Type 0 whe
 abbrev pub AreEntriesBelow : ℕ → Table → Type 0
 AreEntriesBelow n rows = (x : ℕ) → All (λ (e : ℕ × First). e.0 < n) (row_of rows x)
 
+-- the neighbours in each row increase
+abbrev pub AreRowsRising : Table → Type 0
+AreRowsRising rows = (x : ℕ) → AllPairs (λ (e f : ℕ × First). e.0 < f.0) (row_of rows x)
+
 abbrev pub is_done : Mark → Bool
 is_done Fresh = false
 is_done Open = false
@@ -62,9 +70,9 @@ pub record IsOrder (links : List (ℕ × ℕ)) (marks : List Mark) (order : List
   pub all : (x : ℕ) → mark_of marks x ≡ Done → Contains order x
   pub heads : (i j : ℕ) → i < length order → j < length order → Points links (slice_index order i) (slice_index order j) → j < i
 
--- what the search of n nodes finds: a cycle or an order
+-- what the search of n nodes finds: the lowest cycle or an order
 abbrev pub IsFound : ℕ → List (ℕ × ℕ) → Found → Type 0
-IsFound n links (Walk walk) = IsCycle links walk.items
+IsFound n links (Walk walk) = IsCycle links walk.items × IsLowestCycle links walk.items
 IsFound n links (Order order) = IsAcyclic links × HasHeadsFirst n links order.items
 
 -- the search at any moment: its marks, its path, how far it has read the rows of the path, and the order of the done
@@ -72,6 +80,7 @@ IsFound n links (Order order) = IsAcyclic links × HasHeadsFirst n links order.i
 pub record IsSearch (rows : Table) (search : Search) : Type 0 where
   pub one_each : length rows.rows ≡ length search.marks.items
   pub below : AreEntriesBelow (length search.marks.items) rows
+  pub rising : AreRowsRising rows
   pub steps : IsCycleSearch (length search.marks.items) (net_in rows).links search.marks.items (nodes_of search.path.items)
   pub read : All (HasRead rows search.marks.items) search.path.items
   pub order : IsOrder (net_in rows).links search.marks.items search.order.items
@@ -86,9 +95,12 @@ pub record KeepsSeen (old new : List Mark) : Type 0 where
   pub seen : (x : ℕ) → mark_of old x ≢ Fresh → mark_of new x ≢ Fresh
   pub one_each : length new ≡ length old
 
--- the last node of the path, if there is one, points to x
-abbrev pub LeadsTo : List (ℕ × ℕ) → List ℕ → ℕ → Type 0
-LeadsTo links path x = (k : ℕ) → k + 1 ≡ length path → Points links (slice_index path k) x
+-- the last node of the path, if there is one, points to x, and its links to lower nodes lead to done ones. If there is
+-- none, all lower nodes are done
+pub record LeadsTo (links : List (ℕ × ℕ)) (marks : List Mark) (path : List ℕ) (x : ℕ) : Type 0 where
+  pub points : (k : ℕ) → k + 1 ≡ length path → Points links (slice_index path k) x
+  pub lowest : (k w : ℕ) → k + 1 ≡ length path → Points links (slice_index path k) w → w < x → mark_of marks w ≡ Done
+  pub begins : (w : ℕ) → 0 ≡ length path → w < x → mark_of marks w ≡ Done
 
 abbrev pub is_fresh : Mark → Bool
 is_fresh Fresh = true
@@ -108,20 +120,20 @@ abbrev pub left_count : Search → ℕ
 left_count search = 2 * fresh_count search.marks.items + length search.path.items
 
 -- the last node of the path leads back to x, which is on the path
-pub record LeadsBack (links : List (ℕ × ℕ)) (path : List ℕ) (x : ℕ) : Type 0 where
+pub record LeadsBack (links : List (ℕ × ℕ)) (marks : List Mark) (path : List ℕ) (x : ℕ) : Type 0 where
   pub on_path : Contains path x
-  pub leads : LeadsTo links path x
+  pub leads : LeadsTo links marks path x
 
 -- the search went on from one state to another. If `node` is given, it is on the path, and the last node of the path
 -- leads back to it
 pub record GoesOn (rows : Table) (before after : Search) (node : Option ℕ) : Type 0 where
   pub search : IsSearch rows after
   pub kept : KeepsSeen before.marks.items after.marks.items
-  pub back : IfSome node (LeadsBack (net_in rows).links (nodes_of after.path.items))
+  pub back : IfSome node (LeadsBack (net_in rows).links after.marks.items (nodes_of after.path.items))
 
 -- the search has put x at the end of its path
 pub record HasOpened (x : ℕ) (before after : Search) : Type 0 where
-  pub search : (rows : Table) → IsSearch rows before → LeadsTo (net_in rows).links (nodes_of before.path.items) x → IsSearch rows after
+  pub search : (rows : Table) → IsSearch rows before → LeadsTo (net_in rows).links before.marks.items (nodes_of before.path.items) x → IsSearch rows after
   pub met : mark_of after.marks.items x ≢ Fresh
   pub kept : KeepsSeen before.marks.items after.marks.items
   pub fewer : left_count after < left_count before
@@ -137,9 +149,9 @@ pub record ReadsOn (before after : Search) : Type 0 where
   pub marks : after.marks ≡ before.marks
   pub path : nodes_of after.path.items ≡ nodes_of before.path.items
 
--- the last node of the path leads to x, which is not done
+-- the last node of the path leads to x, which is not done, and to no such node below it
 pub record IsNext (links : List (ℕ × ℕ)) (search : Search) (x : ℕ) : Type 0 where
-  pub leads : LeadsTo links (nodes_of search.path.items) x
+  pub leads : LeadsTo links search.marks.items (nodes_of search.path.items) x
   pub below : x < length search.marks.items
   pub other : mark_of search.marks.items x ≢ Done
 

@@ -31,6 +31,16 @@ IsFirstFault n links (Cycle walk) = IsWithinLimits n links × IsInRange n links 
 IsFirstFault n links NoLink = ⊥
 IsFirstFault n links Memory = ⊥
 
+-- the place of a fault in the order of the tests
+abbrev pub fault_place : NetFault → ℕ
+fault_place TooMany = 0
+fault_place (Range x) = 1
+fault_place (SelfLink u) = 2
+fault_place (Twice u v) = 3
+fault_place (Cycle walk) = 4
+fault_place NoLink = 5
+fault_place Memory = 6
+
 -- the links have none of the faults
 pub record IsFaultless (n : ℕ) (links : List (ℕ × ℕ)) : Type 0 where
   pub limits : IsWithinLimits n links

@@ -1,7 +1,8 @@
 -- What a `Graph` keeps, which networks its rows have room for, and how edits are undone. For proofs only.
-use Rattle.std.specs.Prelude.{◌≡◌, ℕ, ◌<◌, ◌≤◌, ◌++◌, List, [], ◌∷◌, length}
-use Rattle.fr_graph.specs.Batches.{IsMade}
+use Rattle.std.specs.Prelude.{◌≡◌, ◌≢◌, ℕ, ◌<◌, ◌≤◌, ◌++◌, List, [], ◌∷◌, length}
+use Rattle.fr_graph.specs.Batches.{IsMade, IsRefusedAt}
 use Rattle.fr_graph.specs.Edits.{without}
+use Rattle.fr_graph.specs.Evidence.{NamesInBatch}
 use Rattle.fr_graph.specs.Faults.{IsFaultless, IsNetworkOf}
 use Rattle.fr_graph.specs.Halves.{AreUnjoined}
 use Rattle.fr_graph.specs.Heights.{Fit}
@@ -16,6 +17,8 @@ use Rattle.fr_graph.specs.declared.graph.Done.{Done}
 use Rattle.fr_graph.specs.declared.graph.Done.TheVariants.{Taken, Put}
 use Rattle.fr_graph.specs.declared.graph.Graph.{Graph}
 use Rattle.fr_graph.specs.declared.edit.Edit.{Edit}
+use Rattle.fr_graph.specs.declared.fault.EditFault.{EditFault}
+use Rattle.fr_graph.specs.declared.fault.NetFault.TheVariants.{Memory}
 
 -- the network of a graph: its links are those of its rows
 abbrev pub shown : Graph → Network
@@ -66,6 +69,11 @@ pub record IsSame (before after : Graph) : Type 0 where
   pub graph : IsGraph after
   pub same : shown after ≡ shown before
   pub rooms : KeepsRooms before.rows after.rows
+
+-- an edit of the batch is refused, and these are what its fault names
+pub record IsRefusal (net : Network) (edits : List Edit) (refused : EditFault) : Type 0 where
+  pub first : refused.fault ≢ Memory → IsRefusedAt net edits refused.at refused.fault
+  pub names : NamesInBatch net edits refused
 
 -- the edit made `after` of `before`, and `done` says how to undo it
 pub record IsEdited (before : Graph) (edit : Edit) (after : Graph) (done : Done) : Type 0 where

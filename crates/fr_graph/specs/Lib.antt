@@ -9,6 +9,7 @@ pub mod Rows
 pub mod Faults
 pub mod Edits
 pub mod Batches
+pub mod Evidence
 pub mod RowLists
 pub mod Halves
 pub mod TurnedRows

@@ -1,14 +1,15 @@
 -- The state of the search for a path, from both ends. For proofs only.
-use Rattle.std.specs.Prelude.{◌≡◌, ℕ, ◌<◌, ◌≤◌, ◌+◌, ◌-◌, ◌++◌, ◌⊎◌, Bool, true, false, List, [], ◌∷◌, length, slice_index, slice_index_or, slice_set, vec_capacity, Option, Some, None, count_by}
+use Rattle.std.specs.Prelude.{◌≡◌, ℕ, ◌<◌, ◌≤◌, ◌+◌, ◌-◌, ◌++◌, ◌⊎◌, Bool, true, false, List, [], ◌∷◌, length, slice_index, slice_index_or, slice_set, vec_capacity, count_by}
 use Rattle.std.specs.List.{All, Contains}
+use Rattle.fr_graph.specs.Evidence.{IsWayBy, LeadsTowards}
 use Rattle.fr_graph.specs.Heights.{AreFalling, FitBetween}
 use Rattle.fr_graph.specs.KeptRows.{ShowsNet, net_in}
-use Rattle.fr_graph.specs.Links.{HasPath, Points, end_of}
+use Rattle.fr_graph.specs.Links.{HasPath, Points}
 use Rattle.fr_graph.specs.Network.{Network}
+use Rattle.fr_graph.specs.RowLists.{opposite}
 use Rattle.fr_graph.specs.Tables.{Table}
 use Rattle.fr_graph.specs.declared.path_search.Met.{Met}
 use Rattle.fr_graph.specs.declared.path_search.Met.TheVariants.{Never, Forward, Backward}
-use Rattle.fr_graph.specs.declared.path_search.Meeting.{Meeting}
 use Rattle.fr_graph.specs.declared.path_search.Side.{Side}
 use Rattle.fr_graph.specs.declared.path_search.PathAnswer.{PathAnswer}
 use Rattle.fr_graph.specs.declared.path_search.PathAnswer.TheVariants.{Leads, Ends}
@@ -26,29 +27,10 @@ abbrev pub LiesOn : First → ℕ → ℕ → Type 0
 LiesOn Outward own height = height < own
 LiesOn Inward own height = own < height
 
--- the link that leads on from x to w
-abbrev pub link_by : First → ℕ → ℕ → ℕ × ℕ
-link_by Outward x w = (x, w)
-link_by Inward x w = (w, x)
-
--- a trail back from x by these nodes: the side came to each node from the next one
-abbrev pub IsTrail : First → List (ℕ × ℕ) → ℕ → List ℕ → Type 0
-IsTrail first links x [] = Unit {0}
-IsTrail first links x (w ∷ ws) = LeadsOn first links w x × IsTrail first links w ws
-
--- `after` is `before` with such a trail from x to the start appended
-pub record AddsTrail (first : First) (links : List (ℕ × ℕ)) (x start : ℕ) (before after : List ℕ) : Type 0 where
-  pub rest : List ℕ
-  pub behind : after ≡ before ++ x ∷ rest
-  pub trail : IsTrail first links x rest
-  pub ends : end_of x rest ≡ start
-
--- the side came to each of its nodes, except the first, from an earlier one, whose place it keeps
-pub record HasOrigins (first : First) (links : List (ℕ × ℕ)) (nodes origins : List ℕ) : Type 0 where
-  pub begun : 0 < length nodes
-  pub one_each : length origins ≡ length nodes
-  pub earlier : (k : ℕ) → 0 < k → k < length nodes → slice_index origins k < k
-  pub leads : (k : ℕ) → 0 < k → k < length nodes → LeadsOn first links (slice_index nodes (slice_index origins k)) (slice_index nodes k)
+-- in the same sense, a path leads on from x to w
+abbrev pub HasPathOn : First → List (ℕ × ℕ) → ℕ → ℕ → Type 0
+HasPathOn Outward links x w = HasPath links x w
+HasPathOn Inward links x w = HasPath links w x
 
 -- the mark of the nodes that the side going this way has met
 abbrev pub met_by : First → Met
@@ -77,9 +59,8 @@ abbrev pub start_of : Side → ℕ
 start_of side = slice_index side.nodes.items 0
 
 -- the side has room for each node that no side has met
-pub record HasRoom (side : Side) (met : List Met) : Type 0 where
-  pub nodes : length side.nodes.items + never_count met ≤ vec_capacity side.nodes
-  pub origins : length side.origins.items + never_count met ≤ vec_capacity side.origins
+abbrev pub HasRoom : Side → List Met → Type 0
+HasRoom side met = length side.nodes.items + never_count met ≤ vec_capacity side.nodes
 
 -- the height lies beyond the limit: below it for the side that goes along the links, above it for the other
 abbrev pub IsBeyond : First → ℕ → ℕ → Type 0
@@ -112,7 +93,6 @@ pub record HasMovedEdge (before after : Side) : Type 0 where
   pub same_limit : after.limit ≡ before.limit
   pub nearer : (height : ℕ) → IsPast before.first before.edge height → IsPast before.first after.edge height
   pub same_nodes : after.nodes ≡ before.nodes
-  pub same_origins : after.origins ≡ before.origins
   pub same_read : after.read ≡ before.read
 
 -- the side has met only its start. It goes this way, up to the limit, and has room for so many nodes
@@ -120,20 +100,19 @@ pub record HasBegun (first : First) (start limit nodes : ℕ) (side : Side) : Ty
   pub first_is : side.first ≡ first
   pub limit_is : side.limit ≡ limit
   pub met_alone : side.nodes.items ≡ start ∷ []
-  pub came_alone : side.origins.items ≡ 0 ∷ []
   pub none_read : side.read ≡ 0
   pub room : nodes ≤ vec_capacity side.nodes
-  pub origin_room : nodes ≤ vec_capacity side.origins
 
 -- The side goes this way from the start, up to the limit. Its nodes are those that it has met, and none is beyond the
--- limit. It came to each of them from an earlier one. The links of the rows that it has read lead on only to nodes that
--- it has met or skipped.
+-- limit. Paths lead on to them from the start. The links of the rows that it has read lead on only to nodes that it
+-- has met or skipped.
 pub record IsSide (net : Network) (heights : List ℕ) (first : First) (start limit : ℕ) (met : List Met) (side : Side) : Type 0 where
   pub one_each : length met ≡ net.nodes
   pub first_is : side.first ≡ first
   pub limit_is : side.limit ≡ limit
   pub start_is : start_of side ≡ start
-  pub came : HasOrigins first net.links side.nodes.items side.origins.items
+  pub begun : 0 < length side.nodes.items
+  pub reached : All (HasPathOn first net.links start) side.nodes.items
   pub all_met : All (HasMet first met) side.nodes.items
   pub listed : (x : ℕ) → HasMet first met x → Contains side.nodes.items x
   pub inside : side.read ≤ length side.nodes.items
@@ -155,10 +134,8 @@ pub record MeetsNew (before after : Side) (met_before met_after : List Met) (x :
   pub same_limit : after.limit ≡ before.limit
   pub same_edge : after.edge ≡ before.edge
   pub nodes : after.nodes.items ≡ before.nodes.items ++ x ∷ []
-  pub origins : after.origins.items ≡ before.origins.items ++ before.read ∷ []
   pub same_read : after.read ≡ before.read
   pub same_room : vec_capacity after.nodes ≡ vec_capacity before.nodes
-  pub same_origin_room : vec_capacity after.origins ≡ vec_capacity before.origins
 
 -- the side has met any number of nodes that no side had met before
 pub record HasMetMore (before after : Side) (met_before met_after : List Met) : Type 0 where
@@ -187,31 +164,44 @@ high_of Inward limit edge = edge
 abbrev pub answer_of_ended : Side → PathAnswer
 answer_of_ended side = Ends side.nodes (low_of side.first side.limit side.edge) (high_of side.first side.limit side.edge)
 
--- the two sides have met the ends of this link
-pub record MeetAlong (links : List (ℕ × ℕ)) (met : List Met) (link : ℕ × ℕ) : Type 0 where
-  pub tail : HasMet Outward met link.0
-  pub head : HasMet Inward met link.1
-  pub points : Points links link.0 link.1
+-- a link leads on from a node that this side has met to one that the other side has met
+pub record Meets (first : First) (links : List (ℕ × ℕ)) (met : List Met) : Type 0 where
+  pub own : ℕ
+  pub other : ℕ
+  pub own_met : HasMet first met own
+  pub other_met : HasMet (opposite first) met other
+  pub leads : LeadsOn first links own other
 
--- what a side returns after it has read a row: a link where the sides meet, or `None` if it has read the row to its end
-abbrev pub IsReadAnswer : List (ℕ × ℕ) → List Met → Side → Side → Option (ℕ × ℕ) → Type 0
-IsReadAnswer links met before after (Some link) = MeetAlong links met link
-IsReadAnswer links met before after None = after.read ≡ before.read + 1
+-- what a side returns after it has read a row: whether the sides meet, and if not, it has read the row to its end
+abbrev pub IsReadAnswer : List (ℕ × ℕ) → List Met → Side → Side → Bool → Type 0
+IsReadAnswer links met before after true = Meets before.first links met
+IsReadAnswer links met before after false = after.read ≡ before.read + 1
 
--- the side ahead came from `from` to the tail of the link, and the side behind came from `to`, against the links, to
--- its head
-pub record IsMeeting (links : List (ℕ × ℕ)) (from to : ℕ) (meeting : Meeting) : Type 0 where
-  pub ahead : HasOrigins Outward links meeting.ahead.nodes.items meeting.ahead.origins.items
-  pub behind : HasOrigins Inward links meeting.behind.nodes.items meeting.behind.origins.items
-  pub from_start : start_of meeting.ahead ≡ from
-  pub to_start : start_of meeting.behind ≡ to
-  pub tail : Contains meeting.ahead.nodes.items meeting.link.0
-  pub head : Contains meeting.behind.nodes.items meeting.link.1
-  pub points : Points links meeting.link.0 meeting.link.1
-
--- a meeting of the sides, if a path leads from `from` to `to`. If none does, nodes and two heights: once the nodes are
--- put between the heights, all links fall, and a link back would fall too
+-- a path leads from `from` to `to`. If none does, nodes and two heights: once the nodes are put between the heights,
+-- all links fall, and a link back would fall too
 abbrev pub IsPathAnswer : Network → List ℕ → ℕ → ℕ → PathAnswer → Type 0
-IsPathAnswer net heights from to (Leads meeting) = IsMeeting net.links from to meeting
+IsPathAnswer net heights from to Leads = HasPath net.links from to
 IsPathAnswer net heights from to (Ends nodes low high) =
     ¬ HasPath net.links from to × (All (λ (x : ℕ). x < net.nodes) nodes.items × FitBetween (net.links ++ (to, from) ∷ []) heights nodes.items low high)
+
+-- if the link of the entry leads to the neighbour, the side against the links has not met the neighbour
+abbrev pub IsUnmet : List Met → ℕ × First → Type 0
+IsUnmet met entry = entry.1 ≡ Outward → ¬ HasMet Inward met entry.0
+
+-- w is the first neighbour of the row to which a link leads and that the side against the links has met
+pub record IsFirstMet (entries : List (ℕ × First)) (met : List Met) (w : ℕ) : Type 0 where
+  pub place : ℕ
+  pub inside : place < length entries
+  pub is : (d : ℕ × First) → slice_index_or entries place d ≡ (w, Outward)
+  pub has : HasMet Inward met w
+  pub before : (k : ℕ) (d : ℕ × First) → k < place → IsUnmet met (slice_index_or entries k d)
+
+-- the walk goes from u to v and then, always to the lowest node from which links lead to u, to x
+pub record IsLowestWay (links : List (ℕ × ℕ)) (u v x : ℕ) (walk : List ℕ) : Type 0 where
+  pub way : List ℕ
+  pub last : ℕ
+  pub whole : last + 1 ≡ length way
+  pub begins : slice_index way 0 ≡ v
+  pub goes_on : IsWayBy (LeadsTowards links u) way
+  pub ends : slice_index way last ≡ x
+  pub is : walk ≡ u ∷ way

@@ -1,12 +1,13 @@
 //! The search for a cycle. It is a depth-first search that keeps its path as a stack and reads each entry of a row
-//! once. A link back to a node of the path closes a cycle. If no link does, the search leaves the head of each link
-//! before its tail.
+//! once. A link back to a node of the path closes a cycle. It starts from the lowest nodes and reads rows in their
+//! order, so the cycle is the lowest one. If no link closes a cycle, the search leaves the head of each link before
+//! its tail.
 
 ghost use Rattle.std.specs.Prelude.{◌≡◌, ◌≢◌, ℕ, ◌<◌, ◌≤◌, ◌++◌, [], ◌∷◌, length, drop, vec_len, slice_index, slice_index_or, All, IfOk, IfSome, IfNone, OnOk, IsTrue, Contains, ◌-◌};
 ghost use Rattle.fr_graph.specs.Heights.{HasHeadsFirst};
 ghost use Rattle.fr_graph.specs.KeptRows.{net_in};
 ghost use Rattle.fr_graph.specs.Links.{IsAcyclic};
-ghost use Rattle.fr_graph.specs.CycleSearch.{AreEntriesBelow, GoesOn, HasLeft, HasOpened, IsAtRest, IsFound, IsNext, IsPassed, IsSearch, LeadsToDone, LeadsToOther, ReadsOn, left_count, mark_of, nodes_of, top_of};
+ghost use Rattle.fr_graph.specs.CycleSearch.{AreEntriesBelow, AreRowsRising, GoesOn, HasLeft, HasOpened, IsAtRest, IsFound, IsNext, IsPassed, IsSearch, LeadsToDone, LeadsToOther, ReadsOn, left_count, mark_of, nodes_of, top_of};
 ghost use Rattle.fr_graph.specs.Tables.{Table};
 
 use crate::first::First;
@@ -98,7 +99,7 @@ impl Search {
     /// A search that has met no node.
     fn begun(alloc: Global, nodes: u32) -> Result<Search, AllocError>
         ensures rest { IfOk result (λ search. (rows : Table) → length rows.rows ≡ nodes
-            → AreEntriesBelow nodes rows → IsAtRest rows search) }
+            → AreEntriesBelow nodes rows → AreRowsRising rows → IsAtRest rows search) }
         ensures one_each { IfOk result (λ search. length search.marks.items ≡ nodes) }
     {
         Ok(Search {
@@ -183,7 +184,8 @@ impl Search {
         Ok(None)
     }
 
-    /// Takes steps until the path is empty. If a link leads back to a node of the path, it stops and returns that node.
+    /// Takes steps until the path is empty. If a link leads back to a node of the path, it stops and returns that
+    /// node.
     fn go_on(&mut self, rows: &RowTable) -> Result<Option<u32>, AllocError>
         requires { IsSearch rows.now self.old }
         ensures on { IfOk result (GoesOn rows.now self.old self.new) }
@@ -202,6 +204,7 @@ impl Search {
     fn visit(&mut self, rows: &RowTable, root: u32) -> Result<Option<u32>, AllocError>
         requires rest { IsAtRest rows.now self.old }
         requires root { root < length self.old.marks.items }
+        requires lower { (w : ℕ) → w < root → mark_of self.old.marks.items w ≢ Mark.Fresh }
         ensures on { IfOk result (GoesOn rows.now self.old self.new) }
         ensures empty { IfOk result (λ back. IfNone back (self.new.path.items ≡ [])) }
         ensures met { OnOk result (mark_of self.new.marks.items root ≢ Mark.Fresh) }
@@ -231,11 +234,12 @@ impl Search {
     }
 }
 
-/// Finds a cycle of the links that these rows show, or an order of the nodes that lists the head of each link before
-/// its tail.
+/// Finds the lowest cycle of the links that these rows show, or an order of the nodes that lists the head of each link
+/// before its tail.
 pub(crate) fn find_cycle(alloc: Global, nodes: u32, rows: &RowTable) -> Result<Found, AllocError>
     requires one_each { length rows.now.rows ≡ nodes }
     requires below { AreEntriesBelow nodes rows.now }
+    requires rising { AreRowsRising rows.now }
     ensures { IfOk result (IsFound nodes (net_in rows.now).links) }
 {
     let mut search = Search::begun(alloc, nodes)?;

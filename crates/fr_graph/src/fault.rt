@@ -7,23 +7,28 @@ use std::alloc::{AllocError, AllocFailed};
 use std::fmt;
 use thiserror::Error;
 
-/// Why links are not those of a network, with the evidence, or why an edit is refused. The variants are listed in the
-/// order in which the faults are tested.
+/// Why links are not those of a network, or why an edit is refused, with the nodes that show it. The variants are
+/// listed in the order in which the faults are tested. By the law [`evidence_law`](crate::laws::evidence_law) the
+/// links or the edit determine these nodes. Below, an edit joins `u` and `v`.
 #[derive(Debug, Drop, Error, PartialEq, Eq)]
 pub enum NetFault {
     /// There are more nodes or links than the limits allow.
     #[error("too many nodes or links")]
     TooMany,
-    /// An end of a link that is not a node; 0 if there are no nodes.
+    /// An end of a link that is not a node: the first one listed, or 0 if there are no nodes. Of an edit, `u` if it is
+    /// not a node, and otherwise `v`.
     #[error("node {0} is out of range")]
     Range(u32),
-    /// A node with a link to itself.
+    /// The node of the first link listed that connects a node with itself.
     #[error("a link connects node {0} with itself")]
     SelfLink(u32),
-    /// Two nodes that more than one link joins, in either direction.
+    /// Two nodes that more than one link joins, in either direction: the lowest such node, and the lowest one that it
+    /// is joined with. Of an edit, `u` and `v`.
     #[error(fmt = tell_twice)]
     Twice(u32, u32),
-    /// The nodes of a cycle, with the first one again at the end.
+    /// The nodes of a cycle, with the first one again at the end. Start at the lowest node that leads into a cycle,
+    /// and always go on to the lowest neighbour that does: this is the cycle that you come to. Of an edit, `u`, `v`,
+    /// and then always the lowest neighbour from which links lead to `u`.
     #[error(fmt = tell_cycle)]
     Cycle(Vec<u32>),
     /// No link joins the two nodes. Only a cut fails with this, and a cut fails with no other fault but `Memory`.

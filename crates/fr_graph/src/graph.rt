@@ -7,10 +7,10 @@ ghost use Rattle.fr_graph.specs.Rows.{row};
 ghost use Rattle.fr_graph.specs.Halves.{AreUnjoined};
 ghost use Rattle.fr_graph.specs.Faults.{IsNetworkOf};
 ghost use Rattle.fr_graph.specs.Edits.{IsJoinFault, without};
-ghost use Rattle.fr_graph.specs.Batches.{AreMade, IsEditFault, IsRefusedAt};
+ghost use Rattle.fr_graph.specs.Batches.{AreMade, IsEditFault};
+ghost use Rattle.fr_graph.specs.Evidence.{NamesOfEdit, NamesOfLink};
 ghost use Rattle.fr_graph.specs.Limits.{most_edits, most_links};
-ghost use Rattle.fr_graph.specs.PathSearch.{IsMeeting};
-ghost use Rattle.fr_graph.specs.Graph.{CanPut, CanUndo, HasRoomFor, IsDone, IsEdited, IsGraph, IsSame, shown};
+ghost use Rattle.fr_graph.specs.Graph.{CanPut, CanUndo, HasRoomFor, IsDone, IsEdited, IsGraph, IsRefusal, IsSame, shown};
 ghost use Rattle.fr_graph.specs.Tables.{HaveRoom};
 ghost use Rattle.fr_graph.specs.declared.fault.NetFault.TheVariants.{Memory};
 ghost use Rattle.fr_graph.specs.declared.edit.Edit.TheVariants.{Cut, Add, Join};
@@ -23,7 +23,7 @@ use crate::fault::{EditFault, NetFault};
 use crate::first::First;
 use crate::heights::Heights;
 use crate::limits::MAX_LINKS;
-use crate::path_search::{Meeting, PathAnswer, path_between};
+use crate::path_search::{PathAnswer, lowest_cycle, path_between};
 use crate::row::place_in_row;
 use crate::row_table::RowTable;
 use std::alloc::{AllocError, Global};
@@ -94,6 +94,7 @@ impl Graph {
         ensures few { OnOk result (length (shown self.now).links < most_links) }
         ensures nodes { OnOk result (AreUnjoined self.now.nodes (shown self.now).links u v) }
         ensures refused { IfErr result (IsJoinFault self.now.nodes (shown self.now).links u v) }
+        ensures names { IfErr result (NamesOfLink (shown self.now) u v) }
     {
         if self.link_count >= MAX_LINKS {
             return Err(NetFault::TooMany);
@@ -177,37 +178,27 @@ impl Graph {
         Ok(())
     }
 
-    /// Returns where the two searches met if links lead from `v` to `u`. Most often the heights already show that they
-    /// do not. If it takes a search to find that out, the nodes that were met get new heights, so that a link from `u`
-    /// to `v` falls, if there is room between the heights.
-    fn path_back(&mut self, alloc: Global, u: u32, v: u32) -> Result<Option<Meeting>, AllocError>
-        requires graph { IsGraph self.old }
-        requires nodes { AreUnjoined self.old.nodes (shown self.old).links u v }
-        ensures same { IsSame self.old self.new }
-        ensures found { IfOk result (λ found. IfSome found (IsMeeting (shown self.old).links v u)) }
-        ensures none { IfOk result (λ found. IfNone found (¬ HasPath (shown self.old).links v u)) }
-    {
-        self.renew_heights(alloc)?;
-        if self.heights.falls(u, v) {
-            return Ok(None);
-        }
-        match path_between(alloc, &self.rows, &self.heights, v, u)? {
-            PathAnswer::Leads(meeting) => Ok(Some(meeting)),
-            PathAnswer::Ends { nodes, low, high } => {
-                self.heights.put_between(nodes, low, high);
-                Ok(None)
-            }
-        }
-    }
-
-    /// Whether the links lead from `v` to `u`.
-    fn leads_back(&mut self, alloc: Global, u: u32, v: u32) -> Result<bool, AllocError>
+    /// Whether links lead from `v` to `u`. Most often the heights already show that they do not. If it takes a search
+    /// to find that out, the nodes that were met get new heights, so that a link from `u` to `v` falls, if there is
+    /// room between the heights.
+    fn path_back(&mut self, alloc: Global, u: u32, v: u32) -> Result<bool, AllocError>
         requires graph { IsGraph self.old }
         requires nodes { AreUnjoined self.old.nodes (shown self.old).links u v }
         ensures same { IsSame self.old self.new }
         ensures leads { IfOk result (λ found. IsTrue found ↔ HasPath (shown self.old).links v u) }
+        ensures known { IfOk result (λ found. IsTrue found → self.new.heights.known ≡ true) }
     {
-        Ok(self.path_back(alloc, u, v)?.is_some())
+        self.renew_heights(alloc)?;
+        if self.heights.falls(u, v) {
+            return Ok(false);
+        }
+        match path_between(alloc, &self.rows, &self.heights, v, u)? {
+            PathAnswer::Leads => Ok(true),
+            PathAnswer::Ends { nodes, low, high } => {
+                self.heights.put_between(nodes, low, high);
+                Ok(false)
+            }
+        }
     }
 
     /// Removes the link between `u` and `v`, whichever way it points.
@@ -230,11 +221,13 @@ impl Graph {
         requires { IsGraph self.old }
         ensures ok { IfOk result (IsEdited self.old (Add u v) self.new) }
         ensures refused { IfErr result (λ fault. fault ≢ Memory → IsEditFault (shown self.old) (Add u v) fault) }
+        ensures names { IfErr result (NamesOfEdit (shown self.old) (Add u v)) }
         ensures unchanged { OnErr result (IsSame self.old self.new) }
     {
         self.test_join(u, v)?;
-        if let Some(meeting) = self.path_back(alloc, u, v)? {
-            return Err(NetFault::Cycle(meeting.closed_walk(alloc)?));
+        if self.path_back(alloc, u, v)? {
+            let walk = lowest_cycle(alloc, &self.rows, &self.heights, u, v)?;
+            return Err(NetFault::Cycle(walk));
         }
         self.make_room(alloc, u, v)?;
         self.rows.room_law();
@@ -247,10 +240,11 @@ impl Graph {
         requires { IsGraph self.old }
         ensures ok { IfOk result (IsEdited self.old (Join u v) self.new) }
         ensures refused { IfErr result (λ fault. fault ≢ Memory → IsEditFault (shown self.old) (Join u v) fault) }
+        ensures names { IfErr result (NamesOfEdit (shown self.old) (Join u v)) }
         ensures unchanged { OnErr result (IsSame self.old self.new) }
     {
         self.test_join(u, v)?;
-        let (tail, head) = if self.leads_back(alloc, u, v)? {
+        let (tail, head) = if self.path_back(alloc, u, v)? {
             (v, u)
         } else {
             (u, v)
@@ -266,6 +260,7 @@ impl Graph {
         requires { IsGraph self.old }
         ensures ok { IfOk result (IsEdited self.old edit self.new) }
         ensures refused { IfErr result (λ fault. fault ≢ Memory → IsEditFault (shown self.old) edit fault) }
+        ensures names { IfErr result (NamesOfEdit (shown self.old) edit) }
         ensures unchanged { OnErr result (IsSame self.old self.new) }
     {
         match edit {
@@ -309,8 +304,7 @@ impl Graph {
         ensures graph { IsGraph self.new }
         ensures ok { IfOk result (λ done. AreMade (shown self.old) edits.now (shown self.new)
             × CanUndo (shown self.old) done.items self.new) }
-        ensures refused { IfErr result (λ refused. refused.fault ≢ Memory
-            → IsRefusedAt (shown self.old) edits.now refused.at refused.fault) }
+        ensures refused { IfErr result (IsRefusal (shown self.old) edits.now) }
         ensures unchanged { OnErr result (shown self.new ≡ shown self.old) }
     {
         let mut all = Vec::with_capacity(alloc, edits.len())?;

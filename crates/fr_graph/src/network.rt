@@ -16,8 +16,10 @@ ghost use Rattle.fr_graph.specs.Rows.{alone_count, row};
 ghost use Rattle.fr_graph.specs.declared.fault.NetFault.TheVariants.{Memory, TooMany};
 ghost use Rattle.fr_graph.specs.Faults.{IsFaultless, IsFirstFault, IsInRange, IsNetworkOf};
 ghost use Rattle.fr_graph.specs.Edits.{IsCutFault, IsJoined, IsJoinFault, without};
+ghost use Rattle.fr_graph.specs.Evidence.{NamesFirst, NamesIfRefused, NamesInBatch, NamesOfEdit};
 ghost use Rattle.fr_graph.specs.Batches.{AreMade, IsBatchFault, IsEditFault, IsMade, IsNotEdited};
 ghost use Rattle.fr_graph.specs.Limits.{IsWithinLimits, most_edits};
+ghost use Rattle.fr_graph.specs.declared.edit.Edit.TheVariants.{Add, Join};
 
 use crate::checks::{first_outside, first_self_link};
 use crate::cycle::{Found, find_cycle};
@@ -42,6 +44,7 @@ fn test_ends(nodes: u32, links: &[(u32, u32)]) -> Result<(), NetFault>
     ensures range { OnOk result (IsInRange nodes links.now) }
     ensures clear { OnOk result (HasNoSelfLink links.now) }
     ensures refused { IfErr result (IsFirstFault nodes links.now) }
+    ensures names { IfErr result (NamesFirst nodes links.now) }
 {
     if nodes > MAX_NODES || links.len() > MAX_LINKS {
         return Err(NetFault::TooMany);
@@ -124,8 +127,8 @@ impl Model for Net {
 }
 
 impl Net {
-    /// Makes the network with the nodes 0 to `nodes - 1` and these links, each from its tail to its head. The links can
-    /// be listed in any order.
+    /// Makes the network with the nodes 0 to `nodes - 1` and these links, each from its tail to its head. The links
+    /// can be listed in any order.
     ///
     /// Fails with the first fault, with its evidence. Each fault is tested over the whole list before the next one, in
     /// the order of [`NetFault`]: `TooMany`, `Range`, `SelfLink`, `Twice`, `Cycle`. Fails with `Memory` if an
@@ -135,6 +138,7 @@ impl Net {
     pub fn new(alloc: Global, nodes: u32, links: &[(u32, u32)]) -> Result<Net, NetFault>
         ensures ok { IfOk result (IsNetworkOf nodes links.now) }
         ensures refused { IfErr result (λ fault. fault ≢ Memory → IsFirstFault nodes links.now fault) }
+        ensures names { IfErr result (NamesFirst nodes links.now) }
     {
         test_ends(nodes, links)?;
         let (halves, starts) = sorted_halves(alloc, nodes, links)?;
@@ -218,8 +222,8 @@ impl Net {
     }
 
     /// All neighbours of node `x` in increasing order, each with the direction of its link seen from `x`, for a loop
-    /// over a whole row. The node must be in the network. The neighbours are `u16`, as the rows keep them, which halves
-    /// their memory; other calls take them `as u32`. O(1).
+    /// over a whole row. The node must be in the network. The neighbours are `u16`, as the rows keep them, which
+    /// halves their memory; other calls take them `as u32`. O(1).
     pub fn row(&self, x: u32) -> &[(u16, First)]
         requires { x < self.now.nodes }
         ensures { result.now ≡ row self.now.nodes self.now.links x }
@@ -239,6 +243,7 @@ impl Net {
     fn with_edit(&self, alloc: Global, edit: Edit) -> Result<Net, NetFault>
         ensures ok { IfOk result (IsMade self.now edit) }
         ensures refused { IfErr result (λ fault. fault ≢ Memory → IsEditFault self.now edit fault) }
+        ensures names { IfErr result (NamesOfEdit self.now edit) }
     {
         let mut graph = self.graph.copied(alloc)?;
         graph.edit(alloc, edit)?;
@@ -257,23 +262,25 @@ impl Net {
     }
 
     /// The network with the added link from `u` to `v`. Fails with the first fault of the links with the new one, in
-    /// the order of [`NetFault`]: `Cycle` has a cycle through the new link. Fails with `Memory` if an allocation is
-    /// refused. O(n + m) for the copy, and the cost of [`edit_if`](Net::edit_if).
+    /// the order of [`NetFault`]: `Cycle` has the lowest cycle through the new link. Fails with `Memory` if an
+    /// allocation is refused. O(n + m) for the copy, and the cost of [`edit_if`](Net::edit_if).
     pub fn with_link(&self, alloc: Global, u: u32, v: u32) -> Result<Net, NetFault>
         ensures ok { IfOk result (IsNetworkOf self.now.nodes (self.now.links ++ (u, v) ∷ [])) }
         ensures refused { IfErr result (λ fault. fault ≢ Memory
             → IsFirstFault self.now.nodes (self.now.links ++ (u, v) ∷ []) fault) }
+        ensures names { IfErr result (NamesOfEdit self.now (Add u v)) }
     {
         self.with_edit(alloc, Edit::Add { u, v })
     }
 
-    /// The network with an added link between `u` and `v`: from `u` to `v`, or from `v` to `u` if the first would close
-    /// a cycle. By the law [`join_law`](crate::laws::join_law) the second closes none then. Fails as `with_link` does,
-    /// but never with `Cycle`. O(n + m) for the copy, and the cost of [`edit_if`](Net::edit_if).
+    /// The network with an added link between `u` and `v`: from `u` to `v`, or from `v` to `u` if the first would
+    /// close a cycle. By the law [`join_law`](crate::laws::join_law) the second closes none then. Fails as `with_link`
+    /// does, but never with `Cycle`. O(n + m) for the copy, and the cost of [`edit_if`](Net::edit_if).
     pub fn with_join(&self, alloc: Global, u: u32, v: u32) -> Result<Net, NetFault>
         ensures ok { IfOk result (IsJoined self.now.nodes self.now.links u v) }
         ensures refused { IfErr result (λ fault. fault ≢ Memory
             → IsJoinFault self.now.nodes self.now.links u v fault) }
+        ensures names { IfErr result (NamesOfEdit self.now (Join u v)) }
     {
         self.with_edit(alloc, Edit::Join { u, v })
     }
@@ -286,6 +293,7 @@ impl Net {
         ensures few { OnOk result (length edits.now ≤ most_edits) }
         ensures ok { IfOk result (AreMade self.now edits.now) }
         ensures refused { IfErr result (λ refused. refused.fault ≢ Memory → IsBatchFault self.now edits.now refused) }
+        ensures names { IfErr result (NamesInBatch self.now edits.now) }
     {
         test_few(edits)?;
         let mut graph = self.graph.copied(alloc)?;
@@ -296,12 +304,13 @@ impl Net {
     /// Makes these edits in place and in order, if `accept` succeeds on the edited network, and returns what `accept`
     /// returns. What `accept` requires must hold of the edited network.
     ///
-    /// Fails with `Refused` if an edit is refused, as by `with_edits`, or an allocation is refused, and with `Fault` if
-    /// `accept` fails. Then the network is unchanged.
+    /// Fails with `Refused` if an edit is refused, as by `with_edits`, or an allocation is refused, and with `Fault`
+    /// if `accept` fails. Then the network is unchanged.
     ///
     /// O(d) for each edit. An added link or a join compares two heights; if these do not decide, it searches between
-    /// them, with tables of O(n). O(n + m) if heights have to be computed again, or if a row is full, so that all rows
-    /// are laid out again with more room.
+    /// them, with tables of O(n). A link that would close a cycle takes one more search, which names the cycle. O(n +
+    /// m) if heights have to be computed again, or if a row is full, so that all rows are laid out again with more
+    /// room.
     pub fn edit_if<T, E, F: FnOnce(&Net) -> Result<T, E>>(
         &mut self,
         alloc: Global,
@@ -313,6 +322,7 @@ impl Net {
         ensures ok { IfOk result (λ answer. AreMade self.old edits.now self.new
             × FnOnceReturnsAt F.FnOnce accept self.new (Ok answer)) }
         ensures refused { IfErr result (IsNotEdited self.old edits.now (FnOnceReturnsAt F.FnOnce accept)) }
+        ensures names { IfErr result (NamesIfRefused self.old edits.now) }
         ensures unchanged { OnErr result (self.new ≡ self.old) }
     {
         if let Err(refused) = test_few(edits) {

@@ -1,15 +1,16 @@
 //! The search for a path from one node to another. It starts at both ends: one side goes along the links, the other
 //! against them. Each step reads one row, most often on the side with fewer rows left to read. All links fall, so a
 //! side skips nodes beyond the height of the other end. The search ends when the sides meet, or when one side has
-//! nothing left to read. So it reads few rows if few nodes lie between the ends on either side. Each side records where
-//! it came from, so that the path can be listed once the sides meet.
+//! nothing left to read. So it reads few rows if few nodes lie between the ends on either side. If a path leads there,
+//! one side alone finds all nodes from which links lead to its end, and then the lowest path can be listed.
 
-ghost use Rattle.std.specs.Prelude.{◌≡◌, ◌≢◌, ℕ, List, ◌<◌, ◌≤◌, ◌+◌, ◌++◌, [], ◌∷◌, ◌⊎◌, ◌↔◌, length, slice_index, vec_capacity, Contains, IfOk, IfNone, IfSome, IsTrue, OnOk};
+ghost use Rattle.std.specs.Prelude.{◌≡◌, ◌≢◌, ℕ, List, ◌<◌, ◌≤◌, ◌+◌, ◌++◌, [], ◌∷◌, ◌⊎◌, ◌↔◌, length, slice_index, vec_capacity, All, IfOk, IfNone, IfSome, IsTrue};
 ghost use Rattle.fr_graph.specs.Heights.{AreFalling};
 ghost use Rattle.fr_graph.specs.KeptRows.{ShowsNet, net_in};
-ghost use Rattle.fr_graph.specs.Links.{IsCycle};
+ghost use Rattle.fr_graph.specs.Evidence.{IsLowestCycleBy};
+ghost use Rattle.fr_graph.specs.Links.{HasPath};
 ghost use Rattle.fr_graph.specs.RowLists.{opposite};
-ghost use Rattle.fr_graph.specs.PathSearch.{AddsTrail, AreFallingRows, HasBegun, HasMet, HasMetMore, HasOrigins, HasRoom, IsBeyond, IsMeeting, IsPast, IsSide, IsPathAnswer, IsReadAnswer, LiesOn, MeetAlong, MeetsNew, link_by, met_by, start_of, unread_count, answer_of_ended};
+ghost use Rattle.fr_graph.specs.PathSearch.{AreFallingRows, HasBegun, HasMet, HasMetMore, HasRoom, IsBeyond, IsFirstMet, IsPast, IsUnmet, IsSide, IsPathAnswer, IsReadAnswer, LiesOn, MeetsNew, met_by, start_of, unread_count, answer_of_ended};
 
 use crate::first::First;
 use crate::heights::Heights;
@@ -40,7 +41,7 @@ impl Met {
 #[derive(Drop)]
 pub(crate) enum PathAnswer {
     /// Yes: the sides of the search have met.
-    Leads(Meeting),
+    Leads,
     /// No. Once these nodes have heights between the two, all links fall, and a link back would fall too.
     Ends {
         /// All nodes that the finished side of the search has met.
@@ -66,8 +67,6 @@ struct Side {
     edge: u64,
     // The nodes that it has met, in this order.
     nodes: Vec<u32>,
-    // For each of these nodes, the place of the node in whose row it was met.
-    origins: Vec<usize>,
     // How many of their rows it has read.
     read: usize,
 }
@@ -86,8 +85,6 @@ impl Side {
     {
         let mut met = Vec::with_capacity(alloc, nodes)?;
         met.push_reserved(start);
-        let mut origins = Vec::with_capacity(alloc, nodes)?;
-        origins.push_reserved(0);
         let edge = match first {
             First::Outward => 0,
             First::Inward => u64::MAX,
@@ -97,7 +94,6 @@ impl Side {
             limit,
             edge,
             nodes: met,
-            origins,
             read: 0,
         })
     }
@@ -167,7 +163,6 @@ impl Side {
             Met::Never => {
                 met[node as usize] = own;
                 self.nodes.push_reserved(node);
-                self.origins.push_reserved(self.read);
                 false
             }
             side => side != own,
@@ -189,24 +184,9 @@ impl Side {
         }
     }
 
-    /// The link that leads on from a node of this side to a neighbour on the other side, from its tail to its head.
-    fn link_to(&self, node: u32, neighbour: u32) -> (u32, u32)
-        ensures { result ≡ link_by self.now.first node neighbour }
-    {
-        match self.first {
-            First::Outward => (node, neighbour),
-            First::Inward => (neighbour, node),
-        }
-    }
-
-    /// Reads the row of the next node. Returns the first link that leads on to a node of the other side, if there is
-    /// one.
-    fn read_next(
-        &mut self,
-        rows: &RowTable,
-        heights: &Heights,
-        met: &mut [Met],
-    ) -> Option<(u32, u32)>
+    /// Reads the row of the next node, up to the first link that leads on to a node of the other side. Returns whether
+    /// there is one.
+    fn read_next(&mut self, rows: &RowTable, heights: &Heights, met: &mut [Met]) -> bool
         requires rows { AreFallingRows rows.now heights.now.heights }
         requires side { IsSide (net_in rows.now) heights.now.heights self.old.first
             (start_of self.old) self.old.limit met.old self.old }
@@ -226,71 +206,27 @@ impl Side {
             let height = heights.height(neighbour);
             edge = self.nearer(edge, height);
             if self.goes_on(own, height) && self.meet(neighbour, met) {
-                return Some(self.link_to(node, neighbour));
+                return true;
             }
         }
         self.edge = edge;
         self.read += 1;
-        None
+        false
     }
 
-    /// The place of a node that this side has met.
-    fn place_of(&self, node: u32) -> usize
-        requires { Contains self.now.nodes.items node }
-        ensures inside { result < length self.now.nodes.items }
-        ensures is { slice_index self.now.nodes.items result ≡ node }
+    /// Reads the rows of all nodes that it meets. No node of the other side may be met.
+    fn read_all(&mut self, rows: &RowTable, heights: &Heights, met: &mut [Met])
+        requires rows { AreFallingRows rows.now heights.now.heights }
+        requires side { IsSide (net_in rows.now) heights.now.heights self.old.first
+            (start_of self.old) self.old.limit met.old self.old }
+        requires alone { (x : ℕ) → ¬ HasMet (opposite self.old.first) met.old x }
+        ensures side { IsSide (net_in rows.now) heights.now.heights self.old.first
+            (start_of self.old) self.old.limit met.new self.new }
+        ensures all { length self.new.nodes.items ≤ self.new.read }
     {
-        let mut place = 0;
-        while self.nodes[place] != node {
-            place += 1;
+        while self.has_unread() {
+            self.read_next(rows, heights, met);
         }
-        place
-    }
-
-    /// Appends the node at this place, and the nodes on the way back from it to the start.
-    fn push_trail(&self, nodes: &mut Vec<u32>, from: usize) -> Result<(), AllocError>
-        requires origins { (first : First) × (links : List (ℕ × ℕ))
-            × HasOrigins first links self.now.nodes.items self.now.origins.items }
-        requires inside { from < length self.now.nodes.items }
-        ensures { OnOk result ((first : First) (links : List (ℕ × ℕ))
-            → HasOrigins first links self.now.nodes.items self.now.origins.items
-            → AddsTrail first links (slice_index self.now.nodes.items from) (start_of self.now) nodes.old.items nodes.new.items) }
-    {
-        let mut place = from;
-        nodes.push(self.nodes[place])?;
-        while place > 0 {
-            place = self.origins[place];
-            nodes.push(self.nodes[place])?;
-        }
-        Ok(())
-    }
-}
-
-/// Where the two sides of a search met, which shows that a path leads from one node to the other.
-#[derive(Drop)]
-pub(crate) struct Meeting {
-    ahead: Side,
-    behind: Side,
-    // A link from a node of the side ahead to a node of the side behind.
-    link: (u32, u32),
-}
-
-impl Meeting {
-    /// The cycle that a link back would close: by this link from the end of the path to its start, and then along the
-    /// path.
-    pub(crate) fn closed_walk(&self, alloc: Global) -> Result<Vec<u32>, AllocError>
-        requires { (links : List (ℕ × ℕ)) × (from : ℕ) × (to : ℕ) × IsMeeting links from to self.now }
-        ensures { IfOk result (λ walk. (links : List (ℕ × ℕ)) (from to : ℕ) → IsMeeting links from to self.now
-            → IsCycle (links ++ (to, from) ∷ []) walk.items) }
-    {
-        let tail = self.ahead.place_of(self.link.0);
-        let head = self.behind.place_of(self.link.1);
-        let mut walk = Vec::new(alloc);
-        self.ahead.push_trail(&mut walk, tail)?;
-        walk.push(self.behind.nodes[0])?;
-        walk.reverse();
-        self.behind.push_trail(&mut walk, head)?;
-        Ok(walk)
     }
 }
 
@@ -318,17 +254,13 @@ pub(crate) fn path_between(
     let mut ahead = Side::begun(alloc, First::Outward, from, low, nodes)?;
     let mut behind = Side::begun(alloc, First::Inward, to, high, nodes)?;
     while ahead.has_unread() && behind.has_unread() {
-        let met_along = if ahead.goes_next(&behind) {
+        let meets = if ahead.goes_next(&behind) {
             ahead.read_next(rows, heights, met)
         } else {
             behind.read_next(rows, heights, met)
         };
-        if let Some(link) = met_along {
-            return Ok(PathAnswer::Leads(Meeting {
-                ahead,
-                behind,
-                link,
-            }));
+        if meets {
+            return Ok(PathAnswer::Leads);
         }
     }
     Ok(if ahead.has_unread() {
@@ -336,4 +268,51 @@ pub(crate) fn path_between(
     } else {
         ahead.ended()
     })
+}
+
+/// The first link of a row that leads to a node which the side against the links has met.
+fn first_met(row: &[(u16, First)], met: &[Met]) -> Option<u32>
+    requires below { All (λ (e : ℕ × First). e.0 < length met.now) row.now }
+    ensures some { IfSome result (IsFirstMet row.now met.now) }
+    ensures none { IfNone result (All (IsUnmet met.now) row.now) }
+{
+    for (neighbour, first) in row {
+        if *first == First::Outward && met[*neighbour as usize] == Met::Backward {
+            return Some(*neighbour as u32);
+        }
+    }
+    None
+}
+
+/// The cycle that a link from `u` to `v` would close: from `v` it always goes on to the lowest node from which links
+/// lead to `u`. All links must fall, and links must lead from `v` to `u`.
+pub(crate) fn lowest_cycle(
+    alloc: Global,
+    rows: &RowTable,
+    heights: &Heights,
+    u: u32,
+    v: u32,
+) -> Result<Vec<u32>, AllocError>
+    requires rows { AreFallingRows rows.now heights.now.heights }
+    requires u { u < length rows.now.rows }
+    requires v { v < length rows.now.rows }
+    requires leads { HasPath (net_in rows.now).links v u }
+    ensures { IfOk result (λ walk. IsLowestCycleBy (net_in rows.now).links u v walk.items) }
+{
+    let nodes = rows.len();
+    let mut table = vec![in alloc; Met::Never; nodes]?;
+    let met = table.as_mut_slice();
+    met[u as usize] = Met::Backward;
+    let mut behind = Side::begun(alloc, First::Inward, u, heights.height(v), nodes)?;
+    behind.read_all(rows, heights, met);
+    let mut walk = vec![in alloc; u, v]?;
+    let mut at = v;
+    while at != u {
+        let Some(next) = first_met(rows.row(at), met) else {
+            unreachable!();
+        };
+        walk.push(next)?;
+        at = next;
+    }
+    Ok(walk)
 }

@@ -61,17 +61,9 @@ pub fn tell_links(answer: &mut Answer, net: &Net) {
     }
 }
 
-/// Writes a fault. Of a cycle it writes only the steps, and of two nodes the lower one first. The contracts say that
-/// the fault is true.
+/// Writes a fault, with its evidence.
 pub fn tell_fault(answer: &mut Answer, fault: NetFault) {
-    match fault {
-        NetFault::Twice(u, v) => answer.put(&NetFault::Twice(u.min(v), u.max(v))),
-        NetFault::Cycle(walk) => {
-            answer.say("Cycle of ");
-            answer.put(&walk.len());
-        }
-        other => answer.put(&other),
-    }
+    answer.put(&fault);
 }
 
 fn made(answer: &mut Answer, nodes: &Value, links: &Value) {

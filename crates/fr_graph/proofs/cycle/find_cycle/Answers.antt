@@ -1,12 +1,13 @@
 use Rattle.std.proofs.Common.{arith, drop, length, slice_index, ℕ, [], ◌++◌, ◌+◌, ◌-◌, ◌<◌, ◌∷◌, ◌≡◌}
 use Rattle.std.proofs.lemmas.List.{length-map}
 use Rattle.fr_graph.proofs.Cycles.{closes}
+use Rattle.fr_graph.proofs.LowestCycles.{lowest_cycle}
 use Rattle.fr_graph.specs.CycleSearch.{nodes_of}
 use Rattle.fr_graph.specs.declared.cycle.Step.{Step}
 use Rattle.fr_graph.proofs.cycle.find_cycle.Goals as goal
 
 pub visit_all-requires-clause-rest : goal.visit_all-requires-clause-rest
-visit_all-requires-clause-rest c = c.in_ok-search.ensures.rest c.args.rows.now c.requires.one_each c.requires.below
+visit_all-requires-clause-rest c = c.in_ok-search.ensures.rest c.args.rows.now c.requires.one_each c.requires.below c.requires.rising
 
 pub visit_all-requires-clause-one_each : goal.visit_all-requires-clause-one_each
 visit_all-requires-clause-one_each c = c.in_ok-search.ensures.one_each
@@ -28,4 +29,6 @@ returns-in_ok-closed_at-in-Some c =
     let inside : made.0 < length path = omega (arith, made.1, length-map steps (λ (s : Step). s.node)) in
     let full : last + 1 ≡ length path = omega (arith, inside) in
     let back = rw c.in-Some.is at c.in_ok-node.ensures.on.back in
-    closes _ path _ last made.0 node c.in_ok-node.ensures.on.search.steps.path_follows full (back.leads last full) inside made.2 made.3
+    let search = c.in_ok-node.ensures.on.search.steps in
+    let cycle = closes _ path _ last made.0 node search.path_follows full (back.leads.points last full) inside made.2 made.3 in
+    (cycle, lowest_cycle search back.leads inside made.2 made.3 cycle)

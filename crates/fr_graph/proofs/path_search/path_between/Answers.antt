@@ -1,19 +1,14 @@
-use Rattle.std.proofs.Common.{Bool, IsTrue, List, ap, arith, false, inl, inr, length, refl, replicate, set, slice_index, ℕ, ◌<◌, ◌∙◌, ◌≡◌, ◌≤◌, ◌↔◌}
-use Rattle.std.proofs.lemmas.Bool.{cases_lt}
-use Rattle.fr_graph.proofs.TwoEnds.{ended_ahead, ended_behind, sides_begin, sides_meet}
-use Rattle.fr_graph.proofs.Sides.{other_stays, own_side}
+use Rattle.std.proofs.Common.{List, ap, arith, length, refl, replicate, set, slice_index, sym, ℕ, ◌<◌, ◌∙◌, ◌≡◌, ◌≤◌}
+use Rattle.fr_graph.proofs.TwoEnds.{ahead_meets, behind_meets, ended_ahead, ended_behind, sides_begin}
+use Rattle.fr_graph.proofs.Sides.{none_left, other_stays, own_side}
 use Rattle.fr_graph.specs.KeptRows.{net_in}
-use Rattle.fr_graph.specs.PathSearch.{IsSide, MeetAlong}
+use Rattle.fr_graph.specs.PathSearch.{IsSide, Meets}
 use Rattle.fr_graph.specs.declared.path_search.Met.{Met}
 use Rattle.fr_graph.specs.declared.path_search.Met.TheVariants.{Backward, Forward, Never}
 use Rattle.fr_graph.specs.declared.first.First.TheVariants.{Inward, Outward}
 use Rattle.fr_graph.proofs.path_search.path_between.Goals as goal
-use Rattle.fr_graph.proofs.path_search.path_between.Goals.{Joined-goes_next, In-Some, else-goes_next, else-has_unread-2, else-loop-behind-test}
+use Rattle.fr_graph.proofs.path_search.path_between.Goals.{Joined-goes_next, else-goes_next, else-has_unread-2, else-loop-behind-test}
 use Rattle.fr_graph.proofs.path_search.path_between.Goals.{then-goes_next, then-has_unread-2, then-loop-behind-test+else-has_unread}
-
--- a side without unread nodes has read all its rows
-none_left : {has : Bool} {read nodes : ℕ} → has ≡ false → IsTrue has ↔ (read < nodes) → nodes ≤ read
-none_left {has} {read} {nodes} none says = elim (cases_lt read nodes) [ inl left ↦ cc (says.1 left, none) | inr read_all ↦ read_all ]
 
 pub loop-behind-init : goal.loop-behind-init
 loop-behind-init c =
@@ -33,23 +28,23 @@ begun-requires c = rw c.len-nodes.ensures c.requires.from
 pub begun-requires-2 : goal.begun-requires-2
 begun-requires-2 c = rw c.len-nodes.ensures c.requires.to
 
-pub read_next-met_along-requires-clause-rows : goal.read_next-met_along-requires-clause-rows
-read_next-met_along-requires-clause-rows c = c.requires.rows
+pub read_next-meets-requires-clause-rows : goal.read_next-meets-requires-clause-rows
+read_next-meets-requires-clause-rows c = c.requires.rows
 
-pub read_next-met_along-requires-clause-unread : goal.read_next-met_along-requires-clause-unread
-read_next-met_along-requires-clause-unread c = c.has_unread.ensures.0 c.loop-behind-test.true
+pub read_next-meets-requires-clause-unread : goal.read_next-meets-requires-clause-unread
+read_next-meets-requires-clause-unread c = c.has_unread.ensures.0 c.loop-behind-test.true
 
-pub read_next-met_along-requires-else-goes_next-clause-rows : goal.read_next-met_along-requires-else-goes_next-clause-rows
-read_next-met_along-requires-else-goes_next-clause-rows c = c.requires.rows
+pub read_next-meets-requires-else-goes_next-clause-rows : goal.read_next-meets-requires-else-goes_next-clause-rows
+read_next-meets-requires-else-goes_next-clause-rows c = c.requires.rows
 
-pub read_next-met_along-requires-else-goes_next-clause-unread : goal.read_next-met_along-requires-else-goes_next-clause-unread
-read_next-met_along-requires-else-goes_next-clause-unread c = c.has_unread-in-loop-behind.ensures.0 c.if-has_unread.true
+pub read_next-meets-requires-else-goes_next-clause-unread : goal.read_next-meets-requires-else-goes_next-clause-unread
+read_next-meets-requires-else-goes_next-clause-unread c = c.has_unread-in-loop-behind.ensures.0 c.if-has_unread.true
 
-pub read_next-met_along-requires-clause-side : goal.read_next-met_along-requires-clause-side
-read_next-met_along-requires-clause-side c = own_side c.loop-behind.invariant.ahead
+pub read_next-meets-requires-clause-side : goal.read_next-meets-requires-clause-side
+read_next-meets-requires-clause-side c = own_side c.loop-behind.invariant.ahead
 
-pub read_next-met_along-requires-else-goes_next-clause-side : goal.read_next-met_along-requires-else-goes_next-clause-side
-read_next-met_along-requires-else-goes_next-clause-side c = own_side c.loop-behind.invariant.behind
+pub read_next-meets-requires-else-goes_next-clause-side : goal.read_next-meets-requires-else-goes_next-clause-side
+read_next-meets-requires-else-goes_next-clause-side c = own_side c.loop-behind.invariant.behind
 
 -- both sides after one of them has read a row
 ahead_then : (c : Joined-goes_next) → IsSide (net_in c.args.rows.now) c.args.heights.now.heights Outward c.args.from
@@ -57,8 +52,8 @@ ahead_then : (c : Joined-goes_next) → IsSide (net_in c.args.rows.now) c.args.h
 ahead_then c =
     let inv = c.loop-behind.invariant in
     elim c.if-goes_next.branch [
-      | then-goes_next w ↦ rw (w.met-is, w.ahead-is) (rw (inv.ahead.first_is, inv.ahead.start_is, inv.ahead.limit_is) at w.read_next-met_along.ensures.side)
-      | else-goes_next w ↦ rw (w.met-is, w.ahead-is) (other_stays Inward inv.behind.first_is w.read_next-met_along-else-goes_next.ensures.more inv.ahead)
+      | then-goes_next w ↦ rw (w.met-is, w.ahead-is) (rw (inv.ahead.first_is, inv.ahead.start_is, inv.ahead.limit_is) at w.read_next-meets.ensures.side)
+      | else-goes_next w ↦ rw (w.met-is, w.ahead-is) (other_stays Inward inv.behind.first_is w.read_next-meets-else-goes_next.ensures.more inv.ahead)
     ]
 
 behind_then : (c : Joined-goes_next) → IsSide (net_in c.args.rows.now) c.args.heights.now.heights Inward c.args.to
@@ -66,32 +61,36 @@ behind_then : (c : Joined-goes_next) → IsSide (net_in c.args.rows.now) c.args.
 behind_then c =
     let inv = c.loop-behind.invariant in
     elim c.if-goes_next.branch [
-      | then-goes_next w ↦ rw (w.met-is, w.behind-is) (other_stays Outward inv.ahead.first_is w.read_next-met_along.ensures.more inv.behind)
+      | then-goes_next w ↦ rw (w.met-is, w.behind-is) (other_stays Outward inv.ahead.first_is w.read_next-meets.ensures.more inv.behind)
       | else-goes_next w ↦ rw (w.met-is, w.behind-is)
-          (rw (inv.behind.first_is, inv.behind.start_is, inv.behind.limit_is) at w.read_next-met_along-else-goes_next.ensures.side)
+          (rw (inv.behind.first_is, inv.behind.start_is, inv.behind.limit_is) at w.read_next-meets-else-goes_next.ensures.side)
     ]
 
-found : (c : In-Some) → MeetAlong (net_in c.args.rows.now).links c.if-goes_next.met c.in-Some.link
-found c = elim c.if-goes_next.branch [
-  | then-goes_next w ↦ rw w.met-is (rw (← w.met_along-is, c.in-Some.is) at w.read_next-met_along.ensures.answer)
-  | else-goes_next w ↦ rw w.met-is (rw (← w.met_along-is, c.in-Some.is) at w.read_next-met_along-else-goes_next.ensures.answer)
+pub returns-then-meets : goal.returns-then-meets
+returns-then-meets c = elim c.if-goes_next.branch [
+  | then-goes_next w ↦
+      let inv = c.loop-behind.invariant in
+      let at = (goal.at.returns-then-meets c).Joined-goes_next in
+      let meets : Meets c.loop-behind.ahead.first (net_in c.args.rows.now).links w.read_next-meets.new.met =
+      rw (sym w.meets-is ∙ c.if-meets.true) at w.read_next-meets.ensures.answer in
+      ahead_meets (ahead_then at) (behind_then at) (rw w.met-is (rw inv.ahead.first_is at meets))
+  | else-goes_next w ↦
+      let inv = c.loop-behind.invariant in
+      let at = (goal.at.returns-then-meets c).Joined-goes_next in
+      let meets : Meets c.loop-behind.behind.first (net_in c.args.rows.now).links w.read_next-meets-else-goes_next.new.met =
+      rw (sym w.meets-is ∙ c.if-meets.true) at w.read_next-meets-else-goes_next.ensures.answer in
+      behind_meets (ahead_then at) (behind_then at) (rw w.met-is (rw inv.behind.first_is at meets))
 ]
-
-pub returns-in-Some : goal.returns-in-Some
-returns-in-Some c =
-    let at = goal.at.returns-in-Some c in
-    sides_meet (record { ahead = c.if-goes_next.ahead; behind = c.if-goes_next.behind; link = c.in-Some.link })
-    (ahead_then at.Joined-goes_next) (behind_then at.Joined-goes_next) (found at.In-Some)
 
 pub loop-behind-smaller : goal.loop-behind-smaller
 loop-behind-smaller c = elim c.if-goes_next.branch [
   | then-goes_next w ↦
-      let read = w.read_next-met_along.ensures in
-      let one_more = rw (← w.met_along-is, c.in_default.is) at read.answer in
+      let read = w.read_next-meets.ensures in
+      let one_more = rw (sym w.meets-is ∙ c.if-meets.false) at read.answer in
       rw (w.met-is, w.ahead-is, w.behind-is) (omega (arith, read.more.counted, read.more.longer, one_more, c.has_unread.ensures.0 c.loop-behind-test.true))
   | else-goes_next w ↦
-      let read = w.read_next-met_along-else-goes_next.ensures in
-      let one_more = rw (← w.met_along-is, c.in_default.is) at read.answer in
+      let read = w.read_next-meets-else-goes_next.ensures in
+      let one_more = rw (sym w.meets-is ∙ c.if-meets.false) at read.answer in
       rw (w.met-is, w.ahead-is, w.behind-is)
       (omega (arith, read.more.counted, read.more.longer, one_more, c.has_unread-in-loop-behind.ensures.0 c.if-has_unread.true))
 ]

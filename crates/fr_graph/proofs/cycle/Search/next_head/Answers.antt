@@ -1,8 +1,8 @@
 use Rattle.std.proofs.Common.{Contains, ap, arith, get_or, length, refl, sym, ℕ, ◌+◌, ◌-◌, ◌<◌, ◌∙◌, ◌≡◌, ◌≤◌}
-use Rattle.std.proofs.lemmas.List.{get_or_read, length-map}
+use Rattle.std.proofs.lemmas.List.{get_or_default, get_or_read, length-map}
 use Rattle.std.specs.Vec.{with_item}
 use Rattle.fr_graph.proofs.Neighbours.{entry_is}
-use Rattle.fr_graph.proofs.RowsRead.{read_through, reads_on, same_nodes, top_is}
+use Rattle.fr_graph.proofs.RowsRead.{read_through, read_up_to, reads_on, same_nodes, top_is}
 use Rattle.fr_graph.proofs.ShownLinks.{shown_of_row}
 use Rattle.fr_graph.specs.CycleSearch.{HasRead, IsPassed, IsSearch, LeadsToOther, ReadsOn, nodes_of}
 use Rattle.fr_graph.specs.Tables.{row_of}
@@ -28,6 +28,9 @@ below c =
     let on : get_or (nodes_of c.args.self.now.path.items) (c.len-last.result - 1) 0 < length c.args.self.now.marks.items =
     s.steps.path_below (c.len-last.result - 1) (omega (arith, full c, length-map c.args.self.now.path.items (λ (s : Step). s.node))) in
     omega (arith, on, node_is c, s.one_each)
+
+pub row-row-requires : goal.row-row-requires
+row-row-requires c = below (goal.at.row-row-requires c).After-index-top
 
 passed : (c : After-index_mut) (k : ℕ) (d : ℕ × First) → c.index-top.result.now.next ≤ k → k < c.first_not_done-place.result
     → IsPassed c.args.self.now.marks.items (get_or (row_of c.args.rows.now c.index-top.result.now.node) k d)
@@ -57,6 +60,7 @@ searched c =
       one_each = s.one_each;
       below = s.below;
       steps = rw (same c).path s.steps;
+      rising = s.rising;
       read = reads_on c.args.rows.now c.args.self.now.marks.items c.args.self.now.path.items
           (c.len-last.result - 1) c.first_not_done-place.result c.index-top.result.now
           (full (goal.at.After-index_mut c).After-index-top) c.index-top.ensures s.read high (passed c);
@@ -90,14 +94,21 @@ returns c =
     rw (c.row-row.ensures, read, c.deref.ensures.value) at (c.first_not_done-place.ensures.stops e (rw c.row-row.ensures inside)) in
     let listed : Contains (row_of table x) (e.0, Outward) =
     (place, inside, sym (get_or_read (row_of table x) place e inside seen.1 (e.0, Outward)) ∙ entry_is e Outward stops.0) in
+    let is_last : (k : ℕ) → k + 1 ≡ length (nodes_of c.args.self.now.path.items) → k ≡ c.len-last.result - 1 =
+    λ k last. omega (arith, last, full at.After-index-top, length-map c.args.self.now.path.items (λ (s : Step). s.node)) in
+    let there : (d : ℕ × First) → (get_or (row_of table x) place d).0 ≡ e.0 =
+    λ d. ap (λ (f : ℕ × First). f.0) (get_or_default (row_of table x) place d e inside ∙ read) in
     record {
       search = searched at.After-index_mut;
       same = same at.After-index_mut;
       next = record {
-        leads = λ k last.
-            let is_last : k ≡ c.len-last.result - 1 =
-            omega (arith, last, full at.After-index-top, length-map c.args.self.now.path.items (λ (s : Step). s.node)) in
-            rw (is_last, node_is at.After-index-top) (shown_of_row (length table.rows) table x e.0 (below at.After-index-top) listed);
+        leads = record {
+          points = λ k last. rw (is_last k last, node_is at.After-index-top) (shown_of_row (length table.rows) table x e.0 (below at.After-index-top) listed);
+          lowest = λ k w last points less.
+              read_up_to table c.args.self.now.marks.items c.index-top.result.now place e.0 c.requires.search.rising
+              (was at.After-index-top) (passed at.After-index_mut) inside there w (rw (is_last k last, node_is at.After-index-top) at points) less;
+          begins = λ w none. absurd (omega (arith, none, full at.After-index-top, length-map c.args.self.now.path.items (λ (s : Step). s.node)));
+        };
         below = rw read at (c.requires.search.below x place e inside);
         other = stops.1;
       };

@@ -1,10 +1,11 @@
 use Rattle.std.proofs.Common.{arith, get_or, length, sym, ◌+◌, ◌-◌, ◌∙◌, ◌≡◌}
-use Rattle.std.proofs.lemmas.List.{get_or_read}
+use Rattle.std.proofs.lemmas.List.{get_or_read, length-map}
 use Rattle.fr_graph.proofs.Cycles.{kept_same}
 use Rattle.fr_graph.proofs.RowsRead.{nodes_counted, top_is}
 use Rattle.fr_graph.specs.CycleSearch.{LeadsTo, mark_of, nodes_of}
 use Rattle.fr_graph.specs.KeptRows.{net_in}
 use Rattle.fr_graph.specs.declared.cycle.Mark.TheVariants.{Fresh, Open}
+use Rattle.fr_graph.specs.declared.cycle.Step.{Step}
 use Rattle.fr_graph.proofs.cycle.Search.step.Goals as goal
 use Rattle.fr_graph.proofs.cycle.Search.step.Goals.{After-index, After-next_head, In-Some}
 
@@ -14,8 +15,8 @@ top c =
     let full : path.len - 1 + 1 ≡ length path.items = omega (arith, c.requires.full, path.ok.0) in
     top_is path.items (path.len - 1) c.index.result.now full (rw c.len.ensures at c.index.ensures)
 
-leads : (c : In-Some) → LeadsTo (net_in c.args.rows.now).links (nodes_of c.next_head.new.self.path.items) c.in-Some.head
-leads c = rw c.next_head.ensures.same.path c.in-Some.ensures.next.leads
+leads : (c : In-Some) → LeadsTo (net_in c.args.rows.now).links c.next_head.new.self.marks.items (nodes_of c.next_head.new.self.path.items) c.in-Some.head
+leads c = rw (c.next_head.ensures.same.path, c.next_head.ensures.same.marks) c.in-Some.ensures.next.leads
 
 -- the path has as many nodes as before
 as_long : (c : After-next_head) → length c.next_head.new.self.path.items ≡ length c.args.self.now.path.items
@@ -24,6 +25,14 @@ as_long c = nodes_counted c.next_head.new.self.path.items c.args.self.now.path.i
 pub leave-requires-clause-full : goal.leave-requires-clause-full
 leave-requires-clause-full c =
     omega (arith, as_long (goal.at.leave-requires-clause-full c).After-next_head, c.requires.full, c.args.self.now.path.ok.0, c.next_head.new.self.path.ok.0)
+
+pub leave-requires-clause-below : goal.leave-requires-clause-below
+leave-requires-clause-below c =
+    let at = (goal.at.leave-requires-clause-below c).After-index in
+    let path = c.args.self.now.path in
+    let on = c.requires.search.steps.path_below (path.len - 1)
+    (omega (arith, c.requires.full, path.ok.0, length-map path.items (λ (s : Step). s.node))) in
+    rw c.next_head.ensures.same.marks (omega (arith, on, top at))
 
 pub returns-in_default : goal.returns-in_default
 returns-in_default c =

@@ -1,6 +1,7 @@
-use Rattle.std.proofs.Common.{List, ap, arith, length}
+use Rattle.std.proofs.Common.{List, ap, arith, length, ◌≡◌}
 use Rattle.std.proofs.lemmas.Result.{IfOk-weaker}
 use Rattle.fr_graph.proofs.Cycles.{kept_same, kept_through}
+use Rattle.fr_graph.proofs.LeavingOrder.{met_done}
 use Rattle.fr_graph.specs.CycleSearch.{nodes_of}
 use Rattle.fr_graph.specs.declared.cycle.Step.{Step}
 use Rattle.fr_graph.proofs.cycle.Search.visit.Goals as goal
@@ -17,8 +18,12 @@ returns-then-has_met c = record {
 
 pub go_on-requires : goal.go_on-requires
 go_on-requires c =
-    c.in_ok-open.ensures.search c.args.rows.now c.requires.rest.search
-    (λ k full. absurd (omega (arith, full, ap (λ (path : List Step). length (nodes_of path)) c.requires.rest.empty)))
+    let none : length (nodes_of c.args.self.now.path.items) ≡ 0 = ap (λ (path : List Step). length (nodes_of path)) c.requires.rest.empty in
+    c.in_ok-open.ensures.search c.args.rows.now c.requires.rest.search (record {
+      points = λ k full. absurd (omega (arith, full, none));
+      lowest = λ k w full. absurd (omega (arith, full, none));
+      begins = λ w _ less. met_done c.args.rows.now c.args.self.now w c.requires.rest (c.requires.lower w less);
+    })
 
 pub returns : goal.returns
 returns c =

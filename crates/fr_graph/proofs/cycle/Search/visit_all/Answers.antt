@@ -11,6 +11,9 @@ loop-root-init c = record { rest = c.requires.rest; kept = kept_same _; met = λ
 pub visit-requires-clause-rest : goal.visit-requires-clause-rest
 visit-requires-clause-rest c = c.loop-root.invariant.rest
 
+pub visit-requires-clause-lower : goal.visit-requires-clause-lower
+visit-requires-clause-lower c = c.loop-root.invariant.met
+
 pub visit-requires-clause-root : goal.visit-requires-clause-root
 visit-requires-clause-root c = omega (arith, c.loop-root.invariant.kept.one_each, c.requires.one_each)
 

@@ -1,9 +1,10 @@
-use Rattle.std.proofs.Common.{List, ap, arith, subst, suc, sym, take_all, ◌+◌, ◌≡◌}
+use Rattle.std.proofs.Common.{List, ap, arith, get_or, subst, suc, sym, take, take_all, ◌+◌, ◌≡◌}
 use Rattle.std.proofs.lemmas.List.{get_or_default}
-use Rattle.fr_graph.proofs.Batches.{made_next}
+use Rattle.fr_graph.proofs.Batches.{all_made_one, made_next}
 use Rattle.fr_graph.proofs.Remaking.{graph_of_rows, shown_of_rows, with_links}
 use Rattle.fr_graph.proofs.Undoing.{more_done, still_done}
 use Rattle.fr_graph.specs.Batches.{IsEditFault}
+use Rattle.fr_graph.specs.Evidence.{NamesOfEdit}
 use Rattle.fr_graph.specs.Graph.{AreDone, CanUndo, shown}
 use Rattle.fr_graph.specs.Network.{Network}
 use Rattle.fr_graph.specs.declared.graph.Done.{Done}
@@ -51,13 +52,21 @@ pub undo_all-requires-clause-done : goal.undo_all-requires-clause-done
 undo_all-requires-clause-done c = (shown c.args.self.now, still (goal.at.undo_all-requires-clause-done c).In-Err)
 
 pub returns-in-Err-clause-refused : goal.returns-in-Err-clause-refused
-returns-in-Err-clause-refused c known = record {
-  inside = c.loop-at-test.true;
-  before = shown c.loop-at.self;
-  made = c.loop-at.invariant.made;
-  refused = λ d. subst (λ (e : Edit). IsEditFault (shown c.loop-at.self) e c.in-Err.fault)
-      (get_or_default c.args.edits.now c.loop-at.at _ d c.loop-at-test.true) (c.in-Err.ensures.refused known);
-}
+returns-in-Err-clause-refused c =
+    let mid = shown c.loop-at.self in
+    let same = λ (d : Edit). get_or_default c.args.edits.now c.loop-at.at _ d c.loop-at-test.true in
+    record {
+      first = λ known. record {
+        inside = c.loop-at-test.true;
+        before = mid;
+        made = c.loop-at.invariant.made;
+        refused = λ d. subst (λ (e : Edit). IsEditFault mid e c.in-Err.fault) (same d) (c.in-Err.ensures.refused known);
+      };
+      names = λ before made d.
+          subst (λ (m : Network). NamesOfEdit m (get_or c.args.edits.now c.loop-at.at d) c.in-Err.fault)
+          (all_made_one (shown c.args.self.now) (take c.loop-at.at c.args.edits.now) mid before c.loop-at.invariant.made made)
+          (subst (λ (e : Edit). NamesOfEdit mid e c.in-Err.fault) (same d) c.in-Err.ensures.names);
+    }
 
 pub returns-in-Err-clause-unchanged : goal.returns-in-Err-clause-unchanged
 returns-in-Err-clause-unchanged c = c.undo_all.ensures.undone (shown c.args.self.now) (still (goal.at.returns-in-Err-clause-unchanged c).In-Err)

@@ -11,7 +11,7 @@ use Rattle.fr_graph.proofs.graph.Graph.join.Goals.{After-make_room, else-branch,
 
 -- the graph has the network that was tested
 same : (c : After-make_room) → IsSame c.args.self.now c.make_room.new.self
-same c = same_through c.args.self.now c.leads_back.new.self c.make_room.new.self c.in_ok-leads_back.ensures.same c.make_room.ensures.same
+same c = same_through c.args.self.now c.path_back.new.self c.make_room.new.self c.in_ok-path_back.ensures.same c.make_room.ensures.same
 
 -- the ends of the link, whichever way it points
 ends : (c : After-make_room) → AreUnjoined c.args.self.now.nodes (shown c.args.self.now).links c.if-branch.tail.0 c.if-branch.tail.1
@@ -22,14 +22,14 @@ ends c =
       | else-branch w ↦ rw w.tail-is nodes
     ]
 
-pub leads_back-requires-clause-graph : goal.leads_back-requires-clause-graph
-leads_back-requires-clause-graph c = c.requires
+pub path_back-requires-clause-graph : goal.path_back-requires-clause-graph
+path_back-requires-clause-graph c = c.requires
 
-pub leads_back-requires-clause-nodes : goal.leads_back-requires-clause-nodes
-leads_back-requires-clause-nodes c = c.in_ok-test_join.ensures.nodes
+pub path_back-requires-clause-nodes : goal.path_back-requires-clause-nodes
+path_back-requires-clause-nodes c = c.in_ok-test_join.ensures.nodes
 
 pub make_room-requires-clause-graph : goal.make_room-requires-clause-graph
-make_room-requires-clause-graph c = c.in_ok-leads_back.ensures.same.graph
+make_room-requires-clause-graph c = c.in_ok-path_back.ensures.same.graph
 
 pub put-requires-clause-graph : goal.put-requires-clause-graph
 put-requires-clause-graph c = c.in_ok-make_room.ensures.same.graph
@@ -41,7 +41,7 @@ put-requires-clause-link c =
     let u = c.args.u in
     let v = c.args.v in
     let tested = c.in_ok-test_join.ensures in
-    let leads = c.in_ok-leads_back.ensures.leads in
+    let leads = c.in_ok-path_back.ensures.leads in
     let acyclic : IsAcyclic links = c.requires.faultless.is_net.acyclic in
     subst (λ (m : Network). CanPut m c.if-branch.tail.0 c.if-branch.tail.1) (sym (same at).same) record {
       few = tested.few;
@@ -70,7 +70,7 @@ returns-clause-ok c =
     record {
       graph = c.put.ensures.graph;
       made = elim c.if-branch.branch [
-        | then-branch w ↦ inr (path_closes links c.args.u c.args.v (c.in_ok-leads_back.ensures.leads.0 w.if-branch.true), rw w.tail-is at put.made)
+        | then-branch w ↦ inr (path_closes links c.args.u c.args.v (c.in_ok-path_back.ensures.leads.0 w.if-branch.true), rw w.tail-is at put.made)
         | else-branch w ↦ inl (rw w.tail-is at put.made)
       ];
       by = put.by;

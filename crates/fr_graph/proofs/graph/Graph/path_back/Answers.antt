@@ -1,17 +1,17 @@
-use Rattle.std.proofs.Common.{List, [], ap, arith, inl, inr, length, slice_index, subst, sym, ℕ, ◌<◌, ◌∙◌, ◌∷◌}
+use Rattle.std.proofs.Common.{List, [], ap, arith, inl, inr, length, refl, slice_index, subst, sym, ℕ, ◌<◌, ◌∙◌, ◌∷◌}
 use Rattle.std.proofs.lemmas.Bool.{cases_lt}
 use Rattle.std.proofs.lemmas.List.Elements.{Contains-append_left}
 use Rattle.fr_graph.proofs.Acyclic.{path_falls}
 use Rattle.fr_graph.proofs.AddedLinks.{added}
-use Rattle.fr_graph.proofs.Remaking.{fewer_fall, net_shown, same_of_heights, same_through, shows_net}
+use Rattle.fr_graph.proofs.Remaking.{falling_rows, fewer_fall, net_shown, same_of_heights, same_through}
 use Rattle.fr_graph.specs.Graph.{IsSame, shown}
 use Rattle.fr_graph.specs.declared.graph.Graph.{Graph}
 use Rattle.fr_graph.specs.Heights.{AreFalling}
 use Rattle.fr_graph.specs.Links.{HasPath}
 use Rattle.fr_graph.specs.Network.{Network}
-use Rattle.fr_graph.specs.PathSearch.{IsMeeting, IsPathAnswer}
+use Rattle.fr_graph.specs.PathSearch.{IsPathAnswer}
 use Rattle.fr_graph.proofs.graph.Graph.path_back.Goals as goal
-use Rattle.fr_graph.proofs.graph.Graph.path_back.Goals.{In_ok-meeting}
+use Rattle.fr_graph.proofs.graph.Graph.path_back.Goals.{In_ok-path_between}
 
 -- no path leads up
 no_path_up : (links : List (ℕ × ℕ)) (heights : List ℕ) (x y : ℕ) → AreFalling heights links
@@ -55,45 +55,44 @@ returns-then-falls-clause-same c = c.in_ok-renew_heights.ensures.same
 pub returns-in-Leads-clause-same : goal.returns-in-Leads-clause-same
 returns-in-Leads-clause-same c = c.in_ok-renew_heights.ensures.same
 
-pub returns-then-falls-clause-none : goal.returns-then-falls-clause-none
-returns-then-falls-clause-none c =
+pub returns-then-falls-clause-leads : goal.returns-then-falls-clause-leads
+returns-then-falls-clause-leads c =
     let after = c.renew_heights.new.self in
     let same = c.in_ok-renew_heights.ensures.same in
-    let falls = c.falls.ensures.0 c.if-falls.true in
-    λ path. absurd (no_path_up (shown after).links after.heights.heights c.args.v c.args.u (same.graph.fit falls.0) falls.1
-    (subst (λ (m : Network). HasPath m.links c.args.v c.args.u) (sym same.same) path))
+    let falls = c.falls.ensures.0 c.if-falls.true in (
+      λ t. cc,
+      λ path. absurd (no_path_up (shown after).links after.heights.heights c.args.v c.args.u (same.graph.fit falls.0) falls.1
+          (subst (λ (m : Network). HasPath m.links c.args.v c.args.u) (sym same.same) path)),
+    )
 
 pub path_between-requires-clause-rows : goal.path_between-requires-clause-rows
 path_between-requires-clause-rows c =
-    let after = c.renew_heights.new.self in
-    let is = c.in_ok-renew_heights.ensures.same.graph in
-    record {
-      shown = shows_net after is;
-      one_each = is.height_each ∙ sym is.rows.one_each;
-      falling = subst (λ (m : Network). AreFalling after.heights.heights m.links) (sym (net_shown after is)) (is.fit c.in_ok-renew_heights.ensures.known);
-    }
+    falling_rows c.renew_heights.new.self c.in_ok-renew_heights.ensures.same.graph c.in_ok-renew_heights.ensures.known
 
 -- what the search found, in the network of the graph
-found : (c : In_ok-meeting) → IsPathAnswer (shown c.renew_heights.new.self) c.renew_heights.new.self.heights.heights c.args.v c.args.u c.in_ok-meeting.field-0
+found : (c : In_ok-path_between) → IsPathAnswer (shown c.renew_heights.new.self) c.renew_heights.new.self.heights.heights c.args.v c.args.u c.in_ok-path_between.field-0
 found c =
     let after = c.renew_heights.new.self in
-    subst (λ (m : Network). IsPathAnswer m after.heights.heights c.args.v c.args.u c.in_ok-meeting.field-0)
-    (net_shown after c.in_ok-renew_heights.ensures.same.graph) c.in_ok-meeting.ensures
+    subst (λ (m : Network). IsPathAnswer m after.heights.heights c.args.v c.args.u c.in_ok-path_between.field-0)
+    (net_shown after c.in_ok-renew_heights.ensures.same.graph) c.in_ok-path_between.ensures
 
 pub put_between-requires : goal.put_between-requires
 put_between-requires c =
-    let ends = rw c.in-Ends.is at (found (goal.at.put_between-requires c).In_ok-meeting) in
+    let ends = rw c.in-Ends.is at (found (goal.at.put_between-requires c).In_ok-path_between) in
     record { nodes = λ k d lt. omega (arith, ends.1.0 k d lt, c.in_ok-renew_heights.ensures.same.graph.height_each) }
 
-pub returns-in-Leads-clause-found : goal.returns-in-Leads-clause-found
-returns-in-Leads-clause-found c =
-    subst (λ (m : Network). IsMeeting m.links c.args.v c.args.u c.in-Leads.meeting) c.in_ok-renew_heights.ensures.same.same
-    (rw c.in-Leads.is at (found (goal.at.returns-in-Leads-clause-found c).In_ok-meeting))
+pub returns-in-Leads-clause-leads : goal.returns-in-Leads-clause-leads
+returns-in-Leads-clause-leads c =
+    let path = rw c.in-Leads.is at (found (goal.at.returns-in-Leads-clause-leads c).In_ok-path_between) in
+    (λ t. subst (λ (m : Network). HasPath m.links c.args.v c.args.u) c.in_ok-renew_heights.ensures.same.same path, λ p. refl)
 
-pub returns-in-Ends-clause-none : goal.returns-in-Ends-clause-none
-returns-in-Ends-clause-none c =
-    let ends = rw c.in-Ends.is at (found (goal.at.returns-in-Ends-clause-none c).In_ok-meeting) in
-    subst (λ (m : Network). ¬ HasPath m.links c.args.v c.args.u) c.in_ok-renew_heights.ensures.same.same ends.0
+pub returns-in-Leads-clause-known : goal.returns-in-Leads-clause-known
+returns-in-Leads-clause-known c = λ t. c.in_ok-renew_heights.ensures.known
+
+pub returns-in-Ends-clause-leads : goal.returns-in-Ends-clause-leads
+returns-in-Ends-clause-leads c =
+    let ends = rw c.in-Ends.is at (found (goal.at.returns-in-Ends-clause-leads c).In_ok-path_between) in
+    (λ t. cc, λ path. absurd (subst (λ (m : Network). ¬ HasPath m.links c.args.v c.args.u) c.in_ok-renew_heights.ensures.same.same ends.0 path))
 
 pub returns-in-Ends-clause-same : goal.returns-in-Ends-clause-same
 returns-in-Ends-clause-same c =
@@ -101,7 +100,7 @@ returns-in-Ends-clause-same c =
     let same = c.in_ok-renew_heights.ensures.same in
     let links = (shown after).links in
     let more = added links c.args.u c.args.v in
-    let ends = rw c.in-Ends.is at (found (goal.at.returns-in-Ends-clause-same c).In_ok-meeting) in
+    let ends = rw c.in-Ends.is at (found (goal.at.returns-in-Ends-clause-same c).In_ok-path_between) in
     let fit = fewer_fall more links c.put_between.new.self
     (λ x y stands. Contains-append_left links ((c.args.u, c.args.v) ∷ []) (x, y) stands) (c.put_between.ensures.fit more ends.1.1) in
     same_through c.args.self.now after _ same

@@ -1,6 +1,6 @@
 use Rattle.std.proofs.Common.{arith, length}
 use Rattle.fr_graph.proofs.Remaking.{same_of_heights}
-use Rattle.fr_graph.proofs.ShownLinks.{entries_below, heads_of}
+use Rattle.fr_graph.proofs.ShownLinks.{entries_below, heads_of, rows_rise}
 use Rattle.fr_graph.specs.Graph.{shown}
 use Rattle.fr_graph.specs.Heights.{HasHeadsFirst}
 use Rattle.fr_graph.specs.Links.{AreBelow}
@@ -11,6 +11,9 @@ find_cycle-requires-clause-one_each c = c.requires.graph.rows.one_each
 
 pub find_cycle-requires-clause-below : goal.find_cycle-requires-clause-below
 find_cycle-requires-clause-below c = entries_below c.args.self.now.nodes (shown c.args.self.now).links c.args.self.now.rows c.requires.graph.rows
+
+pub find_cycle-requires-clause-rising : goal.find_cycle-requires-clause-rising
+find_cycle-requires-clause-rising c = rows_rise c.args.self.now.nodes (shown c.args.self.now).links c.args.self.now.rows c.requires.graph.rows
 
 pub returns-clause-same : goal.returns-clause-same
 returns-clause-same c =

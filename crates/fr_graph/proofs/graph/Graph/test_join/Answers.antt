@@ -1,11 +1,15 @@
-use Rattle.std.proofs.Common.{None, Option, Some, arith, false, inr, sym, ◌∙◌, ◌≡◌}
+use Rattle.std.proofs.Common.{None, Option, Some, [], arith, false, inl, inr, sym, ℕ, ◌<◌, ◌∙◌, ◌∷◌, ◌≡◌}
+use Rattle.std.proofs.lemmas.Bool.{cases_lt, le-leb, lt-leb}
 use Rattle.std.proofs.lemmas.List.{length_push}
 use Rattle.std.proofs.lemmas.List.Elements.{Contains-push}
 use Rattle.std.specs.Option.{IfNone, is_some}
 use Rattle.fr_graph.proofs.AddedLinks.{added, in_range, out_of_range_added, within_limits}
+use Rattle.fr_graph.specs.Evidence.{NamesFirst, NamesOfLink}
 use Rattle.fr_graph.specs.Faults.{IsInRange}
 use Rattle.fr_graph.specs.Graph.{shown}
 use Rattle.fr_graph.specs.Limits.{IsWithinLimits}
+use Rattle.fr_graph.specs.Network.{Network}
+use Rattle.fr_graph.specs.declared.fault.NetFault.TheVariants.{Range}
 use Rattle.fr_graph.proofs.graph.Graph.test_join.Goals as goal
 use Rattle.fr_graph.proofs.graph.Graph.test_join.Goals.{Else-self-ge-MAX_LINKS, In_default}
 
@@ -31,6 +35,21 @@ returns-in-Some-clause-refused c =
       limits (goal.at.returns-in-Some-clause-refused c).Else-self-ge-MAX_LINKS,
       out_of_range_added g.nodes g.links c.args.u c.args.v c.in-Some.x (rw c.in-Some.is at c.first_outside.ensures.found),
     )
+
+-- the first end of one link that is not a node
+end_named : (net : Network) (u v x : ℕ) → 0 < net.nodes → NamesFirst net.nodes ((u, v) ∷ []) (Range x) → NamesOfLink net u v (Range x)
+end_named net u v x some (inl none) = absurd (omega (arith, none.0))
+end_named net u v x some (inr found) = elim (cases_lt u net.nodes) [
+  | inr past ↦ let is = rw (le-leb net.nodes u past) at found.1 in inl (past, cc)
+  | inl tail ↦ elim (cases_lt v net.nodes) [
+    | inr past ↦ let is = rw (lt-leb net.nodes u tail, le-leb net.nodes v past) at found.1 in inr (tail, cc)
+    | inl head ↦ let is = rw (lt-leb net.nodes u tail, lt-leb net.nodes v head) at found.1 in absurd (cc)
+  ]
+]
+
+pub returns-in-Some-clause-names : goal.returns-in-Some-clause-names
+returns-in-Some-clause-names c =
+    end_named (shown c.args.self.now) c.args.u c.args.v c.in-Some.x c.requires.faultless.some (rw c.in-Some.is at c.first_outside.ensures.names)
 
 pub returns-then-u-v-clause-refused : goal.returns-then-u-v-clause-refused
 returns-then-u-v-clause-refused c =

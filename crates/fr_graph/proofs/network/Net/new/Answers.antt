@@ -1,13 +1,16 @@
 use Rattle.std.proofs.Common.{count_by, refl, ◌≤◌}
 use Rattle.fr_graph.proofs.Building.{acyclic_fewer, cycle_stands, faultless_listed, single_from_rising, twice_stands}
-use Rattle.fr_graph.proofs.ShownLinks.{entries_below, same_shown}
+use Rattle.fr_graph.proofs.JoinedTwice.{lowest_twice}
+use Rattle.fr_graph.proofs.LowestCycles.{cycle_carry}
+use Rattle.fr_graph.proofs.ShownLinks.{entries_below, rows_rise, same_shown}
+use Rattle.fr_graph.specs.Evidence.{IsLowestCycle}
 use Rattle.fr_graph.specs.Faults.{IsFaultless}
 use Rattle.fr_graph.specs.Halves.{AreHalvesOf, AreHalvesRising, is_at}
 use Rattle.fr_graph.specs.Heights.{HasHeadsFirst}
 use Rattle.fr_graph.specs.KeptRows.{AreRows, net_in}
 use Rattle.fr_graph.specs.Links.{HaveSameLinks, IsAcyclic, IsCycle}
 use Rattle.fr_graph.proofs.network.Net.new.Goals as goal
-use Rattle.fr_graph.proofs.network.Net.new.Goals.{After-deref-2, In-Order, In_ok-rows}
+use Rattle.fr_graph.proofs.network.Net.new.Goals.{After-deref-2, In-Order, In-Walk, In_ok-rows}
 
 pub sorted_halves-requires-clause-nodes : goal.sorted_halves-requires-clause-nodes
 sorted_halves-requires-clause-nodes c = c.in_ok-test_ends.ensures.limits.nodes_few
@@ -27,6 +30,12 @@ returns-in-Some-clause-refused c _ =
     let halves = c.in_ok-halves.halves.items in
     let found : 2 ≤ count_by (is_at c.in-Some.u c.in-Some.v) halves = rw c.deref.ensures.value at c.in-Some.ensures.found in
     (ends.limits, ends.range, ends.clear, twice_stands c.args.links.now halves c.in-Some.u c.in-Some.v c.in_ok-halves.ensures.same ends.clear found)
+
+pub returns-in-Some-clause-names : goal.returns-in-Some-clause-names
+returns-in-Some-clause-names c =
+    let halves = c.in_ok-halves.halves.items in
+    let found = rw c.deref.ensures.value at c.in-Some.ensures in
+    lowest_twice c.args.links.now halves c.in-Some.u c.in-Some.v c.in_ok-halves.ensures.same c.in_ok-test_ends.ensures.clear found.found found.lowest
 
 -- the half-links are those of the links
 halves_are : (c : After-deref-2) → AreHalvesOf c.args.nodes c.args.links.now c.in_ok-halves.halves.items c.in_ok-halves.starts.items
@@ -56,6 +65,18 @@ pub find_cycle-requires-clause-below : goal.find_cycle-requires-clause-below
 find_cycle-requires-clause-below c = entries_below c.args.nodes c.args.links.now c.in_ok-rows.rows
     (rows_are (goal.at.find_cycle-requires-clause-below c).In_ok-rows)
 
+pub find_cycle-requires-clause-rising : goal.find_cycle-requires-clause-rising
+find_cycle-requires-clause-rising c = rows_rise c.args.nodes c.args.links.now c.in_ok-rows.rows
+    (rows_are (goal.at.find_cycle-requires-clause-rising c).In_ok-rows)
+
+walk_found : (c : In-Walk) → IsCycle (net_in c.in_ok-rows.rows).links c.in-Walk.walk.items × IsLowestCycle (net_in c.in_ok-rows.rows).links c.in-Walk.walk.items
+walk_found c = rw c.in-Walk.is at c.in_ok-walk.ensures
+
+pub returns-in-Walk-clause-names : goal.returns-in-Walk-clause-names
+returns-in-Walk-clause-names c =
+    let b = goal.at.returns-in-Walk-clause-names c in
+    cycle_carry (λ u v. let both = same b.In_ok-rows u v in (both.1, both.0)) (walk_found b.In-Walk).1
+
 pub returns-in-Walk-clause-refused : goal.returns-in-Walk-clause-refused
 returns-in-Walk-clause-refused c _ =
     let b = goal.at.returns-in-Walk-clause-refused c in
@@ -63,7 +84,7 @@ returns-in-Walk-clause-refused c _ =
     let halves = c.in_ok-halves.halves.items in
     let ends = c.in_ok-test_ends.ensures in
     let rising : AreHalvesRising halves = (halves_are b.After-deref-2).rising in
-    let found : IsCycle (net_in c.in_ok-rows.rows).links c.in-Walk.walk.items = rw c.in-Walk.is at c.in_ok-walk.ensures in (
+    let found = (walk_found b.In-Walk).0 in (
       ends.limits,
       ends.range,
       ends.clear,

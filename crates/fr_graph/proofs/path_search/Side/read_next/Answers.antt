@@ -1,7 +1,6 @@
 use Rattle.std.proofs.Common.{ap, arith, get_or, inl, inr, length, refl, slice_index, sym, true, ℕ, ◌+◌, ◌<◌, ◌∙◌, ◌≡◌}
 use Rattle.std.proofs.lemmas.List.{get_or_default}
 use Rattle.fr_graph.proofs.SideRows.{entry_below, entry_leads, entry_leads_by_height, leads_lies, passed_more, passed_stays, side_reads}
-use Rattle.fr_graph.proofs.TwoEnds.{meet_along}
 use Rattle.fr_graph.proofs.MetNodes.{more_after, more_by_edges, more_read, same_more, with_edge_nearer}
 use Rattle.fr_graph.proofs.Sides.{next_below, side_goes_on, side_moves}
 use Rattle.fr_graph.specs.KeptRows.{net_in}
@@ -135,7 +134,7 @@ returns-then-meet-clause-answer c =
     let stands = on.1.stands c.loop-neighbour.self.read (unread at) ∙ at_read at in
     let own : HasMet f c.meet.new.met x = rw stands at (on.0.all_met c.loop-neighbour.self.read 0 (omega (arith, unread at, on.1.longer))) in
     let other : HasMet (opposite f) c.meet.new.met (entry at).0 = rw inv.side.first_is at (c.meet.ensures.other c.if-meet.true) in
-    rw (c.link_to.ensures, on.0.first_is) (meet_along f (net_in c.args.rows.now).links c.meet.new.met x (entry at).0 own other (step at is))
+    record { own = x; other = (entry at).0; own_met = own; other_met = other; leads = step at is }
 
 pub loop-neighbour-preserved : goal.loop-neighbour-preserved
 loop-neighbour-preserved c =
