@@ -1,16 +1,15 @@
 -- A fault has one evidence: links and edits determine its kind and the nodes that it names.
-use Rattle.std.proofs.Common.{List, Some, [], ap, arith, find, get_or, inl, inr, nat_le, refl, subst, sym, take, ℕ, ⊎_elim, ◌<◌, ◌∙◌, ◌∷◌, ◌≡◌, ◌⊎◌}
+use Rattle.std.proofs.Common.{List, [], ap, arith, get_or, inl, inr, refl, subst, sym, take, ℕ, ⊎_elim, ◌<◌, ◌∙◌, ◌≡◌, ◌⊎◌}
 use Rattle.std.specs.declared.alloc.Global.{Global}
 use Rattle.std.specs.declared.vec.Vec.{Vec}
-use Rattle.fr_graph.proofs.Batches.{batch_fault_place, cut_fault_is, edit_fault_place, moved_fault, refused_alike}
+use Rattle.fr_graph.proofs.Batches.{cut_fault_is, edit_fault_place, moved_fault, refused_alike}
 use Rattle.fr_graph.proofs.LowestCycles.{cycle_by_one, cycle_one, lowest_one}
 use Rattle.fr_graph.proofs.Refusing.{first_fault_place}
-use Rattle.fr_graph.specs.Batches.{AreMade, IsBatchFault, IsEditFault}
-use Rattle.fr_graph.specs.Evidence.{AreJoinedTwice, IsLowest, NamesFirst, NamesInBatch, NamesOfEdit, NamesOfLink, evidence}
+use Rattle.fr_graph.specs.Batches.{AreMade}
+use Rattle.fr_graph.specs.Evidence.{AreJoinedTwice, IsLowest, NamesFirst, NamesOfEdit, NamesOfLink, evidence}
 use Rattle.fr_graph.specs.Faults.{fault_place}
-use Rattle.fr_graph.specs.Laws.{AreAlike, BatchesHaveOneFault, EditsHaveOneFault, LinksHaveOneFault}
+use Rattle.fr_graph.specs.Laws.{BatchesHaveOneFault, EditsHaveOneFault, LinksHaveOneFault}
 use Rattle.fr_graph.specs.Network.{Network}
-use Rattle.fr_graph.specs.declared.fault.EditFault.{EditFault}
 use Rattle.fr_graph.specs.declared.fault.NetFault.{NetFault}
 use Rattle.fr_graph.specs.declared.fault.NetFault.TheVariants.{Cycle, Memory, NoLink, Range, SelfLink, TooMany, Twice}
 use Rattle.fr_graph.specs.declared.edit.Edit.{Edit}
