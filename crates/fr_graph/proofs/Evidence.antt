@@ -127,11 +127,3 @@ batches_alike net edits f g (inr a) nf (inr b) ng =
     let made : AreMade net (take f.at edits) b.1.before = subst (λ (k : ℕ). AreMade net (take k edits) b.1.before) (sym at) b.1.made in
     let moved = subst (λ (k : ℕ). NamesOfEdit b.1.before (get_or edits k d) f.fault) at (nf b.1.before made d) in
     (at, edits_alike b.1.before (get_or edits g.at d) f.fault g.fault (moved_fault net edits f g a.1 b.1 d) moved (b.1.refused d) (ng b.1.before b.1.made d))
-
--- what edits name for these faults is not restricted
-pub edit_names_none : (net : Network) (e : Edit) (f : NetFault) → (f ≡ Memory) ⊎ (f ≡ TooMany) → NamesOfEdit net e f
-edit_names_none net (Cut u v) f h = tt
-edit_names_none net (Add u v) f (inl e) = rw e tt
-edit_names_none net (Add u v) f (inr e) = rw e tt
-edit_names_none net (Join u v) f (inl e) = rw e tt
-edit_names_none net (Join u v) f (inr e) = rw e tt
