@@ -178,7 +178,7 @@ end_from_last u [] = refl
 end_from_last u (v ∷ vs) = end_from_last v vs
 
 -- a list that begins and ends at the same node, and whose steps follow the links
-cycle_from_steps : (links : List (ℕ × ℕ)) (walk : List ℕ) (last : ℕ) → last + 1 ≡ length walk → 0 < last
+pub cycle_from_steps : (links : List (ℕ × ℕ)) (walk : List ℕ) (last : ℕ) → last + 1 ≡ length walk → 0 < last
     → get_or walk last 0 ≡ get_or walk 0 0 → ((k : ℕ) → k + 1 < length walk → Points links (get_or walk k 0) (get_or walk (k + 1) 0)) → IsCycle links walk
 cycle_from_steps links [] last len some same steps = omega arith
 cycle_from_steps links (u ∷ []) last len some same steps = omega arith

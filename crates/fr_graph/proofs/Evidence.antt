@@ -1,16 +1,15 @@
 -- A fault has one evidence: links and edits determine its kind and the nodes that it names.
-use Rattle.std.proofs.Common.{List, Some, [], ap, arith, find, get_or, inl, inr, nat_le, refl, subst, sym, take, ℕ, ⊎_elim, ◌<◌, ◌∙◌, ◌∷◌, ◌≡◌, ◌⊎◌}
+use Rattle.std.proofs.Common.{List, [], ap, arith, get_or, inl, inr, refl, subst, sym, take, ℕ, ⊎_elim, ◌<◌, ◌∙◌, ◌≡◌, ◌⊎◌}
 use Rattle.std.specs.declared.alloc.Global.{Global}
 use Rattle.std.specs.declared.vec.Vec.{Vec}
-use Rattle.fr_graph.proofs.Batches.{batch_fault_place, cut_fault_is, edit_fault_place, moved_fault, refused_alike}
+use Rattle.fr_graph.proofs.Batches.{cut_fault_is, edit_fault_place, moved_fault, refused_alike}
 use Rattle.fr_graph.proofs.LowestCycles.{cycle_by_one, cycle_one, lowest_one}
 use Rattle.fr_graph.proofs.Refusing.{first_fault_place}
-use Rattle.fr_graph.specs.Batches.{AreMade, IsBatchFault, IsEditFault}
-use Rattle.fr_graph.specs.Evidence.{AreJoinedTwice, IsLowest, NamesFirst, NamesInBatch, NamesOfEdit, NamesOfLink, evidence}
+use Rattle.fr_graph.specs.Batches.{AreMade}
+use Rattle.fr_graph.specs.Evidence.{AreJoinedTwice, IsLowest, NamesFirst, NamesOfEdit, NamesOfLink, evidence}
 use Rattle.fr_graph.specs.Faults.{fault_place}
-use Rattle.fr_graph.specs.Laws.{AreAlike, BatchesHaveOneFault, EditsHaveOneFault, LinksHaveOneFault}
+use Rattle.fr_graph.specs.Laws.{BatchesHaveOneFault, EditsHaveOneFault, LinksHaveOneFault}
 use Rattle.fr_graph.specs.Network.{Network}
-use Rattle.fr_graph.specs.declared.fault.EditFault.{EditFault}
 use Rattle.fr_graph.specs.declared.fault.NetFault.{NetFault}
 use Rattle.fr_graph.specs.declared.fault.NetFault.TheVariants.{Cycle, Memory, NoLink, Range, SelfLink, TooMany, Twice}
 use Rattle.fr_graph.specs.declared.edit.Edit.{Edit}
@@ -128,11 +127,3 @@ batches_alike net edits f g (inr a) nf (inr b) ng =
     let made : AreMade net (take f.at edits) b.1.before = subst (λ (k : ℕ). AreMade net (take k edits) b.1.before) (sym at) b.1.made in
     let moved = subst (λ (k : ℕ). NamesOfEdit b.1.before (get_or edits k d) f.fault) at (nf b.1.before made d) in
     (at, edits_alike b.1.before (get_or edits g.at d) f.fault g.fault (moved_fault net edits f g a.1 b.1 d) moved (b.1.refused d) (ng b.1.before b.1.made d))
-
--- what edits name for these faults is not restricted
-pub edit_names_none : (net : Network) (e : Edit) (f : NetFault) → (f ≡ Memory) ⊎ (f ≡ TooMany) → NamesOfEdit net e f
-edit_names_none net (Cut u v) f h = tt
-edit_names_none net (Add u v) f (inl e) = rw e tt
-edit_names_none net (Add u v) f (inr e) = rw e tt
-edit_names_none net (Join u v) f (inl e) = rw e tt
-edit_names_none net (Join u v) f (inr e) = rw e tt

@@ -2,7 +2,7 @@
 -- is found, and a link from its end to its beginning closes a cycle.
 use Rattle.std.proofs.Common.{All, Contains, List, [], ap, arith, get_or, inl, inr, length, refl, replicate, set, slice_index, subst, sym, ℕ}
 use Rattle.std.proofs.Common.{◌++◌, ◌+◌, ◌<◌, ◌∙◌, ◌∷◌, ◌≡◌, ◌≢◌, ◌≤◌}
-use Rattle.std.proofs.lemmas.Bool.{cases_eq, cases_lt}
+use Rattle.std.proofs.lemmas.Bool.{cases_lt}
 use Rattle.std.proofs.lemmas.List.{get_or_append_left, get_or_push, get_or-set_same, length-replicate, length-set, length_push}
 use Rattle.std.proofs.lemmas.List.Elements.{All-contains}
 use Rattle.std.proofs.lemmas.List.Sums.{count_by-le-length}
@@ -12,7 +12,7 @@ use Rattle.fr_graph.proofs.Cycles.{end_from_last, path_from_steps}
 use Rattle.fr_graph.proofs.Joining.{path_walks}
 use Rattle.fr_graph.proofs.Linking.{link_below}
 use Rattle.fr_graph.proofs.Lists.{push_cases}
-use Rattle.fr_graph.proofs.MetNodes.{fewer_never, met_set, never_apart, sides_apart}
+use Rattle.fr_graph.proofs.MetNodes.{fewer_never, met_set}
 use Rattle.fr_graph.proofs.Neighbours.{out_of_row, row_of_out, row_rises}
 use Rattle.fr_graph.proofs.Sides.{met_reached, side_begins, start_met}
 use Rattle.fr_graph.proofs.TwoEnds.{none_met, path_behind, side_closed}
@@ -20,10 +20,10 @@ use Rattle.fr_graph.specs.Evidence.{IsLowestCycleBy, LeadsTowards}
 use Rattle.fr_graph.specs.Heights.{AreFalling}
 use Rattle.fr_graph.specs.Links.{HasPath, IsCycle, IsNet, IsPath, Points, end_of}
 use Rattle.fr_graph.specs.Network.{Network}
-use Rattle.fr_graph.specs.PathSearch.{HasBegun, HasMet, IsFirstMet, IsLowestWay, IsSide, IsUnmet, is_never, met_of}
+use Rattle.fr_graph.specs.PathSearch.{HasBegun, HasMet, IsFirstMet, IsLowestWay, IsSide, IsUnmet, is_never}
 use Rattle.fr_graph.specs.Rows.{row}
 use Rattle.fr_graph.specs.declared.path_search.Met.{Met}
-use Rattle.fr_graph.specs.declared.path_search.Met.TheVariants.{Backward, Forward, Never}
+use Rattle.fr_graph.specs.declared.path_search.Met.TheVariants.{Backward, Never}
 use Rattle.fr_graph.specs.declared.path_search.Side.{Side}
 use Rattle.fr_graph.specs.declared.first.First.{First}
 use Rattle.fr_graph.specs.declared.first.First.TheVariants.{Inward, Outward}

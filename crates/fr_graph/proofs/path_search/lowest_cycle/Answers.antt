@@ -1,4 +1,4 @@
-use Rattle.std.proofs.Common.{List, ap, arith, length, refl, replicate, set, slice_index, ℕ, ◌<◌, ◌∙◌, ◌≡◌, ◌≤◌}
+use Rattle.std.proofs.Common.{List, ap, arith, refl, replicate, set, slice_index, ◌<◌, ◌∙◌, ◌≡◌}
 use Rattle.fr_graph.proofs.LowestPaths.{alone_begins, first_lowest, leads_down, some_met, tail_below, way_grows}
 use Rattle.fr_graph.proofs.SideRows.{entry_below}
 use Rattle.fr_graph.proofs.Sides.{own_side}

@@ -1,4 +1,4 @@
-use Rattle.std.proofs.Common.{List, ap, arith, length, refl, replicate, set, slice_index, sym, ℕ, ◌<◌, ◌∙◌, ◌≡◌, ◌≤◌}
+use Rattle.std.proofs.Common.{List, ap, arith, length, refl, replicate, set, slice_index, sym, ◌∙◌, ◌≡◌, ◌≤◌}
 use Rattle.fr_graph.proofs.TwoEnds.{ahead_meets, behind_meets, ended_ahead, ended_behind, sides_begin}
 use Rattle.fr_graph.proofs.Sides.{none_left, other_stays, own_side}
 use Rattle.fr_graph.specs.KeptRows.{net_in}

@@ -1,4 +1,4 @@
-use Rattle.std.proofs.Common.{List, [], ap, arith, inl, inr, length, refl, slice_index, subst, sym, ℕ, ◌<◌, ◌∙◌, ◌∷◌}
+use Rattle.std.proofs.Common.{List, [], ap, arith, inl, inr, length, refl, slice_index, subst, sym, ℕ, ◌<◌, ◌∷◌}
 use Rattle.std.proofs.lemmas.Bool.{cases_lt}
 use Rattle.std.proofs.lemmas.List.Elements.{Contains-append_left}
 use Rattle.fr_graph.proofs.Acyclic.{path_falls}
