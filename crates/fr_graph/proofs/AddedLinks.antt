@@ -39,7 +39,7 @@ in_range n links u v below a b = record {
 pub no_self : (links : List (ℕ × ℕ)) (u v : ℕ) → HasNoSelfLink links → u ≢ v → HasNoSelfLink (added links u v)
 no_self links u v clear apart = All-push (λ (l : ℕ × ℕ). ¬ (l.0 ≡ l.1)) links (u, v) clear apart
 
-count_added : (links : List (ℕ × ℕ)) (u v a b : ℕ)
+pub count_added : (links : List (ℕ × ℕ)) (u v a b : ℕ)
     → count_by (is_between a b) (added links u v) ≡ count_by (is_between a b) links + weigh (is_between a b (u, v))
 count_added links u v a b = let weight : ℕ × ℕ → ℕ = λ l. weigh (is_between a b l) in sum_by_push weight links (u, v)
 

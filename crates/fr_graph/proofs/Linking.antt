@@ -35,7 +35,7 @@ joined_from u v l e =
       | inr t ↦ inr (eqb-true _ _ t.0, eqb-true _ _ t.1)
     ]
 
-is_between_alike : (u v : ℕ) (l : ℕ × ℕ) → is_between u v l ≡ true → (x : ℕ × ℕ) → is_between l.0 l.1 x ≡ is_between u v x
+pub is_between_alike : (u v : ℕ) (l : ℕ × ℕ) → is_between u v l ≡ true → (x : ℕ × ℕ) → is_between l.0 l.1 x ≡ is_between u v x
 is_between_alike u v l e x =
     elim (joined_from u v l e) [
       | inl t ↦ rw (t.0, t.1) refl

@@ -48,4 +48,5 @@ IsBatchFault net edits refused =
 -- why `edit_if` fails: an edit is refused, an allocation is refused, or `accept` fails on the edited network
 abbrev pub IsNotEdited : {T E : Type 0} → Network → List Edit → (Network → Result T E → Type 0) → NotEdited E → Type 0
 IsNotEdited net edits answers (Refused refused) = refused.fault ≢ Memory → IsBatchFault net edits refused
-IsNotEdited net edits answers (Fault fault) = (made : Network) × (AreMade net edits made × ((length edits ≤ most_edits) × answers made (Err fault)))
+IsNotEdited net edits answers (Fault fault) = (made : Network)
+    × (AreMade net edits made × ((length edits ≤ most_edits) × answers made (Err fault)))

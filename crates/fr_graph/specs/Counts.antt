@@ -19,7 +19,8 @@ links_at first counts = filter_map (link_at counts) first
 -- the counts give the first link a direction
 abbrev pub IsKept : List ℕ → ℕ × ℕ → Type 0
 IsKept counts first =
-    (slice_index counts first.1 ≡ slice_index counts first.0) ⊎ (slice_index counts first.1 ≡ slice_index counts first.0 + 1)
+    (slice_index counts first.1 ≡ slice_index counts first.0)
+    ⊎ (slice_index counts first.1 ≡ slice_index counts first.0 + 1)
 
 -- counts that turns can lead to: one for each of n nodes, at most n, 0 at the destination d and at nodes without a
 -- link, and each first link has a direction

@@ -1,5 +1,6 @@
 -- The state of the depth-first search for a cycle. For proofs only.
-use Rattle.std.specs.Prelude.{◌≡◌, ◌≢◌, ℕ, ◌<◌, ◌≤◌, ◌+◌, ◌-◌, ◌*◌, List, [], length, map, slice_index, slice_index_or, vec_len, Option, Bool, true, false, count_by, IfSome}
+use Rattle.std.specs.Prelude.{◌≡◌, ◌≢◌, ℕ, ◌<◌, ◌≤◌, ◌+◌, ◌-◌, ◌*◌, List, [], length, map, slice_index}
+use Rattle.std.specs.Prelude.{slice_index_or, vec_len, Option, Bool, true, false, count_by, IfSome}
 use Rattle.std.specs.List.{All, AllPairs, Contains}
 use Rattle.fr_graph.specs.Evidence.{IsLowestCycle}
 use Rattle.fr_graph.specs.Heights.{HasHeadsFirst}
@@ -32,7 +33,8 @@ pub record IsCycleSearch (n : ℕ) (links : List (ℕ × ℕ)) (marks : List Mar
   pub path_open : (k : ℕ) → k < length path → mark_of marks (slice_index path k) ≡ Open
   pub path_once : (i j : ℕ) → i < j → j < length path → slice_index path i ≢ slice_index path j
   pub begins_lowest : (w : ℕ) → 0 < length path → w < slice_index path 0 → mark_of marks w ≡ Done
-  pub follows_lowest : (k w : ℕ) → k + 1 < length path → Points links (slice_index path k) w → w < slice_index path (k + 1) → mark_of marks w ≡ Done
+  pub follows_lowest : (k w : ℕ) → k + 1 < length path → Points links (slice_index path k) w
+      → w < slice_index path (k + 1) → mark_of marks w ≡ Done
   pub open_on_path : (x : ℕ) → mark_of marks x ≡ Open → Contains path x
   pub done_closed : (u v : ℕ) → mark_of marks u ≡ Done → Points links u v → mark_of marks v ≡ Done
   pub done_safe : (u : ℕ) (vs : List ℕ) → mark_of marks u ≡ Done → ¬ IsClosedWalk links u vs
@@ -68,7 +70,8 @@ pub record IsOrder (links : List (ℕ × ℕ)) (marks : List Mark) (order : List
   pub counted : length order ≡ count_by is_done marks
   pub listed : All (λ (x : ℕ). mark_of marks x ≡ Done) order
   pub all : (x : ℕ) → mark_of marks x ≡ Done → Contains order x
-  pub heads : (i j : ℕ) → i < length order → j < length order → Points links (slice_index order i) (slice_index order j) → j < i
+  pub heads : (i j : ℕ) → i < length order → j < length order
+      → Points links (slice_index order i) (slice_index order j) → j < i
 
 -- what the search of n nodes finds: the lowest cycle or an order
 abbrev pub IsFound : ℕ → List (ℕ × ℕ) → Found → Type 0
@@ -81,7 +84,8 @@ pub record IsSearch (rows : Table) (search : Search) : Type 0 where
   pub one_each : length rows.rows ≡ length search.marks.items
   pub below : AreEntriesBelow (length search.marks.items) rows
   pub rising : AreRowsRising rows
-  pub steps : IsCycleSearch (length search.marks.items) (net_in rows).links search.marks.items (nodes_of search.path.items)
+  pub steps : IsCycleSearch (length search.marks.items) (net_in rows).links search.marks.items
+      (nodes_of search.path.items)
   pub read : All (HasRead rows search.marks.items) search.path.items
   pub order : IsOrder (net_in rows).links search.marks.items search.order.items
 
@@ -133,14 +137,16 @@ pub record GoesOn (rows : Table) (before after : Search) (node : Option ℕ) : T
 
 -- the search has put x at the end of its path
 pub record HasOpened (x : ℕ) (before after : Search) : Type 0 where
-  pub search : (rows : Table) → IsSearch rows before → LeadsTo (net_in rows).links before.marks.items (nodes_of before.path.items) x → IsSearch rows after
+  pub search : (rows : Table) → IsSearch rows before
+      → LeadsTo (net_in rows).links before.marks.items (nodes_of before.path.items) x → IsSearch rows after
   pub met : mark_of after.marks.items x ≢ Fresh
   pub kept : KeepsSeen before.marks.items after.marks.items
   pub fewer : left_count after < left_count before
 
 -- the search has removed its last node, x, from the path
 pub record HasLeft (x : ℕ) (before after : Search) : Type 0 where
-  pub search : (rows : Table) → IsSearch rows before → LeadsToDone (net_in rows).links before.marks.items x → IsSearch rows after
+  pub search : (rows : Table) → IsSearch rows before → LeadsToDone (net_in rows).links before.marks.items x
+      → IsSearch rows after
   pub kept : KeepsSeen before.marks.items after.marks.items
   pub fewer : left_count after < left_count before
 

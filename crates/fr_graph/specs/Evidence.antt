@@ -1,6 +1,7 @@
 -- The nodes that show a fault, and which ones a fault names if more than one choice would show it. The links and the
 -- edit determine them. This project's own.
-use Rattle.std.specs.Prelude.{◌≡◌, ◌≢◌, ℕ, ◌<◌, ◌≤◌, ◌+◌, ◌⊎◌, ◌==◌, nat_le, List, [], ◌∷◌, length, slice_index, drop, take, Some, count_by, find, flat_map}
+use Rattle.std.specs.Prelude.{◌≡◌, ◌≢◌, ℕ, ◌<◌, ◌≤◌, ◌+◌, ◌⊎◌, ◌==◌, nat_le, List, [], ◌∷◌}
+use Rattle.std.specs.Prelude.{length, slice_index, drop, take, Some, count_by, find, flat_map}
 use Rattle.std.specs.List.{HoldsAt}
 use Rattle.fr_graph.specs.Batches.{AreMade}
 use Rattle.fr_graph.specs.Links.{HasPath, IsClosedWalk, Points, is_between}
@@ -88,7 +89,8 @@ abbrev pub NamesFirst : ℕ → List (ℕ × ℕ) → NetFault → Type 0
 NamesFirst n links TooMany = Unit {0}
 NamesFirst n links (Range x) = ((n ≡ 0) × (x ≡ 0)) ⊎ ((0 < n) × (find (nat_le n) (ends_of links) ≡ Some x))
 NamesFirst n links (SelfLink u) = find (λ (l : ℕ × ℕ). l.0 == l.1) links ≡ Some (u, u)
-NamesFirst n links (Twice u v) = IsLowest (λ x. (y : ℕ) × AreJoinedTwice links x y) u × IsLowest (AreJoinedTwice links u) v
+NamesFirst n links (Twice u v) = IsLowest (λ x. (y : ℕ) × AreJoinedTwice links x y) u
+    × IsLowest (AreJoinedTwice links u) v
 NamesFirst n links (Cycle walk) = IsLowestCycle links walk.items
 NamesFirst n links NoLink = Unit {0}
 NamesFirst n links Memory = Unit {0}
@@ -113,7 +115,8 @@ NamesOfEdit net (Join u v) fault = NamesOfLink net u v fault
 -- the same of the edit that is refused in a batch, on the network that the edits before it make
 abbrev pub NamesInBatch : Network → List Edit → EditFault → Type 0
 NamesInBatch net edits refused =
-    (before : Network) → AreMade net (take refused.at edits) before → HoldsAt (λ edit. NamesOfEdit before edit refused.fault) edits refused.at
+    (before : Network) → AreMade net (take refused.at edits) before
+    → HoldsAt (λ edit. NamesOfEdit before edit refused.fault) edits refused.at
 
 -- the same if `edit_if` fails
 abbrev pub NamesIfRefused : {E : Type 0} → Network → List Edit → NotEdited E → Type 0

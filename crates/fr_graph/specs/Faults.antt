@@ -26,8 +26,10 @@ abbrev pub IsFirstFault : ℕ → List (ℕ × ℕ) → NetFault → Type 0
 IsFirstFault n links TooMany = IsTooLarge n links
 IsFirstFault n links (Range x) = IsWithinLimits n links × IsOutOfRange n links x
 IsFirstFault n links (SelfLink u) = IsWithinLimits n links × IsInRange n links × Contains links (u, u)
-IsFirstFault n links (Twice u v) = IsWithinLimits n links × IsInRange n links × HasNoSelfLink links × (2 ≤ count_by (is_between u v) links)
-IsFirstFault n links (Cycle walk) = IsWithinLimits n links × IsInRange n links × HasNoSelfLink links × AreSingle links × IsCycle links walk.items
+IsFirstFault n links (Twice u v) = IsWithinLimits n links × IsInRange n links × HasNoSelfLink links
+    × (2 ≤ count_by (is_between u v) links)
+IsFirstFault n links (Cycle walk) = IsWithinLimits n links × IsInRange n links × HasNoSelfLink links
+    × AreSingle links × IsCycle links walk.items
 IsFirstFault n links NoLink = ⊥
 IsFirstFault n links Memory = ⊥
 

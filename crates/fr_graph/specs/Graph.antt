@@ -46,8 +46,10 @@ pub record CanPut (net : Network) (u v : ℕ) : Type 0 where
 
 -- what one edit did: a link was removed or added
 abbrev pub IsStep : Network → Done → Network → Type 0
-IsStep net (Taken tail head) after = Points net.links tail head × IsNetworkOf net.nodes (without tail head net.links) after
-IsStep net (Put tail head) after = AreUnjoined net.nodes net.links tail head × IsNetworkOf net.nodes (net.links ++ (tail, head) ∷ []) after
+IsStep net (Taken tail head) after = Points net.links tail head
+    × IsNetworkOf net.nodes (without tail head net.links) after
+IsStep net (Put tail head) after = AreUnjoined net.nodes net.links tail head
+    × IsNetworkOf net.nodes (net.links ++ (tail, head) ∷ []) after
 
 -- the same, in a network whose links have no fault and are in order
 pub record IsDone (net : Network) (done : Done) (after : Network) : Type 0 where
@@ -58,7 +60,8 @@ pub record IsDone (net : Network) (done : Done) (after : Network) : Type 0 where
 -- the same for several edits, one after the other, and the graph has room for the network before each of them
 abbrev pub AreDone : Graph → Network → List Done → Network → Type 0
 AreDone g net [] after = after ≡ net
-AreDone g net (done ∷ rest) after = HasRoomFor g net × ((next : Network) × (IsDone net done next × AreDone g next rest after))
+AreDone g net (done ∷ rest) after = HasRoomFor g net
+    × ((next : Network) × (IsDone net done next × AreDone g next rest after))
 
 -- these edits led from the first network to that of the graph, and all of them can be undone
 abbrev pub CanUndo : Network → List Done → Graph → Type 0

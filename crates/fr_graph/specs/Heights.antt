@@ -41,7 +41,8 @@ AreStacked nodes base step before after =
 -- other heights are unchanged
 abbrev pub AreLifted : List ℕ → List ℕ → ℕ → ℕ → List ℕ → List ℕ → Type 0
 AreLifted nodes counts base step before after =
-    (x : ℕ) → ((i : ℕ) × (i < length nodes) × (slice_index nodes i ≡ x) × (slice_index after x ≡ base + (slice_index counts x * length nodes + i + 1) * step))
+    (x : ℕ) → ((i : ℕ) × (i < length nodes) × (slice_index nodes i ≡ x)
+    × (slice_index after x ≡ base + (slice_index counts x * length nodes + i + 1) * step))
     ⊎ (¬ Contains nodes x × (slice_index after x ≡ slice_index before x))
 
 -- an order of all n nodes that lists the head of each link before its tail
@@ -49,7 +50,8 @@ pub record HasHeadsFirst (n : ℕ) (links : List (ℕ × ℕ)) (order : List ℕ
   pub few : length order ≤ n
   pub below : All (λ (x : ℕ). x < n) order
   pub all : (x : ℕ) → x < n → Contains order x
-  pub heads : (i j : ℕ) → i < length order → j < length order → Points links (slice_index order i) (slice_index order j) → j < i
+  pub heads : (i j : ℕ) → i < length order → j < length order
+      → Points links (slice_index order i) (slice_index order j) → j < i
 
 -- links into the set come from a height of at least `high`, links out of it lead to a height of at most `low`, and all
 -- other links fall. So all links fall once the nodes of the set are put between low and high, in the order of their
@@ -57,5 +59,7 @@ pub record HasHeadsFirst (n : ℕ) (links : List (ℕ × ℕ)) (order : List ℕ
 pub record FitBetween (links : List (ℕ × ℕ)) (heights : List ℕ) (nodes : List ℕ) (low high : ℕ) : Type 0 where
   pub into : (u v : ℕ) → Points links u v → ¬ Contains nodes u → Contains nodes v → high ≤ slice_index heights u
   pub out : (u v : ℕ) → Points links u v → Contains nodes u → ¬ Contains nodes v → slice_index heights v ≤ low
-  pub within : (u v : ℕ) → Points links u v → Contains nodes u → Contains nodes v → slice_index heights v < slice_index heights u
-  pub outside : (u v : ℕ) → Points links u v → ¬ Contains nodes u → ¬ Contains nodes v → slice_index heights v < slice_index heights u
+  pub within : (u v : ℕ) → Points links u v → Contains nodes u → Contains nodes v
+      → slice_index heights v < slice_index heights u
+  pub outside : (u v : ℕ) → Points links u v → ¬ Contains nodes u → ¬ Contains nodes v
+      → slice_index heights v < slice_index heights u

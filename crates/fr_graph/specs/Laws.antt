@@ -17,11 +17,13 @@ use Rattle.fr_graph.specs.declared.first.First.TheVariants.{Outward, Inward}
 
 -- The row of x contains w as Outward exactly if a link points from x to w.
 abbrev pub OutwardIsALinkTo : Type 0
-OutwardIsALinkTo = (n : ℕ) (links : List (ℕ × ℕ)) (x w : ℕ) → IsNet n links → Contains (row n links x) (w, Outward) ↔ Points links x w
+OutwardIsALinkTo = (n : ℕ) (links : List (ℕ × ℕ)) (x w : ℕ) → IsNet n links
+    → Contains (row n links x) (w, Outward) ↔ Points links x w
 
 -- The row of x contains w as Inward exactly if a link points from w to x.
 abbrev pub InwardIsALinkFrom : Type 0
-InwardIsALinkFrom = (n : ℕ) (links : List (ℕ × ℕ)) (x w : ℕ) → IsNet n links → Contains (row n links x) (w, Inward) ↔ Points links w x
+InwardIsALinkFrom = (n : ℕ) (links : List (ℕ × ℕ)) (x w : ℕ) → IsNet n links
+    → Contains (row n links x) (w, Inward) ↔ Points links w x
 
 -- So each link is in the rows of both its ends: Outward at its tail and Inward at its head.
 abbrev pub LinksAreSeenFromBothEnds : Type 0
@@ -30,7 +32,8 @@ LinksAreSeenFromBothEnds = (n : ℕ) (links : List (ℕ × ℕ)) (x w : ℕ) →
 
 -- The neighbours in a row increase, and none is there twice.
 abbrev pub NeighboursRise : Type 0
-NeighboursRise = (n : ℕ) (links : List (ℕ × ℕ)) (x : ℕ) → IsStrictlyIncreasing (map (λ (e : ℕ × First). e.0) (row n links x))
+NeighboursRise = (n : ℕ) (links : List (ℕ × ℕ)) (x : ℕ)
+    → IsStrictlyIncreasing (map (λ (e : ℕ × First). e.0) (row n links x))
 
 -- Of the two possible links between two nodes, at least one closes no cycle.
 abbrev pub OneWayIsFree : Type 0
@@ -55,4 +58,5 @@ EditsHaveOneFault = (net : Network) (edit : Edit) (f g : NetFault) → IsEditFau
 -- A network and a batch determine the same of a batch that is refused, and which of its edits is.
 abbrev pub BatchesHaveOneFault : Type 0
 BatchesHaveOneFault = (net : Network) (edits : List Edit) (f g : EditFault) → IsBatchFault net edits f
-    → NamesInBatch net edits f → IsBatchFault net edits g → NamesInBatch net edits g → (f.at ≡ g.at) × AreAlike f.fault g.fault
+    → NamesInBatch net edits f → IsBatchFault net edits g → NamesInBatch net edits g
+    → (f.at ≡ g.at) × AreAlike f.fault g.fault

@@ -1,5 +1,6 @@
 -- Links ordered by tail and then by head, the lexicographic order of pairs.
-use Rattle.std.specs.Prelude.{◌≡◌, ℕ, ◌<◌, ◌≤◌, ◌+◌, ◌⊎◌, ◌==◌, ◌&&◌, ◌||◌, Bool, nat_lt, nat_le, if◌then◌else◌, List, [], ◌∷◌, length, slice_index_or}
+use Rattle.std.specs.Prelude.{◌≡◌, ℕ, ◌<◌, ◌≤◌, ◌+◌, ◌⊎◌, ◌==◌, ◌&&◌, ◌||◌, Bool, nat_lt}
+use Rattle.std.specs.Prelude.{nat_le, if◌then◌else◌, List, [], ◌∷◌, length, slice_index_or}
 
 -- p is before q in the order
 abbrev pub IsBefore : ℕ × ℕ → ℕ × ℕ → Type 0
@@ -7,7 +8,8 @@ IsBefore p q = (p.0 < q.0) ⊎ ((p.0 ≡ q.0) × (p.1 < q.1))
 
 -- each link is before the next one of the list
 abbrev pub AreRising : List (ℕ × ℕ) → Type 0
-AreRising links = (k : ℕ) (d : ℕ × ℕ) → k + 1 < length links → IsBefore (slice_index_or links k d) (slice_index_or links (k + 1) d)
+AreRising links = (k : ℕ) (d : ℕ × ℕ) → k + 1 < length links
+    → IsBefore (slice_index_or links k d) (slice_index_or links (k + 1) d)
 
 -- p is before q in the order, or equal to it
 abbrev pub IsNotAfter : ℕ × ℕ → ℕ × ℕ → Type 0
@@ -15,7 +17,8 @@ IsNotAfter p q = (p.0 < q.0) ⊎ ((p.0 ≡ q.0) × (p.1 ≤ q.1))
 
 -- no link comes after the next one of the list in the order
 abbrev pub AreInOrder : List (ℕ × ℕ) → Type 0
-AreInOrder links = (k : ℕ) (d : ℕ × ℕ) → k + 1 < length links → IsNotAfter (slice_index_or links k d) (slice_index_or links (k + 1) d)
+AreInOrder links = (k : ℕ) (d : ℕ × ℕ) → k + 1 < length links
+    → IsNotAfter (slice_index_or links k d) (slice_index_or links (k + 1) d)
 
 -- whether p is before q in the order, or equal to it
 abbrev pub is_not_after : ℕ × ℕ → ℕ × ℕ → Bool

@@ -1,5 +1,6 @@
 -- The state of the search for a path, from both ends. For proofs only.
-use Rattle.std.specs.Prelude.{◌≡◌, ℕ, ◌<◌, ◌≤◌, ◌+◌, ◌-◌, ◌++◌, ◌⊎◌, Bool, true, false, List, [], ◌∷◌, length, slice_index, slice_index_or, slice_set, vec_capacity, count_by}
+use Rattle.std.specs.Prelude.{◌≡◌, ℕ, ◌<◌, ◌≤◌, ◌+◌, ◌-◌, ◌++◌, ◌⊎◌, Bool, true, false, List, [], ◌∷◌}
+use Rattle.std.specs.Prelude.{length, slice_index, slice_index_or, slice_set, vec_capacity, count_by}
 use Rattle.std.specs.List.{All, Contains}
 use Rattle.fr_graph.specs.Evidence.{IsWayBy, LeadsTowards}
 use Rattle.fr_graph.specs.Heights.{AreFalling, FitBetween}
@@ -106,7 +107,8 @@ pub record HasBegun (first : First) (start limit nodes : ℕ) (side : Side) : Ty
 -- The side goes this way from the start, up to the limit. Its nodes are those that it has met, and none is beyond the
 -- limit. Paths lead on to them from the start. The links of the rows that it has read lead on only to nodes that it
 -- has met or skipped.
-pub record IsSide (net : Network) (heights : List ℕ) (first : First) (start limit : ℕ) (met : List Met) (side : Side) : Type 0 where
+pub record IsSide (net : Network) (heights : List ℕ) (first : First) (start limit : ℕ) (met : List Met)
+    (side : Side) : Type 0 where
   pub one_each : length met ≡ net.nodes
   pub first_is : side.first ≡ first
   pub limit_is : side.limit ≡ limit
@@ -117,7 +119,8 @@ pub record IsSide (net : Network) (heights : List ℕ) (first : First) (start li
   pub listed : (x : ℕ) → HasMet first met x → Contains side.nodes.items x
   pub inside : side.read ≤ length side.nodes.items
   pub within : All (λ (x : ℕ). ¬ IsBeyond first limit (slice_index heights x)) side.nodes.items
-  pub leads_on : (k w : ℕ) → k < side.read → LeadsOn first net.links (slice_index side.nodes.items k) w → IsMetOrAside first side met w (slice_index heights w)
+  pub leads_on : (k w : ℕ) → k < side.read → LeadsOn first net.links (slice_index side.nodes.items k) w
+      → IsMetOrAside first side met w (slice_index heights w)
   pub room : HasRoom side met
 
 -- the side has met or skipped each neighbour before this place of the row to which a link leads on
@@ -143,8 +146,10 @@ pub record HasMetMore (before after : Side) (met_before met_after : List Met) : 
   pub same_limit : after.limit ≡ before.limit
   pub nearer : (height : ℕ) → IsPast before.first before.edge height → IsPast before.first after.edge height
   pub longer : length before.nodes.items ≤ length after.nodes.items
-  pub stands : (k : ℕ) → k < length before.nodes.items → slice_index after.nodes.items k ≡ slice_index before.nodes.items k
-  pub met : (x : ℕ) → (met_of met_after x ≡ met_of met_before x) ⊎ ((met_of met_before x ≡ Never) × HasMet before.first met_after x)
+  pub stands : (k : ℕ) → k < length before.nodes.items
+      → slice_index after.nodes.items k ≡ slice_index before.nodes.items k
+  pub met : (x : ℕ) → (met_of met_after x ≡ met_of met_before x)
+      ⊎ ((met_of met_before x ≡ Never) × HasMet before.first met_after x)
   pub one_each : length met_after ≡ length met_before
   pub counted : length after.nodes.items + never_count met_after ≡ length before.nodes.items + never_count met_before
 
@@ -162,7 +167,8 @@ high_of Outward limit edge = limit
 high_of Inward limit edge = edge
 
 abbrev pub answer_of_ended : Side → PathAnswer
-answer_of_ended side = Ends side.nodes (low_of side.first side.limit side.edge) (high_of side.first side.limit side.edge)
+answer_of_ended side = Ends side.nodes (low_of side.first side.limit side.edge)
+    (high_of side.first side.limit side.edge)
 
 -- a link leads on from a node that this side has met to one that the other side has met
 pub record Meets (first : First) (links : List (ℕ × ℕ)) (met : List Met) : Type 0 where
@@ -182,7 +188,9 @@ IsReadAnswer links met before after false = after.read ≡ before.read + 1
 abbrev pub IsPathAnswer : Network → List ℕ → ℕ → ℕ → PathAnswer → Type 0
 IsPathAnswer net heights from to Leads = HasPath net.links from to
 IsPathAnswer net heights from to (Ends nodes low high) =
-    ¬ HasPath net.links from to × (All (λ (x : ℕ). x < net.nodes) nodes.items × FitBetween (net.links ++ (to, from) ∷ []) heights nodes.items low high)
+    ¬ HasPath net.links from to
+    × (All (λ (x : ℕ). x < net.nodes) nodes.items
+    × FitBetween (net.links ++ (to, from) ∷ []) heights nodes.items low high)
 
 -- if the link of the entry leads to the neighbour, the side against the links has not met the neighbour
 abbrev pub IsUnmet : List Met → ℕ × First → Type 0

@@ -1,5 +1,6 @@
 -- The neighbours of a node, as a row. This project's own.
-use Rattle.std.specs.Prelude.{ℕ, zero, suc, ◌==◌, ◌&&◌, ◌++◌, Bool, if◌then◌else◌, List, [], length, Option, Some, None, option_to_list, count_by}
+use Rattle.std.specs.Prelude.{ℕ, zero, suc, ◌==◌, ◌&&◌, ◌++◌, Bool, if◌then◌else◌, List}
+use Rattle.std.specs.Prelude.{[], length, Option, Some, None, option_to_list, count_by}
 use Rattle.std.specs.List.{list_any, range_with_len}
 use Rattle.fr_graph.specs.declared.first.First.{First}
 use Rattle.fr_graph.specs.declared.first.First.TheVariants.{Outward, Inward}

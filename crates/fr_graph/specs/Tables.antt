@@ -1,5 +1,6 @@
 -- Rows of neighbours, one for each node, with room to grow in place. For proofs only.
-use Rattle.std.specs.Prelude.{◌≡◌, ℕ, ◌<◌, ◌≤◌, ◌+◌, ◌-◌, Bool, true, false, List, [], ◌∷◌, length, map, slice_index, slice_index_or, slice_range, slice_set, count_by}
+use Rattle.std.specs.Prelude.{◌≡◌, ℕ, ◌<◌, ◌≤◌, ◌+◌, ◌-◌, Bool, true, false, List, [], ◌∷◌, length}
+use Rattle.std.specs.Prelude.{map, slice_index, slice_index_or, slice_range, slice_set, count_by}
 use Rattle.std.specs.List.{range_with_len}
 use Rattle.fr_graph.specs.declared.row_table.Place.{Place}
 use Rattle.fr_graph.specs.declared.row_table.RowTable.TheInside.{Inside}

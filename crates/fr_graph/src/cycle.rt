@@ -3,11 +3,14 @@
 //! order, so the cycle is the lowest one. If no link closes a cycle, the search leaves the head of each link before
 //! its tail.
 
-ghost use Rattle.std.specs.Prelude.{◌≡◌, ◌≢◌, ℕ, ◌<◌, ◌≤◌, ◌++◌, [], ◌∷◌, length, drop, vec_len, slice_index, slice_index_or, All, IfOk, IfSome, IfNone, OnOk, IsTrue, Contains, ◌-◌};
+ghost use Rattle.std.specs.Prelude.{◌≡◌, ◌≢◌, ℕ, ◌<◌, ◌≤◌, ◌++◌, [], ◌∷◌, length, drop, vec_len, slice_index};
+ghost use Rattle.std.specs.Prelude.{slice_index_or, All, IfOk, IfSome, IfNone, OnOk, IsTrue, Contains, ◌-◌};
 ghost use Rattle.fr_graph.specs.Heights.{HasHeadsFirst};
 ghost use Rattle.fr_graph.specs.KeptRows.{net_in};
 ghost use Rattle.fr_graph.specs.Links.{IsAcyclic};
-ghost use Rattle.fr_graph.specs.CycleSearch.{AreEntriesBelow, AreRowsRising, GoesOn, HasLeft, HasOpened, IsAtRest, IsFound, IsNext, IsPassed, IsSearch, LeadsToDone, LeadsToOther, ReadsOn, left_count, mark_of, nodes_of, top_of};
+ghost use Rattle.fr_graph.specs.CycleSearch.{AreEntriesBelow, AreRowsRising, GoesOn, HasLeft, HasOpened};
+ghost use Rattle.fr_graph.specs.CycleSearch.{IsAtRest, IsFound, IsNext, IsPassed, IsSearch, LeadsToDone};
+ghost use Rattle.fr_graph.specs.CycleSearch.{LeadsToOther, ReadsOn, left_count, mark_of, nodes_of, top_of};
 ghost use Rattle.fr_graph.specs.Tables.{Table};
 
 use crate::first::First;

@@ -1,6 +1,7 @@
 //! The state of a network, changed in place: a link is removed or added, and the change can be undone.
 
-ghost use Rattle.std.specs.Prelude.{◌≡◌, ◌≢◌, ◌<◌, ◌≤◌, ◌++◌, [], ◌∷◌, ◌⊎◌, length, true, ◌↔◌, IfOk, IfErr, IfSome, IfNone, IsTrue, OnOk, OnErr};
+ghost use Rattle.std.specs.Prelude.{◌≡◌, ◌≢◌, ◌<◌, ◌≤◌, ◌++◌, [], ◌∷◌, ◌⊎◌, length, true};
+ghost use Rattle.std.specs.Prelude.{◌↔◌, IfOk, IfErr, IfSome, IfNone, IsTrue, OnOk, OnErr};
 ghost use Rattle.fr_graph.specs.Links.{HasPath, Joins, Points};
 ghost use Rattle.fr_graph.specs.Network.{Network};
 ghost use Rattle.fr_graph.specs.Rows.{row};
@@ -10,7 +11,8 @@ ghost use Rattle.fr_graph.specs.Edits.{IsJoinFault, without};
 ghost use Rattle.fr_graph.specs.Batches.{AreMade, IsEditFault};
 ghost use Rattle.fr_graph.specs.Evidence.{NamesOfEdit, NamesOfLink};
 ghost use Rattle.fr_graph.specs.Limits.{most_edits, most_links};
-ghost use Rattle.fr_graph.specs.Graph.{CanPut, CanUndo, HasRoomFor, IsDone, IsEdited, IsGraph, IsRefusal, IsSame, shown};
+ghost use Rattle.fr_graph.specs.Graph.{CanPut, CanUndo, HasRoomFor, IsDone};
+ghost use Rattle.fr_graph.specs.Graph.{IsEdited, IsGraph, IsRefusal, IsSame, shown};
 ghost use Rattle.fr_graph.specs.Tables.{HaveRoom};
 ghost use Rattle.fr_graph.specs.declared.fault.NetFault.TheVariants.{Memory};
 ghost use Rattle.fr_graph.specs.declared.edit.Edit.TheVariants.{Cut, Add, Join};

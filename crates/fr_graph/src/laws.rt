@@ -1,7 +1,8 @@
 //! The laws of rows, of joins and of faults. Each clause is a law of `specs/Laws.antt`, proved. The functions do
 //! nothing.
 
-ghost use Rattle.fr_graph.specs.Laws.{OutwardIsALinkTo, InwardIsALinkFrom, LinksAreSeenFromBothEnds, NeighboursRise, OneWayIsFree, LinksHaveOneFault, EditsHaveOneFault, BatchesHaveOneFault};
+ghost use Rattle.fr_graph.specs.Laws.{OutwardIsALinkTo, InwardIsALinkFrom, LinksAreSeenFromBothEnds, NeighboursRise};
+ghost use Rattle.fr_graph.specs.Laws.{OneWayIsFree, LinksHaveOneFault, EditsHaveOneFault, BatchesHaveOneFault};
 
 /// What the rows of a network say about its links, and in which order.
 pub fn rows_law()

@@ -4,13 +4,16 @@
 //! nothing left to read. So it reads few rows if few nodes lie between the ends on either side. If a path leads there,
 //! one side alone finds all nodes from which links lead to its end, and then the lowest path can be listed.
 
-ghost use Rattle.std.specs.Prelude.{◌≡◌, ◌≢◌, ℕ, List, ◌<◌, ◌≤◌, ◌+◌, ◌++◌, [], ◌∷◌, ◌⊎◌, ◌↔◌, length, slice_index, vec_capacity, All, IfOk, IfNone, IfSome, IsTrue};
+ghost use Rattle.std.specs.Prelude.{◌≡◌, ◌≢◌, ℕ, List, ◌<◌, ◌≤◌, ◌+◌, ◌++◌, [], ◌∷◌, ◌⊎◌, ◌↔◌, length};
+ghost use Rattle.std.specs.Prelude.{slice_index, vec_capacity, All, IfOk, IfNone, IfSome, IsTrue};
 ghost use Rattle.fr_graph.specs.Heights.{AreFalling};
 ghost use Rattle.fr_graph.specs.KeptRows.{ShowsNet, net_in};
 ghost use Rattle.fr_graph.specs.Evidence.{IsLowestCycleBy};
 ghost use Rattle.fr_graph.specs.Links.{HasPath};
 ghost use Rattle.fr_graph.specs.RowLists.{opposite};
-ghost use Rattle.fr_graph.specs.PathSearch.{AreFallingRows, HasBegun, HasMet, HasMetMore, HasRoom, IsBeyond, IsFirstMet, IsPast, IsUnmet, IsSide, IsPathAnswer, IsReadAnswer, LiesOn, MeetsNew, met_by, start_of, unread_count, answer_of_ended};
+ghost use Rattle.fr_graph.specs.PathSearch.{AreFallingRows, HasBegun, HasMet, HasMetMore, HasRoom, IsBeyond};
+ghost use Rattle.fr_graph.specs.PathSearch.{IsFirstMet, IsPast, IsUnmet, IsSide, IsPathAnswer, IsReadAnswer};
+ghost use Rattle.fr_graph.specs.PathSearch.{LiesOn, MeetsNew, met_by, start_of, unread_count, answer_of_ended};
 
 use crate::first::First;
 use crate::heights::Heights;

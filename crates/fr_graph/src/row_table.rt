@@ -1,11 +1,14 @@
 //! Rows of neighbours, one for each node, in one list. There is room after each row, so a row grows and shrinks in
 //! place and no other row moves.
 
-ghost use Rattle.std.specs.Prelude.{◌≡◌, ℕ, ◌<◌, ◌≤◌, ◌+◌, ◌-◌, ◌==◌, ◌++◌, [], ◌∷◌, length, map, take, drop, replicate, slice_index, slice_range, insert, remove, count_by, IfOk, OnOk, OnErr, IsTrue, All, Contains};
+ghost use Rattle.std.specs.Prelude.{◌≡◌, ℕ, ◌<◌, ◌≤◌, ◌+◌, ◌-◌, ◌==◌, ◌++◌, [], ◌∷◌, length, map};
+ghost use Rattle.std.specs.Prelude.{take, drop, replicate, slice_index, slice_range, insert};
+ghost use Rattle.std.specs.Prelude.{remove, count_by, IfOk, OnOk, OnErr, IsTrue, All, Contains};
 ghost use Rattle.std.specs.List.{range_with_len};
 ghost use Rattle.std.specs.List.Sorted.{IsStrictlyIncreasing};
 ghost use Rattle.fr_graph.specs.RowLists.{turned_entry};
-ghost use Rattle.fr_graph.specs.Tables.{ArePacked, HasRoomIn, KeepsRooms, end_at, has_none, places_of, room_of, row_of, start_at, with_row};
+ghost use Rattle.fr_graph.specs.Tables.{ArePacked, HasRoomIn, KeepsRooms, end_at, has_none};
+ghost use Rattle.fr_graph.specs.Tables.{places_of, room_of, row_of, start_at, with_row};
 ghost use Rattle.fr_graph.specs.TurnedRows.{reversed_at};
 ghost use Rattle.fr_graph.specs.declared.first.First.TheVariants.{Outward};
 
@@ -224,7 +227,8 @@ impl RowTable {
         requires { ArePacked starts.items entries.items }
         ensures one_each { IfOk result (λ table. length table.rows + 1 ≡ length starts.items) }
         ensures rows { IfOk result (λ table. (x : ℕ) → x + 1 < length starts.items
-            → row_of table x ≡ slice_range entries.items (slice_index starts.items x) (slice_index starts.items (x + 1))) }
+            → row_of table x ≡ slice_range entries.items (slice_index starts.items x)
+            (slice_index starts.items (x + 1))) }
     {
         let places = places_between(alloc, &starts)?;
         let empty = empty_between(&places);

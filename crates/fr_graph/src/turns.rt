@@ -1,6 +1,7 @@
 //! The turns of a round: how often each node has turned, and which nodes have turned.
 
-ghost use Rattle.std.specs.Prelude.{◌≡◌, ℕ, ◌<◌, ◌≤◌, ◌+◌, ◌-◌, ◌^◌, length, map, min, replicate, slice_index, slice_set, sum, sum_by, vec_capacity, All, IfOk};
+ghost use Rattle.std.specs.Prelude.{◌≡◌, ℕ, ◌<◌, ◌≤◌, ◌+◌, ◌-◌, ◌^◌, length, map, min, replicate};
+ghost use Rattle.std.specs.Prelude.{slice_index, slice_set, sum, sum_by, vec_capacity, All, IfOk};
 ghost use Rattle.fr_graph.specs.Limits.{most_nodes};
 ghost use Rattle.fr_graph.specs.Turns.{AreSet, AreTurned, set_to};
 

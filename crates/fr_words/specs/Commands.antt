@@ -46,7 +46,8 @@ planning name = with_rule (with_rule (with_rule (new_app name) (workers_option (
 -- a subcommand with this name that answers requests
 abbrev pub answering : Text → App
 answering name =
-    with_rule (with_rule (with_rule (planning name) (flag (codes "alone"))) (flag (codes "json"))) (flag (codes "strict"))
+    with_rule (with_rule (with_rule (planning name) (flag (codes "alone"))) (flag (codes "json")))
+    (flag (codes "strict"))
 
 abbrev pub run_command : App
 run_command = answering (codes "run")
@@ -55,7 +56,8 @@ abbrev pub serve_command : App
 serve_command = answering (codes "serve")
 
 abbrev pub play_command : App
-play_command = with_rule (with_rule (with_rule (new_app (codes "play")) (workers_option (codes "2"))) seed_option) steps_option
+play_command = with_rule
+    (with_rule (with_rule (new_app (codes "play")) (workers_option (codes "2"))) seed_option) steps_option
 
 -- a command that prints its version and needs a subcommand
 abbrev pub program : Shape → Shape
@@ -64,7 +66,8 @@ program s = record s { has_version = true; subcommand_required = true }
 -- the program's command
 abbrev pub command : App
 command =
-    with_subcommand (with_subcommand (with_subcommand (on_top program (new_app (codes "revroute"))) run_command.top) serve_command.top) play_command.top
+    with_subcommand (with_subcommand
+    (with_subcommand (on_top program (new_app (codes "revroute"))) run_command.top) serve_command.top) play_command.top
 
 -- the text is a number of at most `most`
 abbrev pub IsNumberUpTo : ℕ → Text → Type 0

@@ -53,7 +53,8 @@ IsCommandLineOf name rows line =
 abbrev pub IsCommandLineIn : List Text → CommandLine → Type 0
 IsCommandLineIn words line =
     (fault_of command words ≡ [])
-    × ((name : Text) × (rows : List Row) × (subcommand_of command words ≡ Some (name, rows)) × IsCommandLineOf name rows line)
+    × ((name : Text) × (rows : List Row) × (subcommand_of command words ≡ Some (name, rows))
+    × IsCommandLineOf name rows line)
 
 -- the task of that command line
 abbrev pub IsTaskIn : List Text → Task → Type 0
@@ -63,13 +64,15 @@ IsTaskIn words task =
 
 -- the fault for an error of this kind: it says that help or the version was asked for exactly if it was
 abbrev pub IsUsageOf : ErrorKind → TaskFault → Type 0
-IsUsageOf kind (Usage text asked) = (kind ≢ OutOfMemory) × (kind ≢ DisplayVersion) × (IsTrue asked ↔ (kind ≡ DisplayHelp))
+IsUsageOf kind (Usage text asked) = (kind ≢ OutOfMemory) × (kind ≢ DisplayVersion)
+    × (IsTrue asked ↔ (kind ≡ DisplayHelp))
 IsUsageOf kind (Version text) = kind ≡ DisplayVersion
 IsUsageOf kind Memory = ⊤
 
 -- the fault for words that `clap` does not accept, with one of the kinds of error that it has for them; memory can be
 -- missing for any words
 abbrev pub IsFaultOf : List Text → TaskFault → Type 0
-IsFaultOf words (Usage text asked) = (kind : ErrorKind) × IsAmong kind (fault_of command words) × (kind ≢ DisplayVersion) × (IsTrue asked ↔ (kind ≡ DisplayHelp))
+IsFaultOf words (Usage text asked) = (kind : ErrorKind) × IsAmong kind (fault_of command words)
+    × (kind ≢ DisplayVersion) × (IsTrue asked ↔ (kind ≡ DisplayHelp))
 IsFaultOf words (Version text) = IsAmong DisplayVersion (fault_of command words)
 IsFaultOf words Memory = ⊤

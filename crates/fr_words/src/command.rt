@@ -2,11 +2,15 @@
 
 ghost use Rattle.std.specs.Prelude.{◌≡◌, [], IfOk, IfErr, map, codes, pos, false};
 ghost use Rattle.clap.specs.Simple.{on_top};
-ghost use Rattle.clap.specs.Words.{HasKind, app_of, fault_of, new_app, rule_of, subcommand_of, subcommand_rows_of, with_rule, with_subcommand};
+ghost use Rattle.clap.specs.Words.{HasKind, app_of, fault_of, new_app, rule_of, subcommand_of};
+ghost use Rattle.clap.specs.Words.{subcommand_rows_of, with_rule, with_subcommand};
 ghost use Rattle.clap.specs.declared.builder.command.Command.TheViews.{out-Command};
 ghost use Rattle.fr_core.specs.Limits.{most_workers};
 ghost use Rattle.fr_words.specs.Draws.{most_steps};
-ghost use Rattle.fr_words.specs.Commands.{command, most_budget, program, run_command as run_command_of, serve_command as serve_command_of, play_command as play_command_of, planning as planning_of, answering as answering_of, flag as flag_of, option as option_of};
+ghost use Rattle.fr_words.specs.Commands.{command, most_budget, program, run_command as run_command_of};
+ghost use Rattle.fr_words.specs.Commands.{serve_command as serve_command_of};
+ghost use Rattle.fr_words.specs.Commands.{play_command as play_command_of, planning as planning_of};
+ghost use Rattle.fr_words.specs.Commands.{answering as answering_of, flag as flag_of, option as option_of};
 
 use crate::draws::MAX_STEPS;
 use clap::builder::ValueParser;
@@ -108,7 +112,9 @@ fn whole_command<'a>(alloc: Global, version: &'a str) -> Result<Command<'a>, All
 
 /// The program with the two subcommands that answer requests.
 fn command_for_requests<'a>(alloc: Global, version: &'a str) -> Result<Command<'a>, AllocError>
-    ensures { IfOk result (λ c. (app_of c ≡ with_subcommand (with_subcommand (on_top program (new_app (codes "revroute"))) run_command_of.top) serve_command_of.top)
+    ensures { IfOk result
+        (λ c. (app_of c ≡ with_subcommand
+        (with_subcommand (on_top program (new_app (codes "revroute"))) run_command_of.top) serve_command_of.top)
         × ((out-Command c).has_globals ≡ false)) }
 {
     let serve = serve_command(alloc)?;
@@ -117,7 +123,8 @@ fn command_for_requests<'a>(alloc: Global, version: &'a str) -> Result<Command<'
 
 /// The program with the subcommand that reads all requests before it answers.
 fn command_for_runs<'a>(alloc: Global, version: &'a str) -> Result<Command<'a>, AllocError>
-    ensures { IfOk result (λ c. (app_of c ≡ with_subcommand (on_top program (new_app (codes "revroute"))) run_command_of.top)
+    ensures { IfOk result
+        (λ c. (app_of c ≡ with_subcommand (on_top program (new_app (codes "revroute"))) run_command_of.top)
         × ((out-Command c).has_globals ≡ false)) }
 {
     let run = run_command(alloc)?;

@@ -5,7 +5,8 @@ ghost use Rattle.clap.specs.Values.{kind_of};
 ghost use Rattle.clap.specs.Words.{found_of, rows_of};
 ghost use Rattle.clap.specs.Walk.{one_of};
 ghost use Rattle.fr_words.specs.Commands.{number_of, IsGiven, IsNumberUpTo};
-ghost use Rattle.fr_words.specs.Tasks.{IsBudgetIn, IsPlanIn, IsDrawIn, IsTaskIn, IsTaskOf, IsCommandLineIn, IsCommandLineOf, IsUsageOf, IsFaultOf};
+ghost use Rattle.fr_words.specs.Tasks.{IsBudgetIn, IsPlanIn, IsDrawIn, IsTaskIn, IsTaskOf};
+ghost use Rattle.fr_words.specs.Tasks.{IsCommandLineIn, IsCommandLineOf, IsUsageOf, IsFaultOf};
 
 use crate::command::{MAX_BUDGET, matches_of};
 use crate::draws::{Draw, MAX_STEPS};
@@ -154,7 +155,8 @@ fn draw_in(options: &ArgMatches) -> Option<Draw>
 /// The number of an option, if it is at most `most`.
 fn number_in(options: &ArgMatches, name: &str, most: u32) -> Option<u32>
     ensures number { IfSome result (λ n. (number_of name.now (rows_of (found_of options.now)) ≡ Some n) × (n ≤ most)) }
-    ensures none { IsNone result → (text : List ℕ) → one_of name.now (rows_of (found_of options.now)) ≡ Some text → ¬ IsNumberUpTo most text }
+    ensures none { IsNone result → (text : List ℕ) → one_of name.now (rows_of (found_of options.now)) ≡ Some text
+        → ¬ IsNumberUpTo most text }
 {
     match options.get_one::<u32>(name) {
         Some(number) if number <= most => Some(number),
