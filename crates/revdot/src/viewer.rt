@@ -81,6 +81,8 @@ summary{cursor:pointer;width:max-content}
 .node .face{fill:var(--panel);stroke:var(--ink);stroke-width:1.5}
 .node text{text-anchor:middle;fill:var(--ink);font:600 13px system-ui,sans-serif}
 .node .count{font:400 11px system-ui,sans-serif}
+.small .count{display:none}
+.small .node text{font-size:17px;transform:translateY(6px)}
 .node .ring{fill:none;stroke:none}
 .node.home .ring{stroke:var(--ink);stroke-width:1.5}
 .node.out .face{stroke:var(--grey)}
@@ -145,7 +147,7 @@ header{display:block;padding:.4rem .8rem}#say{align-content:start}aside{border:0
 <li><svg width='38' height='26' aria-hidden='true'><g class='link closed'><path d='M2 13H28'/>
 <path class='tip' d='M36 13L27 8.4V17.6Z'/></g></svg>a cycle that was refused, or a loop in the tables</li>
 <li><svg width='38' height='26' aria-hidden='true'><g class='link closed asked'><path d='M2 13H28'/><path class='tip' d='M36 13L27 8.4V17.6Z'/></g></svg>its link that was asked for</li>
-<li>below a number: how often the node has turned</li>
+<li>below a number, if the drawing is large enough: how often the node has turned</li>
 </ul>
 <b>Proved:</b> the data of this page: each request, answer, link, turn, count, next hop and push.
 <b>Not proved:</b> the drawing. A script in this page makes it, and is tested in a browser.
@@ -514,7 +516,7 @@ function fitted(view) {
   return {x: EDGE + (width - wide * scale) / 2, y: EDGE + (height - high * scale) / 2, scale, isFitted: true};
 }
 
-// Moves and sizes the drawing. A part of it stays in sight.
+// Moves and sizes the drawing. A part of it stays in sight. Counts that are too small to read give way to larger numbers.
 function look(change) {
   if (!shown) return;
   Object.assign(camera, {isFitted: false}, change);
@@ -522,6 +524,7 @@ function look(change) {
   camera.x = Math.max(rim - wide, Math.min(pane.clientWidth - rim, camera.x));
   camera.y = Math.max(rim - high, Math.min(pane.clientHeight - rim, camera.y));
   const {x, y, scale} = camera;
+  mark(shown.group, {class: scale < 0.5 ? 'small' : null});
   mark(shown.group, {transform: 'translate(' + x.toFixed(2) + ' ' + y.toFixed(2) + ')scale(' + scale.toFixed(4) + ')'});
 }
 
