@@ -53,7 +53,7 @@ padding:.25rem .6rem;cursor:pointer}
 flex-wrap:wrap;background:var(--panel)}
 #bar button{min-width:2.6rem}
 #play{min-width:4.2rem}
-#slide{flex:1 1 9rem;min-width:6rem;accent-color:var(--hop)}
+#slide{flex:1 1 5rem;min-width:5rem;accent-color:var(--hop)}
 #at{color:var(--soft);min-width:5em;text-align:right;font-variant-numeric:tabular-nums;white-space:nowrap}
 footer{grid-area:foot;border-top:1px solid var(--edge);padding:.3rem 1rem;color:var(--soft);font-size:.85rem;
 position:relative}
