@@ -21,7 +21,7 @@ grid-template:'head head' auto 'side net' minmax(0,1fr) 'side bar' auto 'foot fo
 header{grid-area:head;padding:.4rem 1rem;border-bottom:1px solid var(--edge);display:flex;gap:.1rem 1.4rem;
 align-items:center}
 h1{font-size:1.05rem;line-height:1.3;margin:0;flex:none}
-#say{margin:0;color:var(--soft);flex:1;min-width:0;line-height:1.3;height:2.6em;overflow:auto;display:grid;
+#say{margin:0;color:var(--soft);flex:1;min-width:0;line-height:1.3;height:2.8rem;overflow:auto;display:grid;
 align-content:safe center}
 aside{grid-area:side;border-right:1px solid var(--edge);background:var(--panel);display:flex;flex-direction:column;
 min-height:0}
@@ -54,7 +54,7 @@ flex-wrap:wrap;background:var(--panel)}
 #bar button{min-width:2.6rem}
 #play{min-width:4.2rem}
 #slide{flex:1 1 5rem;min-width:5rem;accent-color:var(--hop)}
-#at{color:var(--soft);min-width:5em;text-align:right;font-variant-numeric:tabular-nums;white-space:nowrap}
+#at{color:var(--soft);text-align:right;font-variant-numeric:tabular-nums;white-space:nowrap}
 footer{grid-area:foot;border-top:1px solid var(--edge);padding:.3rem 1rem;color:var(--soft);font-size:.85rem;
 position:relative}
 summary{cursor:pointer;width:max-content}
@@ -104,7 +104,8 @@ h1{max-width:11rem}#bar{padding:.2rem .8rem}#zoom{top:.3rem;right:.3rem}button,s
 #list{min-height:3rem}footer{padding:.15rem .8rem}}
 @media (max-width:760px) and (orientation:portrait){html{font-size:14px}
 body{grid-template:'head' auto 'net' minmax(0,1fr) 'bar' auto 'side' 28vh 'foot' auto/minmax(0,1fr)}
-header{display:block;padding:.4rem .8rem}#say{align-content:start}aside{border:0;border-top:1px solid var(--edge)}
+header{display:block;padding:.4rem .8rem}h1{white-space:nowrap;overflow:hidden;text-overflow:ellipsis}
+#say{align-content:start}aside{border:0;border-top:1px solid var(--edge)}
 #bar{padding:.4rem .8rem;gap:.35rem}#bar button{min-width:2.3rem;padding:.25rem .4rem}#bar #play{min-width:3.6rem}
 #bar select{padding:.25rem .1rem;max-width:8.6rem}#slide{order:1;flex-basis:60%}#at{order:1}}
 </style>
@@ -586,6 +587,8 @@ function load(kept, text) {
   steps = 0;
   for (const block of blocks) { starts.push(steps); steps += stepsIn(block); }
   by('slide').max = Math.max(0, steps - 1);
+  // Its width stays the same, so that the bar and the drawing beside it do.
+  by('at').style.minWidth = 2 * String(steps).length + 3 + 'ch';
   list(kept);
 }
 
