@@ -21,7 +21,7 @@ grid-template:'head head' auto 'side net' minmax(0,1fr) 'side bar' auto 'foot fo
 header{grid-area:head;padding:.4rem 1rem;border-bottom:1px solid var(--edge);display:flex;gap:.1rem 1.4rem;
 align-items:center}
 h1{font-size:1.05rem;line-height:1.3;margin:0;flex:none}
-#say{margin:0;color:var(--soft);flex:1;min-width:0;line-height:1.3;height:2.6em;overflow:auto;display:grid;
+#say{margin:0;color:var(--soft);flex:1;min-width:0;line-height:1.3;height:2.8rem;overflow:auto;display:grid;
 align-content:safe center}
 aside{grid-area:side;border-right:1px solid var(--edge);background:var(--panel);display:flex;flex-direction:column;
 min-height:0}
@@ -53,8 +53,8 @@ padding:.25rem .6rem;cursor:pointer}
 flex-wrap:wrap;background:var(--panel)}
 #bar button{min-width:2.6rem}
 #play{min-width:4.2rem}
-#slide{flex:1 1 9rem;min-width:6rem;accent-color:var(--hop)}
-#at{color:var(--soft);min-width:5em;text-align:right;font-variant-numeric:tabular-nums;white-space:nowrap}
+#slide{flex:1 1 5rem;min-width:5rem;accent-color:var(--hop)}
+#at{color:var(--soft);text-align:right;font-variant-numeric:tabular-nums;white-space:nowrap}
 footer{grid-area:foot;border-top:1px solid var(--edge);padding:.3rem 1rem;color:var(--soft);font-size:.85rem;
 position:relative}
 summary{cursor:pointer;width:max-content}
@@ -81,6 +81,8 @@ summary{cursor:pointer;width:max-content}
 .node .face{fill:var(--panel);stroke:var(--ink);stroke-width:1.5}
 .node text{text-anchor:middle;fill:var(--ink);font:600 13px system-ui,sans-serif}
 .node .count{font:400 11px system-ui,sans-serif}
+.small .count{display:none}
+.small .node text{font-size:17px;transform:translateY(6px)}
 .node .ring{fill:none;stroke:none}
 .node.home .ring{stroke:var(--ink);stroke-width:1.5}
 .node.out .face{stroke:var(--grey)}
@@ -102,7 +104,8 @@ h1{max-width:11rem}#bar{padding:.2rem .8rem}#zoom{top:.3rem;right:.3rem}button,s
 #list{min-height:3rem}footer{padding:.15rem .8rem}}
 @media (max-width:760px) and (orientation:portrait){html{font-size:14px}
 body{grid-template:'head' auto 'net' minmax(0,1fr) 'bar' auto 'side' 28vh 'foot' auto/minmax(0,1fr)}
-header{display:block;padding:.4rem .8rem}#say{align-content:start}aside{border:0;border-top:1px solid var(--edge)}
+header{display:block;padding:.4rem .8rem}h1{white-space:nowrap;overflow:hidden;text-overflow:ellipsis}
+#say{align-content:start}aside{border:0;border-top:1px solid var(--edge)}
 #bar{padding:.4rem .8rem;gap:.35rem}#bar button{min-width:2.3rem;padding:.25rem .4rem}#bar #play{min-width:3.6rem}
 #bar select{padding:.25rem .1rem;max-width:8.6rem}#slide{order:1;flex-basis:60%}#at{order:1}}
 </style>
@@ -145,7 +148,7 @@ header{display:block;padding:.4rem .8rem}#say{align-content:start}aside{border:0
 <li><svg width='38' height='26' aria-hidden='true'><g class='link closed'><path d='M2 13H28'/>
 <path class='tip' d='M36 13L27 8.4V17.6Z'/></g></svg>a cycle that was refused, or a loop in the tables</li>
 <li><svg width='38' height='26' aria-hidden='true'><g class='link closed asked'><path d='M2 13H28'/><path class='tip' d='M36 13L27 8.4V17.6Z'/></g></svg>its link that was asked for</li>
-<li>below a number: how often the node has turned</li>
+<li>below a number, if the drawing is large enough: how often the node has turned</li>
 </ul>
 <b>Proved:</b> the data of this page: each request, answer, link, turn, count, next hop and push.
 <b>Not proved:</b> the drawing. A script in this page makes it, and is tested in a browser.
@@ -514,7 +517,7 @@ function fitted(view) {
   return {x: EDGE + (width - wide * scale) / 2, y: EDGE + (height - high * scale) / 2, scale, isFitted: true};
 }
 
-// Moves and sizes the drawing. A part of it stays in sight.
+// Moves and sizes the drawing. A part of it stays in sight. Counts that are too small to read give way to larger numbers.
 function look(change) {
   if (!shown) return;
   Object.assign(camera, {isFitted: false}, change);
@@ -522,6 +525,7 @@ function look(change) {
   camera.x = Math.max(rim - wide, Math.min(pane.clientWidth - rim, camera.x));
   camera.y = Math.max(rim - high, Math.min(pane.clientHeight - rim, camera.y));
   const {x, y, scale} = camera;
+  mark(shown.group, {class: scale < 0.5 ? 'small' : null});
   mark(shown.group, {transform: 'translate(' + x.toFixed(2) + ' ' + y.toFixed(2) + ')scale(' + scale.toFixed(4) + ')'});
 }
 
@@ -583,6 +587,8 @@ function load(kept, text) {
   steps = 0;
   for (const block of blocks) { starts.push(steps); steps += stepsIn(block); }
   by('slide').max = Math.max(0, steps - 1);
+  // Its width stays the same, so that the bar and the drawing beside it do.
+  by('at').style.minWidth = 2 * String(steps).length + 3 + 'ch';
   list(kept);
 }
 
