@@ -23,7 +23,7 @@ use Rattle.fr_graph.proofs.Members.{Contains-cases, Contains-head, Contains-none
 use Rattle.fr_graph.specs.Links.{IsAcyclic, IsAlone, IsNet, IsPath, Points, end_of, is_between}
 use Rattle.fr_core.proofs.Gaps.{is_some, triangle, weight}
 use Rattle.fr_core.proofs.Totals.{none_stranded}
-use Rattle.fr_core.specs.Work.{AreCounted, IsBad, IsConnected, TriangleIsMet}
+use Rattle.fr_core.specs.Work.{AreCounted, IsBad, IsConnectedNet, TriangleIsMet}
 
 -- b links in a row, away from node 0
 chain : ℕ → List (ℕ × ℕ)
@@ -120,7 +120,7 @@ chain_walk b (suc x) l =
     let w = chain_walk b x (omega arith) in
     (w.0 ++ suc x ∷ [], rw add-one at (walk_along (chain b) 0 w.0 x x (suc x) w.1 (in_chain b x (omega arith))))
 
-chain_connected : (b : ℕ) → IsConnected (b + 1) 0 (chain b)
+chain_connected : (b : ℕ) → IsConnectedNet (b + 1) 0 (chain b)
 chain_connected b = record {
   is_net = chain_net b;
   dest = omega arith;

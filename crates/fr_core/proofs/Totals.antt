@@ -29,7 +29,7 @@ use Rattle.fr_graph.specs.Counts.{AreLawful}
 use Rattle.fr_graph.specs.Links.{HasPath, IsAlone, IsNet, Joins}
 use Rattle.fr_core.proofs.Gaps.{AreFew, HasNoGap, few_without_gap, is_some, split_counts, split_sum, weight}
 use Rattle.fr_core.proofs.Gaps.{uncap, uncap-n, uncap-other}
-use Rattle.fr_core.specs.Work.{AreCounted, IsNumberOf, IsBad, IsConnected, IsStranded, IsWithinWork}
+use Rattle.fr_core.specs.Work.{AreCounted, IsNumberOf, IsBad, IsConnectedNet, IsStranded, IsWithinWork}
 
 same_bool : (a b : Bool) → (IsTrue a ↔ IsTrue b) → a ≡ b
 same_bool true true e = refl
@@ -270,14 +270,14 @@ module _ (n d : ℕ) (first : List (ℕ × ℕ)) (net : IsNet n first) (below : 
       omega (arith, run_below n d first before end h net below lawful ends run, most)
 
 -- no node of a connected network is cut off
-pub none_stranded : (n d : ℕ) (first : List (ℕ × ℕ)) → IsConnected n d first → IsNumberOf n (IsStranded d first) 0
+pub none_stranded : (n d : ℕ) (first : List (ℕ × ℕ)) → IsConnectedNet n d first → IsNumberOf n (IsStranded d first) 0
 none_stranded n d first whole = record {
   test = λ x. false;
   just = λ x l. ((λ e. absurd (false≢true e)), (λ stranded. absurd (stranded.1 (whole.joined x l))));
   number = sym (none_pass (λ x. false) (range_with_len 0 n) (λ j e l yes. false≢true yes));
 }
 
-pub connected_few : (n d : ℕ) (first : List (ℕ × ℕ)) (before : List ℕ) (h : List Entry) → IsConnected n d first
+pub connected_few : (n d : ℕ) (first : List (ℕ × ℕ)) (before : List ℕ) (h : List Entry) → IsConnectedNet n d first
     → AreLawful n d first before → IsRun n d (moment_of first before) h → 2 * (sum before + turn_count h) ≤ n * (n - 1)
 connected_few n d first before h whole lawful run =
     let all = all_counted n d first whole.is_net whole.dest in

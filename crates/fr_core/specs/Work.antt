@@ -42,7 +42,7 @@ pub record IsWithinWork (n d : ℕ) (first : List (ℕ × ℕ)) (total : ℕ) : 
   pub below : total ≤ n * (n - 1)
 
 -- a network of n nodes that are all joined with d, in whatever directions its links point
-pub record IsConnected (n d : ℕ) (links : List (ℕ × ℕ)) : Type 0 where
+pub record IsConnectedNet (n d : ℕ) (links : List (ℕ × ℕ)) : Type 0 where
   pub is_net : IsNet n links
   pub dest : d < n
   pub joined : (x : ℕ) → x < n → IsConnected links d x
@@ -75,13 +75,13 @@ RunIsAtMostTriangle = (n d : ℕ) (first : List (ℕ × ℕ)) (counts : List ℕ
 -- In a connected network no run makes more than n * (n - 1) / 2 turns.
 abbrev pub ConnectedIsAtMostHalfSquare : Type 0
 ConnectedIsAtMostHalfSquare = (n d : ℕ) (first : List (ℕ × ℕ)) (counts : List ℕ) (h : List Entry)
-    → IsConnected n d first → AreLawful n d first counts → IsRun n d (moment_of first counts) h
+    → IsConnectedNet n d first → AreLawful n d first counts → IsRun n d (moment_of first counts) h
     → 2 * (sum counts + turn_count h) ≤ n * (n - 1)
 
 -- The bound for bad nodes is reached. For each b, there is a connected network, a chain, of b + 1 nodes, of which b are
 -- bad and none is stranded. From its first links a run makes exactly 1 + 2 + .. + b turns. So in connected networks no
 -- smaller bound holds, neither by b nor by n. This does not say that the bound for stranded nodes is reached.
 abbrev pub TriangleIsMet : Type 0
-TriangleIsMet = (b : ℕ) → (first : List (ℕ × ℕ)) × (h : List Entry) × IsConnected (b + 1) 0 first
+TriangleIsMet = (b : ℕ) → (first : List (ℕ × ℕ)) × (h : List Entry) × IsConnectedNet (b + 1) 0 first
     × AreCounted (b + 1) 0 first b 0 × IsRun (b + 1) 0 (moment_of first (replicate (b + 1) 0)) h
     × (2 * turn_count h ≡ b * (b + 1))
