@@ -9,7 +9,8 @@ The faults of a check are the files NAME.edit in its folder faults/. They have t
     # says: the loop of a planted order:  what the check must print
 
 'old:' and 'new:' can be repeated, and so can 'file:'. With the line '# everywhere' a text may occur more than once, and each occurrence is replaced.
-The command can-fail of a check makes the edit in a copy of the repository and runs the check there. The check must fail, and print what '# says:' has.
+The command can-fail of a check makes the edit in a copy of the repository and runs the check there, or the command that a line '# by:' has, such as
+'package/version --check'. It must fail, and print what '# says:' has.
 """
 
 import argparse
@@ -102,7 +103,7 @@ def is_green(check, words, **how):
 def try_edit(edit, parts, words_over, built=False):
     """Makes an edit in a copy of these parts of the repository, and returns whether the check finds it. `words_over` takes the copy and the edit, and
     returns the command that runs the check."""
-    check = edit.path.parents[1].name
+    check, by = edit.path.parents[1].name, [word for it in edit.said("# by") for word in it.split()]
     with tempfile.TemporaryDirectory(prefix=f"{check}-") as name:
         folder = Path(name)
         copy(folder, parts, built)
@@ -111,7 +112,8 @@ def try_edit(edit, parts, words_over, built=False):
         except (BadEdit, OSError) as error:
             print(f"{check}: BAD EDIT: {edit.path.name}: {error}", flush=True)
             return False
-        return is_found(check, edit.path.stem, edit.said("# says")[0], words_over(folder, edit))
+        words = [folder / by[0], *by[1:]] if by else words_over(folder, edit)
+        return is_found(check, edit.path.stem, edit.said("# says")[0], words)
 
 
 def words(description):

@@ -1,14 +1,20 @@
-"""Inputs with known answers, and the output of the example programs in embed/, for several checks."""
+"""What several checks share: inputs with known answers, the output of the example programs in embed/, and how a check says what it skips."""
 
 from pathlib import Path
 
 TOP = Path(__file__).resolve().parent.parent
 EXAMPLES = TOP / "examples"
+VERSION = (TOP / "VERSION").read_text().strip()
 
 # The output of the program `example` in each language.
 EXAMPLE_IN_C = "turned 6 cut 0\nwalk 3 2 1 0\nturned 12 cut 3\nwalk 3 cut\n"
 EXAMPLE_IN_RUST = "[4, 3, 1, 0]\nReport { turned: 1, cut_off: 0 }\n[(3, To(2)), (1, To(3))]\n[4, 3, 2, 0]\n"
 EXAMPLE_IN_PYTHON = "[4, 3, 1, 0]\nReport(turned=1, cut_off=0)\n[(3, 2), (1, 3)]\n[4, 3, 2, 0]\n"
+
+
+def skip(what, package):
+    """Says that a check skips a part that needs a program of this Debian package. ./test gathers these lines."""
+    print(f"skipped: {what}: {package}", flush=True)
 
 
 def examples():

@@ -18,10 +18,13 @@ ROOM_OF_A_JOB = 2_500_000_000
 
 @cache
 def kit():
-    """The folder of the toolchain that the command rt belongs to."""
+    """The folder of the toolchain that the command rt belongs to. It is compared with the one that toolchain.txt names."""
     rt = shutil.which("rt")
     if not rt:
         sys.exit("the toolchain is missing: there is no command rt")
+    if subprocess.run([TOP / "proof" / "toolchain"]).returncode:
+        sys.exit(1)
+    os.environ["TOOLCHAIN_IS_COMPARED"] = "yes"
     return Path(rt).resolve().parent.parent
 
 

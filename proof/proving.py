@@ -25,6 +25,8 @@ FAILED = 70
 # first answer took three minutes longer.
 MOST_JOBS = 4
 FUNCTIONS_OF_A_JOB = 20
+# In seconds: longer than rt ci takes for all crates on one processor.
+MOST_TIME_BESIDE = 4 * 3600
 
 
 def own_rlib(name):
@@ -197,21 +199,29 @@ def libraries(progress, name, jobs):
     return own_rlib
 
 
+def proved_as_said(said):
+    """The crates of which rt ci says in its output that they are proved."""
+    text = said.read_text(errors="replace") if said.exists() else ""
+    return {*re.findall(r"^rt: (\w+) (?:proved$|is kept:)", text, re.M)}
+
+
 def libraries_beside(name, said):
     """Returns where the libraries below a crate are: those that proof/build keeps, or those of an rt ci that is
     running. The output of this rt ci goes to the file `said`. It has ended if there is a file of this name with the
-    ending .ended. Until then this waits until the output says that each library is proved."""
+    ending .ended. Until then this waits until the output says that each library is proved. It ends with a message if
+    the output is gone, or if that takes too long, as it would if rt ci had other words for it."""
     names, ended = crates.below(name), said.with_name(f"{said.name}.ended")
     if are_kept(names):
         unpack(names)
         return own_rlib
-    while not set(names).issubset(re.findall(r"^rt: (\w+) (?:proved$|is kept:)", said.read_text(errors="replace"), re.M)):
-        if ended.exists():
-            break
+    until = time.monotonic() + MOST_TIME_BESIDE
+    while not ended.exists() and (unsaid := {*names} - proved_as_said(said)):
         time.sleep(1)
+        if not said.exists() or time.monotonic() > until:
+            sys.exit(f"{name} waits in vain for rt ci: {said} does not say 'rt: {min(unsaid)} proved', by the words of the toolchain in toolchain.txt")
     missing = [it for it in names if not gate_rlib(it).is_dir()]
     if missing:
-        sys.exit(f"{missing[0]}, a library below {name}, is not proved")
+        sys.exit(f"rt ci has not proved {missing[0]}, a library below {name}")
     return gate_rlib
 
 

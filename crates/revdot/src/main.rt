@@ -38,6 +38,9 @@ usage: revdot [--turns] < LINES | dot -Tsvg > PICTURE
   -V, --version  the version
 ";
 
+/// What is said of a word that may be the name of a file.
+const TIP: &str = "\n  tip: revdot reads requests from standard input, as in 'revdot < FILE'";
+
 /// What the program is to do.
 #[derive(Drop)]
 enum Task {
@@ -85,7 +88,10 @@ fn told(written: io::Result<()>) -> Result<(), RunFault> {
 /// Says which word is wrong.
 fn refuse<R: Eprint>(rt: &R, word: Option<String>) {
     let _ = match word {
-        Some(word) => eprintln!(rt; "revdot: unknown word '{word}', try 'revdot --help'"),
+        Some(word) => {
+            let tip = if word.starts_with('-') { "" } else { TIP };
+            eprintln!(rt; "revdot: unknown word '{word}', try 'revdot --help'{tip}")
+        }
         None => eprintln!(rt; "revdot: a word is no UTF-8, try 'revdot --help'"),
     };
 }
