@@ -9,17 +9,16 @@ use Rattle.fr_graph.specs.declared.fault.EditFault.{EditFault}
 use Rattle.fr_graph.specs.declared.fault.NetFault.{NetFault}
 use Rattle.fr_graph.specs.declared.fault.NetFault.TheVariants as net
 use Rattle.fr_graph.specs.Network.{Network}
-use Rattle.fr_lines.specs.Requests.{make_edits}
 use Rattle.fr_graph.specs.declared.edit.Edit.{Edit}
 use Rattle.fr_graph.specs.declared.edit.Edit.TheVariants as edit
-use Rattle.fr_route.specs.Answers.{IsAccepted, IsAnswer, IsReportLine, IsText, MayStartFor, fault_number}
 use Rattle.fr_route.specs.Changes.{IsChanged, IsOpenFault, IsRouteFault, IsStill}
 use Rattle.fr_route.specs.Faults.{of_net_fault}
 use Rattle.fr_route.specs.Outcomes.{IsEdited, IsEditingFault}
-use Rattle.fr_route.specs.Refusals.{IsRefusalOf, request_of_change}
+use Rattle.fr_graph.specs.Evidence.{NamesInBatch, NamesOfEdit}
+use Rattle.fr_route.specs.Tries.{IsPlacedFault}
 use Rattle.fr_route.specs.States.{State, IsRound, net_at}
 use Rattle.fr_route.specs.declared.change.Change.{Change}
-use Rattle.fr_route.specs.declared.change.Change.TheVariants.{Add, Batch, Cut, Destination, Join}
+use Rattle.fr_route.specs.declared.change.Change.TheVariants.{Add, Cut, Join}
 use Rattle.fr_route.specs.declared.fault.RouteFault.{RouteFault}
 use Rattle.fr_route.specs.declared.fault.RouteFault.TheVariants.{Memory, Net, Range, Start}
 use Rattle.fr_route.proofs.RoundEnds.{round_listed}
@@ -56,6 +55,36 @@ pub refused_fault : (s : State) (edits : List Edit) (d : ℕ) (refused : EditFau
     → (refused.fault ≢ net.Memory → IsBatchFault (net_at s) edits refused) → IsEditingFault s edits d (of_net_fault refused.fault)
 refused_fault s edits d refused why = refused_for s edits d refused refused.fault refl why
 
+-- too many edits name no node
+pub too_many_named : (made : Network) (e : Edit) → NamesOfEdit made e net.TooMany
+too_many_named made (edit.Cut u v) = tt
+too_many_named made (edit.Add u v) = tt
+too_many_named made (edit.Join u v) = tt
+
+-- the place is that of the refused edit
+placed_for : (s : State) (edits : List Edit) (at : ℕ) (fault : NetFault)
+    → (fault ≢ net.Memory → IsBatchFault (net_at s) edits (record { at = at; fault = fault })) → NamesInBatch (net_at s) edits (record { at = at; fault = fault })
+    → IsPlacedFault s edits at (of_net_fault fault)
+placed_for s edits at net.TooMany why names = (why (λ e. absurd cc), names)
+placed_for s edits at (net.Range x) why names = (why (λ e. absurd cc), names)
+placed_for s edits at (net.SelfLink x) why names = (why (λ e. absurd cc), names)
+placed_for s edits at (net.Twice x y) why names = (why (λ e. absurd cc), names)
+placed_for s edits at (net.Cycle walk) why names = (why (λ e. absurd cc), names)
+placed_for s edits at net.NoLink why names = (why (λ e. absurd cc), names)
+placed_for s edits at net.Memory why names = tt
+
+pub refused_place : (s : State) (edits : List Edit) (refused : EditFault)
+    → (refused.fault ≢ net.Memory → IsBatchFault (net_at s) edits refused) → NamesInBatch (net_at s) edits refused
+    → IsPlacedFault s edits refused.at (of_net_fault refused.fault)
+refused_place s edits refused why names = placed_for s edits refused.at refused.fault why names
+
+-- no edit is refused if there is no round
+pub round_place : (s : State) (edits : List Edit) (at n d : ℕ) (fault : RouteFault) → IsOpenFault n d fault → IsPlacedFault s edits at fault
+round_place s edits at n d (Net fault) why = absurd why
+round_place s edits at n d Range why = tt
+round_place s edits at n d Start why = tt
+round_place s edits at n d Memory why = tt
+
 -- or because there is no round on the network that they make
 pub round_fault : (s : State) (edits : List Edit) (net : Network) (d : ℕ) (fault : RouteFault) → d < s.nodes
     → length edits ≤ most_edits → AreMade (net_at s) edits net → IsOpenFault net.nodes d fault
@@ -71,7 +100,7 @@ pub record IsBy (s : State) (change : Change) (e : Edit) : Type 0 where
   pub undone : (fault : RouteFault) → IsEditingFault s (e ∷ []) s.dest fault → IsRouteFault s change fault
 
 -- the only edit of a change is refused
-refused_edit : (s : State) (e : Edit) (refused : EditFault) → IsBatchFault (net_at s) (e ∷ []) refused → IsEditFault (net_at s) e refused.fault
+pub refused_edit : (s : State) (e : Edit) (refused : EditFault) → IsBatchFault (net_at s) (e ∷ []) refused → IsEditFault (net_at s) e refused.fault
 refused_edit s e refused (inl more) = absurd (omega (arith, more.0))
 refused_edit s e refused (inr (few, at)) =
     let first : refused.at ≡ 0 = omega (arith, at.inside) in
@@ -121,50 +150,11 @@ join_by s u v = record { done = done; undone = undone }
     undone Start h = h
     undone Memory h = tt
 
--- a change that is refused with this fault is answered with its text
-pub refused_change : (s : State) (change : Change) (fault : RouteFault) (text : List ℕ) (next : Option State)
-    → IsRouteFault s change fault → IsRefusalOf fault text → next ≡ Some s → IsAnswer (Some s) (request_of_change change) text next
-refused_change s (Cut u v) (Net fault) text next why is n = inl (fault_number fault, (fault, why, refl), is, n)
-refused_change s (Add u v) (Net fault) text next why is n = inl (fault_number fault, (fault, why, refl), is, n)
-refused_change s (Join u v) (Net fault) text next why is n = inl (fault_number fault, (fault, why, refl), is, n)
-refused_change s (Batch edits) (Net fault) text next why is n = inl (fault_number fault, (why.0, why.1.0, ap fault_number why.1.1), is, n)
-refused_change s (Destination d) (Net fault) text next why is n = absurd why
-refused_change s (Cut u v) Range text next why is n = absurd why
-refused_change s (Add u v) Range text next why is n = absurd why
-refused_change s (Join u v) Range text next why is n = absurd why
-refused_change s (Batch edits) Range text next why is n = absurd why
-refused_change s (Destination d) Range text next why is n = inl (4, (why, refl), is, n)
-refused_change s change Start text next why is n = absurd is
-refused_change s change Memory text next why is n = absurd is
-
--- the same for edits
-pub refused_edits : (s : State) (edits : List Edit) (d : ℕ) (fault : RouteFault) (text : List ℕ) (next : Option State)
-    → IsEditingFault s edits d fault → IsRefusalOf fault text → next ≡ Some s → IsAnswer (Some s) (make_edits edits) text next
-refused_edits s edits d (Net fault) text next why is n = inl (fault_number fault, (why.0, why.1.0, ap fault_number why.1.1), is, n)
-refused_edits s edits d Range text next why is n = absurd why
-refused_edits s edits d Start text next why is n = absurd is
-refused_edits s edits d Memory text next why is n = absurd is
-
--- a change that is made is accepted
-pub change_accepted : (s : State) (change : Change) (new : State) → IsChanged s change new → IsAccepted (Some s) (request_of_change change) new
-change_accepted s (Cut u v) new made = made
-change_accepted s (Add u v) new made = made
-change_accepted s (Join u v) new made = made
-change_accepted s (Batch edits) new made = made
-change_accepted s (Destination d) new made = made
-
--- the answer is the report of its round
-pub change_text : (change : Change) (new : State) (text : List ℕ) → IsReportLine new text → IsText new (request_of_change change) text
-change_text (Cut u v) new text line = line
-change_text (Add u v) new text line = line
-change_text (Join u v) new text line = line
-change_text (Batch edits) new text line = line
-change_text (Destination d) new text line = line
-
--- a thread is needed for a change only if it may be
-pub start_for : (s : State) (change : Change) → IsRouteFault s change Start → MayStartFor (Some s) (request_of_change change)
-start_for s (Cut u v) may = may
-start_for s (Add u v) may = may
-start_for s (Join u v) may = may
-start_for s (Batch edits) may = may
-start_for s (Destination d) may = may
+-- and names what it has to
+pub named_edit : (s : State) (e : Edit) (refused : EditFault) → IsBatchFault (net_at s) (e ∷ []) refused
+    → NamesInBatch (net_at s) (e ∷ []) refused → NamesOfEdit (net_at s) e refused.fault
+named_edit s e refused (inl more) names = absurd (omega (arith, more.0))
+named_edit s e refused (inr (few, at)) names =
+    let first : refused.at ≡ 0 = omega (arith, at.inside) in
+    let made : AreMade (net_at s) (take refused.at (e ∷ [])) (net_at s) = subst (λ (k : ℕ). AreMade (net_at s) (take k (e ∷ [])) (net_at s)) (sym first) refl in
+    subst (λ (k : ℕ). HoldsAt (λ edit. NamesOfEdit (net_at s) edit refused.fault) (e ∷ []) k) first (names (net_at s) made) e

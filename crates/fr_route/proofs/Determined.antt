@@ -105,7 +105,7 @@ refused_unique (Some s) (move_dest d) j k a b = a.1 ∙ sym b.1
 refused_unique (Some s) (walk_from x) j k a b = a.1 ∙ sym b.1
 refused_unique (Some s) (ask q) j k a b = absurd a
 
-accepted_unique : (s : Option State) (r : PlainRequest) (a b : State) → IsAccepted s r a → IsAccepted s r b → a ≡ b
+pub accepted_unique : (s : Option State) (r : PlainRequest) (a b : State) → IsAccepted s r a → IsAccepted s r b → a ≡ b
 accepted_unique s (new_network n d links) a b p q = round_unique n d links a b p.2 q.2
 accepted_unique None (cut_link u v) a b h g = absurd h
 accepted_unique None (add_link u v) a b h g = absurd h

@@ -93,7 +93,7 @@ module _ (s : State) (good : IsSettledState s) where
       (cases_eq (slice_index s.counts x) s.nodes))
       (cases_eq x s.dest)
 
-  hops_from : ℕ → ℕ → List Hop
+  pub hops_from : ℕ → ℕ → List Hop
   hops_from zero a = []
   hops_from (suc k) a = (hop_of a).0 ∷ hops_from k (suc a)
 
@@ -113,7 +113,7 @@ module _ (s : State) (good : IsSettledState s) where
       let at : suc a + x ≡ a + suc x = omega arith in
       subst (λ (y : ℕ). IsHop s y hop) at (each_from k (suc a) x hop e)
 
-  hops : AreHops s s.nodes (hops_from s.nodes 0)
+  pub hops : AreHops s s.nodes (hops_from s.nodes 0)
   hops = record {
     one_each = long_from s.nodes 0;
     each = λ x hop e. let at : 0 + x ≡ x = omega arith in

@@ -19,7 +19,7 @@ use Rattle.fr_core.proofs.Searching.{cases_below}
 use Rattle.fr_core.proofs.Turning.{All-from_Contains}
 
 -- a path of k links from x
-abbrev PathOf : List (ℕ × ℕ) → ℕ → ℕ → Type 0
+abbrev pub PathOf : List (ℕ × ℕ) → ℕ → ℕ → Type 0
 PathOf links k x = (vs : List ℕ) × IsPath links x vs × (length vs ≡ k)
 
 -- a link from x with a path of k links after it
@@ -40,12 +40,12 @@ one_more links k x shorter = ⊎_elim
     (λ none. inr (no_first links k x none))
     (cases_some (Begins links k x) (begins_or_not links k x shorter) links)
 
-path_or_not : (links : List (ℕ × ℕ)) (k x : ℕ) → PathOf links k x ⊎ ¬ PathOf links k x
+pub path_or_not : (links : List (ℕ × ℕ)) (k x : ℕ) → PathOf links k x ⊎ ¬ PathOf links k x
 path_or_not links zero x = inl ([], tt, refl)
 path_or_not links (suc k) x = one_more links k x (path_or_not links k)
 
 -- the part of a path up to a node on it
-part_to : (links : List (ℕ × ℕ)) (s : ℕ) (vs : List ℕ) (u : ℕ) → IsPath links s vs → Contains vs u → (v : ℕ) × (ws : List ℕ)
+pub part_to : (links : List (ℕ × ℕ)) (s : ℕ) (vs : List ℕ) (u : ℕ) → IsPath links s vs → Contains vs u → (v : ℕ) × (ws : List ℕ)
     × IsPath links s (v ∷ ws) × (end_of v ws ≡ u) × (length ws < length vs)
 part_to links s [] u path h = absurd (Contains-none u h)
 part_to links s (v ∷ vs) u path h = ⊎_elim
@@ -68,24 +68,24 @@ distinct_or_cycle links u (v ∷ vs) path = ⊎_elim
     (λ c. inr (c.0, c.1, c.2, omega (arith, c.3)))
     (distinct_or_cycle links v vs path.1)
 
-below_of : (n : ℕ) (links : List (ℕ × ℕ)) (u v : ℕ) → AreBelow n links → Points links u v → (u < n) × (v < n)
+pub below_of : (n : ℕ) (links : List (ℕ × ℕ)) (u v : ℕ) → AreBelow n links → Points links u v → (u < n) × (v < n)
 below_of n links u v below p =
     let b = below p.0 (u, v) p.1 in
     (omega (arith, b.0, ap (λ (l : ℕ × ℕ). l.0) p.2), omega (arith, b.1, ap (λ (l : ℕ × ℕ). l.1) p.2))
 
-path_in_range : (n : ℕ) (links : List (ℕ × ℕ)) → AreBelow n links → (u : ℕ) (vs : List ℕ) → u < n → IsPath links u vs → (q : ℕ) → Contains (u ∷ vs) q → q < n
+pub path_in_range : (n : ℕ) (links : List (ℕ × ℕ)) → AreBelow n links → (u : ℕ) (vs : List ℕ) → u < n → IsPath links u vs → (q : ℕ) → Contains (u ∷ vs) q → q < n
 path_in_range n links below u [] l path q h = ⊎_elim (λ e. omega (arith, e)) (λ r. absurd (Contains-none q r)) (Contains-cases q u [] h)
 path_in_range n links below u (v ∷ vs) l path q h = ⊎_elim (λ e. omega (arith, e))
     (path_in_range n links below v vs (below_of n links u v below path.0).1 path.1 q) (Contains-cases q u (v ∷ vs) h)
 
 -- a path and another one from its end
-path_on : (links : List (ℕ × ℕ)) (u v : ℕ) (vs ws : List ℕ) → IsPath links u vs → end_of u vs ≡ v → IsPath links v ws
+pub path_on : (links : List (ℕ × ℕ)) (u v : ℕ) (vs ws : List ℕ) → IsPath links u vs → end_of u vs ≡ v → IsPath links v ws
     → IsPath links u (vs ++ ws) × (end_of u (vs ++ ws) ≡ end_of v ws)
 path_on links u v [] ws p e q = (subst (λ (z : ℕ). IsPath links z ws) (sym e) q, ap (λ (z : ℕ). end_of z ws) e)
 path_on links u v (w ∷ vs) ws p e q = let rest = path_on links w v vs ws p.1 e q in ((p.0, rest.0), rest.1)
 
 -- the same cycle again and again
-again : (links : List (ℕ × ℕ)) (u : ℕ) (vs : List ℕ) → IsClosedWalk links u vs → (k : ℕ) → (ws : List ℕ) × IsPath links u ws
+pub again : (links : List (ℕ × ℕ)) (u : ℕ) (vs : List ℕ) → IsClosedWalk links u vs → (k : ℕ) → (ws : List ℕ) × IsPath links u ws
     × (end_of u ws ≡ u) × (k ≤ length ws)
 again links u [] closed k = absurd closed
 again links u (v ∷ vs) closed zero = ([], tt, refl, omega arith)
@@ -94,12 +94,12 @@ again links u (v ∷ vs) closed (suc k) =
     let on = path_on links u u (v ∷ vs) rest.0 closed.0 closed.1 rest.1 in
     ((v ∷ vs) ++ rest.0, on.0, on.1 ∙ rest.2, omega (arith, rest.3, length-append (v ∷ vs) rest.0))
 
-first_part : (links : List (ℕ × ℕ)) (k u : ℕ) (ws : List ℕ) → IsPath links u ws → k ≤ length ws → PathOf links k u
+pub first_part : (links : List (ℕ × ℕ)) (k u : ℕ) (ws : List ℕ) → IsPath links u ws → k ≤ length ws → PathOf links k u
 first_part links zero u ws p l = ([], tt, refl)
 first_part links (suc k) u [] p l = absurd (omega (arith, l))
 first_part links (suc k) u (w ∷ ws) p l = let rest = first_part links k w ws p.1 (omega (arith, l)) in (w ∷ rest.0, (p.0, rest.1), omega (arith, rest.2))
 
-closed_begins : (n : ℕ) (links : List (ℕ × ℕ)) (u : ℕ) (vs : List ℕ) → AreBelow n links → IsClosedWalk links u vs → u < n
+pub closed_begins : (n : ℕ) (links : List (ℕ × ℕ)) (u : ℕ) (vs : List ℕ) → AreBelow n links → IsClosedWalk links u vs → u < n
 closed_begins n links u [] below closed = absurd closed
 closed_begins n links u (v ∷ vs) below closed = (below_of n links u v below closed.0.0).0
 
@@ -116,7 +116,7 @@ acyclic_or_cycle n links below = ⊎_elim
     (cases_below (PathOf links n) (path_or_not links n) n)
 
 -- each link is in range, or one is not
-below_or_past : (n : ℕ) (links : List (ℕ × ℕ)) → AreBelow n links ⊎ ((x : ℕ) × (n ≤ x) × Any (λ (l : ℕ × ℕ). (l.0 ≡ x) ⊎ (l.1 ≡ x)) links)
+pub below_or_past : (n : ℕ) (links : List (ℕ × ℕ)) → AreBelow n links ⊎ ((x : ℕ) × (n ≤ x) × Any (λ (l : ℕ × ℕ). (l.0 ≡ x) ⊎ (l.1 ≡ x)) links)
 below_or_past n links = ⊎_elim
     (λ s. let l = s.0 in ⊎_elim (λ a. inr (l.0, a, (s.1.0, l, s.1.1, s.1.2, inl refl))) (λ b. inr (l.1, b, (s.1.0, l, s.1.1, s.1.2, inr refl))) s.2)
     (λ none. inl (All-from_Contains (λ l. (l.0 < n) × (l.1 < n)) links (λ l h. (
@@ -132,7 +132,7 @@ below_or_past n links = ⊎_elim
         (cases_lt u n)
 
 -- no link joins a node with itself, or one does
-self_or_none : (links : List (ℕ × ℕ)) → HasNoSelfLink links ⊎ ((u : ℕ) × Contains links (u, u))
+pub self_or_none : (links : List (ℕ × ℕ)) → HasNoSelfLink links ⊎ ((u : ℕ) × Contains links (u, u))
 self_or_none links = ⊎_elim
     (λ s. let l = s.0 in inr (l.0, subst (λ (z : ℕ). Contains links (l.0, z)) (sym s.2) s.1))
     (λ none. inl (All-from_Contains (λ l. ¬ (l.0 ≡ l.1)) links none))
@@ -142,7 +142,7 @@ at_least_one : (links : List (ℕ × ℕ)) (l : ℕ × ℕ) → Contains links l
 at_least_one links l h = one_passes (is_between l.0 l.1) links h.0 l h.1 (ap (is_between l.0 l.1) h.2 ∙ is_between_itself l)
 
 -- no two links join the same nodes, or some do
-single_or_twice : (links : List (ℕ × ℕ)) → AreSingle links ⊎ ((u : ℕ) × (v : ℕ) × (2 ≤ count_by (is_between u v) links))
+pub single_or_twice : (links : List (ℕ × ℕ)) → AreSingle links ⊎ ((u : ℕ) × (v : ℕ) × (2 ≤ count_by (is_between u v) links))
 single_or_twice links = ⊎_elim
     (λ s. inr (s.0.0, s.0.1, s.2))
     (λ none. inl (All-from_Contains (λ l. count_by (is_between l.0 l.1) links ≡ 1) links (λ l h.
@@ -151,7 +151,7 @@ single_or_twice links = ⊎_elim
     (λ l. ⊎_elim (λ few. inr (λ many. omega (arith, few, many))) inl (cases_lt (count_by (is_between l.0 l.1) links) 2)) links)
 
 -- a `Vec` with these items, which holds the evidence of a cycle
-vec_with : (items : List ℕ) → length items < 2 ^ 63 → (v : Vec ℕ Global) × (v.items ≡ items)
+pub vec_with : (items : List ℕ) → length items < 2 ^ 63 → (v : Vec ℕ Global) × (v.items ≡ items)
 vec_with items few = (
   record {
     ptr = null_ptr;

@@ -19,6 +19,10 @@ pub mod Noting
 pub mod SettledHops
 pub mod PushLengths
 pub mod Inside
-pub mod Telling
-pub mod Answered
+pub mod Glued
+pub mod Changed
+pub mod AnsweredIn
+pub mod EachIn
+pub mod Replying
 pub mod Tried
+pub mod NamedFaults

@@ -19,7 +19,7 @@ same_order old new before after a b e f h k =
     subst (λ (hops : List Hop). IsPushOrder hops after a) e (subst (λ (hops : List Hop). IsPushOrder old hops a) f h) in
     order_unique before after a b order k
 
-rerouted_unique : (old new : State) (a b : List ℕ) → AreRerouted old new a → AreRerouted old new b → a ≡ b
+pub rerouted_unique : (old new : State) (a b : List ℕ) → AreRerouted old new a → AreRerouted old new b → a ≡ b
 rerouted_unique old new a b h k =
     let before : h.before ≡ k.before = hops_unique old old.nodes h.before k.before h.were k.were in
     let after : h.after ≡ k.after = hops_unique new new.nodes h.after k.after h.are k.are in
@@ -29,7 +29,7 @@ hops_in_unique : (s : Option State) (n : ℕ) (a b : List Hop) → AreHopsIn s n
 hops_in_unique None n a b h k = h ∙ sym k
 hops_in_unique (Some s) n a b h k = hops_unique s n a b h k
 
-replaced_unique : (old : Option State) (new : State) (a b : List ℕ) → AreReplaced old new a → AreReplaced old new b → a ≡ b
+pub replaced_unique : (old : Option State) (new : State) (a b : List ℕ) → AreReplaced old new a → AreReplaced old new b → a ≡ b
 replaced_unique old new a b h k =
     let count : h.count ≡ k.count = h.all ∙ sym k.all in
     let were : AreHopsIn old k.count h.before = subst (λ (n : ℕ). AreHopsIn old n h.before) count h.were in

@@ -10,6 +10,8 @@ use Rattle.std.proofs.lemmas.Map.Views.{Contains-from_any, list_any-from_Contain
 use Rattle.fr_route.specs.Outcomes.{AreOthers}
 use Rattle.fr_tables.specs.Pushes.{IsBefore, IsPushOrder, IsWave}
 use Rattle.fr_tables.specs.declared.hop.Hop.{Hop}
+use Rattle.fr_core.proofs.Pigeons.{distinct_length}
+use Rattle.fr_tables.proofs.Answering.{differs_inside}
 use Rattle.fr_tables.proofs.Counts.{wave_unique}
 
 before_apart : (old new : List Hop) (x y : ℕ) → IsBefore old new x y → ¬ (x ≡ y)
@@ -36,3 +38,7 @@ order_length old new nodes order others is =
     let less = more_members order nodes (order_once old new order is) (λ x found. (others.just x).1 ((is.these x).0 found)) in
     let more = more_members nodes order others.once (λ x found. (is.these x).1 ((others.just x).0 found)) in
     omega (arith, less, more)
+
+-- and no more than there are hops
+pub order_short : (old new : List Hop) (order : List ℕ) → length old ≡ length new → IsPushOrder old new order → length order ≤ length new
+order_short old new order same is = distinct_length (length new) order (order_once old new order is) (λ x found. differs_inside old new same x ((is.these x).0 found))

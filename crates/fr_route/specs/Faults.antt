@@ -9,6 +9,7 @@ use Rattle.fr_crew.specs.declared.fault.CrewFault.{CrewFault}
 use Rattle.fr_crew.specs.declared.fault.CrewFault.TheVariants as crew
 use Rattle.fr_route.specs.declared.fault.AnswerFault.{AnswerFault}
 use Rattle.fr_route.specs.declared.fault.AnswerFault.TheVariants as answer
+use Rattle.fr_route.specs.declared.fault.NotMade.{NotMade}
 use Rattle.fr_route.specs.declared.fault.RouteFault.{RouteFault}
 use Rattle.fr_route.specs.declared.fault.RouteFault.TheVariants.{Net, Range, Start, Memory}
 
@@ -22,9 +23,10 @@ of_crew_fault crew.Range = Range
 of_crew_fault crew.Start = Start
 of_crew_fault crew.Memory = Memory
 
-abbrev pub of_not_edited : NotEdited RouteFault → RouteFault
-of_not_edited (Refused refused) = of_net_fault refused.fault
-of_not_edited (Fault fault) = fault
+-- with the place of the refused edit, if one is refused
+abbrev pub of_not_edited : NotEdited RouteFault → NotMade
+of_not_edited (Refused refused) = record { at = refused.at; fault = of_net_fault refused.fault }
+of_not_edited (Fault fault) = record { at = 0; fault = fault }
 
 -- a missing thread or missing memory stays a fault; any other fault is a refusal, and not a fault of a session
 abbrev pub of_route_fault : RouteFault → Option AnswerFault

@@ -10,6 +10,8 @@ use Rattle.fr_route.specs.States.{State, IsAfterRound, IsRound, IsReport}
 use Rattle.fr_route.specs.Reroutes.{AreRerouted, IsRerouted}
 use Rattle.fr_route.specs.Routes.{AreHops, IsRoute, IsHop}
 use Rattle.fr_route.specs.Answers.{IsAnswer, IsLineAnswer}
+use Rattle.fr_route.specs.Forms.{IsAnswerIn}
+use Rattle.fr_route.specs.declared.form.Form.{Form}
 use Rattle.fr_tables.specs.Tables.{IsInRange, IsLoopFree}
 use Rattle.fr_tables.specs.declared.hop.Hop.{Hop}
 
@@ -71,3 +73,8 @@ AnswerIsUnique = (s : Option State) (request : PlainRequest) (t u : List ℕ) (p
 -- the same holds for a line
 abbrev pub LineAnswerIsUnique : Type 0
 LineAnswerIsUnique = (s : Option State) (line : Result PlainRequest LineFault) (t u : List ℕ) (p q : Option State) → IsLineAnswer s line t p → IsLineAnswer s line u q → (t ≡ u) × (p ≡ q)
+
+-- in either form, the state, the number of a line and the line determine the answer and the state after it
+abbrev pub AnswerInIsUnique : Type 0
+AnswerInIsUnique = (form : Form) (number : ℕ) (s : Option State) (line : Result PlainRequest LineFault) (t u : List ℕ) (p q : Option State)
+    → IsAnswerIn form number s line t p → IsAnswerIn form number s line u q → (t ≡ u) × (p ≡ q)

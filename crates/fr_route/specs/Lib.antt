@@ -11,8 +11,12 @@ pub mod Blank
 pub mod Texts
 pub mod Answers
 pub mod Told
+pub mod Json
+pub mod Rooms
+pub mod Forms
 pub mod Refusals
 pub mod Laws
 pub mod Sessions
 pub mod Tries
+pub mod Replies
 pub mod Lending

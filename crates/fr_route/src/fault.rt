@@ -4,6 +4,7 @@ ghost use Rattle.std.specs.Prelude.{◌≡◌};
 ghost use Rattle.fr_route.specs.declared.fault.RouteFault.TheVariants.{Memory as RouteMemory};
 ghost use Rattle.fr_route.specs.declared.fault.AnswerFault.TheVariants.{Memory as AnswerMemory};
 ghost use Rattle.fr_route.specs.Faults.{of_net_fault, of_crew_fault, of_not_edited};
+ghost use Rattle.fr_route.specs.Tries.{missing_memory, without_place};
 
 use fr_crew::CrewFault;
 use fr_graph::{EditFault, NetFault, NotEdited};
@@ -63,17 +64,6 @@ impl From<EditFault> for RouteFault {
     }
 }
 
-impl From<NotEdited<RouteFault>> for RouteFault {
-    ghost from_gives = { λ reason fault. fault ≡ of_not_edited reason };
-
-    fn from(reason: NotEdited<RouteFault>) -> RouteFault {
-        match reason {
-            NotEdited::Refused(refused) => RouteFault::from(refused),
-            NotEdited::Fault(fault) => fault,
-        }
-    }
-}
-
 impl From<CrewFault> for RouteFault {
     ghost from_gives = { λ refused fault. fault ≡ of_crew_fault refused };
 
@@ -83,6 +73,49 @@ impl From<CrewFault> for RouteFault {
             CrewFault::Start => RouteFault::Start,
             CrewFault::Memory => RouteFault::Memory,
         }
+    }
+}
+
+/// Why edits are not made, and if one of them is refused, its place.
+#[derive(Debug, Drop)]
+pub(crate) struct NotMade {
+    /// The place of the refused edit, counted from 0. If there are too many edits, the limit.
+    pub(crate) at: usize,
+    pub(crate) fault: RouteFault,
+}
+
+impl From<AllocError> for NotMade {
+    ghost from_gives = { λ _ undone. undone ≡ missing_memory };
+
+    fn from(_refused: AllocError) -> NotMade {
+        NotMade {
+            at: 0,
+            fault: RouteFault::Memory,
+        }
+    }
+}
+
+impl From<NotEdited<RouteFault>> for NotMade {
+    ghost from_gives = { λ reason undone. undone ≡ of_not_edited reason };
+
+    fn from(reason: NotEdited<RouteFault>) -> NotMade {
+        match reason {
+            NotEdited::Refused(refused) => NotMade {
+                at: refused.at,
+                fault: RouteFault::from(refused.fault),
+            },
+            NotEdited::Fault(fault) => NotMade { at: 0, fault },
+        }
+    }
+}
+
+/// The same, without the place.
+pub(crate) fn placeless<T>(tried: Result<T, NotMade>) -> Result<T, RouteFault>
+    ensures { result ≡ without_place tried }
+{
+    match tried {
+        Ok(answer) => Ok(answer),
+        Err(undone) => Err(undone.fault),
     }
 }
 

@@ -3,7 +3,7 @@
 ghost use Rattle.fr_route.specs.Laws.{RoundIsUnique, RoundLeavesNoLoop, RoundKeepsJoined, ReportIsUnique};
 ghost use Rattle.fr_route.specs.Laws.{RoutesLeadHome, RouteIsUnique, RouteIsSimple, HopIsUnique};
 ghost use Rattle.fr_route.specs.Laws.{HopsHaveNoLoop, ReroutedAreTold};
-ghost use Rattle.fr_route.specs.Laws.{AnswerIsUnique, LineAnswerIsUnique};
+ghost use Rattle.fr_route.specs.Laws.{AnswerInIsUnique, AnswerIsUnique, LineAnswerIsUnique};
 
 /// The first links determine the state after a round, and so the report. The links after a round contain no cycle, and
 /// the same nodes are joined with the destination as before.
@@ -31,8 +31,10 @@ pub fn hops_law()
     ensures told { ReroutedAreTold }
 {}
 
-/// The state and the request determine the answer and the state after it.
+/// The state and the request determine the answer and the state after it. The same holds for a line in either form, with
+/// its number.
 pub fn answer_law()
     ensures request { AnswerIsUnique }
     ensures line { LineAnswerIsUnique }
+    ensures form { AnswerInIsUnique }
 {}

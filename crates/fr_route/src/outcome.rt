@@ -152,7 +152,7 @@ pub(crate) fn push_capped(
 }
 
 /// The ends of the link that an edit removes or adds.
-fn ends(edit: Edit) -> (u32, u32)
+pub(crate) fn ends(edit: Edit) -> (u32, u32)
     ensures { ends_of (edit ∷ []) ≡ result.0 ∷ (result.1 ∷ []) }
 {
     match edit {

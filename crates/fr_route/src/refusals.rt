@@ -1,6 +1,7 @@
 //! Why a line is refused, and the number of the refusal in its answer.
 
 ghost use Rattle.std.specs.Prelude.{◌≡◌, IfNone, IfSome};
+ghost use Rattle.fr_route.specs.Json.{fault_name};
 ghost use Rattle.fr_route.specs.Answers.{fault_number as fault_number_of};
 ghost use Rattle.fr_route.specs.Refusals.{number_of};
 
@@ -62,6 +63,31 @@ impl Reason {
             Reason::TooMany => 9,
         }
     }
+
+    /// The name of the fault in an answer in JSON. O(1).
+    pub fn name(self) -> &'static str
+        ensures { result.now ≡ fault_name (number_of self) }
+    {
+        match self {
+            Reason::NotJson => "not JSON",
+            Reason::NotRequest => "not a request",
+            Reason::NoNetwork => "no network",
+            Reason::NoNode => "no such node",
+            Reason::SelfLink => "self link",
+            Reason::Twice => "linked twice",
+            Reason::Cycle => "cycle",
+            Reason::NoLink => "no such link",
+            Reason::TooMany => "too many",
+        }
+    }
+}
+
+/// Why a line is refused, with the nodes that show it, and the place of the refused edit in a batch.
+#[derive(Clone, Copy)]
+pub(crate) struct Refusal<'a> {
+    pub(crate) reason: Reason,
+    pub(crate) nodes: &'a [u32],
+    pub(crate) edit: Option<usize>,
 }
 
 /// The number in an answer for a fault of links or of an edit, from 4 to 9. For `Memory`, which is not a refusal, it is

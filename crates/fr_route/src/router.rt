@@ -10,11 +10,11 @@ ghost use Rattle.fr_route.specs.States.{IsAfterRound, IsRound, IsReport};
 ghost use Rattle.fr_route.specs.Routes.{IsHop, AreHops, IsWalked};
 ghost use Rattle.fr_route.specs.Changes.{IsOpenFault, IsChanged, IsRouteFault, IsStill};
 ghost use Rattle.fr_route.specs.Reroutes.{ArePushes, AreReplaced, IsPushesFault, TellsRerouted};
-ghost use Rattle.fr_route.specs.Tries.{IsTried, change_of, revision_of};
+ghost use Rattle.fr_route.specs.Tries.{IsPlaced, IsTried, change_of, revision_of, without_place};
 ghost use Rattle.fr_route.specs.Outcomes.{IsEditingFault, IsOutcome, IsRoundFault, IsSettledTable, cut_off_nodes, movable};
 
 use crate::change::{Change, Report};
-use crate::fault::RouteFault;
+use crate::fault::{NotMade, RouteFault, placeless};
 use crate::hops::{AfterRound, Walked, hop_table, resized};
 use crate::outcome::{alone_nodes, push_capped, put_in_place, report_of, touched_nodes};
 use crate::revision::Revision;
@@ -110,30 +110,26 @@ impl<'a, F: Fn(&Net, u32, Option<&[u32]>, Turns) -> Result<Turns, CrewFault>> As
         match change {
             Change::Cut { u, v } => {
                 let edits = &[Edit::Cut { u: *u, v: *v }];
-                self.edit(router, &Revision { edits, dest }, tell, told)
+                placeless(self.edit(router, &Revision { edits, dest }, tell, told))
             }
             Change::Add { u, v } => {
                 let edits = &[Edit::Add { u: *u, v: *v }];
-                self.edit(router, &Revision { edits, dest }, tell, told)
+                placeless(self.edit(router, &Revision { edits, dest }, tell, told))
             }
             Change::Join { u, v } => {
                 let edits = &[Edit::Join { u: *u, v: *v }];
-                self.edit(router, &Revision { edits, dest }, tell, told)
+                placeless(self.edit(router, &Revision { edits, dest }, tell, told))
             }
-            Change::Batch(edits) => self.edit(router, &Revision { edits, dest }, tell, told),
+            Change::Batch(edits) => {
+                placeless(self.edit(router, &Revision { edits, dest }, tell, told))
+            }
             Change::Destination { dest } => {
                 if *dest >= router.net.nodes() {
                     return Err(RouteFault::Range);
                 }
-                self.edit(
-                    router,
-                    &Revision {
-                        edits: &[],
-                        dest: *dest,
-                    },
-                    tell,
-                    told,
-                )
+                let edits = &[];
+                let dest = *dest;
+                placeless(self.edit(router, &Revision { edits, dest }, tell, told))
             }
         }
     }
@@ -145,11 +141,12 @@ impl<'a, F: Fn(&Net, u32, Option<&[u32]>, Turns) -> Result<Turns, CrewFault>> As
         revision: &Revision<'_>,
         tell: &K,
         told: &mut Told,
-    ) -> Result<T, RouteFault>
+    ) -> Result<T, NotMade>
         requires settles { Settles F.pre F.post self.now.settle.now }
         requires tells { K.IsAlwaysCallable tell.now }
         requires node { revision.now.dest < router.old.nodes }
-        ensures { IsTried (NeverStarts F.post self.now.settle.now) (revision_of router.old revision.now) (λ report told. K.post tell.now report (Ok told)) router.old told.old result router.new told.new }
+        ensures tried { IsTried (NeverStarts F.post self.now.settle.now) (revision_of router.old revision.now) (λ report told. K.post tell.now report (Ok told)) router.old told.old (without_place result) router.new told.new }
+        ensures place { IfErr result (IsPlaced router.old revision.now.edits.now) }
     {
         told.make_room(router.net.nodes())?;
         let movable = router.movable(self.alloc, revision)?;
@@ -390,13 +387,17 @@ impl Router {
     /// if no node turns: those that the edits and the new destination touch, and those with links that the last round
     /// cut off. Every other node with a link still has a link that points away from it. Too many edits are refused
     /// before anything is allocated.
-    fn movable(&self, alloc: Global, revision: &Revision<'_>) -> Result<Vec<u32>, RouteFault>
+    fn movable(&self, alloc: Global, revision: &Revision<'_>) -> Result<Vec<u32>, NotMade>
         ensures movable { IfOk result (λ nodes. nodes.items ≡ movable self.now revision.now.dest revision.now.edits.now) }
-        ensures fault { IfErr result (IsEditingFault self.now revision.now.edits.now revision.now.dest) }
-        ensures no_start { IfErr result (λ fault. fault ≢ Start) }
+        ensures fault { IfErr result (λ undone. IsEditingFault self.now revision.now.edits.now revision.now.dest undone.fault) }
+        ensures place { IfErr result (IsPlaced self.now revision.now.edits.now) }
+        ensures no_start { IfErr result (λ undone. undone.fault ≢ Start) }
     {
         if revision.edits.len() > MAX_EDITS {
-            return Err(RouteFault::Net(NetFault::TooMany));
+            return Err(NotMade {
+                at: MAX_EDITS,
+                fault: RouteFault::Net(NetFault::TooMany),
+            });
         }
         let mut nodes = touched_nodes(alloc, self.dest, revision.dest, revision.edits)?;
         let cut_off = self.linked_cut_off();

@@ -1,33 +1,36 @@
 //! The state that the requests so far have made, and the answer to the next request.
 
-ghost use Rattle.std.specs.Prelude.{◌≡◌, ◌≢◌, ◌<◌, ◌≤◌, ◌⊎◌, ◌↔◌, length, replicate, true, false, Ok, Some, None, IfOk, IfErr, OnErr, OnOk, IfSome, IfNone, MatchOption, string_bytes, vec_capacity};
+ghost use Rattle.std.specs.Prelude.{◌≡◌, ◌≢◌, ◌<◌, ◌≤◌, ◌⊎◌, ◌↔◌, length, true, false, slice_get, Ok, Some, None, IfOk, IfErr, OnErr, OnOk, IfSome, IfNone, IsTrue, MatchOption, string_bytes};
 ghost use Rattle.std.specs.Option.{option_copied};
-ghost use Rattle.fr_lines.specs.Requests.{ask, make_edits, new_network, walk_from, plain, reading};
+ghost use Rattle.fr_lines.specs.Requests.{ask, make_edits, move_dest, new_network, walk_from, plain, reading};
 ghost use Rattle.fr_crew.specs.Settlements.{CanBegin};
 ghost use Rattle.fr_route.specs.Ways.{Settles, NeverStarts};
 ghost use Rattle.fr_route.specs.Blank.{is_blank as is_blank_line};
-ghost use Rattle.fr_route.specs.Answers.{IsAccepted, IsAnswer, IsLineAnswer, IsReportLine, MayStartFor, MayStartForLine};
+ghost use Rattle.fr_route.specs.Answers.{IsAccepted, IsAnswer, IsLineAnswer, MayStartFor, MayStartForLine};
+ghost use Rattle.fr_route.specs.Forms.{IsAnswerIn, IsLineRefused};
+ghost use Rattle.fr_route.specs.Json.{ends};
 ghost use Rattle.fr_route.specs.Listing.{IsListing, nodes_told};
+ghost use Rattle.fr_route.specs.Replies.{HasList, IsLineAnsweredIn, IsLineReplied, IsReplied, IsReportIn, IsRevised, IsStillReply, request_of_edit};
 ghost use Rattle.fr_route.specs.Sessions.{IsAnswered, IsLineAnswered};
 ghost use Rattle.fr_route.specs.Told.{IsTold, TellsOfLine};
 ghost use Rattle.fr_route.specs.Reroutes.{AreReplaced};
-ghost use Rattle.fr_route.specs.Texts.{longest_report, refusal_text};
-ghost use Rattle.fr_route.specs.Faults.{of_route_fault};
-ghost use Rattle.fr_route.specs.Refusals.{number_of, request_of_change, IsNewFault, IsRefusalOf};
+ghost use Rattle.fr_route.specs.Texts.{longest_report};
+ghost use Rattle.fr_route.specs.Refusals.{IsNewFault};
 ghost use Rattle.fr_route.specs.declared.fault.AnswerFault.TheVariants.{Start, Memory};
 ghost use Rattle.fr_route.specs.declared.fault.RouteFault.TheVariants.{Start as RouteStart};
+ghost use Rattle.fr_route.specs.declared.form.Form.TheVariants.{Text};
 
 use crate::blank::is_blank;
-use crate::change::Change;
-use crate::fault::{AnswerFault, RouteFault};
-use crate::hops::Walked;
+use crate::fault::{AnswerFault, NotMade, RouteFault};
+use crate::form::{AS_TEXT, Answer, Form, Line, Manner, accepted};
+use crate::outcome::ends as ends_of;
+use crate::questions::{question_in, walk_in};
 use crate::refusals::Reason;
+use crate::refusing::{refuse, refuse_for};
+use crate::reports::{push_report_in, report_begun};
 use crate::revision::Revision;
 use crate::router::Router;
 use crate::settling::Asking;
-use crate::texts::{
-    counts_line, hops_line, links_line, no_walk_line, refusal_line, report_line, walk_line,
-};
 use crate::told::Told;
 use fr_crew::{Crew, CrewFault, Gate, Plan, settled_counts, settled_counts_alone};
 use fr_graph::{Edit, Net, Turns};
@@ -264,37 +267,114 @@ impl Session {
         answer
     }
 
-    /// Puts a router in place once its report line is made, and lists the nodes whose hop has changed if the caller
-    /// asks for them.
-    fn put(&mut self, alloc: Global, router: Router, told: &mut Told) -> Result<String, AnswerFault>
-        ensures text { IfOk result (λ text. IsReportLine router (string_bytes text) × (self.new ≡ Some router)) }
+    /// Answers a line, or returns `None` for a blank one, in this form. Both forms say the same; `specs/Json.antt`
+    /// defines the answers in JSON. A refusal in JSON has the number of the line. `rerouted` is room for the call: pass
+    /// the same list each time. What it contains afterwards has no meaning.
+    ///
+    /// The session and the faults are as for [`Session::answer_line`]. So is the cost; an answer in JSON to a change also
+    /// takes room of O(n) and puts the rerouted nodes in push order.
+    pub fn answer_line_in<R: Threads + Wait + Sync, G: Gate + Sync>(
+        &mut self,
+        crew: &Crew<'_, R, G>,
+        form: Form,
+        line: Line<'_>,
+        rerouted: &mut Vec<u32>,
+    ) -> Result<Option<Answer>, AnswerFault>
+        ensures blank { IfOk result (λ answer. IfNone answer ((is_blank_line line.entry.bytes.now ≡ true) × (self.new ≡ self.old))) }
+        ensures answer { IfOk result (λ answer. IfSome answer (λ it. (is_blank_line line.entry.bytes.now ≡ false)
+            × IsAnswerIn form line.entry.number self.old (reading line.entry.bytes.now) (string_bytes it.text) self.new)) }
+        ensures refused { IfOk result (λ answer. IfSome answer (λ it. IsTrue it.refused ↔ IsLineRefused self.old (reading line.entry.bytes.now))) }
+        ensures unchanged { OnErr result ((is_blank_line line.entry.bytes.now ≡ false) × (self.new ≡ self.old)) }
+        ensures start { IfErr result (λ fault. fault ≡ Start → MayStartForLine self.old (reading line.entry.bytes.now)) }
+        ensures one_worker { crew.now.plan.now.workers ≡ 1 → IfErr result (λ fault. fault ≢ Start) }
+        ensures no_start { crew.now.plan.now.budget ≡ 0 → IfErr result (λ fault. fault ≢ Start) }
+    {
+        Asking::new(
+            crew.alloc,
+            &|net, dest, from, turns|
+                requires { CanBegin net.now dest from turns }
+            { settled_counts(crew, net, dest, from, turns) },
+        )
+        .reply_line_in(self, form, line, rerouted)
+    }
+
+    /// Does the same on the calling thread. It starts no thread, does not wait, and never fails with `Start`. The cost
+    /// is the same, with the router's calls that end in `_alone`.
+    pub fn answer_line_in_alone(
+        &mut self,
+        alloc: Global,
+        form: Form,
+        line: Line<'_>,
+        rerouted: &mut Vec<u32>,
+    ) -> Result<Option<Answer>, AnswerFault>
+        ensures blank { IfOk result (λ answer. IfNone answer ((is_blank_line line.entry.bytes.now ≡ true) × (self.new ≡ self.old))) }
+        ensures answer { IfOk result (λ answer. IfSome answer (λ it. (is_blank_line line.entry.bytes.now ≡ false)
+            × IsAnswerIn form line.entry.number self.old (reading line.entry.bytes.now) (string_bytes it.text) self.new)) }
+        ensures refused { IfOk result (λ answer. IfSome answer (λ it. IsTrue it.refused ↔ IsLineRefused self.old (reading line.entry.bytes.now))) }
+        ensures unchanged { OnErr result ((is_blank_line line.entry.bytes.now ≡ false) × (self.new ≡ self.old)) }
+        ensures no_start { IfErr result (λ fault. fault ≢ Start) }
+    {
+        Asking::new(
+            alloc,
+            &|net, dest, from, turns| settled_counts_alone(net, dest, from, turns),
+        )
+        .reply_line_in(self, form, line, rerouted)
+    }
+
+    /// Puts a router in place once its answer is made, and lists the nodes whose hop has changed if the caller asks for
+    /// them.
+    fn put(
+        &mut self,
+        alloc: Global,
+        form: Form,
+        router: Router,
+        told: &mut Told,
+    ) -> Result<String, AnswerFault>
+        ensures report { HasList form told.old → IfOk result (λ text. IsReportIn form (AreReplaced self.old router) router (string_bytes text)) }
+        ensures put { OnOk result (self.new ≡ Some router) }
         ensures told { IsListing told.old → OnOk result (AreReplaced self.old router (nodes_told told.new)) }
         ensures unchanged { OnErr result ((self.new ≡ self.old) × (nodes_told told.new ≡ nodes_told told.old)) }
-        ensures short { IfOk result (λ text. length (string_bytes text) ≤ longest_report) }
+        ensures short { form ≡ Text → IfOk result (λ text. length (string_bytes text) ≤ longest_report) }
         ensures memory { IfErr result (λ fault. fault ≡ Memory) }
     {
-        let text = report_line(alloc, router.report())?;
-        tell_replaced(alloc, self.router.as_ref(), &router, told)?;
+        router.state_law();
+        let replaced = told_replaced(alloc, self.router.as_ref(), &router, told)?;
+        let changed = replaced.nodes();
+        let mut text = report_begun(alloc, form, router.net().nodes())?;
+        push_report_in(&mut text, form, router.report(), changed, router.hops())?;
+        *told = replaced;
         self.put_router(router);
         Ok(text)
     }
 
     /// The answer to a request for the route from a node.
-    fn walk(&self, alloc: Global, x: u32) -> Result<String, AnswerFault>
-        ensures text { IfOk result (λ text. IsAnswer self.now (walk_from x) (string_bytes text) self.now) }
+    fn walk(&self, alloc: Global, manner: Manner, x: u32) -> Result<Answer, AnswerFault>
+        ensures reply { IfOk result (λ answer. IsStillReply manner self.now (walk_from x) answer) }
         ensures memory { IfErr result (λ fault. fault ≡ Memory) }
     {
         let Some(router) = &self.router else {
-            return refuse(alloc, Reason::NoNetwork);
+            return refuse(alloc, manner, Reason::NoNetwork, &[], None);
         };
         if x >= router.net().nodes() {
-            return refuse(alloc, Reason::NoNode);
+            return refuse(alloc, manner, Reason::NoNode, &[x], None);
         }
-        match router.walk(alloc, x) {
-            Ok(Walked::Route(nodes)) => Ok(walk_line(alloc, &nodes)?),
-            Ok(Walked::CutOff) => Ok(no_walk_line(alloc, x)?),
-            Err(_) => Err(AnswerFault::Memory),
-        }
+        Ok(accepted(walk_in(alloc, manner.form, router, x)?))
+    }
+
+    /// The answer to a question.
+    fn question(
+        &self,
+        alloc: Global,
+        manner: Manner,
+        question: Question,
+    ) -> Result<Answer, AnswerFault>
+        ensures reply { IfOk result (λ answer. IsStillReply manner self.now (ask question) answer) }
+        ensures memory { IfErr result (λ fault. fault ≡ Memory) }
+    {
+        let Some(router) = &self.router else {
+            return refuse(alloc, manner, Reason::NoNetwork, &[], None);
+        };
+        Ok(accepted(question_in(alloc, manner.form, router, question)?))
     }
 
     /// Answers a question, as [`Session::answer`] does. This changes nothing. Fails only with `Memory`. O(b) for b
@@ -303,72 +383,45 @@ impl Session {
         ensures text { IfOk result (λ text. IsAnswer self.now (ask question) (string_bytes text) self.now) }
         ensures memory { IfErr result (λ fault. fault ≡ Memory) }
     {
-        let Some(router) = &self.router else {
-            return refuse(alloc, Reason::NoNetwork);
-        };
-        match question {
-            Question::Links => Ok(links_line(alloc, router.net().links())?),
-            Question::Counts => Ok(counts_line(alloc, router.counts())?),
-            Question::Hops => Ok(hops_line(alloc, router.hops())?),
-        }
+        Ok(self.question(alloc, AS_TEXT, question)?.text)
     }
 }
 
-/// Lists the nodes that a new router reroutes when it replaces the one before it, if there was one.
-fn tell_replaced(
+/// The nodes that a new router reroutes when it replaces the one before it, if there was one, and if the caller asks for
+/// them.
+fn told_replaced(
     alloc: Global,
     before: Option<&Router>,
     router: &Router,
-    told: &mut Told,
-) -> Result<(), AnswerFault>
-    ensures told { IsListing told.old → OnOk result (AreReplaced (option_copied before.entry) router.now (nodes_told told.new)) }
-    ensures untold { OnErr result (nodes_told told.new ≡ nodes_told told.old) }
+    told: &Told,
+) -> Result<Told, AnswerFault>
+    ensures told { IsListing told.now → IfOk result (λ replaced. AreReplaced (option_copied before.entry) router.now (nodes_told replaced)) }
     ensures memory { IfErr result (λ fault. fault ≡ Memory) }
 {
-    let Told::Nodes(list) = told else {
-        return Ok(());
-    };
-    match router.changed_since(alloc, before) {
-        Ok(nodes) => {
-            *list = nodes;
-            Ok(())
-        }
-        Err(_) => Err(AnswerFault::Memory),
+    match told {
+        Told::Nobody => Ok(Told::Nobody),
+        Told::Nodes(_) => match router.changed_since(alloc, before) {
+            Ok(nodes) => Ok(Told::Nodes(nodes)),
+            Err(_) => Err(AnswerFault::Memory),
+        },
     }
 }
 
-/// The answer to a line with this refusal.
-fn refuse(alloc: Global, refusal: Reason) -> Result<String, AnswerFault>
-    ensures text { IfOk result (λ text. string_bytes text ≡ refusal_text (number_of refusal)) }
-    ensures memory { IfErr result (λ fault. fault ≡ Memory) }
+/// The ends of the edit at a place.
+fn ends_at(edits: &[Edit], at: usize) -> [u32; 2]
+    ensures { IfSome (slice_get edits.now at) (λ edit. result ≡ ends edit) }
 {
-    Ok(refusal_line(alloc, refusal)?)
-}
-
-/// The answer to a request that fails with this fault. A fault that is not a refusal is returned.
-fn refusal(alloc: Global, fault: RouteFault) -> Result<String, AnswerFault>
-    ensures text { IfOk result (λ text. IsRefusalOf fault (string_bytes text)) }
-    ensures start { IfErr result (λ why. (why ≡ Start) ↔ (fault ≡ RouteStart)) }
-{
-    refuse(alloc, refusal_for(&fault)?)
-}
-
-/// The refusal for this fault. A fault that is not a refusal is returned.
-fn refusal_for(fault: &RouteFault) -> Result<Reason, AnswerFault>
-    ensures refusal { IfOk result (λ refusal. IsRefusalOf fault.now (refusal_text (number_of refusal))) }
-    ensures refused { OnOk result (of_route_fault fault.now ≡ None) }
-    ensures missing { IfErr result (λ why. of_route_fault fault.now ≡ Some why) }
-{
-    match fault {
-        RouteFault::Net(fault) => Reason::of(fault).ok_or(AnswerFault::Memory),
-        RouteFault::Range => Ok(Reason::NoNode),
-        RouteFault::Start => Err(AnswerFault::Start),
-        RouteFault::Memory => Err(AnswerFault::Memory),
+    match edits.get(at) {
+        Some(edit) => {
+            let (u, v) = ends_of(*edit);
+            [u, v]
+        }
+        None => [0, 0],
     }
 }
 
 impl<'a, F: Fn(&Net, u32, Option<&[u32]>, Turns) -> Result<Turns, CrewFault>> Asking<'a, F> {
-    /// The answer to a line, or `None` for a blank one.
+    /// The answer to a line as text, or `None` for a blank one.
     fn answer_line(
         &self,
         session: &mut Session,
@@ -378,31 +431,13 @@ impl<'a, F: Fn(&Net, u32, Option<&[u32]>, Turns) -> Result<Turns, CrewFault>> As
         requires { Settles F.pre F.post self.now.settle.now }
         ensures { IsLineAnswered (NeverStarts F.post self.now.settle.now) session.old line.now told.old result session.new told.new }
     {
-        if is_blank(line) {
-            return Ok(None);
-        }
-        Ok(Some(self.answer_read(session, line, told)?))
-    }
-
-    /// The answer to a line that is not blank.
-    fn answer_read(
-        &self,
-        session: &mut Session,
-        line: &[u8],
-        told: &mut Told,
-    ) -> Result<String, AnswerFault>
-        requires { Settles F.pre F.post self.now.settle.now }
-        ensures { IsAnswered (NeverStarts F.post self.now.settle.now) session.old (reading line.now) told.old result session.new told.new }
-    {
-        match session.reader.read(self.alloc, line) {
-            Ok(request) => self.answer(session, &request, told),
-            Err(LineFault::NotJson) => refuse(self.alloc, Reason::NotJson),
-            Err(LineFault::NotRequest) => refuse(self.alloc, Reason::NotRequest),
-            Err(LineFault::Memory) => Err(AnswerFault::Memory),
+        match self.reply_line(session, AS_TEXT, line, told)? {
+            Some(answer) => Ok(Some(answer.text)),
+            None => Ok(None),
         }
     }
 
-    /// The answer to a request.
+    /// The answer to a request as text.
     fn answer(
         &self,
         session: &mut Session,
@@ -412,34 +447,105 @@ impl<'a, F: Fn(&Net, u32, Option<&[u32]>, Turns) -> Result<Turns, CrewFault>> As
         requires { Settles F.pre F.post self.now.settle.now }
         ensures { IsAnswered (NeverStarts F.post self.now.settle.now) session.old (Ok (plain request.now)) told.old result session.new told.new }
     {
+        Ok(self.reply(session, AS_TEXT, request, told)?.text)
+    }
+
+    /// The answer to a line in this form, or `None` for a blank one. Lists rerouted nodes only for JSON.
+    fn reply_line_in(
+        &self,
+        session: &mut Session,
+        form: Form,
+        line: Line<'_>,
+        rerouted: &mut Vec<u32>,
+    ) -> Result<Option<Answer>, AnswerFault>
+        requires { Settles F.pre F.post self.now.settle.now }
+        ensures { IsLineAnsweredIn (NeverStarts F.post self.now.settle.now) form line.entry.number session.old line.entry.bytes.now result session.new }
+    {
+        let number = line.number;
+        let manner = Manner { form, number };
+        match form {
+            Form::Text => self.reply_line(session, manner, line.bytes, &mut Told::Nobody),
+            Form::Json => {
+                let mut told = Told::taken(rerouted, self.alloc);
+                let answer = self.reply_line(session, manner, line.bytes, &mut told);
+                *rerouted = told.into_list(self.alloc);
+                answer
+            }
+        }
+    }
+
+    /// The answer to a line, or `None` for a blank one.
+    fn reply_line(
+        &self,
+        session: &mut Session,
+        manner: Manner,
+        line: &[u8],
+        told: &mut Told,
+    ) -> Result<Option<Answer>, AnswerFault>
+        requires settles { Settles F.pre F.post self.now.settle.now }
+        requires lists { HasList manner.form told.old }
+        ensures { IsLineReplied (NeverStarts F.post self.now.settle.now) manner session.old line.now told.old result session.new told.new }
+    {
+        if is_blank(line) {
+            return Ok(None);
+        }
+        Ok(Some(self.reply_read(session, manner, line, told)?))
+    }
+
+    /// The answer to a line that is not blank.
+    fn reply_read(
+        &self,
+        session: &mut Session,
+        manner: Manner,
+        line: &[u8],
+        told: &mut Told,
+    ) -> Result<Answer, AnswerFault>
+        requires settles { Settles F.pre F.post self.now.settle.now }
+        requires lists { HasList manner.form told.old }
+        ensures { IsReplied (NeverStarts F.post self.now.settle.now) manner session.old (reading line.now) told.old result session.new told.new }
+    {
+        match session.reader.read(self.alloc, line) {
+            Ok(request) => self.reply(session, manner, &request, told),
+            Err(LineFault::NotJson) => refuse(self.alloc, manner, Reason::NotJson, &[], None),
+            Err(LineFault::NotRequest) => refuse(self.alloc, manner, Reason::NotRequest, &[], None),
+            Err(LineFault::Memory) => Err(AnswerFault::Memory),
+        }
+    }
+
+    /// The answer to a request.
+    fn reply(
+        &self,
+        session: &mut Session,
+        manner: Manner,
+        request: &Request,
+        told: &mut Told,
+    ) -> Result<Answer, AnswerFault>
+        requires settles { Settles F.pre F.post self.now.settle.now }
+        requires lists { HasList manner.form told.old }
+        ensures { IsReplied (NeverStarts F.post self.now.settle.now) manner session.old (Ok (plain request.now)) told.old result session.new told.new }
+    {
         match request {
             Request::Network { nodes, dest, links } => {
                 match self.open_network(*nodes, *dest, links) {
-                    Ok(router) => session.put(self.alloc, router, told),
-                    Err(fault) => refusal(self.alloc, fault),
+                    Ok(router) => {
+                        Ok(accepted(session.put(self.alloc, manner.form, router, told)?))
+                    }
+                    Err(fault) => refuse_for(self.alloc, manner, fault, &[*dest], None),
                 }
             }
-            Request::Cut { u, v } => self.change_session(
-                session,
-                Change::Cut { u: *u, v: *v },
-                told,
-            ),
-            Request::Add { u, v } => self.change_session(
-                session,
-                Change::Add { u: *u, v: *v },
-                told,
-            ),
-            Request::Join { u, v } => self.change_session(
-                session,
-                Change::Join { u: *u, v: *v },
-                told,
-            ),
-            Request::Batch { edits } => self.edit_session(session, edits, told),
-            Request::Destination { dest } => {
-                self.change_session(session, Change::Destination { dest: *dest }, told)
+            Request::Cut { u, v } => {
+                self.reply_edit(session, manner, Edit::Cut { u: *u, v: *v }, told)
             }
-            Request::Walk { x } => session.walk(self.alloc, *x),
-            Request::Ask(question) => session.answer_question(self.alloc, *question),
+            Request::Add { u, v } => {
+                self.reply_edit(session, manner, Edit::Add { u: *u, v: *v }, told)
+            }
+            Request::Join { u, v } => {
+                self.reply_edit(session, manner, Edit::Join { u: *u, v: *v }, told)
+            }
+            Request::Batch { edits } => self.reply_batch(session, manner, edits, told),
+            Request::Destination { dest } => self.reply_move(session, manner, *dest, told),
+            Request::Walk { x } => session.walk(self.alloc, manner, *x),
+            Request::Ask(question) => session.question(self.alloc, manner, *question),
         }
     }
 
@@ -459,70 +565,105 @@ impl<'a, F: Fn(&Net, u32, Option<&[u32]>, Turns) -> Result<Turns, CrewFault>> As
         self.open(net, dest)
     }
 
-    /// The answer to a change, or why it is refused.
-    fn change_session(
+    /// The answer to an edit.
+    fn reply_edit(
         &self,
         session: &mut Session,
-        change: Change,
+        manner: Manner,
+        edit: Edit,
         told: &mut Told,
-    ) -> Result<String, AnswerFault>
-        requires { Settles F.pre F.post self.now.settle.now }
-        ensures { IsAnswered (NeverStarts F.post self.now.settle.now) session.old (Ok (request_of_change change)) told.old result session.new told.new }
+    ) -> Result<Answer, AnswerFault>
+        requires settles { Settles F.pre F.post self.now.settle.now }
+        requires lists { HasList manner.form told.old }
+        ensures { IsReplied (NeverStarts F.post self.now.settle.now) manner session.old (Ok (request_of_edit edit)) told.old result session.new told.new }
     {
         let Some(router) = &mut session.router else {
-            return refuse(self.alloc, Reason::NoNetwork);
+            return refuse(self.alloc, manner, Reason::NoNetwork, &[], None);
         };
-        self.answer_change(router, &change, told)
-    }
-
-    /// The answer to a change of a router's network.
-    fn answer_change(
-        &self,
-        router: &mut Router,
-        change: &Change,
-        told: &mut Told,
-    ) -> Result<String, AnswerFault>
-        requires { Settles F.pre F.post self.now.settle.now }
-        ensures { IsAnswered (NeverStarts F.post self.now.settle.now) (Some router.old) (Ok (request_of_change change.now)) told.old result (Some router.new) told.new }
-    {
-        let tell = |report| report_line(self.alloc, report);
-        match self.change(router, change, &tell, told) {
-            Ok(text) => Ok(text),
-            Err(fault) => refusal(self.alloc, fault),
-        }
-    }
-
-    /// The answer to a batch of edits, or why one is refused.
-    fn edit_session(
-        &self,
-        session: &mut Session,
-        edits: &[Edit],
-        told: &mut Told,
-    ) -> Result<String, AnswerFault>
-        requires { Settles F.pre F.post self.now.settle.now }
-        ensures { IsAnswered (NeverStarts F.post self.now.settle.now) session.old (Ok (make_edits edits.now)) told.old result session.new told.new }
-    {
-        let Some(router) = &mut session.router else {
-            return refuse(self.alloc, Reason::NoNetwork);
-        };
-        self.answer_edits(router, edits, told)
-    }
-
-    /// The answer to edits of a router's network.
-    fn answer_edits(
-        &self,
-        router: &mut Router,
-        edits: &[Edit],
-        told: &mut Told,
-    ) -> Result<String, AnswerFault>
-        requires { Settles F.pre F.post self.now.settle.now }
-        ensures { IsAnswered (NeverStarts F.post self.now.settle.now) (Some router.old) (Ok (make_edits edits.now)) told.old result (Some router.new) told.new }
-    {
         let dest = router.dest();
-        let tell = |report| report_line(self.alloc, report);
-        match self.edit(router, &Revision { edits, dest }, &tell, told) {
-            Ok(text) => Ok(text),
-            Err(fault) => refusal(self.alloc, fault),
+        let edits = &[edit];
+        match self.revise(router, &Revision { edits, dest }, manner.form, told) {
+            Ok(text) => Ok(accepted(text)),
+            Err(undone) => {
+                refuse_for(self.alloc, manner, undone.fault, &ends_at(edits, 0), None)
+            }
         }
+    }
+
+    /// The answer to a batch of edits.
+    fn reply_batch(
+        &self,
+        session: &mut Session,
+        manner: Manner,
+        edits: &[Edit],
+        told: &mut Told,
+    ) -> Result<Answer, AnswerFault>
+        requires settles { Settles F.pre F.post self.now.settle.now }
+        requires lists { HasList manner.form told.old }
+        ensures { IsReplied (NeverStarts F.post self.now.settle.now) manner session.old (Ok (make_edits edits.now)) told.old result session.new told.new }
+    {
+        let Some(router) = &mut session.router else {
+            return refuse(self.alloc, manner, Reason::NoNetwork, &[], None);
+        };
+        let dest = router.dest();
+        match self.revise(router, &Revision { edits, dest }, manner.form, told) {
+            Ok(text) => Ok(accepted(text)),
+            Err(undone) => {
+                let at = undone.at;
+                refuse_for(
+                    self.alloc,
+                    manner,
+                    undone.fault,
+                    &ends_at(edits, at),
+                    Some(at),
+                )
+            }
+        }
+    }
+
+    /// The answer to a request to move the destination.
+    fn reply_move(
+        &self,
+        session: &mut Session,
+        manner: Manner,
+        dest: u32,
+        told: &mut Told,
+    ) -> Result<Answer, AnswerFault>
+        requires settles { Settles F.pre F.post self.now.settle.now }
+        requires lists { HasList manner.form told.old }
+        ensures { IsReplied (NeverStarts F.post self.now.settle.now) manner session.old (Ok (move_dest dest)) told.old result session.new told.new }
+    {
+        let Some(router) = &mut session.router else {
+            return refuse(self.alloc, manner, Reason::NoNetwork, &[], None);
+        };
+        if dest >= router.net().nodes() {
+            return refuse(self.alloc, manner, Reason::NoNode, &[dest], None);
+        }
+        let edits = &[];
+        match self.revise(router, &Revision { edits, dest }, manner.form, told) {
+            Ok(text) => Ok(accepted(text)),
+            Err(undone) => refuse_for(self.alloc, manner, undone.fault, &[], None),
+        }
+    }
+
+    /// Makes these edits, and returns the report of the round. Room for the report is taken before anything is changed.
+    fn revise(
+        &self,
+        router: &mut Router,
+        revision: &Revision<'_>,
+        form: Form,
+        told: &mut Told,
+    ) -> Result<String, NotMade>
+        requires settles { Settles F.pre F.post self.now.settle.now }
+        requires lists { HasList form told.old }
+        requires node { revision.now.dest < router.old.nodes }
+        ensures { IsRevised (NeverStarts F.post self.now.settle.now) form router.old revision.now told.old result router.new told.new }
+    {
+        let mut text = report_begun(self.alloc, form, router.net().nodes())?;
+        let report = self.edit(router, revision, &|report| Ok(report), told)?;
+        router.state_law();
+        // There is room, so this does not fail.
+        push_report_in(&mut text, form, report, told.nodes(), router.hops())?;
+        Ok(text)
     }
 }

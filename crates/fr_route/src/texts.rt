@@ -1,7 +1,8 @@
 //! The texts of answers.
 
-ghost use Rattle.std.specs.Prelude.{◌≡◌, ◌≤◌, ◌++◌, length, IfOk, OnOk, codes, decimal, string_bytes};
+ghost use Rattle.std.specs.Prelude.{◌≡◌, ◌≤◌, ◌++◌, ◌+◌, length, IfOk, OnOk, codes, decimal, string_bytes};
 ghost use Rattle.fr_route.specs.Refusals.{number_of};
+ghost use Rattle.fr_route.specs.Rooms.{Fits};
 ghost use Rattle.fr_route.specs.Texts.{counts_text, links_text, hops_text, hop_word, walk_text, no_walk_text, report_text, longest_report, refusal_text};
 
 use crate::change::Report;
@@ -35,7 +36,8 @@ fn push_number(
     number: u64,
     buffer: &mut Buffer,
 ) -> Result<(), AllocError>
-    ensures { OnOk result (string_bytes line.new ≡ string_bytes line.old ++ (before.now ++ decimal number)) }
+    ensures text { OnOk result (string_bytes line.new ≡ string_bytes line.old ++ (before.now ++ decimal number)) }
+    ensures room { Fits line.old line.new result (length before.now + 20) }
 {
     line.push_str(before)?;
     if number < 10 {
@@ -47,7 +49,8 @@ fn push_number(
 /// Appends the number of nodes that are cut off, after its word. It does not call `push_number`: all callers of that
 /// function put one byte before the number, so it compiles to a store of that byte.
 fn push_cut(line: &mut String, cut: u64, buffer: &mut Buffer) -> Result<(), AllocError>
-    ensures { OnOk result (string_bytes line.new ≡ string_bytes line.old ++ (codes " cut " ++ decimal cut)) }
+    ensures text { OnOk result (string_bytes line.new ≡ string_bytes line.old ++ (codes " cut " ++ decimal cut)) }
+    ensures room { Fits line.old line.new result 25 }
 {
     line.push_str(" cut ")?;
     line.push_str(buffer.format(cut))
@@ -122,16 +125,16 @@ pub(crate) fn no_walk_line(alloc: Global, node: u32) -> Result<String, AllocErro
     format!(in alloc; "walk {node} cut")
 }
 
-/// The report of a round: how many turns it took, and how many nodes are cut off.
-pub(crate) fn report_line(alloc: Global, report: Report) -> Result<String, AllocError>
-    ensures text { IfOk result (λ line. string_bytes line ≡ report_text report.turned report.cut) }
-    ensures short { IfOk result (λ line. length (string_bytes line) ≤ longest_report) }
+/// Appends the report of a round: how many turns it took, and how many nodes are cut off.
+pub(crate) fn push_report(line: &mut String, report: Report) -> Result<(), AllocError>
+    ensures text { OnOk result (string_bytes line.new ≡ string_bytes line.old ++ report_text report.turned report.cut) }
+    ensures room { Fits line.old line.new result longest_report }
+    ensures short { length (report_text report.turned report.cut) ≤ longest_report }
 {
-    let mut line = begun(alloc, "turned", 4)?;
     let mut buffer = Buffer::new();
-    push_number(&mut line, " ", report.turned, &mut buffer)?;
-    push_cut(&mut line, report.cut, &mut buffer)?;
-    Ok(line)
+    line.push_str("turned")?;
+    push_number(line, " ", report.turned, &mut buffer)?;
+    push_cut(line, report.cut, &mut buffer)
 }
 
 /// The answer to a line that is refused.

@@ -38,6 +38,16 @@ impl Told {
         }
     }
 
+    /// The nodes in the list.
+    pub fn nodes(&self) -> &[u32]
+        ensures { result.now ≡ nodes_told self.now }
+    {
+        match self {
+            Told::Nobody => &[],
+            Told::Nodes(list) => list,
+        }
+    }
+
     /// Makes room for all nodes, if there is a list.
     pub fn make_room(&mut self, nodes: u32) -> Result<(), AllocError>
         ensures room { IsListing self.old → OnOk result (HasPlaces nodes self.new) }

@@ -5,8 +5,8 @@ use Rattle.std.specs.Result.{is_ok}
 use Rattle.std.specs.Char.{encode_utf8}
 use Rattle.fr_route.proofs.texts.push_number.Goals as goal
 
-pub returns-then-number-lt10 : goal.returns-then-number-lt10
-returns-then-number-lt10 c =
+pub returns-then-number-lt10-clause-text : goal.returns-then-number-lt10-clause-text
+returns-then-number-lt10-clause-text c =
     let n : ℕ = c.args.number in
     let low : n < 10 = c.if-number-lt10.true in
     let glyph : c.from.result ≡ 48 + n = grind arith in

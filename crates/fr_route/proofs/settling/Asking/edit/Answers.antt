@@ -16,6 +16,7 @@ use Rattle.fr_route.specs.Reroutes.{AreRerouted}
 use Rattle.fr_route.specs.Routes.{AreHops}
 use Rattle.fr_route.specs.RouterInside.{state_of}
 use Rattle.fr_route.specs.States.{IsAfterRound, State, net_at}
+use Rattle.fr_route.specs.Tries.{IsPlaced}
 use Rattle.fr_route.specs.declared.fault.RouteFault.{RouteFault}
 use Rattle.fr_route.specs.declared.fault.RouteFault.TheVariants.{Start}
 use Rattle.std.specs.declared.alloc.Global.{Global}
@@ -23,7 +24,7 @@ use Rattle.std.specs.declared.vec.Vec.{Vec}
 use Rattle.fr_tables.specs.Pushes.{IsPushOrder}
 use Rattle.fr_tables.specs.declared.hop.Hop.{Hop}
 use Rattle.fr_route.proofs.CutNodes.{after_outcome, ended}
-use Rattle.fr_route.proofs.Changing.{made_nodes, refused_fault, round_fault}
+use Rattle.fr_route.proofs.Changing.{made_nodes, refused_fault, refused_place, round_fault, round_place}
 use Rattle.fr_route.proofs.Inside.{sound_after}
 use Rattle.fr_route.proofs.Moving.{made_net, movable_sinks, unmoved_hops}
 use Rattle.fr_route.proofs.Noting.{listing_has}
@@ -76,8 +77,8 @@ edit_if-requires g c = record {
   );
 }
 
-pub returns-in_err-make_room : goal.returns-in_err-make_room
-returns-in_err-make_room g c =
+pub returns-in_err-make_room-clause-tried : goal.returns-in_err-make_room-clause-tried
+returns-in_err-make_room-clause-tried g c =
     let p = err_from_is_err_and c.from_residual.result c.from_residual.ensures.1 in
     rw (p.1, p.2) (record {
       made = tt;
@@ -89,15 +90,15 @@ returns-in_err-make_room g c =
       no_start = λ _ e. absurd cc;
     })
 
-pub returns-in_err-outcome : goal.returns-in_err-outcome
-returns-in_err-outcome g c =
+pub returns-in_err-outcome-clause-tried : goal.returns-in_err-outcome-clause-tried
+returns-in_err-outcome-clause-tried g c =
     let s : State = state_of c.router.inside in
     let edits = c.args.revision.now.edits.now in
-    let at = (goal.at.returns-in_err-outcome g c).After-router in
+    let at = (goal.at.returns-in_err-outcome-clause-tried g c).After-router in
     let below = in_range g at in
     let reason = c.in_err-outcome.field-0.0 in
-    let fault : (r : NotEdited RouteFault) → c.in_err-outcome.field-0.0 ≡ r → IsEditingFault s edits c.args.revision.now.dest (of_not_edited r) =
-    λ r. elim r as (λ (r : NotEdited RouteFault). c.in_err-outcome.field-0.0 ≡ r → IsEditingFault s edits c.args.revision.now.dest (of_not_edited r)) [
+    let fault : (r : NotEdited RouteFault) → c.in_err-outcome.field-0.0 ≡ r → IsEditingFault s edits c.args.revision.now.dest (of_not_edited r).fault =
+    λ r. elim r as (λ (r : NotEdited RouteFault). c.in_err-outcome.field-0.0 ≡ r → IsEditingFault s edits c.args.revision.now.dest (of_not_edited r).fault) [
       | Refused refused ↦ λ is. refused_fault s edits c.args.revision.now.dest refused (rw is at c.in_err-outcome.ensures.refused)
       | Fault fault ↦ λ is.
           let why = rw is at c.in_err-outcome.ensures.refused in
@@ -111,11 +112,29 @@ returns-in_err-outcome g c =
       made = tt;
       told_of = tt;
       rerouted = tt;
-      fault = subst (λ (now : State). IsEditingFault now edits c.args.revision.now.dest (of_not_edited reason)) (now_is g at) (fault reason refl);
+      fault = subst (λ (now : State). IsEditingFault now edits c.args.revision.now.dest (of_not_edited reason).fault) (now_is g at) (fault reason refl);
       unchanged = search rules;
       untold = c.make_room.ensures.same;
       no_start = search rules;
     })
+
+pub returns-in_err-outcome-clause-place : goal.returns-in_err-outcome-clause-place
+returns-in_err-outcome-clause-place g c =
+    let s : State = state_of c.router.inside in
+    let edits = c.args.revision.now.edits.now in
+    let at = (goal.at.returns-in_err-outcome-clause-place g c).After-router in
+    let reason = c.in_err-outcome.field-0.0 in
+    let place : (r : NotEdited RouteFault) → c.in_err-outcome.field-0.0 ≡ r → IsPlaced s edits (of_not_edited r) =
+    λ r. elim r as (λ (r : NotEdited RouteFault). c.in_err-outcome.field-0.0 ≡ r → IsPlaced s edits (of_not_edited r)) [
+      | Refused refused ↦ λ is. refused_place s edits refused (rw is at c.in_err-outcome.ensures.refused) (rw is at c.in_err-outcome.ensures.names)
+      | Fault fault ↦ λ is.
+          let why = rw is at c.in_err-outcome.ensures.refused in
+          let told = why.1.1.1.1.1.1 in
+          round_place s edits 0 why.0.nodes c.args.revision.now.dest fault
+          (subst (λ (m : Network). IsOpenFault m.nodes c.args.revision.now.dest fault) {y = why.0} why.1.1.1.2 told.why)
+    ] in
+    let p = err_from_is_err_and c.from_residual-in_err-outcome.result c.from_residual-in_err-outcome.ensures.1 in
+    rw (p.1, p.2) (subst (λ (now : State). IsPlaced now edits (of_not_edited reason)) (now_is g at) (place reason refl))
 
 pub put_in_place-requires-clause-one_each : goal.put_in_place-requires-clause-one_each
 put_in_place-requires-clause-one_each g c =
@@ -214,9 +233,9 @@ invariant_of-router-2 g c =
     (with_dest g at.In_ok-outcome c.put_in_place.new.hops c.put_in_place.ensures.hops))
     (c.put_in_order.ensures.kept ∙ (c.router.invariant.room ∙ sym nodes)))
 
-pub returns : goal.returns
-returns g c =
-    let at = goal.at.returns g c in
+pub returns-clause-tried : goal.returns-clause-tried
+returns-clause-tried g c =
+    let at = goal.at.returns-clause-tried g c in
     let s : State = state_of c.router.inside in
     let d = c.args.revision.now.dest in
     let edits = c.args.revision.now.edits.now in

@@ -8,7 +8,7 @@ use Rattle.fr_route.proofs.settling.Asking.open_network.Goals as goal
 pub returns-in_err-net-clause-refused : goal.returns-in_err-net-clause-refused
 returns-in_err-net-clause-refused g c =
     let p = err_from_is_err_and c.from_residual.result c.from_residual.ensures.1 in
-    rw (p.1, p.2) (new_fault c.args.nodes c.args.dest c.args.links.now c.in_err-net.field-0.0 c.in_err-net.ensures.refused)
+    rw (p.1, p.2) (new_fault c.args.nodes c.args.dest c.args.links.now c.in_err-net.field-0.0 c.in_err-net.ensures.refused c.in_err-net.ensures.names)
 
 pub returns-clause-accepted : goal.returns-clause-accepted
 returns-clause-accepted g c =

@@ -1,0 +1,135 @@
+-- The state and a line determine the answer in either form.
+use Rattle.std.proofs.Common.{◌≡◌, ◌∙◌, ℕ, ◌+◌, ◌==◌, if◌then◌else◌, List, [], ◌∷◌, Option, Some, None, Result, Ok, Err, ap, inl, inr, refl, slice_get, sym, subst}
+use Rattle.fr_graph.specs.Batches.{IsBatchFault, IsEditFault}
+use Rattle.fr_graph.specs.Faults.{IsFirstFault}
+use Rattle.fr_graph.specs.Network.{Network}
+use Rattle.fr_graph.specs.declared.edit.Edit.{Edit}
+use Rattle.fr_graph.specs.declared.edit.Edit.TheVariants as edit
+use Rattle.fr_graph.specs.declared.fault.EditFault.{EditFault}
+use Rattle.fr_graph.specs.declared.fault.NetFault.{NetFault}
+use Rattle.fr_graph.specs.declared.fault.NetFault.TheVariants.{TooMany, Range, SelfLink, Twice, Cycle, NoLink, Memory}
+use Rattle.fr_lines.specs.Requests.{PlainRequest, new_network, cut_link, add_link, join_nodes, make_edits, move_dest, walk_from, ask}
+use Rattle.fr_lines.specs.declared.requests.LineFault.{LineFault}
+use Rattle.fr_lines.specs.declared.requests.LineFault.TheVariants.{NotJson, NotRequest, Memory as LineMemory}
+use Rattle.fr_lines.specs.declared.requests.Question.TheVariants.{Links, Counts, Hops}
+use Rattle.fr_tables.specs.declared.hop.Hop.{Hop}
+use Rattle.fr_route.specs.Answers.{fault_number}
+use Rattle.fr_graph.specs.Evidence.{NamesFirst, NamesInBatch, NamesOfEdit, evidence}
+use Rattle.fr_route.specs.Forms.{IsAnswerIn}
+use Rattle.fr_route.specs.Json.{AreChanged, AreChanges, IsBatchRefusal, IsEditRefusal, IsJsonAnswer, IsJsonLineAnswer, IsJsonReport, IsJsonText, IsJsonWalk, IsNewRefusal, IsRefusal, PlainRefusal}
+use Rattle.fr_route.specs.Json.{ends, ends_in, hops_json, no_node, refusal_for, refusal_json, report_json, walk_json}
+use Rattle.fr_route.specs.Reroutes.{AreReplaced, AreRerouted}
+use Rattle.fr_route.specs.States.{State, net_at}
+use Rattle.fr_route.specs.declared.form.Form.{Form}
+use Rattle.fr_route.specs.declared.form.Form.TheVariants.{Text, Json}
+use Rattle.fr_route.proofs.Changed.{changes_unique}
+use Rattle.fr_route.proofs.Determined.{accepted_unique, hops_unique, line_unique, not_both, report_unique}
+use Rattle.fr_route.proofs.OneTelling.{replaced_unique, rerouted_unique}
+use Rattle.fr_route.proofs.Replying.{refused_by}
+use Rattle.fr_route.proofs.Routing.{route_joined, route_unique}
+use Rattle.fr_graph.proofs.Refusing.{fault_place, no_first_fault}
+use Rattle.fr_graph.specs.Laws.{AreAlike}
+use Rattle.fr_graph.proofs.Evidence.{batches_alike, edits_alike, links_alike}
+
+-- the kind of a fault, its evidence and the nodes of the request determine the refusal
+refusal_by : ℕ → List ℕ → List ℕ → Option ℕ → PlainRefusal
+refusal_by kind shown named place = record {
+  number = if kind == 0 then 9 else (if kind == 6 then 0 else kind + 3);
+  nodes = if kind == 5 then named else shown;
+  edit = place;
+}
+
+refusal_by_kind : (f : NetFault) (named : List ℕ) (place : Option ℕ) → refusal_for f named place ≡ refusal_by (fault_place f) (evidence f) named place
+unfolding refusal_by
+refusal_by_kind TooMany named place = refl
+refusal_by_kind (Range x) named place = refl
+refusal_by_kind (SelfLink x) named place = refl
+refusal_by_kind (Twice x y) named place = refl
+refusal_by_kind (Cycle walk) named place = refl
+refusal_by_kind NoLink named place = refl
+refusal_by_kind Memory named place = refl
+
+alike_refusal : (f g : NetFault) (named : List ℕ) (place : Option ℕ) → AreAlike f g → refusal_for f named place ≡ refusal_for g named place
+alike_refusal f g named place alike =
+    refusal_by_kind f named place ∙ ((λ i. refusal_by (alike.kind i) (alike.shown i) named place) ∙ sym (refusal_by_kind g named place))
+
+new_refusal_unique : (n d : ℕ) (links : List (ℕ × ℕ)) (a b : PlainRefusal) → IsNewRefusal n d links a → IsNewRefusal n d links b → a ≡ b
+new_refusal_unique n d links a b (inl h) (inl k) =
+    h.3 ∙ (alike_refusal h.0 k.0 [] None (links_alike n links h.0 k.0 h.1 h.2 k.1 k.2) ∙ sym k.3)
+new_refusal_unique n d links a b (inl h) (inr k) = absurd (no_first_fault n links h.0 k.0 h.1)
+new_refusal_unique n d links a b (inr h) (inl k) = absurd (no_first_fault n links k.0 h.0 k.1)
+new_refusal_unique n d links a b (inr h) (inr k) = h.2 ∙ sym k.2
+
+edit_refusal_unique : (net : Network) (e : Edit) (a b : PlainRefusal) → IsEditRefusal net e a → IsEditRefusal net e b → a ≡ b
+edit_refusal_unique net e a b h k =
+    h.3 ∙ (alike_refusal h.0 k.0 (ends e) None (edits_alike net e h.0 k.0 h.1 h.2 k.1 k.2) ∙ sym k.3)
+
+batch_refusal_unique : (net : Network) (edits : List Edit) (a b : PlainRefusal) → IsBatchRefusal net edits a → IsBatchRefusal net edits b → a ≡ b
+batch_refusal_unique net edits a b h k =
+    let one = batches_alike net edits h.0 k.0 h.1 h.2 k.1 k.2 in
+    h.3 ∙ ((λ i. refusal_for h.0.fault (ends_in (slice_get edits (one.0 i))) (Some (one.0 i)))
+    ∙ (alike_refusal h.0.fault k.0.fault (ends_in (slice_get edits k.0.at)) (Some k.0.at) one.1 ∙ sym k.3))
+
+pub refusal_unique : (s : Option State) (r : PlainRequest) (a b : PlainRefusal) → IsRefusal s r a → IsRefusal s r b → a ≡ b
+refusal_unique s (new_network n d links) a b h k = new_refusal_unique n d links a b h k
+refusal_unique None (cut_link u v) a b h k = h ∙ sym k
+refusal_unique None (add_link u v) a b h k = h ∙ sym k
+refusal_unique None (join_nodes u v) a b h k = h ∙ sym k
+refusal_unique None (make_edits edits) a b h k = h ∙ sym k
+refusal_unique None (move_dest d) a b h k = h ∙ sym k
+refusal_unique None (walk_from x) a b h k = h ∙ sym k
+refusal_unique None (ask question) a b h k = h ∙ sym k
+refusal_unique (Some s) (cut_link u v) a b h k = edit_refusal_unique (net_at s) (edit.Cut u v) a b h k
+refusal_unique (Some s) (add_link u v) a b h k = edit_refusal_unique (net_at s) (edit.Add u v) a b h k
+refusal_unique (Some s) (join_nodes u v) a b h k = edit_refusal_unique (net_at s) (edit.Join u v) a b h k
+refusal_unique (Some s) (make_edits edits) a b h k = batch_refusal_unique (net_at s) edits a b h k
+refusal_unique (Some s) (move_dest d) a b h k = h.1 ∙ sym k.1
+refusal_unique (Some s) (walk_from x) a b h k = h.1 ∙ sym k.1
+refusal_unique (Some s) (ask question) a b h k = absurd h
+
+json_report_unique : (Lists : List ℕ → Type 0) → ((a b : List ℕ) → Lists a → Lists b → a ≡ b) → (new : State) (t u : List ℕ)
+    → IsJsonReport Lists new t → IsJsonReport Lists new u → t ≡ u
+json_report_unique Lists one new t u (a, k, xs, cs, r, l, are, e) (b, j, ys, ds, q, m, too, f) =
+    let same = report_unique new a b k j r q in
+    let numbers : xs ≡ ys = one xs ys l m in
+    let changes : cs ≡ ds = changes_unique new ys cs ds (subst (λ (ns : List ℕ). AreChanges new ns cs) numbers are) too in
+    e ∙ ((λ i. report_json (same.0 i) (same.1 i) (changes i)) ∙ sym f)
+
+changed_unique : (s : Option State) (new : State) (a b : List ℕ) → AreChanged s new a → AreChanged s new b → a ≡ b
+changed_unique None new a b h k = absurd h
+changed_unique (Some s) new a b h k = rerouted_unique s new a b h k
+
+json_walk_unique : (s : State) (x : ℕ) (t u : List ℕ) → IsJsonWalk s x t → IsJsonWalk s x u → t ≡ u
+json_walk_unique s x t u (inl a) (inl b) = a.2 ∙ (ap (λ (rest : List ℕ). walk_json (x ∷ rest)) (route_unique s.links s.dest x a.0 b.0 a.1 b.1) ∙ sym b.2)
+json_walk_unique s x t u (inl a) (inr b) = absurd (b.0.1 (route_joined s.links s.dest x a.0 a.1))
+json_walk_unique s x t u (inr a) (inl b) = absurd (a.0.1 (route_joined s.links s.dest x b.0 b.1))
+json_walk_unique s x t u (inr a) (inr b) = a.1 ∙ sym b.1
+
+json_text_unique : (s : Option State) (r : PlainRequest) (new : State) (t u : List ℕ) → IsJsonText s r new t → IsJsonText s r new u → t ≡ u
+json_text_unique s (new_network n d links) new t u h k = json_report_unique (AreReplaced s new) (replaced_unique s new) new t u h k
+json_text_unique s (cut_link v w) new t u h k = json_report_unique (AreChanged s new) (changed_unique s new) new t u h k
+json_text_unique s (add_link v w) new t u h k = json_report_unique (AreChanged s new) (changed_unique s new) new t u h k
+json_text_unique s (join_nodes v w) new t u h k = json_report_unique (AreChanged s new) (changed_unique s new) new t u h k
+json_text_unique s (make_edits edits) new t u h k = json_report_unique (AreChanged s new) (changed_unique s new) new t u h k
+json_text_unique s (move_dest d) new t u h k = json_report_unique (AreChanged s new) (changed_unique s new) new t u h k
+json_text_unique s (walk_from x) new t u h k = json_walk_unique new x t u h k
+json_text_unique s (ask Links) new t u h k = h ∙ sym k
+json_text_unique s (ask Counts) new t u h k = h ∙ sym k
+json_text_unique s (ask Hops) new t u h k = h.2 ∙ (ap hops_json (hops_unique new new.nodes h.0 k.0 h.1 k.1) ∙ sym k.2)
+
+json_unique : (line : ℕ) (s : Option State) (r : PlainRequest) (t u : List ℕ) (p q : Option State) → IsJsonAnswer line s r t p → IsJsonAnswer line s r u q → (t ≡ u) × (p ≡ q)
+json_unique line s r t u p q (inl (a, h, e, n)) (inl (b, k, f, m)) =
+    (e ∙ (ap (λ (refusal : PlainRefusal). refusal_json refusal line) (refusal_unique s r a b h k) ∙ sym f), n ∙ sym m)
+json_unique line s r t u p q (inl (a, h, e, n)) (inr (new, k, f, m)) = absurd (not_both s r a.number new (refused_by s r a h) k)
+json_unique line s r t u p q (inr (new, h, e, n)) (inl (b, k, f, m)) = absurd (not_both s r b.number new (refused_by s r b k) h)
+json_unique line s r t u p q (inr (a, h, e, n)) (inr (b, k, f, m)) =
+    let same : a ≡ b = accepted_unique s r a b h k in
+    (json_text_unique s r b t u (subst (λ (z : State). IsJsonText s r z t) same e) f, n ∙ (ap (λ (z : State). Some z) same ∙ sym m))
+
+pub answer_in_unique : (form : Form) (line : ℕ) (s : Option State) (r : Result PlainRequest LineFault) (t u : List ℕ) (p q : Option State)
+    → IsAnswerIn form line s r t p → IsAnswerIn form line s r u q → (t ≡ u) × (p ≡ q)
+answer_in_unique Text line s r t u p q h k = line_unique s r t u p q h k
+answer_in_unique Json line s (Ok r) t u p q h k = json_unique line s r t u p q h k
+answer_in_unique Json line s (Err NotJson) t u p q h k = (h.0 ∙ sym k.0, h.1 ∙ sym k.1)
+answer_in_unique Json line s (Err NotRequest) t u p q h k = (h.0 ∙ sym k.0, h.1 ∙ sym k.1)
+answer_in_unique Json line s (Err LineMemory) t u p q h k = absurd h

@@ -1,0 +1,6 @@
+use Rattle.std.proofs.Common.{◌≡◌, ◌++◌, decimal, drop, string_bytes}
+use Rattle.fr_route.specs.Json.{listed, separated}
+use Rattle.fr_route.proofs.json.push_nodes.Given as goal
+
+abbrev pub invariant-loop-node : goal.invariant-loop-node
+invariant-loop-node l = string_bytes l.line ++ separated decimal l.first (drop l.node-index l.nodes) ≡ string_bytes l.fn.line ++ listed decimal l.nodes

@@ -1,0 +1,223 @@
+-- The answers in JSON, to each request and to each line: the definition of docs/LINES.md. This project's own; JSON is
+-- that of RFC 8259.
+use Rattle.std.specs.Prelude.{◌≡◌, ℕ, ◌<◌, ◌≤◌, ◌==◌, ◌⊎◌, Bool, true, false, List, [], ◌∷◌, ◌++◌, Option, Some, None, Result, Ok, Err, codes, decimal, map, slice_get, if◌then◌else◌}
+use Rattle.std.specs.List.{AllByRecursion}
+use Rattle.fr_graph.specs.Batches.{IsBatchFault, IsEditFault}
+use Rattle.fr_graph.specs.Evidence.{NamesFirst, NamesInBatch, NamesOfEdit, evidence}
+use Rattle.fr_graph.specs.Faults.{IsFirstFault, IsFaultless}
+use Rattle.fr_graph.specs.Network.{Network}
+use Rattle.fr_graph.specs.declared.edit.Edit.{Edit}
+use Rattle.fr_graph.specs.declared.edit.Edit.TheVariants as edit
+use Rattle.fr_graph.specs.declared.fault.EditFault.{EditFault}
+use Rattle.fr_graph.specs.declared.fault.NetFault.{NetFault}
+use Rattle.fr_graph.specs.declared.fault.NetFault.TheVariants.{NoLink}
+use Rattle.fr_lines.specs.Requests.{PlainRequest, new_network, cut_link, add_link, join_nodes, make_edits, move_dest, walk_from, ask}
+use Rattle.fr_lines.specs.declared.requests.Question.TheVariants.{Links, Counts, Hops}
+use Rattle.fr_lines.specs.declared.requests.LineFault.{LineFault}
+use Rattle.fr_lines.specs.declared.requests.LineFault.TheVariants.{NotJson, NotRequest, Memory as LineMemory}
+use Rattle.fr_route.specs.Answers.{IsAccepted, fault_number}
+use Rattle.fr_route.specs.Reroutes.{AreReplaced, AreRerouted}
+use Rattle.fr_route.specs.Routes.{AreHops, IsHop, IsRoute}
+use Rattle.fr_route.specs.States.{State, IsCutOff, IsReport, net_at}
+use Rattle.fr_tables.specs.declared.hop.Hop.{Hop}
+use Rattle.fr_tables.specs.declared.hop.Hop.TheVariants.{Here, To, CutOff}
+
+-- Texts
+
+-- nothing before the first item, and a comma before each other one
+abbrev pub comma_before : Bool → List ℕ
+comma_before true = []
+comma_before false = codes ","
+
+-- the texts of the items, with commas between them. `first` says whether no item comes before these
+abbrev pub separated : {X : Type 0} → (X → List ℕ) → Bool → List X → List ℕ
+separated text first [] = []
+separated text first (x ∷ xs) = comma_before first ++ (text x ++ separated text false xs)
+
+abbrev pub listed : {X : Type 0} → (X → List ℕ) → List X → List ℕ
+listed text xs = separated text true xs
+
+abbrev pub link_json : ℕ × ℕ → List ℕ
+link_json l = codes "[" ++ (decimal l.0 ++ (codes "," ++ (decimal l.1 ++ codes "]")))
+
+abbrev pub links_json : List (ℕ × ℕ) → List ℕ
+links_json links = codes "{\"links\":[" ++ (listed link_json links ++ codes "]}")
+
+abbrev pub counts_json : List ℕ → List ℕ
+counts_json counts = codes "{\"counts\":[" ++ (listed decimal counts ++ codes "]}")
+
+abbrev pub hop_json : Hop → List ℕ
+hop_json Here = codes "\"here\""
+hop_json (To node) = decimal node
+hop_json CutOff = codes "\"cut\""
+
+abbrev pub hops_json : List Hop → List ℕ
+hops_json hops = codes "{\"hops\":[" ++ (listed hop_json hops ++ codes "]}")
+
+abbrev pub walk_json : List ℕ → List ℕ
+walk_json nodes = codes "{\"walk\":[" ++ (listed decimal nodes ++ codes "]}")
+
+abbrev pub no_walk_json : List ℕ
+no_walk_json = codes "{\"walk\":null}"
+
+-- a number whose hop has changed, with its new hop
+abbrev pub change_json : ℕ × Hop → List ℕ
+change_json change = codes "[" ++ (decimal change.0 ++ (codes "," ++ (hop_json change.1 ++ codes "]")))
+
+abbrev pub round_json : ℕ → ℕ → List ℕ
+round_json turned cut = codes "{\"turned\":" ++ (decimal turned ++ (codes ",\"cut_off\":" ++ decimal cut))
+
+abbrev pub report_json : ℕ → ℕ → List (ℕ × Hop) → List ℕ
+report_json turned cut changed = round_json turned cut ++ (codes ",\"changed\":[" ++ (listed change_json changed ++ codes "]}"))
+
+-- a refusal: its number, the nodes that show the fault, and the place of the refused edit in a batch
+pub record PlainRefusal : Type 0 where
+  pub number : ℕ
+  pub nodes : List ℕ
+  pub edit : Option ℕ
+
+-- the name of the fault with this number
+abbrev pub fault_name : ℕ → List ℕ
+fault_name n =
+    if n == 1 then codes "not JSON"
+    else (if n == 2 then codes "not a request"
+    else (if n == 3 then codes "no network"
+    else (if n == 4 then codes "no such node"
+    else (if n == 5 then codes "self link"
+    else (if n == 6 then codes "linked twice"
+    else (if n == 7 then codes "cycle"
+    else (if n == 8 then codes "no such link"
+    else codes "too many")))))))
+
+abbrev pub refused_json : ℕ → List ℕ
+refused_json number = codes "{\"refused\":" ++ (decimal number ++ (codes ",\"fault\":\"" ++ fault_name number))
+
+abbrev pub place_json : Option ℕ → List ℕ
+place_json None = []
+place_json (Some at) = codes ",\"edit\":" ++ decimal at
+
+abbrev pub shown_json : List ℕ → Option ℕ → List ℕ
+shown_json nodes place = codes "\",\"nodes\":[" ++ (listed decimal nodes ++ (codes "]" ++ place_json place))
+
+-- the refusal of the line with this number
+abbrev pub refusal_json : PlainRefusal → ℕ → List ℕ
+refusal_json refusal line =
+    refused_json refusal.number ++ (shown_json refusal.nodes refusal.edit ++ (codes ",\"line\":" ++ (decimal line ++ codes "}")))
+
+-- Refusals
+
+-- a refusal that no nodes show
+abbrev pub bare_refusal : ℕ → PlainRefusal
+bare_refusal number = record { number = number; nodes = []; edit = None }
+
+-- the refusal of a request that names x, which is not a node
+abbrev pub no_node : ℕ → PlainRefusal
+no_node x = record { number = 4; nodes = x ∷ []; edit = None }
+
+-- the refusal for a fault. `named` are the nodes that no link joins
+abbrev pub refusal_for : NetFault → List ℕ → Option ℕ → PlainRefusal
+refusal_for NoLink named place = record { number = 8; nodes = named; edit = place }
+refusal_for fault named place = record { number = fault_number fault; nodes = evidence fault; edit = place }
+
+-- the two nodes that an edit names
+abbrev pub ends : Edit → List ℕ
+ends (edit.Cut u v) = u ∷ v ∷ []
+ends (edit.Add u v) = u ∷ v ∷ []
+ends (edit.Join u v) = u ∷ v ∷ []
+
+-- the two nodes that the edit at this place names, if there is one
+abbrev pub ends_in : Option Edit → List ℕ
+ends_in None = []
+ends_in (Some e) = ends e
+
+-- the links of a new network have a fault, or its destination is not a node
+abbrev pub IsNewRefusal : ℕ → ℕ → List (ℕ × ℕ) → PlainRefusal → Type 0
+IsNewRefusal n d links refusal =
+    ((fault : NetFault) × IsFirstFault n links fault × NamesFirst n links fault × (refusal ≡ refusal_for fault [] None))
+    ⊎ (IsFaultless n links × (n ≤ d) × (refusal ≡ no_node d))
+
+-- the edit is refused
+abbrev pub IsEditRefusal : Network → Edit → PlainRefusal → Type 0
+IsEditRefusal net e refusal = (fault : NetFault) × IsEditFault net e fault × NamesOfEdit net e fault × (refusal ≡ refusal_for fault (ends e) None)
+
+-- one of the edits is refused, or there are too many
+abbrev pub IsBatchRefusal : Network → List Edit → PlainRefusal → Type 0
+IsBatchRefusal net edits refusal =
+    (refused : EditFault) × IsBatchFault net edits refused × NamesInBatch net edits refused
+    × (refusal ≡ refusal_for refused.fault (ends_in (slice_get edits refused.at)) (Some refused.at))
+
+-- The request is refused in this state. It is so exactly if it is refused with the number by `IsRefused`.
+abbrev pub IsRefusal : Option State → PlainRequest → PlainRefusal → Type 0
+IsRefusal s (new_network n d links) refusal = IsNewRefusal n d links refusal
+IsRefusal None request refusal = refusal ≡ bare_refusal 3
+IsRefusal (Some s) (cut_link u v) refusal = IsEditRefusal (net_at s) (edit.Cut u v) refusal
+IsRefusal (Some s) (add_link u v) refusal = IsEditRefusal (net_at s) (edit.Add u v) refusal
+IsRefusal (Some s) (join_nodes u v) refusal = IsEditRefusal (net_at s) (edit.Join u v) refusal
+IsRefusal (Some s) (make_edits edits) refusal = IsBatchRefusal (net_at s) edits refusal
+IsRefusal (Some s) (move_dest d) refusal = (s.nodes ≤ d) × (refusal ≡ no_node d)
+IsRefusal (Some s) (walk_from x) refusal = (s.nodes ≤ x) × (refusal ≡ no_node x)
+IsRefusal (Some s) (ask question) refusal = ⊥
+
+-- Answers
+
+-- these numbers, each with its hop in the state. A number that is not a node is cut off
+pub record AreChanges (s : State) (numbers : List ℕ) (changed : List (ℕ × Hop)) : Type 0 where
+  pub these : map (λ (change : ℕ × Hop). change.0) changed ≡ numbers
+  pub hops : AllByRecursion (λ (change : ℕ × Hop). IsHop s change.0 change.1) changed
+
+-- the report of the round that made the state `new`. `Lists` says which numbers have changed, in push order
+abbrev pub IsJsonReport : (List ℕ → Type 0) → State → List ℕ → Type 0
+IsJsonReport Lists new text =
+    (turned : ℕ) × (cut : ℕ) × (numbers : List ℕ) × (changed : List (ℕ × Hop))
+    × IsReport new turned cut × Lists numbers × AreChanges new numbers changed × (text ≡ report_json turned cut changed)
+
+-- the hop of each node
+abbrev pub IsJsonHops : State → List ℕ → Type 0
+IsJsonHops s text = (hops : List Hop) × AreHops s s.nodes hops × (text ≡ hops_json hops)
+
+-- the route from x, or that there is none
+abbrev pub IsJsonWalk : State → ℕ → List ℕ → Type 0
+IsJsonWalk s x text =
+    ((rest : List ℕ) × IsRoute s.links s.dest x rest × (text ≡ walk_json (x ∷ rest)))
+    ⊎ (IsCutOff s.dest s.links x × (text ≡ no_walk_json))
+
+-- which numbers have a new hop after an accepted request, in push order
+abbrev pub AreChanged : Option State → State → List ℕ → Type 0
+AreChanged None new numbers = ⊥
+AreChanged (Some s) new numbers = AreRerouted s new numbers
+
+-- the answer to an accepted request, from the states before and after it
+abbrev pub IsJsonText : Option State → PlainRequest → State → List ℕ → Type 0
+IsJsonText s (new_network n d links) new text = IsJsonReport (AreReplaced s new) new text
+IsJsonText s (cut_link u v) new text = IsJsonReport (AreChanged s new) new text
+IsJsonText s (add_link u v) new text = IsJsonReport (AreChanged s new) new text
+IsJsonText s (join_nodes u v) new text = IsJsonReport (AreChanged s new) new text
+IsJsonText s (make_edits edits) new text = IsJsonReport (AreChanged s new) new text
+IsJsonText s (move_dest d) new text = IsJsonReport (AreChanged s new) new text
+IsJsonText s (walk_from x) new text = IsJsonWalk new x text
+IsJsonText s (ask Links) new text = text ≡ links_json new.links
+IsJsonText s (ask Counts) new text = text ≡ counts_json new.counts
+IsJsonText s (ask Hops) new text = IsJsonHops new text
+
+-- the answer to a request of the line with this number, and the state after it: a refusal does not change the state
+abbrev pub IsJsonAnswer : ℕ → Option State → PlainRequest → List ℕ → Option State → Type 0
+IsJsonAnswer line s request text next =
+    ((refusal : PlainRefusal) × IsRefusal s request refusal × (text ≡ refusal_json refusal line) × (next ≡ s))
+    ⊎ ((new : State) × IsAccepted s request new × IsJsonText s request new text × (next ≡ Some new))
+
+-- the answer to the line with this number, which was read with this result
+abbrev pub IsJsonLineAnswer : ℕ → Option State → Result PlainRequest LineFault → List ℕ → Option State → Type 0
+IsJsonLineAnswer line s (Ok request) text next = IsJsonAnswer line s request text next
+IsJsonLineAnswer line s (Err NotJson) text next = (text ≡ refusal_json (bare_refusal 1) line) × (next ≡ s)
+IsJsonLineAnswer line s (Err NotRequest) text next = (text ≡ refusal_json (bare_refusal 2) line) × (next ≡ s)
+IsJsonLineAnswer line s (Err LineMemory) text next = ⊥
+
+-- For proofs only: each of these numbers with its hop in a table
+
+-- the hop at a place of a table. A number past its end is cut off
+abbrev pub hop_in : Option Hop → Hop
+hop_in None = CutOff
+hop_in (Some hop) = hop
+
+abbrev pub changes_of : List Hop → List ℕ → List (ℕ × Hop)
+changes_of hops numbers = map (λ x. (x, hop_in (slice_get hops x))) numbers

@@ -1,0 +1,293 @@
+//! The answers in JSON.
+
+ghost use Rattle.std.specs.Prelude.{◌≡◌, ◌≤◌, ◌++◌, ◌+◌, ◌*◌, length, slice_get, IfOk, OnOk, codes, decimal, string_bytes};
+ghost use Rattle.fr_route.specs.Json.{change_json, changes_of, comma_before, counts_json, hop_in, hop_json, hops_json, link_json, links_json, listed, no_walk_json, place_json, refusal_json, refused_json, report_json, round_json, shown_json, walk_json};
+ghost use Rattle.fr_route.specs.Refusals.{number_of, plain_refusal};
+ghost use Rattle.fr_route.specs.Rooms.{Fits};
+
+use crate::change::Report;
+use crate::refusals::Refusal;
+use fr_graph::Links;
+use fr_tables::Hop;
+use itoa::Buffer;
+use std::alloc::{AllocError, Global};
+
+/// The bytes of a node or a count with a comma, as a rule.
+const NUMBER_ROOM: usize = 5;
+
+/// A line that begins with this text, with room for so many numbers and an end.
+fn begun(alloc: Global, text: &str, numbers: usize) -> Result<String, AllocError>
+    ensures { IfOk result (λ line. string_bytes line ≡ text.now) }
+{
+    let room = numbers.saturating_mul(NUMBER_ROOM).saturating_add(16);
+    let mut line = String::with_capacity(alloc, room)?;
+    line.push_str(text)?;
+    Ok(line)
+}
+
+/// Appends a number.
+fn push_number(line: &mut String, number: u64, buffer: &mut Buffer) -> Result<(), AllocError>
+    ensures text { OnOk result (string_bytes line.new ≡ string_bytes line.old ++ decimal number) }
+    ensures room { Fits line.old line.new result 20 }
+{
+    line.push_str(buffer.format(number))
+}
+
+/// Appends the number of a node.
+fn push_node(line: &mut String, node: u32, buffer: &mut Buffer) -> Result<(), AllocError>
+    ensures text { OnOk result (string_bytes line.new ≡ string_bytes line.old ++ decimal node) }
+    ensures room { Fits line.old line.new result 10 }
+{
+    line.push_str(buffer.format(node))
+}
+
+/// Appends a hop: `"here"`, the number of the next node, or `"cut"`.
+fn push_hop(line: &mut String, hop: Hop, buffer: &mut Buffer) -> Result<(), AllocError>
+    ensures text { OnOk result (string_bytes line.new ≡ string_bytes line.old ++ hop_json hop) }
+    ensures room { Fits line.old line.new result 10 }
+{
+    match hop {
+        Hop::Here => line.push_str("\"here\""),
+        Hop::To(node) => push_node(line, node, buffer),
+        Hop::CutOff => line.push_str("\"cut\""),
+    }
+}
+
+/// Appends a comma, but not before the first item.
+fn push_comma(line: &mut String, first: bool) -> Result<(), AllocError>
+    ensures text { OnOk result (string_bytes line.new ≡ string_bytes line.old ++ comma_before first) }
+    ensures room { Fits line.old line.new result 1 }
+{
+    if first {
+        return Ok(());
+    }
+    line.push_str(",")
+}
+
+/// Appends the numbers of nodes, with commas between them.
+fn push_nodes(line: &mut String, nodes: &[u32], buffer: &mut Buffer) -> Result<(), AllocError>
+    ensures { OnOk result (string_bytes line.new ≡ string_bytes line.old ++ listed decimal nodes.now) }
+{
+    let mut first = true;
+    for node in nodes {
+        push_comma(line, first)?;
+        push_node(line, *node, buffer)?;
+        first = false;
+    }
+    Ok(())
+}
+
+/// Appends a link, after a comma unless it is the first.
+fn push_link(
+    line: &mut String,
+    first: bool,
+    link: (u32, u32),
+    buffer: &mut Buffer,
+) -> Result<(), AllocError>
+    ensures { OnOk result (string_bytes line.new ≡ string_bytes line.old ++ (comma_before first ++ link_json link)) }
+{
+    push_comma(line, first)?;
+    line.push_str("[")?;
+    push_node(line, link.0, buffer)?;
+    line.push_str(",")?;
+    push_node(line, link.1, buffer)?;
+    line.push_str("]")
+}
+
+/// `{"links":[[1,0],[2,1]]}`: the links, each from its tail to its head.
+pub(crate) fn links_object(alloc: Global, links: Links<'_>) -> Result<String, AllocError>
+    ensures { IfOk result (λ line. string_bytes line ≡ links_json links.entry) }
+{
+    let mut line = begun(alloc, "{\"links\":[", links.len().saturating_mul(2))?;
+    let mut buffer = Buffer::new();
+    let mut first = true;
+    for link in links {
+        push_link(&mut line, first, link, &mut buffer)?;
+        first = false;
+    }
+    line.push_str("]}")?;
+    Ok(line)
+}
+
+/// `{"counts":[0,1,2]}`: the count of each node.
+pub(crate) fn counts_object(alloc: Global, counts: &[u64]) -> Result<String, AllocError>
+    ensures { IfOk result (λ line. string_bytes line ≡ counts_json counts.now) }
+{
+    let mut line = begun(alloc, "{\"counts\":[", counts.len())?;
+    let mut buffer = Buffer::new();
+    let mut first = true;
+    for count in counts {
+        push_comma(&mut line, first)?;
+        push_number(&mut line, *count, &mut buffer)?;
+        first = false;
+    }
+    line.push_str("]}")?;
+    Ok(line)
+}
+
+/// `{"hops":["here",0,"cut"]}`: the hop of each node.
+pub(crate) fn hops_object(alloc: Global, hops: &[Hop]) -> Result<String, AllocError>
+    ensures { IfOk result (λ line. string_bytes line ≡ hops_json hops.now) }
+{
+    let mut line = begun(alloc, "{\"hops\":[", hops.len())?;
+    let mut buffer = Buffer::new();
+    let mut first = true;
+    for hop in hops {
+        push_comma(&mut line, first)?;
+        push_hop(&mut line, *hop, &mut buffer)?;
+        first = false;
+    }
+    line.push_str("]}")?;
+    Ok(line)
+}
+
+/// `{"walk":[3,2,1,0]}`: the nodes of a route.
+pub(crate) fn walk_object(alloc: Global, nodes: &[u32]) -> Result<String, AllocError>
+    ensures { IfOk result (λ line. string_bytes line ≡ walk_json nodes.now) }
+{
+    let mut line = begun(alloc, "{\"walk\":[", nodes.len())?;
+    push_nodes(&mut line, nodes, &mut Buffer::new())?;
+    line.push_str("]}")?;
+    Ok(line)
+}
+
+/// The answer for a route from a node that is cut off.
+pub(crate) fn no_walk_object(alloc: Global) -> Result<String, AllocError>
+    ensures { IfOk result (λ line. string_bytes line ≡ no_walk_json) }
+{
+    begun(alloc, "{\"walk\":null}", 0)
+}
+
+/// The hop of a number. A number that is not a node is cut off.
+fn hop_at(hops: &[Hop], x: u32) -> Hop
+    ensures { result ≡ hop_in (slice_get hops.now x) }
+{
+    match hops.get(x as usize) {
+        Some(hop) => *hop,
+        None => Hop::CutOff,
+    }
+}
+
+/// Appends a number with its hop, after a comma unless it is the first.
+fn push_change(
+    line: &mut String,
+    first: bool,
+    change: (u32, Hop),
+    buffer: &mut Buffer,
+) -> Result<(), AllocError>
+    ensures text { OnOk result (string_bytes line.new ≡ string_bytes line.old ++ (comma_before first ++ change_json change)) }
+    ensures room { Fits line.old line.new result 24 }
+{
+    push_comma(line, first)?;
+    line.push_str("[")?;
+    push_node(line, change.0, buffer)?;
+    line.push_str(",")?;
+    push_hop(line, change.1, buffer)?;
+    line.push_str("]")
+}
+
+/// Appends each changed number with its hop in this table, with commas between them.
+fn push_changes(
+    line: &mut String,
+    changed: &[u32],
+    hops: &[Hop],
+    buffer: &mut Buffer,
+) -> Result<(), AllocError>
+    ensures text { OnOk result (string_bytes line.new ≡ string_bytes line.old ++ listed change_json (changes_of hops.now changed.now)) }
+    ensures room { Fits line.old line.new result (24 * length changed.now) }
+{
+    let mut first = true;
+    for x in changed {
+        push_change(line, first, (*x, hop_at(hops, *x)), buffer)?;
+        first = false;
+    }
+    Ok(())
+}
+
+/// Appends how many turns a round took, and how many nodes are cut off.
+fn push_round(line: &mut String, report: Report, buffer: &mut Buffer) -> Result<(), AllocError>
+    ensures text { OnOk result (string_bytes line.new ≡ string_bytes line.old ++ round_json report.turned report.cut) }
+    ensures room { Fits line.old line.new result 61 }
+{
+    line.push_str("{\"turned\":")?;
+    push_number(line, report.turned, buffer)?;
+    line.push_str(",\"cut_off\":")?;
+    push_number(line, report.cut, buffer)?;
+    Ok(())
+}
+
+/// Appends the report of a round, with the numbers whose hop has changed, and their hops in this table:
+/// `{"turned":1,"cut_off":0,"changed":[[3,2],[1,3]]}`.
+pub(crate) fn push_report_object(
+    line: &mut String,
+    report: Report,
+    changed: &[u32],
+    hops: &[Hop],
+) -> Result<(), AllocError>
+    ensures text { OnOk result (string_bytes line.new ≡ string_bytes line.old ++ report_json report.turned report.cut (changes_of hops.now changed.now)) }
+    ensures room { Fits line.old line.new result (80 + 24 * length changed.now) }
+{
+    let mut buffer = Buffer::new();
+    push_round(line, report, &mut buffer)?;
+    line.push_str(",\"changed\":[")?;
+    push_changes(line, changed, hops, &mut buffer)?;
+    line.push_str("]}")
+}
+
+/// The answer to a line that is refused: `{"refused":7,"fault":"cycle","nodes":[0,4,3,2,0],"line":12}`, with
+/// `"edit":1` before `"line"` for a batch.
+pub(crate) fn refusal_object(
+    alloc: Global,
+    refusal: &Refusal<'_>,
+    number: u64,
+) -> Result<String, AllocError>
+    ensures { IfOk result (λ line. string_bytes line ≡ refusal_json (plain_refusal refusal.now) number) }
+{
+    let mut buffer = Buffer::new();
+    let mut line = refused(alloc, refusal, &mut buffer)?;
+    push_shown(&mut line, refusal, &mut buffer)?;
+    line.push_str(",\"line\":")?;
+    push_number(&mut line, number, &mut buffer)?;
+    line.push_str("}")?;
+    Ok(line)
+}
+
+/// A line that begins with the number and the name of the fault, with room for the rest.
+fn refused(alloc: Global, refusal: &Refusal<'_>, buffer: &mut Buffer) -> Result<String, AllocError>
+    ensures { IfOk result (λ line. string_bytes line ≡ refused_json (number_of refusal.now.reason)) }
+{
+    let mut line = begun(
+        alloc,
+        "{\"refused\":",
+        refusal.nodes.len().saturating_add(16),
+    )?;
+    push_number(&mut line, u64::from(refusal.reason.number()), buffer)?;
+    line.push_str(",\"fault\":\"")?;
+    line.push_str(refusal.reason.name())?;
+    Ok(line)
+}
+
+/// Appends the nodes that show the fault, and the place of the refused edit of a batch.
+fn push_shown(
+    line: &mut String,
+    refusal: &Refusal<'_>,
+    buffer: &mut Buffer,
+) -> Result<(), AllocError>
+    ensures { OnOk result (string_bytes line.new ≡ string_bytes line.old ++ shown_json refusal.now.nodes.now refusal.now.edit) }
+{
+    line.push_str("\",\"nodes\":[")?;
+    push_nodes(line, refusal.nodes, buffer)?;
+    push_place(line, refusal.edit, buffer)?;
+    Ok(())
+}
+
+/// Appends the end of the nodes, and the place of the refused edit of a batch.
+fn push_place(line: &mut String, edit: Option<usize>, buffer: &mut Buffer) -> Result<(), AllocError>
+    ensures { OnOk result (string_bytes line.new ≡ string_bytes line.old ++ (codes "]" ++ place_json edit)) }
+{
+    let Some(at) = edit else {
+        return line.push_str("]");
+    };
+    line.push_str("],\"edit\":")?;
+    push_number(line, at as u64, buffer)
+}

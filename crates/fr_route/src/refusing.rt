@@ -1,0 +1,106 @@
+//! The answers that refuse a line.
+
+ghost use Rattle.std.specs.Prelude.{◌≡◌, ◌≢◌, ◌↔◌, IfErr, IfOk, string_bytes};
+ghost use Rattle.fr_route.specs.Json.{PlainRefusal, refusal_for};
+ghost use Rattle.fr_route.specs.Replies.{RefusesBy, refused_in};
+ghost use Rattle.fr_route.specs.Refusals.{IsRefusalOf, number_of, plain_refusal};
+ghost use Rattle.fr_graph.specs.declared.fault.NetFault.TheVariants.{Memory as NetMemory};
+ghost use Rattle.fr_route.specs.declared.fault.AnswerFault.TheVariants.{Memory, Start};
+ghost use Rattle.fr_route.specs.declared.fault.RouteFault.TheVariants.{Start as RouteStart};
+
+use crate::fault::{AnswerFault, RouteFault};
+use crate::form::{Answer, Form, Manner};
+use crate::json::refusal_object;
+use crate::refusals::{Reason, Refusal};
+use crate::texts::refusal_line;
+use fr_graph::NetFault;
+use std::alloc::{AllocError, Global};
+
+/// The answer that refuses a line for this reason. These nodes show it. `edit` is the place of the refused edit of a
+/// batch.
+pub(crate) fn refuse(
+    alloc: Global,
+    manner: Manner,
+    reason: Reason,
+    nodes: &[u32],
+    edit: Option<usize>,
+) -> Result<Answer, AnswerFault>
+    ensures refuses { IfOk result (RefusesBy manner (record { number = number_of reason; nodes = nodes.now; edit = edit })) }
+    ensures memory { IfErr result (λ fault. fault ≡ Memory) }
+{
+    let refusal = Refusal {
+        reason,
+        nodes,
+        edit,
+    };
+    let text = refused_text(alloc, manner, &refusal)?;
+    let refused = true;
+    Ok(Answer { text, refused })
+}
+
+/// The text of the answer that refuses a line.
+fn refused_text(alloc: Global, manner: Manner, refusal: &Refusal<'_>) -> Result<String, AllocError>
+    ensures { IfOk result (λ text. string_bytes text ≡ refused_in manner.form manner.number (plain_refusal refusal.now)) }
+{
+    match manner.form {
+        Form::Text => refusal_line(alloc, refusal.reason),
+        Form::Json => refusal_object(alloc, refusal, manner.number),
+    }
+}
+
+/// The answer to a request that fails with this fault. `named` are nodes of the request: the two that no link joins, or
+/// the one that is not a node. A fault that is not a refusal is returned.
+fn refuse_fault(
+    alloc: Global,
+    manner: Manner,
+    fault: &RouteFault,
+    named: &[u32],
+    edit: Option<usize>,
+) -> Result<Answer, AnswerFault>
+    ensures refuses { IfOk result (λ answer. (refusal : PlainRefusal) × IsRefusalOf fault.now named.now edit refusal × RefusesBy manner refusal answer) }
+    ensures start { IfErr result (λ why. (why ≡ Start) ↔ (fault.now ≡ RouteStart)) }
+{
+    match fault {
+        RouteFault::Net(fault) => refuse_net_fault(alloc, manner, fault, named, edit),
+        RouteFault::Range => refuse(alloc, manner, Reason::NoNode, named, edit),
+        RouteFault::Start => Err(AnswerFault::Start),
+        RouteFault::Memory => Err(AnswerFault::Memory),
+    }
+}
+
+/// The same, and drops the fault.
+pub(crate) fn refuse_for(
+    alloc: Global,
+    manner: Manner,
+    fault: RouteFault,
+    named: &[u32],
+    edit: Option<usize>,
+) -> Result<Answer, AnswerFault>
+    ensures refuses { IfOk result (λ answer. (refusal : PlainRefusal) × IsRefusalOf fault named.now edit refusal × RefusesBy manner refusal answer) }
+    ensures start { IfErr result (λ why. (why ≡ Start) ↔ (fault ≡ RouteStart)) }
+{
+    refuse_fault(alloc, manner, &fault, named, edit)
+}
+
+/// The same for a fault of links or of an edit.
+fn refuse_net_fault(
+    alloc: Global,
+    manner: Manner,
+    fault: &NetFault,
+    named: &[u32],
+    edit: Option<usize>,
+) -> Result<Answer, AnswerFault>
+    ensures refuses { IfOk result (RefusesBy manner (refusal_for fault.now named.now edit)) }
+    ensures refused { IfOk result (λ _. fault.now ≢ NetMemory) }
+    ensures memory { IfErr result (λ why. why ≡ Memory) }
+{
+    match fault {
+        NetFault::TooMany => refuse(alloc, manner, Reason::TooMany, &[], edit),
+        NetFault::Range(x) => refuse(alloc, manner, Reason::NoNode, &[*x], edit),
+        NetFault::SelfLink(u) => refuse(alloc, manner, Reason::SelfLink, &[*u], edit),
+        NetFault::Twice(u, v) => refuse(alloc, manner, Reason::Twice, &[*u, *v], edit),
+        NetFault::Cycle(walk) => refuse(alloc, manner, Reason::Cycle, walk, edit),
+        NetFault::NoLink => refuse(alloc, manner, Reason::NoLink, named, edit),
+        NetFault::Memory => Err(AnswerFault::Memory),
+    }
+}
