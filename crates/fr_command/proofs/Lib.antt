@@ -2,10 +2,12 @@
 pub mod Taking
 -- a service answers pieces
 pub mod Served
--- an input has one output text
+-- lines have one answer each
+pub mod AnswersIn
+-- an input has one output
 pub mod Determined
--- an input has an output text
-pub mod EachOutput
+-- lines are counted
+pub mod Counting
 -- a run answers lines
 pub mod Progress
 -- what a play is to try

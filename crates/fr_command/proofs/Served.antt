@@ -9,25 +9,27 @@ use Rattle.std.proofs.KnownBytes.{Appends-trans, Appends-nil, Appends-kept, Cons
 use Rattle.std.specs.Io.KnownBytes.{Appends, Consumes, Keeps}
 use Rattle.std.specs.List.{before_first}
 use Rattle.fr_route.specs.Blank.{is_blank}
+use Rattle.fr_route.specs.declared.form.Form.{Form}
 use Rattle.fr_bytes.specs.Lines.{lines_of}
 use Rattle.fr_bytes.specs.Bytes.{IsBeginning, most_bytes}
 use Rattle.fr_bytes.specs.declared.fault.RunFault.{RunFault}
 use Rattle.fr_bytes.specs.declared.fault.RunFault.TheVariants.{Read, Write, TooLong, Start, Memory}
-use Rattle.fr_command.specs.Outputs.{asking_count, IsOutput, WritesOutput, WritesBeginning}
-use Rattle.fr_command.specs.Conversations.{Talk, Takes, Ends, Says, AnswersBefore, silence, carried}
-use Rattle.fr_command.specs.Faults.{IsServeFault, IsTakeFault}
+use Rattle.fr_command.specs.Outputs.{IsOutputIn, WritesOutputIn, WritesBeginning}
+use Rattle.fr_command.specs.Points.{Point, AreAnswersIn, first_point}
+use Rattle.fr_command.specs.Conversations.{Talk, Takes, Ends, Says, AnswersBefore, carried, point_of, silence_in, talk_at}
+use Rattle.fr_command.specs.Faults.{IsServeFaultIn, IsTakeFault}
+use Rattle.fr_command.specs.declared.responder.Tally.{Tally}
 use Rattle.fr_command.specs.InLines.{BeginsAnswer, IsLineFault}
 use Rattle.fr_command.specs.InPieces.{StopsInPiece, BeginsInPiece, IsFrontFault, IsPieceFault}
-use Rattle.fr_command.proofs.Determined.{output_unique, begins-trans, begins_behind}
-use Rattle.fr_command.proofs.EachOutput.{each_output}
+use Rattle.fr_command.proofs.Determined.{each_output, output_unique, begins-trans, begins_behind}
 use Rattle.fr_bytes.proofs.Ending.{lines_go_on, line_goes_on, begun_alone, begun_short, first_line_is, one_line, ends_line}
-use Rattle.fr_command.proofs.Taking.{takes_on, takes_none, answer_stands, output_ends}
+use Rattle.fr_command.proofs.Taking.{takes_on, takes_none, answer_stands, ends_in, lines_end}
 
 -- nothing was taken yet
 pub says_nothing : (talk : Talk) (w : Option (List ℕ)) → lines_of talk.begun ≡ talk.begun ∷ [] → Says talk [] talk w w
 says_nothing talk w alone = record {
   text = [];
-  takes = takes_none talk talk [] alone refl (sym (append-nil talk.begun)) refl;
+  takes = takes_none talk talk [] alone refl (sym (append-nil talk.begun)) refl refl;
   writes = Appends-nil w;
 }
 
@@ -62,10 +64,10 @@ says_begins first last piece done u v h = record {
 
 -- a beginning of the answer to the line that the end of the input ends
 pub ends_begun : (old last : Talk) (text out : List ℕ) (before after : Option (List ℕ)) → Ends old text last
-    → IsBeginning out text → Appends before after out → BeginsAnswer old.state old.begun before after
+    → IsBeginning out text → Appends before after out → BeginsAnswer old.form (point_of old) old.begun before after
 ends_begun old last text out before after end begins writes = record {
   answer = text;
-  last = last.state;
+  last = point_of last;
   out = out;
   are_answers = end.0;
   begins = begins;
@@ -117,16 +119,16 @@ blank_or_some [] asks = cc
 blank_or_some (x ∷ xs) asks = λ e. cc
 
 -- the lines that ended in the bytes read were answered
-pub record HasServed (r s u v : Option (List ℕ)) (talk : Talk) : Type 0 where
+pub record HasServed (form : Form) (r s u v : Option (List ℕ)) (talk : Talk) : Type 0 where
   pub bytes : List ℕ
   pub reads : Consumes r s bytes
-  pub says : Says silence bytes talk u v
+  pub says : Says (silence_in form) bytes talk u v
 
-pub nothing_served : (r u : Option (List ℕ)) (talk : Talk) → talk ≡ silence → HasServed r r u u talk
-nothing_served r u talk same = record {
+pub nothing_served : (form : Form) (r u : Option (List ℕ)) (talk : Talk) → talk ≡ silence_in form → HasServed form r r u u talk
+nothing_served form r u talk same = record {
   bytes = [];
   reads = Consumes-nil r;
-  says = subst (λ (t : Talk). Says silence [] t u u) (sym same) (says_nothing silence u refl);
+  says = subst (λ (t : Talk). Says (silence_in form) [] t u u) (sym same) (says_nothing (silence_in form) u refl);
 }
 
 -- a read brought no byte
@@ -142,49 +144,51 @@ pub read_on : (r s t : Option (List ℕ)) (bytes piece room : List ℕ) (count :
 read_on r s t bytes piece room count few h k = Consumes-trans r s t bytes (take count (piece ++ room)) h
     (subst (λ (l : List ℕ). Consumes s t l) (sym (take-append-le count piece room few)) k)
 
-module _ (bytes : List ℕ) (talk : Talk) (u v : Option (List ℕ)) (h : Says silence bytes talk u v) where
+module _ (form : Form) (bytes : List ℕ) (talk : Talk) (u v : Option (List ℕ)) (h : Says (silence_in form) bytes talk u v) where
   -- the answers to the lines before the one that has begun
-  before_begun : (w : Option (List ℕ)) → Keeps v w → AnswersBefore bytes talk.begun u w
+  before_begun : (w : Option (List ℕ)) → Keeps v w → AnswersBefore form bytes talk.begun u w
   before_begun w kept = record {
     before = h.takes.ended;
     behind = [];
     text = h.text;
-    last = talk.state;
+    last = point_of talk;
     cut = h.takes.cut;
     are_answers = h.takes.are_answers;
     writes = Appends-kept u v w h.text h.writes kept;
   }
 
   -- the end of the input ended that line, and its answer was written
-  pub output_written : (last : Talk) (text : List ℕ) (w : Option (List ℕ)) → Ends talk text last → Appends v w text
-      → WritesOutput bytes u w (asking_count (lines_of bytes))
-  output_written last text w end more =
-      let output = output_ends bytes h.text text talk last h.takes end in
+  pub output_written : (last : Talk) (text : List ℕ) (w : Option (List ℕ)) (tally : Tally) → Ends talk text last → Appends v w text
+      → tally.answered ≡ last.answered → tally.refused ≡ last.refused → WritesOutputIn form bytes u w tally
+  output_written last text w tally end more answered refused =
+      let output = lines_end form bytes h.text text talk (point_of last) h.takes (ends_in form bytes h.text text talk last h.takes end) in
       record {
         out = h.text ++ text;
+        last = point_of last;
         output = output;
-        only = λ other is. output_unique bytes other (h.text ++ text) is output;
+        only = λ other is. output_unique form bytes other (h.text ++ text) is (point_of last, output);
         writes = Appends-trans u v w h.text text h.writes more;
-        counted = refl;
+        answered = answered;
+        refused = refused;
       }
 
   -- or a beginning of its answer was written
-  output_begun : (w : Option (List ℕ)) → BeginsAnswer talk.state talk.begun v w → WritesBeginning bytes u w
+  output_begun : (w : Option (List ℕ)) → BeginsAnswer talk.form (point_of talk) talk.begun v w → WritesBeginning form bytes u w
   output_begun w part =
-      let last : Talk = record { state = part.last; begun = [] } in
-      let output = output_ends bytes h.text part.answer talk last h.takes (part.are_answers, refl) in
+      let answer = subst (λ (f : Form). AreAnswersIn f (point_of talk) (talk.begun ∷ []) part.answer part.last) h.takes.same_form part.are_answers in
+      let output : IsOutputIn form bytes (h.text ++ part.answer) = (part.last, lines_end form bytes h.text part.answer talk part.last h.takes answer) in
       record {
         whole = h.text ++ part.answer;
         out = h.text ++ part.out;
         output = output;
-        only = λ other is. output_unique bytes other (h.text ++ part.answer) is output;
+        only = λ other is. output_unique form bytes other (h.text ++ part.answer) is output;
         begins = begins_behind h.text part.out part.answer part.begins;
         writes = Appends-trans u v w h.text part.out h.writes part.writes;
       }
 
   -- or it was not answered
   pub end_failed : (r s w : Option (List ℕ)) (fault : RunFault) → Consumes r s bytes
-      → IsLineFault talk.state talk.begun v w fault → IsServeFault r s u w fault
+      → IsLineFault talk.form (point_of talk) talk.begun v w fault → IsServeFaultIn form r s u w fault
   end_failed r s w Read reads why = absurd why
   end_failed r s w Write reads why = (bytes, reads, output_begun w why)
   end_failed r s w TooLong reads why = absurd why
@@ -200,43 +204,43 @@ module _ (bytes : List ℕ) (talk : Talk) (u v : Option (List ℕ)) (h : Says si
 
   module _ (piece : List ℕ) (w : Option (List ℕ)) where
     -- the answer to a later piece was begun
-    piece_begun : BeginsInPiece talk piece v w → WritesBeginning (bytes ++ piece) u w
+    piece_begun : BeginsInPiece talk piece v w → WritesBeginning form (bytes ++ piece) u w
     piece_begun k =
-        let output = each_output (bytes ++ piece) in
+        let output = each_output form (bytes ++ piece) in
         let front = take k.count piece in
         let whole : bytes ++ piece ≡ (bytes ++ front) ++ drop k.count piece =
         sym (append_assoc bytes front (drop k.count piece) ∙ ap (λ (l : List ℕ). bytes ++ l) (take-append-drop k.count piece)) in
-        let takes = takes_on silence talk k.new bytes front h.text k.whole h.takes k.takes in
-        let stands = answer_stands (bytes ++ front) (drop k.count piece) (h.text ++ k.whole) output.0 k.new takes
-        (subst (λ (l : List ℕ). IsOutput l output.0) whole output.1) in
+        let takes = takes_on (silence_in form) talk k.new bytes front h.text k.whole h.takes k.takes in
+        let stands = answer_stands form (bytes ++ front) (drop k.count piece) (h.text ++ k.whole) output.0 k.new takes
+        (subst (λ (l : List ℕ). IsOutputIn form l output.0) whole output.1) in
         record {
           whole = output.0;
           out = h.text ++ k.out;
           output = output.1;
-          only = λ other is. output_unique (bytes ++ piece) other output.0 is output.1;
+          only = λ other is. output_unique form (bytes ++ piece) other output.0 is output.1;
           begins = begins-trans (h.text ++ k.out) (h.text ++ k.whole) output.0 (begins_behind h.text k.out k.whole k.begins) stands;
           writes = Appends-trans u v w h.text k.out h.writes k.writes;
         }
 
     module _ (fault : RunFault) (new : Talk) (k : StopsInPiece fault talk piece new v w) where
       -- or it stops at a line, after which there is none if the rest of the piece does not end it
-      piece_stopped : (line : List ℕ) × (stop : AnswersBefore (bytes ++ piece) line u w) × IsTakeFault line (drop k.count piece) fault
+      piece_stopped : (line : List ℕ) × (stop : AnswersBefore form (bytes ++ piece) line u w) × IsTakeFault line (drop k.count piece) fault
           × (lines_of (drop k.count piece) ≡ drop k.count piece ∷ [] → stop.behind ≡ [])
       piece_stopped =
           let front = take k.count piece in
           let rest = drop k.count piece in
-          let said = says_on silence talk new bytes front u v w h k.says in
+          let said = says_on (silence_in form) talk new bytes front u v w h k.says in
           let whole : bytes ++ piece ≡ (bytes ++ front) ++ rest =
           sym (append_assoc bytes front rest ∙ ap (λ (l : List ℕ). bytes ++ l) (take-append-drop k.count piece)) in
           let first = first_line_is rest in
           let onward = lines_go_on (bytes ++ front) new.begun said.takes.ended said.takes.cut rest in
           let alone = begun_alone (bytes ++ front) new.begun said.takes.ended said.takes.cut in
           let line = line_goes_on new.begun rest (before_first ends_line rest) first.0 alone first.1 in
-          let answers : AnswersBefore (bytes ++ piece) (carried new rest) u w = record {
+          let answers : AnswersBefore form (bytes ++ piece) (carried new rest) u w = record {
             before = said.takes.ended;
             behind = first.0;
             text = said.text;
-            last = new.state;
+            last = point_of new;
             cut = ap lines_of whole ∙ (onward ∙ ap (λ (ls : List (List ℕ)). said.takes.ended ++ ls) line);
             are_answers = said.takes.are_answers;
             writes = said.writes;
@@ -245,7 +249,7 @@ module _ (bytes : List ℕ) (talk : Talk) (u v : Option (List ℕ)) (h : Says si
 
       -- this is all that the bytes have after the last newline, if there were few
       stopped_at_last : length talk.begun + length piece ≤ most_bytes + 1 → most_bytes < length (carried new (drop k.count piece))
-          → (last : Talk) × Says silence (bytes ++ piece) last u w × (length last.begun ≡ most_bytes + 1)
+          → (last : Talk) × Says (silence_in form) (bytes ++ piece) last u w × (length last.begun ≡ most_bytes + 1)
       stopped_at_last few long =
           let front = take k.count piece in
           let rest = drop k.count piece in
@@ -255,9 +259,9 @@ module _ (bytes : List ℕ) (talk : Talk) (u v : Option (List ℕ)) (h : Says si
           let bound : length new.begun + length rest ≤ most_bytes + 1 = omega (arith, length-append talk.begun front) in
           let one : lines_of rest ≡ rest ∷ [] =
           one_line rest (omega (arith, length-append new.begun (before_first ends_line rest), length-prefix_len (λ x. not (ends_line x)) rest)) in
-          let last : Talk = record { state = new.state; begun = new.begun ++ rest } in
-          let tail : Says new rest last w w = record { text = []; takes = takes_none new last rest alone one refl refl; writes = Appends-nil w } in
-          let said = says_on silence talk last bytes (front ++ rest) u v w h (says_on talk new last front rest v w w k.says tail) in
+          let last : Talk = talk_at new.form (point_of new) (new.begun ++ rest) in
+          let tail : Says new rest last w w = record { text = []; takes = takes_none new last rest alone one refl refl refl; writes = Appends-nil w } in
+          let said = says_on (silence_in form) talk last bytes (front ++ rest) u v w h (says_on talk new last front rest v w w k.says tail) in
           let exact : length (new.begun ++ rest) ≡ most_bytes + 1 =
           omega (
             arith,
@@ -266,12 +270,12 @@ module _ (bytes : List ℕ) (talk : Talk) (u v : Option (List ℕ)) (h : Says si
             length-prefix_len (λ x. not (ends_line x)) rest,
             prefix_len-le-length (λ x. not (ends_line x)) rest,
           ) in
-          (last, subst (λ (l : List ℕ). Says silence (bytes ++ l) last u w) (take-append-drop k.count piece) said, exact)
+          (last, subst (λ (l : List ℕ). Says (silence_in form) (bytes ++ l) last u w) (take-append-drop k.count piece) said, exact)
 
     -- the piece was not answered to its end
     pub piece_failed : (r s : Option (List ℕ)) (new : Talk) (fault : RunFault) → Consumes r s (bytes ++ piece)
         → length talk.begun + length piece ≤ most_bytes + 1 → IsPieceFault talk piece new v w fault
-        → IsServeFault r s u w fault
+        → IsServeFaultIn form r s u w fault
     piece_failed r s new Read reads few why = absurd why.untaken
     piece_failed r s new Write reads few why = (bytes ++ piece, reads, piece_begun why)
     piece_failed r s new TooLong reads few why =

@@ -1,32 +1,60 @@
 -- The state of a conversation between the pieces of an input, and its answers. This project's own.
-use Rattle.std.specs.Prelude.{◌≡◌, ◌≢◌, ◌==◌, ℕ, ◌+◌, true, List, [], ◌∷◌, ◌++◌, length, min, Option, None, String, string_bytes}
+use Rattle.std.specs.Prelude.{◌≡◌, ◌≢◌, ◌==◌, ℕ, ◌+◌, true, List, [], ◌∷◌, ◌++◌, length, min, Option, String, string_bytes}
 use Rattle.std.specs.List.{before_first, position_or_len}
 use Rattle.std.specs.Option.{option_map_or}
 use Rattle.std.specs.Io.KnownBytes.{Appends}
 use Rattle.fr_route.specs.Blank.{is_blank}
 use Rattle.fr_route.specs.States.{State}
+use Rattle.fr_route.specs.declared.form.Form.{Form}
+use Rattle.fr_route.specs.declared.form.Form.TheVariants.{Text}
 use Rattle.fr_bytes.specs.Lines.{lines_of}
-use Rattle.fr_route.specs.Answers.{AreAnswers}
+use Rattle.fr_command.specs.Points.{Point, AreAnswersIn, first_point}
 
--- the state after the lines that have ended, and the line that has begun after them
+-- the form of the answers; the state after the lines that have ended, how many these are, and how many of them were
+-- answered and refused; and the line that has begun after them
 pub record Talk : Type 0 where
+  pub form : Form
   pub state : Option State
+  pub ended : ℕ
+  pub answered : ℕ
+  pub refused : ℕ
   pub begun : List ℕ
 
--- the conversation before any bytes
+-- the point after the lines that have ended
+abbrev pub point_of : Talk → Point
+point_of talk = record { state = talk.state; ended = talk.ended; answered = talk.answered; refused = talk.refused }
+
+-- a conversation in this form, at this point, in a line that has begun
+abbrev pub talk_at : Form → Point → List ℕ → Talk
+talk_at form point begun = record {
+  form = form;
+  state = point.state;
+  ended = point.ended;
+  answered = point.answered;
+  refused = point.refused;
+  begun = begun;
+}
+
+-- the conversation in this form before any bytes
+abbrev pub silence_in : Form → Talk
+silence_in form = talk_at form first_point []
+
+-- the same, with answers as text
 abbrev pub silence : Talk
-silence = record { state = None; begun = [] }
+silence = silence_in Text
 
 -- the answer to these bytes: the answers to the lines that end in them. The bytes after the last newline are the line
 -- that has begun
 pub record Takes (old : Talk) (bytes text : List ℕ) (new : Talk) : Type 0 where
   pub ended : List (List ℕ)
   pub cut : lines_of (old.begun ++ bytes) ≡ ended ++ new.begun ∷ []
-  pub are_answers : AreAnswers old.state ended text new.state
+  pub are_answers : AreAnswersIn old.form (point_of old) ended text (point_of new)
+  pub same_form : new.form ≡ old.form
 
 -- the input ends, and so the line that has begun ends
 abbrev pub Ends : Talk → List ℕ → Talk → Type 0
-Ends old text new = AreAnswers old.state (old.begun ∷ []) text new.state × (new.begun ≡ [])
+Ends old text new =
+    AreAnswersIn old.form (point_of old) (old.begun ∷ []) text (point_of new) × (new.begun ≡ []) × (new.form ≡ old.form)
 
 -- the line that has begun, with the bytes of this piece up to its first newline
 abbrev pub carried : Talk → List ℕ → List ℕ
@@ -50,12 +78,12 @@ pub record Says (old : Talk) (bytes : List ℕ) (new : Talk) (before after : Opt
   pub takes : Takes old bytes text new
   pub writes : Appends before after text
 
--- exactly the answers to the lines of these bytes before this line were written
-pub record AnswersBefore (bytes line : List ℕ) (old new : Option (List ℕ)) : Type 0 where
+-- exactly the answers, in this form, to the lines of these bytes before this line were written
+pub record AnswersBefore (form : Form) (bytes line : List ℕ) (old new : Option (List ℕ)) : Type 0 where
   pub before : List (List ℕ)
   pub behind : List (List ℕ)
   pub text : List ℕ
-  pub last : Option State
+  pub last : Point
   pub cut : lines_of bytes ≡ before ++ line ∷ behind
-  pub are_answers : AreAnswers None before text last
+  pub are_answers : AreAnswersIn form first_point before text last
   pub writes : Appends old new text

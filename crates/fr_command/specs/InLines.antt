@@ -1,36 +1,36 @@
 -- Why a line, or the lines of an input, are not all answered, and what was written by then. For proofs only.
 use Rattle.std.specs.Prelude.{◌≡◌, ℕ, false, List, [], ◌∷◌, Option}
 use Rattle.std.specs.Io.KnownBytes.{Appends, Keeps}
-use Rattle.fr_route.specs.Answers.{AreAnswers}
 use Rattle.fr_route.specs.Blank.{is_blank}
-use Rattle.fr_route.specs.States.{State}
+use Rattle.fr_route.specs.declared.form.Form.{Form}
 use Rattle.fr_bytes.specs.Bytes.{IsBeginning}
 use Rattle.fr_bytes.specs.declared.fault.RunFault.{RunFault}
 use Rattle.fr_bytes.specs.declared.fault.RunFault.TheVariants.{Read, Write, TooLong, Start, Memory}
 use Rattle.fr_command.specs.Outputs.{WritesBeginning, StopsAtLine}
+use Rattle.fr_command.specs.Points.{Point, AreAnswersIn}
 
--- a beginning of the answer to this line was written, in a session of this state
-pub record BeginsAnswer (state : Option State) (line : List ℕ) (before after : Option (List ℕ)) : Type 0 where
+-- a beginning of the answer to this line in this form was written, at this point
+pub record BeginsAnswer (form : Form) (point : Point) (line : List ℕ) (before after : Option (List ℕ)) : Type 0 where
   pub answer : List ℕ
-  pub last : Option State
+  pub last : Point
   pub out : List ℕ
-  pub are_answers : AreAnswers state (line ∷ []) answer last
+  pub are_answers : AreAnswersIn form point (line ∷ []) answer last
   pub begins : IsBeginning out answer
   pub writes : Appends before after out
 
 -- why a line is not answered: a write failed; or the line is not blank, a thread or memory is missing, and nothing was
 -- written
-abbrev pub IsLineFault : (state : Option State) (line : List ℕ) (before after : Option (List ℕ)) → RunFault → Type 0
-IsLineFault state line before after Read = ⊥
-IsLineFault state line before after Write = BeginsAnswer state line before after
-IsLineFault state line before after TooLong = ⊥
-IsLineFault state line before after Start = (is_blank line ≡ false) × Keeps before after
-IsLineFault state line before after Memory = (is_blank line ≡ false) × Keeps before after
+abbrev pub IsLineFault : (form : Form) (point : Point) (line : List ℕ) (before after : Option (List ℕ)) → RunFault → Type 0
+IsLineFault form point line before after Read = ⊥
+IsLineFault form point line before after Write = BeginsAnswer form point line before after
+IsLineFault form point line before after TooLong = ⊥
+IsLineFault form point line before after Start = (is_blank line ≡ false) × Keeps before after
+IsLineFault form point line before after Memory = (is_blank line ≡ false) × Keeps before after
 
 -- why the lines of an input are not all answered: a write failed, or a thread or memory is missing for a line
-abbrev pub IsAnsweringFault : (bytes : List ℕ) (before after : Option (List ℕ)) → RunFault → Type 0
-IsAnsweringFault bytes before after Read = ⊥
-IsAnsweringFault bytes before after Write = WritesBeginning bytes before after
-IsAnsweringFault bytes before after TooLong = ⊥
-IsAnsweringFault bytes before after Start = StopsAtLine bytes before after
-IsAnsweringFault bytes before after Memory = StopsAtLine bytes before after
+abbrev pub IsAnsweringFault : (form : Form) (bytes : List ℕ) (before after : Option (List ℕ)) → RunFault → Type 0
+IsAnsweringFault form bytes before after Read = ⊥
+IsAnsweringFault form bytes before after Write = WritesBeginning form bytes before after
+IsAnsweringFault form bytes before after TooLong = ⊥
+IsAnsweringFault form bytes before after Start = StopsAtLine form bytes before after
+IsAnsweringFault form bytes before after Memory = StopsAtLine form bytes before after

@@ -1,3 +1,4 @@
+pub mod Points
 pub mod Outputs
 pub mod Conversations
 pub mod Faults

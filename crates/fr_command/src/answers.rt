@@ -1,74 +1,73 @@
 //! Answering the lines of an input.
 
-ghost use Rattle.std.specs.Prelude.{◌≡◌, ◌≢◌, [], ◌∷◌, List, ℕ, IfErr, IfNone, IfOk, IfSome, None, false, if◌then◌else◌, not, string_bytes, true};
+ghost use Rattle.std.specs.Prelude.{◌≡◌, ◌≢◌, [], ◌∷◌, List, ℕ, IfErr, IfNone, IfOk, IfSome, OnOk, false, string_bytes, true};
 ghost use Rattle.std.specs.Io.KnownBytes.{Appends};
 ghost use Rattle.fr_route.specs.Blank.{is_blank};
-ghost use Rattle.fr_route.specs.Answers.{AreAnswers};
 ghost use Rattle.fr_command.specs.InLines.{IsAnsweringFault, IsLineFault};
-ghost use Rattle.fr_command.specs.Outputs.{WritesOutput};
+ghost use Rattle.fr_command.specs.Outputs.{WritesOutputIn};
+ghost use Rattle.fr_command.specs.Points.{AreAnswersIn, first_point};
 
 use crate::fault::run_fault;
+use crate::responder::{Responder, Tally};
 use fr_bytes::{Lines, RunFault, write_whole};
 use fr_crew::{Crew, Gate};
-use fr_route::{AnswerFault, Session};
+use fr_route::{AnswerFault, Form};
 use std::io::Write;
 use std::sync::Wait;
 use std::thread::Threads;
 
-/// Writes the answer to each line of the input that is not blank, and returns how many were answered.
+/// Writes the answer to each line of the input that is not blank, in this form, and returns how many lines were
+/// answered and refused.
 pub(crate) fn answer_all<T: Threads + Wait + Sync, W: Write, G: Gate + Sync>(
     crew: &Crew<'_, T, G>,
+    form: Form,
     input: &[u8],
     writer: &mut W,
-) -> Result<u64, RunFault>
-    ensures ok { IfOk result (WritesOutput input.now (W.contents writer.old) (W.contents writer.new)) }
-    ensures fault { IfErr result (IsAnsweringFault input.now (W.contents writer.old) (W.contents writer.new)) }
+) -> Result<Tally, RunFault>
+    ensures ok { IfOk result (WritesOutputIn form input.now (W.contents writer.old) (W.contents writer.new)) }
+    ensures fault { IfErr result (IsAnsweringFault form input.now (W.contents writer.old) (W.contents writer.new)) }
     ensures no_start { crew.now.plan.now.budget ≡ 0 → result ≢ Err RunFault.Start }
 {
-    let mut session = Session::new();
-    answer_each(crew, &mut session, input, writer)
+    let mut responder = Responder::new(crew.alloc);
+    answer_each(crew, form, &mut responder, input, writer)
 }
 
-/// The same, in a session that was asked nothing yet. Its caller owns the session, so that no exit of this loop has to
-/// drop it.
+/// The same, by a responder that was asked nothing yet. Its caller owns the responder, so that no exit of this loop has
+/// to drop it.
 fn answer_each<T: Threads + Wait + Sync, W: Write, G: Gate + Sync>(
     crew: &Crew<'_, T, G>,
-    session: &mut Session,
+    form: Form,
+    responder: &mut Responder,
     input: &[u8],
     writer: &mut W,
-) -> Result<u64, RunFault>
-    requires { session.old ≡ None }
-    ensures ok { IfOk result (WritesOutput input.now (W.contents writer.old) (W.contents writer.new)) }
-    ensures fault { IfErr result (IsAnsweringFault input.now (W.contents writer.old) (W.contents writer.new)) }
+) -> Result<Tally, RunFault>
+    requires { responder.old ≡ first_point }
+    ensures ok { IfOk result (WritesOutputIn form input.now (W.contents writer.old) (W.contents writer.new)) }
+    ensures fault { IfErr result (IsAnsweringFault form input.now (W.contents writer.old) (W.contents writer.new)) }
     ensures no_start { crew.now.plan.now.budget ≡ 0 → result ≢ Err RunFault.Start }
 {
-    let mut count = 0;
     for line in Lines::new(input) {
-        let answered = answer_one(crew, session, line, writer)?;
-        count += answered;
+        answer_one(crew, form, responder, line, writer)?;
     }
-    Ok(count)
+    Ok(responder.tally())
 }
 
-/// Writes the answer to a line and a newline, and returns how many answers that are: 0 for a blank line, otherwise 1.
+/// Writes the answer to a line and a newline, or nothing for a blank line.
 fn answer_one<T: Threads + Wait + Sync, W: Write, G: Gate + Sync>(
     crew: &Crew<'_, T, G>,
-    session: &mut Session,
+    form: Form,
+    responder: &mut Responder,
     line: &[u8],
     writer: &mut W,
-) -> Result<u64, RunFault>
-    ensures asks { IfOk result (λ answered. answered ≡ (if not (is_blank line.now) then 1 else 0)) }
-    ensures ok { IfOk result (λ asks. (out : List ℕ) × AreAnswers session.old (line.now ∷ []) out session.new
+) -> Result<(), RunFault>
+    ensures ok { OnOk result ((out : List ℕ) × AreAnswersIn form responder.old (line.now ∷ []) out responder.new
         × Appends (W.contents writer.old) (W.contents writer.new) out) }
-    ensures fault { IfErr result (IsLineFault session.old line.now (W.contents writer.old) (W.contents writer.new)) }
+    ensures fault { IfErr result (IsLineFault form responder.old line.now (W.contents writer.old) (W.contents writer.new)) }
     ensures no_start { crew.now.plan.now.budget ≡ 0 → result ≢ Err RunFault.Start }
 {
-    match answer_text(crew, session, line) {
-        Ok(Some(text)) => {
-            write_whole(writer, text.as_bytes())?;
-            Ok(1)
-        }
-        Ok(None) => Ok(0),
+    match answer_text(crew, form, responder, line) {
+        Ok(Some(text)) => write_whole(writer, text.as_bytes()),
+        Ok(None) => Ok(()),
         Err(fault) => Err(run_fault(fault)),
     }
 }
@@ -76,17 +75,16 @@ fn answer_one<T: Threads + Wait + Sync, W: Write, G: Gate + Sync>(
 /// The answer to a line with a newline after it, or `None` for a blank line.
 fn answer_text<T: Threads + Wait + Sync, G: Gate + Sync>(
     crew: &Crew<'_, T, G>,
-    session: &mut Session,
+    form: Form,
+    responder: &mut Responder,
     line: &[u8],
 ) -> Result<Option<String>, AnswerFault>
-    ensures blank { IfOk result (λ answer. IfNone answer ((is_blank line.now ≡ true) × (session.new ≡ session.old))) }
-    ensures text { IfOk result (λ answer. IfSome answer (λ text. (is_blank line.now ≡ false)
-        × AreAnswers session.old (line.now ∷ []) (string_bytes text) session.new)) }
+    ensures blank { IfOk result (λ answer. IfNone answer (AreAnswersIn form responder.old (line.now ∷ []) [] responder.new)) }
+    ensures text { IfOk result (λ answer. IfSome answer (λ text. AreAnswersIn form responder.old (line.now ∷ []) (string_bytes text) responder.new)) }
     ensures asks { IfErr result (λ _. is_blank line.now ≡ false) }
     ensures no_start { crew.now.plan.now.budget ≡ 0 → result ≢ Err AnswerFault.Start }
 {
-    let Some(mut text) = session.answer_line(crew.rt, crew.alloc, line, crew.plan, crew.gate)?
-    else {
+    let Some(mut text) = responder.answer(crew, form, line)? else {
         return Ok(None);
     };
     match text.push('\n') {

@@ -5,14 +5,15 @@ ghost use Rattle.std.specs.Prelude.{◌≡◌, ◌≢◌, ◌<◌, ◌≤◌, �
 ghost use Rattle.fr_route.specs.Blank.{is_blank as is_blank_line};
 ghost use Rattle.fr_bytes.specs.Lines.{lines_of};
 ghost use Rattle.fr_bytes.specs.Bytes.{most_bytes};
-ghost use Rattle.fr_command.specs.Conversations.{Takes, Ends, silence, carried, line_size, text_of};
+ghost use Rattle.fr_command.specs.Conversations.{Takes, Ends, silence, silence_in, carried, line_size, point_of, text_of};
 ghost use Rattle.fr_command.specs.Faults.{IsTakeFault, IsFinishFault};
 ghost use Rattle.fr_command.specs.InPieces.{IsHoldFault};
 
 use crate::fault::run_fault;
+use crate::responder::{Responder, Tally};
 use fr_bytes::{MAX_BYTES, RunFault, front_size};
-use fr_crew::{Gate, Plan};
-use fr_route::{Session, is_blank};
+use fr_crew::{Crew, Gate, Plan};
+use fr_route::{Form, Session, is_blank};
 use std::alloc::Global;
 use std::marker::Model;
 use std::sync::Wait;
@@ -27,11 +28,12 @@ pub struct Taken {
     pub answer: Option<String>,
 }
 
-/// A session, and the line that has begun. The value in contracts is the state of the session, and the bytes of that
-/// line.
+/// A session that answers in one form, and the line that has begun. The value in contracts is the form, the state of
+/// the session, how many lines have ended, how many of them were answered and refused, and the bytes of that line.
 #[derive(Debug, Drop)]
 pub struct Conversation {
-    session: Session,
+    form: Form,
+    responder: Responder,
     begun: Vec<u8>,
 }
 
@@ -39,22 +41,30 @@ impl Model for Conversation {
     ghost use Rattle.std.specs.Prelude.{◌≡◌, ◌≤◌, ◌∷◌, [], length};
     ghost use Rattle.fr_bytes.specs.Lines.{lines_of};
     ghost use Rattle.fr_bytes.specs.Bytes.{most_bytes};
-    ghost use Rattle.fr_command.specs.Conversations.{Talk};
+    ghost use Rattle.fr_command.specs.Conversations.{Talk, talk_at};
 
     ghost Value = { Talk };
 
-    ghost view = { λ c. record { state = c.session; begun = c.begun.items } };
+    ghost view = { λ c. talk_at c.form c.responder c.begun.items };
 
     ghost invariant = { λ c. (lines_of c.begun.items ≡ c.begun.items ∷ []) × (length c.begun.items ≤ most_bytes) };
 }
 
 impl Conversation {
-    /// A conversation without a network and without bytes. O(1).
+    /// A conversation without a network and without bytes, which answers as text. O(1).
     pub fn new(alloc: Global) -> Conversation
         ensures { result ≡ silence }
     {
+        Conversation::with_form(alloc, Form::Text)
+    }
+
+    /// A conversation without a network and without bytes, which answers in this form. O(1).
+    pub fn with_form(alloc: Global, form: Form) -> Conversation
+        ensures { result ≡ silence_in form }
+    {
         Conversation {
-            session: Session::new(),
+            form,
+            responder: Responder::new(alloc),
             begun: Vec::new(alloc),
         }
     }
@@ -63,7 +73,22 @@ impl Conversation {
     pub fn session(&self) -> &Session
         ensures { result.now ≡ self.now.state }
     {
-        &self.session
+        self.responder.session()
+    }
+
+    /// How many of the lines that have ended were refused, at most [`u64::MAX`]. O(1).
+    pub fn refused(&self) -> u64
+        ensures { result ≡ self.now.refused }
+    {
+        self.tally().refused
+    }
+
+    /// How many of the lines that have ended were answered, and how many of these were refused.
+    pub(crate) fn tally(&self) -> Tally
+        ensures answered { result.answered ≡ self.now.answered }
+        ensures refused { result.refused ≡ self.now.refused }
+    {
+        self.responder.tally()
     }
 
     /// The line that has begun: what was taken after the last newline. O(1).
@@ -83,7 +108,7 @@ impl Conversation {
     /// answer. A blank line that ends in the piece needs no memory. It never fails with `Read` or `Write`. If it fails,
     /// nothing was taken, and the caller can pass the piece again.
     ///
-    /// O(b) for b bytes taken, and at a newline the cost of [`Session::answer_line`].
+    /// O(b) for b bytes taken, and at a newline the cost of [`Session::answer_line_in`].
     pub fn take<T: Threads + Wait + Sync, G: Gate + Sync>(
         &mut self,
         rt: &T,
@@ -104,6 +129,7 @@ impl Conversation {
         // This comes before the line is kept, so that a blank line allocates nothing.
         if self.ends_blank(piece, end) {
             self.begun.clear();
+            self.responder.pass_blank();
             return Ok(Taken {
                 count: end + 1,
                 answer: None,
@@ -130,7 +156,7 @@ impl Conversation {
 
     /// Ends the line that has begun, as the end of an input does, and answers it. Returns `None` for a blank line.
     /// Fails with `Start` or `Memory` as [`take`](Conversation::take) does; then nothing has changed. The cost is that
-    /// of [`Session::answer_line`].
+    /// of [`Session::answer_line_in`].
     pub fn finish<T: Threads + Wait + Sync, G: Gate + Sync>(
         &mut self,
         rt: &T,
@@ -143,7 +169,13 @@ impl Conversation {
         ensures fault { IfErr result (IsFinishFault self.old.begun) }
         ensures no_start { plan.now.budget ≡ 0 → result ≢ Err RunFault.Start }
     {
-        match self.session.answer_line(rt, alloc, &self.begun, plan, gate) {
+        let crew = Crew {
+            rt,
+            alloc,
+            plan,
+            gate,
+        };
+        match self.responder.answer(&crew, self.form, &self.begun) {
             Ok(answer) => {
                 self.begun.clear();
                 Ok(answer)
@@ -168,7 +200,8 @@ impl Conversation {
     /// Keeps bytes without a newline after those of the line that has begun.
     fn hold(&mut self, bytes: &[u8]) -> Result<(), RunFault>
         requires { lines_of bytes.now ≡ bytes.now ∷ [] }
-        ensures ok { OnOk result ((self.new.begun ≡ self.old.begun ++ bytes.now) × (self.new.state ≡ self.old.state)) }
+        ensures ok { OnOk result ((self.new.begun ≡ self.old.begun ++ bytes.now) × (point_of self.new ≡ point_of self.old)
+            × (self.new.form ≡ self.old.form)) }
         ensures within { OnOk result (length self.old.begun + length bytes.now ≤ most_bytes) }
         ensures unchanged { OnErr result (self.new ≡ self.old) }
         ensures fault { IfErr result (IsHoldFault self.old.begun bytes.now) }

@@ -1,17 +1,18 @@
 //! The laws of outputs and of conversations. Each clause is a law of `specs/Laws.antt`, proved. The functions do
 //! nothing.
 
-ghost use Rattle.fr_command.specs.Laws.{EachInputHasAnOutput, OutputIsUnique, AllBytesAreTaken, AnswerIsUnique, CutsDoNotMatter, AnswerStands, EndsWithTheOutput};
+ghost use Rattle.fr_command.specs.Laws.{EachInputHasAnOutput, OutputIsUnique, TextHasTheAnswers, AllBytesAreTaken, AnswerIsUnique, CutsDoNotMatter, AnswerStands, EndsWithTheOutput};
 
-/// Each input has exactly one output text: each line that is not blank has one answer, in the state after the lines
-/// before it.
+/// Each input has exactly one output in each form: each line that is not blank has one answer, in the state after the
+/// lines before it. The output text consists of the text answers.
 pub fn output_law()
     ensures exists { EachInputHasAnOutput }
     ensures unique { OutputIsUnique }
+    ensures text { TextHasTheAnswers }
 {}
 
 /// A conversation has exactly one answer to the bytes that it has taken, wherever these were cut into pieces. Later
-/// bytes do not change it. At the end of the input, the answers together are the output text.
+/// bytes do not change it. At the end of the input, the answers together are the output.
 pub fn conversation_law()
     ensures exists { AllBytesAreTaken }
     ensures unique { AnswerIsUnique }

@@ -1,10 +1,13 @@
 //! What the commands of the program do, with any readers and writers.
 //!
-//! [`run`] answers the lines of an input, and [`play_drawn`] plays the schedule of a [`Draw`] on its network. [`serve`]
-//! answers each line as soon as it has ended. It uses a [`Conversation`], to which a caller can pass bytes from any
-//! source. Parts of [`run`] are public, for programs that read an input and write another text: [`read_input`],
-//! [`Lines`], [`first_line`] and [`write_whole`]. [`task_of`] reads the words of a command line, and [`task_end`] says
-//! how the program ends if they do not ask for a task.
+//! [`run`] answers the lines of an input as text, and [`play_drawn`] plays the schedule of a [`Draw`] on its network.
+//! [`serve`] answers each line as soon as it has ended. It uses a [`Conversation`], to which a caller can pass bytes
+//! from any source. [`run_in`] and [`serve_in`] answer in either [`Form`], as text or as JSON, and return a [`Tally`] of
+//! the answered and the refused lines.
+//!
+//! Parts of [`run`] are public, for programs that read an input and write another text: [`read_input`], [`Lines`],
+//! [`first_line`] and [`write_whole`]. [`command_line`] and [`task_of`] read the words of a command line, and
+//! [`task_end`] says how the program ends if they do not ask for a task.
 //!
 //! Costs are for n nodes, m links, and d links at a node. They are read off the code, not proved.
 #![tactic(auto)]
@@ -15,6 +18,7 @@ mod entries;
 mod fault;
 pub mod laws;
 mod play;
+mod responder;
 mod runs;
 mod serving;
 mod words;
@@ -22,8 +26,10 @@ mod words;
 pub use conversation::{Conversation, Taken};
 pub use fault::run_end;
 pub use fr_bytes::{Lines, MAX_BYTES, RunFault, first_line, read_input, write_whole};
-pub use fr_words::{Draw, MAX_STEPS, Task, TaskFault, task_end};
+pub use fr_route::Form;
+pub use fr_words::{CommandLine, Draw, MAX_STEPS, Task, TaskFault, task_end};
 pub use play::play_drawn;
-pub use runs::run;
-pub use serving::serve;
-pub use words::task_of;
+pub use responder::Tally;
+pub use runs::{run, run_in};
+pub use serving::{serve, serve_in};
+pub use words::{command_line, task_of};

@@ -2,12 +2,14 @@
 
 ghost use Rattle.std.specs.Prelude.{◌≡◌, ◌≢◌, List, ℕ, IfErr, IfOk};
 ghost use Rattle.fr_bytes.specs.Bytes.{ReadsInput, ReadsAtMostOneTooMany};
-ghost use Rattle.fr_command.specs.Faults.{IsRunFault};
-ghost use Rattle.fr_command.specs.Outputs.{WritesOutput};
+ghost use Rattle.fr_command.specs.Faults.{IsRunFault, IsRunFaultIn};
+ghost use Rattle.fr_command.specs.Outputs.{WritesOutput, WritesOutputIn};
 
 use crate::answers::answer_all;
+use crate::responder::Tally;
 use fr_bytes::{RunFault, flush, read_input};
 use fr_crew::{Crew, Gate, Plan};
+use fr_route::Form;
 use std::alloc::Global;
 use std::io::{Read, Write};
 use std::sync::Wait;
@@ -41,14 +43,36 @@ pub fn run<T: Threads + Wait + Sync, R: Read, W: Write, G: Gate + Sync>(
         (W.contents writer.old) (W.contents writer.new)) }
     ensures no_start { plan.now.budget ≡ 0 → result ≢ Err RunFault.Start }
 {
-    let input = read_input(alloc, reader)?;
     let crew = Crew {
         rt,
         alloc,
         plan,
         gate,
     };
-    let count = answer_all(&crew, &input, writer)?;
+    match run_in(&crew, Form::Text, reader, writer) {
+        Ok(tally) => Ok(tally.answered),
+        Err(fault) => Err(fault),
+    }
+}
+
+/// Does the same with answers in this form, and also returns how many lines were refused. It reads and writes, fails
+/// and costs as [`run`] does.
+pub fn run_in<T: Threads + Wait + Sync, R: Read, W: Write, G: Gate + Sync>(
+    crew: &Crew<'_, T, G>,
+    form: Form,
+    reader: &mut R,
+    writer: &mut W,
+) -> Result<Tally, RunFault>
+    ensures ok { IfOk result (λ tally. (bytes : List ℕ)
+        × ReadsInput (R.remaining reader.old) (R.remaining reader.new) bytes
+        × WritesOutputIn form bytes (W.contents writer.old) (W.contents writer.new) tally) }
+    ensures limit { ReadsAtMostOneTooMany (R.remaining reader.old) (R.remaining reader.new) }
+    ensures fault { IfErr result (IsRunFaultIn form (R.remaining reader.old) (R.remaining reader.new)
+        (W.contents writer.old) (W.contents writer.new)) }
+    ensures no_start { crew.now.plan.now.budget ≡ 0 → result ≢ Err RunFault.Start }
+{
+    let input = read_input(crew.alloc, reader)?;
+    let tally = answer_all(crew, form, &input, writer)?;
     flush(writer)?;
-    Ok(count)
+    Ok(tally)
 }

@@ -4,15 +4,17 @@ ghost use Rattle.std.specs.Prelude.{◌≡◌, ◌≢◌, ◌∷◌, [], ℕ, Li
 ghost use Rattle.std.specs.Io.KnownBytes.{Appends, Consumes, IsAtEnd};
 ghost use Rattle.fr_bytes.specs.Lines.{lines_of};
 ghost use Rattle.fr_bytes.specs.Bytes.{IsBeginning};
-ghost use Rattle.fr_command.specs.Outputs.{asking_count, WritesOutput};
-ghost use Rattle.fr_command.specs.Conversations.{Ends, Says, line_size, silence, text_of};
-ghost use Rattle.fr_command.specs.Faults.{IsServeFault};
+ghost use Rattle.fr_command.specs.Outputs.{asking_count, WritesOutput, WritesOutputIn};
+ghost use Rattle.fr_command.specs.Conversations.{Ends, Says, line_size, point_of, silence_in, text_of};
+ghost use Rattle.fr_command.specs.Faults.{IsServeFault, IsServeFaultIn};
 ghost use Rattle.fr_command.specs.InLines.{IsLineFault};
 ghost use Rattle.fr_command.specs.InPieces.{IsFrontFault, IsPieceFault};
 
 use crate::conversation::Conversation;
+use crate::responder::Tally;
 use fr_bytes::{MAX_BYTES, PIECE, RunFault, flush, read_piece, write_whole};
 use fr_crew::{Crew, Gate, Plan};
+use fr_route::Form;
 use std::alloc::Global;
 use std::io::{Read, Write};
 use std::sync::Wait;
@@ -50,8 +52,29 @@ pub fn serve<T: Threads + Wait + Sync, R: Read, W: Write, G: Gate + Sync>(
         plan,
         gate,
     };
-    let mut conversation = Conversation::new(alloc);
-    converse(&crew, &mut conversation, reader, writer)
+    match serve_in(&crew, Form::Text, reader, writer) {
+        Ok(_) => Ok(()),
+        Err(fault) => Err(fault),
+    }
+}
+
+/// Does the same with answers in this form, and returns how many lines were answered and refused. It reads and writes,
+/// fails and costs as [`serve`] does.
+pub fn serve_in<T: Threads + Wait + Sync, R: Read, W: Write, G: Gate + Sync>(
+    crew: &Crew<'_, T, G>,
+    form: Form,
+    reader: &mut R,
+    writer: &mut W,
+) -> Result<Tally, RunFault>
+    ensures ok { IfOk result (λ tally. (bytes : List ℕ)
+        × Consumes (R.remaining reader.old) (R.remaining reader.new) bytes × IsAtEnd (R.remaining reader.new)
+        × WritesOutputIn form bytes (W.contents writer.old) (W.contents writer.new) tally) }
+    ensures fault { IfErr result (IsServeFaultIn form (R.remaining reader.old) (R.remaining reader.new)
+        (W.contents writer.old) (W.contents writer.new)) }
+    ensures no_start { crew.now.plan.now.budget ≡ 0 → result ≢ Err RunFault.Start }
+{
+    let mut conversation = Conversation::with_form(crew.alloc, form);
+    converse(crew, &mut conversation, reader, writer)
 }
 
 /// The same, in a conversation in which nothing was said yet. Its caller owns the conversation, so that no exit of
@@ -61,12 +84,12 @@ fn converse<T: Threads + Wait + Sync, R: Read, W: Write, G: Gate + Sync>(
     conversation: &mut Conversation,
     reader: &mut R,
     writer: &mut W,
-) -> Result<(), RunFault>
-    requires { conversation.old ≡ silence }
-    ensures ok { OnOk result ((bytes : List ℕ)
+) -> Result<Tally, RunFault>
+    requires { conversation.old ≡ silence_in conversation.old.form }
+    ensures ok { IfOk result (λ tally. (bytes : List ℕ)
         × Consumes (R.remaining reader.old) (R.remaining reader.new) bytes × IsAtEnd (R.remaining reader.new)
-        × WritesOutput bytes (W.contents writer.old) (W.contents writer.new) (asking_count (lines_of bytes))) }
-    ensures fault { IfErr result (IsServeFault (R.remaining reader.old) (R.remaining reader.new)
+        × WritesOutputIn conversation.old.form bytes (W.contents writer.old) (W.contents writer.new) tally) }
+    ensures fault { IfErr result (IsServeFaultIn conversation.old.form (R.remaining reader.old) (R.remaining reader.new)
         (W.contents writer.old) (W.contents writer.new)) }
     ensures no_start { crew.now.plan.now.budget ≡ 0 → result ≢ Err RunFault.Start }
 {
@@ -121,21 +144,24 @@ fn answer_front<T: Threads + Wait + Sync, W: Write, G: Gate + Sync>(
     Ok(taken.count)
 }
 
-/// Answers the last line, which the end of the input ends, and flushes.
+/// Answers the last line, which the end of the input ends, flushes, and returns how many lines were answered and
+/// refused.
 fn answer_end<T: Threads + Wait + Sync, W: Write, G: Gate + Sync>(
     crew: &Crew<'_, T, G>,
     conversation: &mut Conversation,
     writer: &mut W,
-) -> Result<(), RunFault>
-    ensures ok { OnOk result ((text : List ℕ) × Ends conversation.old text conversation.new
-        × Appends (W.contents writer.old) (W.contents writer.new) text) }
-    ensures fault { IfErr result (IsLineFault conversation.old.state conversation.old.begun
+) -> Result<Tally, RunFault>
+    ensures ok { IfOk result (λ tally. (text : List ℕ) × Ends conversation.old text conversation.new
+        × Appends (W.contents writer.old) (W.contents writer.new) text
+        × (tally.answered ≡ conversation.new.answered) × (tally.refused ≡ conversation.new.refused)) }
+    ensures fault { IfErr result (IsLineFault conversation.old.form (point_of conversation.old) conversation.old.begun
         (W.contents writer.old) (W.contents writer.new)) }
     ensures no_start { crew.now.plan.now.budget ≡ 0 → result ≢ Err RunFault.Start }
 {
     let answer = conversation.finish(crew.rt, crew.alloc, crew.plan, crew.gate)?;
     write_answer(writer, answer)?;
-    flush(writer)
+    flush(writer)?;
+    Ok(conversation.tally())
 }
 
 /// Writes an answer and a newline, if there is one.

@@ -2,8 +2,9 @@
 //! it comes, or plays full reversal step by step.
 #![tactic(auto)]
 
-use fr_command::{RunFault, Task, TaskFault, play_drawn, run, run_end, serve, task_end, task_of};
-use fr_crew::OpenGate;
+use fr_command::{CommandLine, Form, RunFault, Task, TaskFault};
+use fr_command::{command_line, play_drawn, run_end, run_in, serve_in, task_end};
+use fr_crew::{Crew, OpenGate, Plan};
 use std::alloc::Global;
 use std::io::{BufWriter, ErrorKind};
 use std::process::ExitCode;
@@ -12,17 +13,21 @@ use std::sync::Wait;
 use std::thread::Threads;
 use std::{env, io};
 
+/// The exit status if a line was refused, with `--strict`.
+const REFUSED: u8 = 3;
+
 fn main(rt: HostRuntime) -> ExitCode {
-    let task = match words_of(&rt) {
-        Ok(words) => task_in(rt.alloc(), &words),
+    let line = match words_of(&rt) {
+        Ok(words) => line_of(rt.alloc(), &words),
         Err(fault) => Err(fault),
     };
-    let task = match task {
-        Ok(task) => task,
+    let line = match line {
+        Ok(line) => line,
         Err(fault) => return tell(&rt, &fault),
     };
-    match perform(&rt, task) {
-        Ok(()) => ExitCode::SUCCESS,
+    match perform(&rt, line) {
+        Ok(refused) if line.strict && refused > 0 => ExitCode::from(REFUSED),
+        Ok(_) => ExitCode::SUCCESS,
         Err(fault) => end(&rt, &fault),
     }
 }
@@ -59,34 +64,56 @@ fn words_of<R: Env + Alloc<A = Global>>(rt: &R) -> Result<Vec<String>, TaskFault
     }
 }
 
-/// The task that the words ask for.
-fn task_in(alloc: Global, words: &[String]) -> Result<Task, TaskFault> {
+/// What the words ask for.
+fn line_of(alloc: Global, words: &[String]) -> Result<CommandLine, TaskFault> {
     let mut texts = Vec::new(alloc);
     for word in words {
         if texts.push(word.as_str()).is_err() {
             return Err(TaskFault::Memory);
         }
     }
-    task_of(alloc, &texts)
+    command_line(alloc, &texts)
 }
 
-/// Does the task, from standard input to standard output.
+/// Does the task, from standard input to standard output, and returns how many lines were refused. A play counts none.
 fn perform<R: Threads + Wait + Sync + Alloc<A = Global> + Input + Print>(
     rt: &R,
-    task: Task,
-) -> Result<(), RunFault> {
+    line: CommandLine,
+) -> Result<u64, RunFault> {
     let alloc = rt.alloc();
     let Ok(mut out) = BufWriter::new(alloc, io::writer(rt)) else {
         return Err(RunFault::Memory);
     };
-    match task {
+    let form = if line.json {
+        Form::Json
+    } else {
+        Form::Text
+    };
+    match line.task {
         Task::Run(plan) => {
-            let _answered = run(rt, alloc, &mut rt.reader(), &mut out, &plan, &OpenGate)?;
+            let tally = run_in(&crew_of(rt, &plan), form, &mut rt.reader(), &mut out)?;
+            Ok(tally.refused)
         }
-        Task::Serve(plan) => serve(rt, alloc, &mut rt.reader(), &mut out, &plan, &OpenGate)?,
+        Task::Serve(plan) => {
+            let tally = serve_in(&crew_of(rt, &plan), form, &mut rt.reader(), &mut out)?;
+            Ok(tally.refused)
+        }
         Task::Play(draw) => {
             let _decided = play_drawn(alloc, &mut rt.reader(), &mut out, draw)?;
+            Ok(0)
         }
     }
-    Ok(())
+}
+
+/// The crew of a plan, with the gate open.
+fn crew_of<'a, R: Threads + Wait + Sync + Alloc<A = Global>>(
+    rt: &'a R,
+    plan: &'a Plan,
+) -> Crew<'a, R, OpenGate> {
+    Crew {
+        rt,
+        alloc: rt.alloc(),
+        plan,
+        gate: &OpenGate,
+    }
 }

@@ -4,12 +4,12 @@ use crate::cases::Case;
 use crate::gates::tell_held;
 use crate::inputs::{MadeReader, by_turns, long_chain};
 use crate::outcomes::{tell_first, tell_outcome};
-use crate::runs::{FEW_PLANS, PLANS, run_alone, run_of, tell_plans};
+use crate::runs::{FEW_PLANS, PLANS, run_alone, run_of, tell_in, tell_plans};
 use crate::streams::{tell_narrow_writes, tell_slow_reads};
 use crate::tasks::{draw_at, outcome_of, task_at};
 use crate::words::{tell_faults, tell_words};
 use crate::{changes, plays};
-use fr_command::Task;
+use fr_command::{Form, Task};
 use serde_json::Value;
 use std::sync::Wait;
 use std::thread::Threads;
@@ -22,6 +22,7 @@ pub fn tell_answer<R: Threads + Wait + Sync + AllocGlobal + Print>(
 ) -> Option<()> {
     match word {
         "run" => tell_run(rt, &case.input(rt.alloc())),
+        "form" => tell_form(rt, case),
         "made" => tell_made(rt, case),
         "gate" => tell_gate(rt, case),
         "batch" => tell_batch(rt, case),
@@ -42,6 +43,21 @@ fn tell_run<R: Threads + Wait + Sync + AllocGlobal + Print>(rt: &R, input: &str)
     let outcome = run_of(rt, input);
     tell_outcome(rt, &outcome);
     tell_plans(rt, input, PLANS, &outcome);
+    Some(())
+}
+
+/// `["form", form]`: a run of the lines in this form, `text` or `json`, and how many lines were answered and refused.
+/// Then whether a service writes the same.
+fn tell_form<R: Threads + Wait + Sync + AllocGlobal + Print>(
+    rt: &R,
+    case: &Case<'_>,
+) -> Option<()> {
+    let form = match case.text(1)? {
+        "text" => Form::Text,
+        "json" => Form::Json,
+        _ => return None,
+    };
+    tell_in(rt, form, &case.input(rt.alloc()));
     Some(())
 }
 

@@ -1,9 +1,9 @@
 //! The result of a run under one plan and under others. No answer depends on the plan.
 
 use crate::outcomes::{Outcome, tell_outcome};
-use crate::telling::tell;
-use fr_command::run;
-use fr_crew::{Gate, OpenGate, Plan};
+use crate::telling::{tell, tell_lines, tell_value};
+use fr_command::{Form, run, run_in, serve_in};
+use fr_crew::{Crew, Gate, OpenGate, Plan};
 use std::io::Read;
 use std::sync::Wait;
 use std::thread::Threads;
@@ -89,4 +89,31 @@ fn comes_to<R: Threads + Wait + Sync + AllocGlobal + Print>(
         tell_outcome(rt, &outcome);
     }
     comes
+}
+
+/// Prints the result of a run in a form, and whether a service has the same one.
+pub fn tell_in<R: Threads + Wait + Sync + AllocGlobal + Print>(rt: &R, form: Form, input: &str) {
+    let Some(plan) = Plan::new(2, 0, 1_000) else {
+        return;
+    };
+    let crew = Crew {
+        rt,
+        alloc: rt.alloc(),
+        plan: &plan,
+        gate: &OpenGate,
+    };
+    let mut out = Vec::new(rt.alloc());
+    let end = run_in(&crew, form, &mut input.as_bytes(), &mut out);
+    tell_lines(rt, &out);
+    tell_value(rt, &end);
+    let mut served = Vec::new(rt.alloc());
+    let same = serve_in(&crew, form, &mut input.as_bytes(), &mut served) == end;
+    tell(
+        rt,
+        if same && served == out {
+            "and as it comes"
+        } else {
+            "but not as it comes"
+        },
+    );
 }

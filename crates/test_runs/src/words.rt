@@ -2,22 +2,33 @@
 
 use crate::cases::Case;
 use crate::telling::{tell, tell_lines, tell_value};
-use fr_command::{RunFault, TaskFault, run_end, task_end, task_of};
+use fr_command::{CommandLine, RunFault, TaskFault, command_line, run_end, task_end};
 use fr_route::{AnswerFault, RouteFault};
 use serde_json::Value;
 use std::alloc::Global;
 use std::fmt::Display;
 
-/// `["words", [word, ..]]`: the task that the words ask for, or the status, what they ask for, and the text. `["words",
-/// [word, ..], begin, middle, end]`: the same, but whether the text begins with `begin`, contains `middle` and ends
+/// `["words", [word, ..]]`: the task that the words ask for with its flags, or the status, what they ask for, and the text.
+/// `["words", [word, ..], begin, middle, end]`: the same, but whether the text begins with `begin`, contains `middle` and ends
 /// with `end`.
 pub fn tell_words<R: AllocGlobal + Print>(rt: &R, case: &Case<'_>) -> Option<()> {
     let words = texts_of(rt.alloc(), case.value(1)?.as_array()?);
-    match task_of(rt.alloc(), &words) {
-        Ok(task) => tell_value(rt, &task),
+    match command_line(rt.alloc(), &words) {
+        Ok(line) => tell_command_line(rt, &line),
         Err(fault) => tell_end(rt, &fault, case),
     }
     Some(())
+}
+
+/// Prints a task, and the flags that were given.
+fn tell_command_line<R: Print>(rt: &R, line: &CommandLine) {
+    tell_value(rt, &line.task);
+    if line.json {
+        tell(rt, "json");
+    }
+    if line.strict {
+        tell(rt, "strict");
+    }
 }
 
 /// The texts of a list.

@@ -1,24 +1,42 @@
-use Rattle.std.proofs.Common.{List, ℕ, drop, string_bytes, subst, sym, take}
+use Rattle.std.proofs.Common.{◌≡◌, ◌∷◌, [], List, ℕ, Result, Ok, Err, IfErr, OnErr, drop, string_bytes, subst, sym, take}
 use Rattle.std.proofs.lemmas.List.{take-append-drop}
-use Rattle.fr_bytes.proofs.Results.{handed_on}
-use Rattle.fr_command.specs.InLines.{BeginsAnswer, IsLineFault}
+use Rattle.std.proofs.lemmas.Result.{on_ok_weaker}
+use Rattle.std.specs.Io.KnownBytes.{Appends}
+use Rattle.fr_bytes.specs.declared.fault.RunFault.TheVariants.{Write}
+use Rattle.fr_command.specs.InLines.{IsLineFault}
+use Rattle.fr_command.specs.Points.{AreAnswersIn}
 use Rattle.fr_command.proofs.answers.answer_one.Goals as goal
 
-pub returns-in_err-write_whole-in-Ok-Some-clause-fault : goal.returns-in_err-write_whole-in-Ok-Some-clause-fault
-returns-in_err-write_whole-in-Ok-Some-clause-fault g c =
+-- what holds if a result is an error, and of its only fault
+of_the_fault : {T E : Type 0} (r : Result T E) (one : E) (P : E → Type 0) (Q : Type 0) → IfErr r (λ fault. fault ≡ one) → OnErr r Q
+    → (Q → P one) → IfErr r P
+of_the_fault (Ok x) one P Q only h f = tt
+of_the_fault (Err y) one P Q only h f = subst P (sym only) (f h)
+
+pub returns-in-Ok-Some-clause-ok : goal.returns-in-Ok-Some-clause-ok
+returns-in-Ok-Some-clause-ok g c =
     let old = g.W.Write.contents c.args.writer.now in
     let new = g.W.Write.contents c.write_whole.new.writer in
     let answer : List ℕ = string_bytes c.in-Ok-Some.text in
-    let told = rw c.in-Ok-Some.field-0-is at c.in-Ok-Some.ensures.text in
-    let part = c.in_err-write_whole-in-Ok-Some.ensures.err in
-    let begun : BeginsAnswer c.args.session.now c.args.line.now old new = record {
+    let told : AreAnswersIn c.args.form c.args.responder.now (c.args.line.now ∷ []) answer c.answer_text.new.responder =
+    rw c.in-Ok-Some.field-0-is at c.in-Ok-Some.ensures.text in
+    on_ok_weaker c.write_whole.result (λ (whole : Appends old new answer). (answer, told, whole))
+    (rw c.as_bytes.ensures.value at c.write_whole.ensures.ok)
+
+pub returns-in-Ok-Some-clause-fault : goal.returns-in-Ok-Some-clause-fault
+returns-in-Ok-Some-clause-fault g c =
+    let old = g.W.Write.contents c.args.writer.now in
+    let new = g.W.Write.contents c.write_whole.new.writer in
+    let answer : List ℕ = string_bytes c.in-Ok-Some.text in
+    let told : AreAnswersIn c.args.form c.args.responder.now (c.args.line.now ∷ []) answer c.answer_text.new.responder =
+    rw c.in-Ok-Some.field-0-is at c.in-Ok-Some.ensures.text in
+    of_the_fault c.write_whole.result Write (IsLineFault c.args.form c.args.responder.now c.args.line.now old new)
+    ((n : ℕ) × Appends old new (take n answer)) c.write_whole.ensures.kind (rw c.as_bytes.ensures.value at c.write_whole.ensures.err)
+    (λ part. record {
       answer = answer;
-      last = c.answer_text.new.session;
+      last = c.answer_text.new.responder;
       out = take part.0 answer;
-      are_answers = told.1;
+      are_answers = told;
       begins = (drop part.0 answer, sym (take-append-drop part.0 answer));
-      writes = rw c.as_bytes.ensures.value at part.1;
-    } in
-    let why = IsLineFault c.args.session.now c.args.line.now old new in
-    handed_on c.from_residual.result c.in_err-write_whole-in-Ok-Some.field-0.0 why c.from_residual.ensures.1
-    (subst why (sym c.in_err-write_whole-in-Ok-Some.ensures.kind) begun)
+      writes = part.1;
+    })

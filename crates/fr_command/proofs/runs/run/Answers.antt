@@ -1,28 +1,10 @@
-use Rattle.std.proofs.Common.{subst, sym}
-use Rattle.fr_bytes.proofs.Results.{handed_on}
-use Rattle.fr_command.specs.Faults.{IsRunFault}
-use Rattle.fr_command.specs.Outputs.{WritesOutput}
-use Rattle.fr_command.proofs.Progress.{output_begins, flushed}
+use Rattle.fr_route.specs.declared.form.Form.TheVariants.{Text}
+use Rattle.fr_command.proofs.Progress.{counts_all, writes_text}
 use Rattle.fr_command.proofs.runs.run.Goals as goal
 
-pub returns-in_err-flush-clause-fault : goal.returns-in_err-flush-clause-fault
-returns-in_err-flush-clause-fault g c =
-    let bytes = c.in_ok-input.input.items in
+pub returns-in-Ok-clause-ok : goal.returns-in-Ok-clause-ok
+returns-in-Ok-clause-ok g c =
     let old = g.W.Write.contents c.args.writer.now in
-    let mid = g.W.Write.contents c.answer_all.new.writer in
-    let new = g.W.Write.contents c.flush.new.writer in
-    let made : WritesOutput bytes old mid c.in_ok-count.count = rw c.deref.ensures.value at c.in_ok-count.ensures.ok in
-    let why = IsRunFault (g.R.Read.remaining c.args.reader.now) (g.R.Read.remaining c.read_input.new.reader) old new in
-    let exit = c.from_residual-in_err-flush in
-    handed_on exit.result c.in_err-flush.field-0.0 why exit.ensures.1
-    (subst why (sym c.in_err-flush.ensures.kind)
-    (bytes, c.in_ok-input.ensures.ok, output_begins bytes old mid new c.in_ok-count.count made c.flush.ensures.kept))
-
-pub returns-clause-ok : goal.returns-clause-ok
-returns-clause-ok g c =
-    let bytes = c.in_ok-input.input.items in
-    let old = g.W.Write.contents c.args.writer.now in
-    let mid = g.W.Write.contents c.answer_all.new.writer in
-    let new = g.W.Write.contents c.flush.new.writer in
-    let made : WritesOutput bytes old mid c.in_ok-count.count = rw c.deref.ensures.value at c.in_ok-count.ensures.ok in
-    (bytes, c.in_ok-input.ensures.ok, flushed bytes old mid new c.in_ok-count.count made c.flush.ensures.kept)
+    let new = g.W.Write.contents c.run_in.new.writer in
+    let h = c.in-Ok.ensures.ok in
+    (h.0, h.1, writes_text h.0 old new c.in-Ok.tally c.in-Ok.tally.answered h.2 (counts_all Text h.0 old new c.in-Ok.tally h.1.2 h.2))

@@ -10,9 +10,10 @@ use Rattle.fr_bytes.specs.declared.fault.RunFault.{RunFault}
 use Rattle.fr_bytes.specs.declared.fault.RunFault.TheVariants.{Read, Write, TooLong, Start, Memory}
 use Rattle.fr_bytes.proofs.Ending.{ends_line, first_line_ends, front_alone, one_line}
 use Rattle.fr_bytes.proofs.Results.{handed_on}
-use Rattle.fr_command.specs.Conversations.{Talk, carried, line_size, text_of}
+use Rattle.fr_command.specs.Conversations.{Talk, carried, line_size, point_of, talk_at, text_of}
 use Rattle.fr_command.specs.Faults.{IsTakeFault}
 use Rattle.fr_command.specs.InPieces.{IsHoldFault}
+use Rattle.fr_command.specs.Points.{after_blank}
 use Rattle.fr_command.proofs.Taking.{blank_ends, takes_none, takes_line}
 use Rattle.fr_command.proofs.conversation.Conversation.take.Goals as goal
 
@@ -80,14 +81,15 @@ returns-then-ends_blank-clause-takes g c =
     let piece : List ℕ = c.args.piece.now in
     let end : ℕ = c.front_size-end.result in
     let old : Talk = c.args.self.now in
-    let held : Talk = record { state = old.state; begun = old.begun ++ take end piece } in
-    let new : Talk = record { state = c.self.inside.session; begun = c.clear.new.self.items } in
+    let held : Talk = talk_at old.form (point_of old) (old.begun ++ take end piece) in
+    let new : Talk = talk_at c.self.inside.form c.pass_blank.new.self c.clear.new.self.items in
     let blank = c.ends_blank.ensures.0 c.if-ends_blank.true in
     let alone = subst (λ (t : Talk). lines_of t.begun ≡ t.begun ∷ []) c.self.view_is c.self.invariant.0 in
     let ended = subst (λ (n : ℕ). lines_of (take (n + 1) piece) ≡ take n piece ∷ [] ∷ []) (sym c.front_size-end.ensures)
     (first_line_ends piece (omega (arith, blank.0, c.front_size-end.ensures))) in
-    takes_line old held new (take (end + 1) piece) (take end piece) [] alone ended refl refl
-    (blank_ends held new blank.1 (ap (λ (t : Talk). t.state) c.self.view_is) c.clear.ensures.items)
+    let point = c.pass_blank.ensures ∙ ap (λ (t : Talk). after_blank (point_of t)) c.self.view_is in
+    takes_line old held new (take (end + 1) piece) (take end piece) [] alone ended refl refl refl
+    (blank_ends held new blank.1 point c.clear.ensures.items (ap (λ (t : Talk). t.form) c.self.view_is))
 
 pub returns-in_err-hold-clause-fault : goal.returns-in_err-hold-clause-fault
 returns-in_err-hold-clause-fault g c =
@@ -105,7 +107,7 @@ returns-then-end-piece-clause-takes g c =
     let alone = subst (λ (t : Talk). lines_of t.begun ≡ t.begun ∷ []) c.self.view_is c.self.invariant.0 in
     let one = subst (λ (n : ℕ). lines_of (take n piece) ≡ take n piece ∷ []) (sym c.front_size-end.ensures) (front_alone piece) in
     let held = c.in_ok-hold.ensures.ok in
-    takes_none c.args.self.now c.hold.new.self (take end piece) alone one held.0 held.1
+    takes_none c.args.self.now c.hold.new.self (take end piece) alone one held.0 held.1 held.2
 
 pub returns-in-Ok-clause-takes : goal.returns-in-Ok-clause-takes
 returns-in-Ok-clause-takes g c =
@@ -116,7 +118,7 @@ returns-in-Ok-clause-takes g c =
     (first_line_ends piece (omega (arith, prefix_len-le-length (λ x. not (ends_line x)) piece))) in
     let held = c.in_ok-hold.ensures.ok in
     takes_line c.args.self.now c.hold.new.self c.finish.new.self (take (end + 1) piece) (take end piece)
-    (text_of c.in-Ok.answer) alone ended held.0 held.1 c.in-Ok.ensures.ends
+    (text_of c.in-Ok.answer) alone ended held.0 held.1 held.2 c.in-Ok.ensures.ends
 
 pub returns-in-Ok-clause-count : goal.returns-in-Ok-clause-count
 returns-in-Ok-clause-count g c = size_with_end c.args.piece.now c.front_size-end.result c.front_size-end.ensures c.if-end-piece.false

@@ -1,0 +1,28 @@
+use Rattle.std.proofs.Common.{subst, sym}
+use Rattle.fr_bytes.proofs.Results.{handed_on}
+use Rattle.fr_command.specs.Faults.{IsRunFaultIn}
+use Rattle.fr_command.specs.Outputs.{WritesOutputIn}
+use Rattle.fr_command.proofs.Progress.{output_begins, flushed}
+use Rattle.fr_command.proofs.runs.run_in.Goals as goal
+
+pub returns-in_err-flush-clause-fault : goal.returns-in_err-flush-clause-fault
+returns-in_err-flush-clause-fault g c =
+    let bytes = c.in_ok-input.input.items in
+    let old = g.W.Write.contents c.args.writer.now in
+    let mid = g.W.Write.contents c.answer_all.new.writer in
+    let new = g.W.Write.contents c.flush.new.writer in
+    let made : WritesOutputIn c.args.form bytes old mid c.in_ok-tally.tally = rw c.deref.ensures.value at c.in_ok-tally.ensures.ok in
+    let why = IsRunFaultIn c.args.form (g.R.Read.remaining c.args.reader.now) (g.R.Read.remaining c.read_input.new.reader) old new in
+    let exit = c.from_residual-in_err-flush in
+    handed_on exit.result c.in_err-flush.field-0.0 why exit.ensures.1
+    (subst why (sym c.in_err-flush.ensures.kind)
+    (bytes, c.in_ok-input.ensures.ok, output_begins c.args.form bytes old mid new c.in_ok-tally.tally made c.flush.ensures.kept))
+
+pub returns-clause-ok : goal.returns-clause-ok
+returns-clause-ok g c =
+    let bytes = c.in_ok-input.input.items in
+    let old = g.W.Write.contents c.args.writer.now in
+    let mid = g.W.Write.contents c.answer_all.new.writer in
+    let new = g.W.Write.contents c.flush.new.writer in
+    let made : WritesOutputIn c.args.form bytes old mid c.in_ok-tally.tally = rw c.deref.ensures.value at c.in_ok-tally.ensures.ok in
+    (bytes, c.in_ok-input.ensures.ok, flushed c.args.form bytes old mid new c.in_ok-tally.tally made c.flush.ensures.kept)
