@@ -7,7 +7,7 @@ use Rattle.fr_lines.specs.declared.requests.LineFault.{LineFault}
 use Rattle.fr_lines.specs.declared.requests.LineFault.TheVariants.{NotJson, NotRequest, Memory}
 use Rattle.fr_route.specs.Answers.{AreAnswers, IsLineAnswer}
 use Rattle.fr_route.specs.Blank.{is_blank}
-use Rattle.fr_route.specs.Forms.{IsAnswerIn, IsLineRefused}
+use Rattle.fr_route.specs.Forms.{IsLineRefused}
 use Rattle.fr_route.specs.States.{State}
 use Rattle.fr_route.specs.declared.form.Form.{Form}
 use Rattle.fr_route.specs.declared.form.Form.TheVariants.{Text}

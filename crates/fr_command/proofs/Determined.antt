@@ -25,8 +25,8 @@ pub text_output : (bytes out : List ℕ) → IsOutput bytes out ↔ ((last : Opt
 text_output bytes out = (
   λ h. (h.0.state, text_answers first_point (lines_of bytes) out h.0 h.1),
   λ h. let all = each_output Text bytes in
-  let texts = text_answers first_point (lines_of bytes) all.0 all.1.0 all.1.1 in
-  subst (λ (o : List ℕ). IsOutput bytes o) (texts_unique None (lines_of bytes) all.0 out all.1.0.state h.0 texts h.1).0 all.1,
+      let texts = text_answers first_point (lines_of bytes) all.0 all.1.0 all.1.1 in
+      subst (λ (o : List ℕ). IsOutput bytes o) (texts_unique None (lines_of bytes) all.0 out all.1.0.state h.0 texts h.1).0 all.1,
 )
 
 -- the answers to the first lines are a beginning of the output

@@ -12,7 +12,7 @@ use Rattle.fr_bytes.specs.Lines.{lines_of}
 use Rattle.fr_bytes.specs.Bytes.{IsBeginning, most_bytes}
 use Rattle.fr_bytes.specs.declared.fault.RunFault.{RunFault}
 use Rattle.fr_bytes.specs.declared.fault.RunFault.TheVariants.{Read, Write, TooLong, Start, Memory}
-use Rattle.fr_command.specs.Outputs.{asking_count, IsOutputIn, WritesOutput, WritesOutputIn, WritesBeginning, StopsAtLine}
+use Rattle.fr_command.specs.Outputs.{asking_count, WritesOutput, WritesOutputIn, WritesBeginning, StopsAtLine}
 use Rattle.fr_command.specs.Points.{Point, AreAnswersIn, first_point}
 use Rattle.fr_command.specs.InLines.{BeginsAnswer, IsLineFault, IsAnsweringFault}
 use Rattle.fr_command.specs.declared.responder.Tally.{Tally}

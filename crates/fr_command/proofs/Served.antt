@@ -15,7 +15,7 @@ use Rattle.fr_bytes.specs.Bytes.{IsBeginning, most_bytes}
 use Rattle.fr_bytes.specs.declared.fault.RunFault.{RunFault}
 use Rattle.fr_bytes.specs.declared.fault.RunFault.TheVariants.{Read, Write, TooLong, Start, Memory}
 use Rattle.fr_command.specs.Outputs.{IsOutputIn, WritesOutputIn, WritesBeginning}
-use Rattle.fr_command.specs.Points.{Point, AreAnswersIn, first_point}
+use Rattle.fr_command.specs.Points.{AreAnswersIn}
 use Rattle.fr_command.specs.Conversations.{Talk, Takes, Ends, Says, AnswersBefore, carried, point_of, silence_in, talk_at}
 use Rattle.fr_command.specs.Faults.{IsServeFaultIn, IsTakeFault}
 use Rattle.fr_command.specs.declared.responder.Tally.{Tally}

@@ -105,7 +105,9 @@ impl Responder {
             number,
             bytes: line,
         };
-        let answer = self.session.answer_line_in(crew, form, next, &mut self.rerouted)?;
+        let answer = self
+            .session
+            .answer_line_in(crew, form, next, &mut self.rerouted)?;
         self.ended = number;
         match answer {
             Some(answer) => {

@@ -6,6 +6,10 @@ use Rattle.fr_command.proofs.serving.serve.Goals as goal
 
 pub returns-in-Ok-clause-ok : goal.returns-in-Ok-clause-ok
 returns-in-Ok-clause-ok g c =
-    let h = c.in-Ok.ensures.ok in
-    (h.0, h.1, h.2, writes_text h.0 (g.W.Write.contents c.args.writer.now) (g.W.Write.contents c.serve_in.new.writer) c.in-Ok.field-0
-    (asking_count (lines_of h.0)) h.3 refl)
+    let h = c.in-Ok.ensures.ok in (
+      h.0,
+      h.1,
+      h.2,
+      writes_text h.0 (g.W.Write.contents c.args.writer.now) (g.W.Write.contents c.serve_in.new.writer) c.in-Ok.field-0
+          (asking_count (lines_of h.0)) h.3 refl,
+    )
