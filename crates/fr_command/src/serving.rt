@@ -1,6 +1,6 @@
 //! Serving: each line of an input is answered before more input is read.
 
-ghost use Rattle.std.specs.Prelude.{◌≡◌, ◌≢◌, ◌∷◌, [], ℕ, List, take, IfOk, OnOk, OnErr, IfErr};
+ghost use Rattle.std.specs.Prelude.{◌≡◌, ◌≢◌, ◌∷◌, ◌++◌, [], ℕ, List, take, IfOk, OnOk, OnErr, IfErr};
 ghost use Rattle.std.specs.Io.KnownBytes.{Appends, Consumes, IsAtEnd};
 ghost use Rattle.fr_bytes.specs.Lines.{lines_of};
 ghost use Rattle.fr_bytes.specs.Bytes.{IsBeginning};
@@ -171,9 +171,19 @@ fn write_answer<W: Write>(writer: &mut W, answer: Option<String>) -> Result<(), 
         × Appends (W.contents writer.old) (W.contents writer.new) out) }
     ensures kind { IfErr result (λ fault. fault ≡ RunFault.Write) }
 {
-    let Some(text) = answer else {
-        return Ok(());
-    };
-    write_whole(writer, text.as_bytes())?;
+    match answer {
+        Some(text) => write_line(writer, text.as_bytes()),
+        None => Ok(()),
+    }
+}
+
+/// Writes a line and its newline.
+fn write_line<W: Write>(writer: &mut W, line: &[u8]) -> Result<(), RunFault>
+    ensures ok { OnOk result (Appends (W.contents writer.old) (W.contents writer.new) (line.now ++ 10 ∷ [])) }
+    ensures err { OnErr result ((out : List ℕ) × IsBeginning out (line.now ++ 10 ∷ [])
+        × Appends (W.contents writer.old) (W.contents writer.new) out) }
+    ensures kind { IfErr result (λ fault. fault ≡ RunFault.Write) }
+{
+    write_whole(writer, line)?;
     write_whole(writer, b"\n")
 }
