@@ -1,5 +1,6 @@
 -- How many of some lines are answered.
-use Rattle.std.proofs.Common.{◌≡◌, ◌∙◌, ℕ, ◌+◌, ◌-◌, ◌^◌, ◌≤◌, Bool, true, false, cond, not, List, [], ◌∷◌, length, MatchBool, refl, ap, arith}
+use Rattle.std.proofs.Common.{◌≡◌, ◌∙◌, ℕ, ◌+◌, ◌-◌, ◌^◌, ◌≤◌, Bool, true, false, cond}
+use Rattle.std.proofs.Common.{not, List, [], ◌∷◌, length, MatchBool, refl, ap, arith}
 use Rattle.std.proofs.Math.Nat.{min-eq_left}
 use Rattle.std.proofs.lemmas.List.Sums.{sum_by-cons}
 use Rattle.fr_route.specs.Blank.{is_blank}
@@ -26,11 +27,13 @@ asking_count-cons line rest b is =
     ∙ ap (λ (x : Bool). cond (not x) 1 0 + asking_count rest) is
 
 -- the lines that are not blank are answered
-answered_are : (form : Form) (old new : Point) (lines : List (List ℕ)) (out : List ℕ) → AreAnswersIn form old lines out new
+answered_are : (form : Form) (old new : Point) (lines : List (List ℕ)) (out : List ℕ)
+    → AreAnswersIn form old lines out new
     → old.answered + length lines ≤ 2 ^ 64 - 1 → new.answered ≡ old.answered + asking_count lines
 answered_are form old new [] out h few = ap (λ (p : Point). p.answered) h.1 ∙ omega arith
 answered_are form old new (line ∷ rest) out h few =
-    blank_or_not (is_blank line) (AreAnswersIn form (after_blank old) rest out new) (Answered form old line rest out new)
+    blank_or_not (is_blank line) (AreAnswersIn form (after_blank old) rest out new)
+    (Answered form old line rest out new)
     (new.answered ≡ old.answered + asking_count (line ∷ rest))
     (λ blank h.
     let more = answered_are form (after_blank old) new rest out h (omega (arith, few)) in

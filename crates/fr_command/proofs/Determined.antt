@@ -21,19 +21,22 @@ pub each_output : (form : Form) (bytes : List ℕ) → (out : List ℕ) × IsOut
 each_output form bytes = let all = each_answers form first_point tt (lines_of bytes) in (all.0, (all.1, all.2))
 
 -- the output text has the text answers
-pub text_output : (bytes out : List ℕ) → IsOutput bytes out ↔ ((last : Option State) × AreAnswers None (lines_of bytes) out last)
+pub text_output : (bytes out : List ℕ)
+    → IsOutput bytes out ↔ ((last : Option State) × AreAnswers None (lines_of bytes) out last)
 text_output bytes out = (
   λ h. (h.0.state, text_answers first_point (lines_of bytes) out h.0 h.1),
   λ h. let all = each_output Text bytes in
       let texts = text_answers first_point (lines_of bytes) all.0 all.1.0 all.1.1 in
-      subst (λ (o : List ℕ). IsOutput bytes o) (texts_unique None (lines_of bytes) all.0 out all.1.0.state h.0 texts h.1).0 all.1,
+      subst (λ (o : List ℕ). IsOutput bytes o)
+      (texts_unique None (lines_of bytes) all.0 out all.1.0.state h.0 texts h.1).0 all.1,
 )
 
 -- the answers to the first lines are a beginning of the output
 pub output_begins_with : (form : Form) (bytes a b : List ℕ) (lines : ℕ) (p : Point)
     → AreAnswersIn form first_point (take lines (lines_of bytes)) a p → IsOutputIn form bytes b → IsBeginning a b
 output_begins_with form bytes a b lines p h k =
-    let all : lines_of bytes ≡ take lines (lines_of bytes) ++ drop lines (lines_of bytes) = sym (take-append-drop lines (lines_of bytes)) in
+    let all : lines_of bytes
+    ≡ take lines (lines_of bytes) ++ drop lines (lines_of bytes) = sym (take-append-drop lines (lines_of bytes)) in
     answers_begin form first_point (take lines (lines_of bytes)) (drop lines (lines_of bytes)) a b p k.0 h
     (subst (λ (ls : List (List ℕ)). AreAnswersIn form first_point ls b k.0) all k.1)
 

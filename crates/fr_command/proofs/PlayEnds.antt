@@ -6,7 +6,8 @@ use Rattle.fr_command.specs.Plays.{IsPlayOutput, WritesPlay, WritesPlayBeginning
 use Rattle.fr_words.specs.declared.draws.Draw.{Draw}
 use Rattle.fr_command.proofs.OnePlay.{play_output_unique}
 
-module _ (draw : Draw) (bytes out : List ℕ) (count : ℕ) (output : IsPlayOutput draw bytes out count) (old new : Option (List ℕ)) where
+module _ (draw : Draw) (bytes out : List ℕ) (count : ℕ) (output : IsPlayOutput draw bytes out count)
+    (old new : Option (List ℕ)) where
   pub play_written : Appends old new out → WritesPlay draw bytes old new count
   play_written whole = record {
     out = out;
@@ -15,7 +16,8 @@ module _ (draw : Draw) (bytes out : List ℕ) (count : ℕ) (output : IsPlayOutp
     writes = whole;
   }
 
-  pub play_begun : (front : List ℕ) → IsBeginning front out → Appends old new front → WritesPlayBeginning draw bytes old new
+  pub play_begun : (front : List ℕ) → IsBeginning front out → Appends old new front
+      → WritesPlayBeginning draw bytes old new
   play_begun front begins part = record {
     whole = out;
     count = count;

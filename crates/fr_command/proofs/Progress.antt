@@ -21,14 +21,16 @@ use Rattle.fr_command.proofs.Counting.{answered_all}
 use Rattle.fr_command.proofs.Determined.{each_output, output_unique, output_begins_with, begins-trans, begins_behind}
 
 -- the lines of the whole input up to those that are left are answered
-pub record HasAnswered (form : Form) (whole : List ℕ) (left : List (List ℕ)) (now : Point) (old new : Option (List ℕ)) : Type 0 where
+pub record HasAnswered (form : Form) (whole : List ℕ) (left : List (List ℕ)) (now : Point)
+    (old new : Option (List ℕ)) : Type 0 where
   pub out : List ℕ
   pub done : List (List ℕ)
   pub cut : lines_of whole ≡ done ++ left
   pub are_answers : AreAnswersIn form first_point done out now
   pub writes : Appends old new out
 
-pub at_start : (form : Form) (whole : List ℕ) (left : List (List ℕ)) (now : Point) (old : Option (List ℕ)) → left ≡ lines_of whole
+pub at_start : (form : Form) (whole : List ℕ) (left : List (List ℕ)) (now : Point) (old : Option (List ℕ))
+    → left ≡ lines_of whole
     → now ≡ first_point → HasAnswered form whole left now old old
 at_start form whole left now old all none = rw (all, none) record {
   out = [];
@@ -45,7 +47,8 @@ slice_get-at (x ∷ xs) y ys = slice_get-at xs y ys
 -- the next line is the first of those that are left
 pub next_line : (form : Form) (whole line : List ℕ) (all left : List (List ℕ)) (now : Point) (old mid : Option (List ℕ))
     → all ≡ line ∷ left → HasAnswered form whole all now old mid → HasAnswered form whole (line ∷ left) now old mid
-next_line form whole line all left now old mid is h = subst (λ (ls : List (List ℕ)). HasAnswered form whole ls now old mid) is h
+next_line form whole line all left now old mid is h = subst
+    (λ (ls : List (List ℕ)). HasAnswered form whole ls now old mid) is h
 
 module _ (form : Form) (whole line : List ℕ) (left : List (List ℕ)) (now : Point) (old mid : Option (List ℕ))
     (h : HasAnswered form whole (line ∷ left) now old mid) where
@@ -65,11 +68,16 @@ module _ (form : Form) (whole line : List ℕ) (left : List (List ℕ)) (now : P
   stops_writing new part =
       let done : List (List ℕ) = h.done ++ line ∷ [] in
       let cut : lines_of whole ≡ done ++ left = h.cut ∙ sym (append_assoc h.done (line ∷ []) left) in
-      let answer = answers_append form first_point now part.last h.done (line ∷ []) h.out part.answer h.are_answers part.are_answers in
-      let front : take (length done) (lines_of whole) ≡ done = ap (take (length done)) cut ∙ take-append_seam done left in
-      let answers : AreAnswersIn form first_point (take (length done) (lines_of whole)) (h.out ++ part.answer) part.last =
-      subst (λ (ls : List (List ℕ)). AreAnswersIn form first_point ls (h.out ++ part.answer) part.last) (sym front) answer in
-      let begins : IsBeginning (h.out ++ part.out) (h.out ++ part.answer) = begins_behind h.out part.out part.answer part.begins in
+      let answer = answers_append form first_point now part.last h.done
+      (line ∷ []) h.out part.answer h.are_answers part.are_answers in
+      let front : take (length done) (lines_of whole)
+      ≡ done = ap (take (length done)) cut ∙ take-append_seam done left in
+      let answers : AreAnswersIn form first_point (take (length done) (lines_of whole))
+      (h.out ++ part.answer) part.last =
+      subst (λ (ls : List (List ℕ)). AreAnswersIn form first_point ls (h.out ++ part.answer) part.last)
+      (sym front) answer in
+      let begins : IsBeginning (h.out ++ part.out)
+      (h.out ++ part.answer) = begins_behind h.out part.out part.answer part.begins in
       let all = each_output form whole in
       record {
         whole = all.0;
@@ -153,7 +161,8 @@ flushed form whole old mid new tally w kept = record {
 }
 
 -- the output text was written
-pub writes_text : (whole : List ℕ) (old new : Option (List ℕ)) (tally : Tally) (count : ℕ) → WritesOutputIn Text whole old new tally
+pub writes_text : (whole : List ℕ) (old new : Option (List ℕ)) (tally : Tally) (count : ℕ)
+    → WritesOutputIn Text whole old new tally
     → count ≡ asking_count (lines_of whole) → WritesOutput whole old new count
 writes_text whole old new tally count w counted = record {
   out = w.out;

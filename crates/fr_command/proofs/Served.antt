@@ -1,5 +1,6 @@
 -- How much of an input was served.
-use Rattle.std.proofs.Common.{◌≡◌, ◌≢◌, ◌∙◌, ℕ, ◌+◌, ◌<◌, ◌≤◌, List, [], ◌∷◌, ◌++◌, length, take, drop, take-append-drop, length-append, append_assoc}
+use Rattle.std.proofs.Common.{◌≡◌, ◌≢◌, ◌∙◌, ℕ, ◌+◌, ◌<◌, ◌≤◌, List, [], ◌∷◌, ◌++◌, length}
+use Rattle.std.proofs.Common.{take, drop, take-append-drop, length-append, append_assoc}
 use Rattle.std.proofs.Common.{append-nil, refl, sym, ap, subst, Option, true, false, not, arith}
 use Rattle.std.proofs.Math.Seq.{take-add}
 use Rattle.std.proofs.lemmas.List.{take-append-le}
@@ -16,13 +17,15 @@ use Rattle.fr_bytes.specs.declared.fault.RunFault.{RunFault}
 use Rattle.fr_bytes.specs.declared.fault.RunFault.TheVariants.{Read, Write, TooLong, Start, Memory}
 use Rattle.fr_command.specs.Outputs.{IsOutputIn, WritesOutputIn, WritesBeginning}
 use Rattle.fr_command.specs.Points.{AreAnswersIn}
-use Rattle.fr_command.specs.Conversations.{Talk, Takes, Ends, Says, AnswersBefore, carried, point_of, silence_in, talk_at}
+use Rattle.fr_command.specs.Conversations.{Talk, Takes, Ends, Says, AnswersBefore}
+use Rattle.fr_command.specs.Conversations.{carried, point_of, silence_in, talk_at}
 use Rattle.fr_command.specs.Faults.{IsServeFaultIn, IsTakeFault}
 use Rattle.fr_command.specs.declared.responder.Tally.{Tally}
 use Rattle.fr_command.specs.InLines.{BeginsAnswer, IsLineFault}
 use Rattle.fr_command.specs.InPieces.{StopsInPiece, BeginsInPiece, IsFrontFault, IsPieceFault}
 use Rattle.fr_command.proofs.Determined.{each_output, output_unique, begins-trans, begins_behind}
-use Rattle.fr_bytes.proofs.Ending.{lines_go_on, line_goes_on, begun_alone, begun_short, first_line_is, one_line, ends_line}
+use Rattle.fr_bytes.proofs.Ending.{lines_go_on, line_goes_on, begun_alone}
+use Rattle.fr_bytes.proofs.Ending.{begun_short, first_line_is, one_line, ends_line}
 use Rattle.fr_command.proofs.Taking.{takes_on, takes_none, answer_stands, ends_in, lines_end}
 
 -- nothing was taken yet
@@ -34,7 +37,8 @@ says_nothing talk w alone = record {
 }
 
 -- more bytes were taken
-pub says_on : (first mid last : Talk) (xs ys : List ℕ) (u v w : Option (List ℕ)) → Says first xs mid u v → Says mid ys last v w → Says first (xs ++ ys) last u w
+pub says_on : (first mid last : Talk) (xs ys : List ℕ) (u v w : Option (List ℕ)) → Says first xs mid u v
+    → Says mid ys last v w → Says first (xs ++ ys) last u w
 says_on first mid last xs ys u v w h k = record {
   text = h.text ++ k.text;
   takes = takes_on first mid last xs ys h.text k.text h.takes k.takes;
@@ -42,7 +46,8 @@ says_on first mid last xs ys u v w h k = record {
 }
 
 -- what came then wrote nothing
-pub says_kept : (first last : Talk) (xs : List ℕ) (u v w : Option (List ℕ)) → Says first xs last u v → Keeps v w → Says first xs last u w
+pub says_kept : (first last : Talk) (xs : List ℕ) (u v w : Option (List ℕ)) → Says first xs last u v → Keeps v w
+    → Says first xs last u w
 says_kept first last xs u v w h kept = record {
   text = h.text;
   takes = h.takes;
@@ -76,12 +81,17 @@ ends_begun old last text out before after end begins writes = record {
 
 -- the same for a text and its end
 pub text_begun : (text end : List ℕ) (n : ℕ) → IsBeginning (take n text) (text ++ end)
-text_begun text end n = (drop n text ++ end, ap (λ (l : List ℕ). l ++ end) (sym (take-append-drop n text)) ∙ append_assoc (take n text) (drop n text) end)
+text_begun text end n = (
+  drop n text ++ end,
+  ap (λ (l : List ℕ). l ++ end) (sym (take-append-drop n text)) ∙ append_assoc (take n text)
+      (drop n text) end,
+)
 
 pub end_begun : (text end : List ℕ) (n : ℕ) → IsBeginning (text ++ take n end) (text ++ end)
 end_begun text end n = begins_behind text (take n end) end (drop n end, sym (take-append-drop n end))
 
-module _ (first mid : Talk) (piece : List ℕ) (done : ℕ) (u v : Option (List ℕ)) (h : Says first (take done piece) mid u v) where
+module _ (first mid : Talk) (piece : List ℕ) (done : ℕ) (u v : Option (List ℕ))
+    (h : Says first (take done piece) mid u v) where
   -- the answer to more bytes of a piece was begun
   begins_later : (w : Option (List ℕ)) → BeginsInPiece mid (drop done piece) v w → BeginsInPiece first piece u w
   begins_later w k = record {
@@ -100,7 +110,8 @@ module _ (first mid : Talk) (piece : List ℕ) (done : ℕ) (u v : Option (List 
       → IsTakeFault (carried mid (drop done piece)) (drop done piece) fault → StopsInPiece fault first piece new u w
   stops_later fault new w same kept why = record {
     count = done;
-    says = subst (λ (t : Talk). Says first (take done piece) t u w) (sym same) (says_kept first mid (take done piece) u v w h kept);
+    says = subst (λ (t : Talk). Says first (take done piece) t u w) (sym same)
+        (says_kept first mid (take done piece) u v w h kept);
     untaken = subst (λ (t : Talk). IsTakeFault (carried t (drop done piece)) (drop done piece) fault) (sym same) why;
   }
 
@@ -124,7 +135,8 @@ pub record HasServed (form : Form) (r s u v : Option (List ℕ)) (talk : Talk) :
   pub reads : Consumes r s bytes
   pub says : Says (silence_in form) bytes talk u v
 
-pub nothing_served : (form : Form) (r u : Option (List ℕ)) (talk : Talk) → talk ≡ silence_in form → HasServed form r r u u talk
+pub nothing_served : (form : Form) (r u : Option (List ℕ)) (talk : Talk) → talk ≡ silence_in form
+    → HasServed form r r u u talk
 nothing_served form r u talk same = record {
   bytes = [];
   reads = Consumes-nil r;
@@ -135,16 +147,19 @@ nothing_served form r u talk same = record {
 pub read_nothing : (r s t : Option (List ℕ)) (bytes piece : List ℕ) (count : ℕ) → count ≡ 0 → Consumes r s bytes
     → Consumes s t (take count piece) → Consumes r t bytes
 read_nothing r s t bytes piece count none h k =
-    let both : Consumes r t (bytes ++ []) = Consumes-trans r s t bytes [] h (subst (λ (n : ℕ). Consumes s t (take n piece)) none k) in
+    let both : Consumes r t (bytes ++ []) = Consumes-trans r s t bytes [] h
+    (subst (λ (n : ℕ). Consumes s t (take n piece)) none k) in
     subst (λ (l : List ℕ). Consumes r t l) (append-nil bytes) both
 
 -- a read brought some bytes, to the front of the room for a piece
-pub read_on : (r s t : Option (List ℕ)) (bytes piece room : List ℕ) (count : ℕ) → count ≤ length piece → Consumes r s bytes
+pub read_on : (r s t : Option (List ℕ)) (bytes piece room : List ℕ) (count : ℕ) → count ≤ length piece
+    → Consumes r s bytes
     → Consumes s t (take count piece) → Consumes r t (bytes ++ take count (piece ++ room))
 read_on r s t bytes piece room count few h k = Consumes-trans r s t bytes (take count (piece ++ room)) h
     (subst (λ (l : List ℕ). Consumes s t l) (sym (take-append-le count piece room few)) k)
 
-module _ (form : Form) (bytes : List ℕ) (talk : Talk) (u v : Option (List ℕ)) (h : Says (silence_in form) bytes talk u v) where
+module _ (form : Form) (bytes : List ℕ) (talk : Talk) (u v : Option (List ℕ))
+    (h : Says (silence_in form) bytes talk u v) where
   -- the answers to the lines before the one that has begun
   before_begun : (w : Option (List ℕ)) → Keeps v w → AnswersBefore form bytes talk.begun u w
   before_begun w kept = record {
@@ -158,10 +173,12 @@ module _ (form : Form) (bytes : List ℕ) (talk : Talk) (u v : Option (List ℕ)
   }
 
   -- the end of the input ended that line, and its answer was written
-  pub output_written : (last : Talk) (text : List ℕ) (w : Option (List ℕ)) (tally : Tally) → Ends talk text last → Appends v w text
+  pub output_written : (last : Talk) (text : List ℕ) (w : Option (List ℕ)) (tally : Tally) → Ends talk text last
+      → Appends v w text
       → tally.answered ≡ last.answered → tally.refused ≡ last.refused → WritesOutputIn form bytes u w tally
   output_written last text w tally end more answered refused =
-      let output = lines_end form bytes h.text text talk (point_of last) h.takes (ends_in form bytes h.text text talk last h.takes end) in
+      let output = lines_end form bytes h.text text talk (point_of last) h.takes
+      (ends_in form bytes h.text text talk last h.takes end) in
       record {
         out = h.text ++ text;
         last = point_of last;
@@ -173,10 +190,13 @@ module _ (form : Form) (bytes : List ℕ) (talk : Talk) (u v : Option (List ℕ)
       }
 
   -- or a beginning of its answer was written
-  output_begun : (w : Option (List ℕ)) → BeginsAnswer talk.form (point_of talk) talk.begun v w → WritesBeginning form bytes u w
+  output_begun : (w : Option (List ℕ)) → BeginsAnswer talk.form (point_of talk) talk.begun v w
+      → WritesBeginning form bytes u w
   output_begun w part =
-      let answer = subst (λ (f : Form). AreAnswersIn f (point_of talk) (talk.begun ∷ []) part.answer part.last) h.takes.same_form part.are_answers in
-      let output : IsOutputIn form bytes (h.text ++ part.answer) = (part.last, lines_end form bytes h.text part.answer talk part.last h.takes answer) in
+      let answer = subst (λ (f : Form). AreAnswersIn f (point_of talk)
+      (talk.begun ∷ []) part.answer part.last) h.takes.same_form part.are_answers in
+      let output : IsOutputIn form bytes (h.text ++ part.answer) =
+      (part.last, lines_end form bytes h.text part.answer talk part.last h.takes answer) in
       record {
         whole = h.text ++ part.answer;
         out = h.text ++ part.out;
@@ -209,7 +229,8 @@ module _ (form : Form) (bytes : List ℕ) (talk : Talk) (u v : Option (List ℕ)
         let output = each_output form (bytes ++ piece) in
         let front = take k.count piece in
         let whole : bytes ++ piece ≡ (bytes ++ front) ++ drop k.count piece =
-        sym (append_assoc bytes front (drop k.count piece) ∙ ap (λ (l : List ℕ). bytes ++ l) (take-append-drop k.count piece)) in
+        sym (append_assoc bytes front (drop k.count piece) ∙ ap (λ (l : List ℕ). bytes ++ l)
+        (take-append-drop k.count piece)) in
         let takes = takes_on (silence_in form) talk k.new bytes front h.text k.whole h.takes k.takes in
         let stands = answer_stands form (bytes ++ front) (drop k.count piece) (h.text ++ k.whole) output.0 k.new takes
         (subst (λ (l : List ℕ). IsOutputIn form l output.0) whole output.1) in
@@ -218,13 +239,15 @@ module _ (form : Form) (bytes : List ℕ) (talk : Talk) (u v : Option (List ℕ)
           out = h.text ++ k.out;
           output = output.1;
           only = λ other is. output_unique form (bytes ++ piece) other output.0 is output.1;
-          begins = begins-trans (h.text ++ k.out) (h.text ++ k.whole) output.0 (begins_behind h.text k.out k.whole k.begins) stands;
+          begins = begins-trans (h.text ++ k.out) (h.text ++ k.whole) output.0
+              (begins_behind h.text k.out k.whole k.begins) stands;
           writes = Appends-trans u v w h.text k.out h.writes k.writes;
         }
 
     module _ (fault : RunFault) (new : Talk) (k : StopsInPiece fault talk piece new v w) where
       -- or it stops at a line, after which there is none if the rest of the piece does not end it
-      piece_stopped : (line : List ℕ) × (stop : AnswersBefore form (bytes ++ piece) line u w) × IsTakeFault line (drop k.count piece) fault
+      piece_stopped : (line : List ℕ) × (stop : AnswersBefore form (bytes ++ piece) line u w)
+          × IsTakeFault line (drop k.count piece) fault
           × (lines_of (drop k.count piece) ≡ drop k.count piece ∷ [] → stop.behind ≡ [])
       piece_stopped =
           let front = take k.count piece in
@@ -248,20 +271,29 @@ module _ (form : Form) (bytes : List ℕ) (talk : Talk) (u v : Option (List ℕ)
           (carried new rest, answers, k.untaken, λ one. ap (λ (ls : List (List ℕ)). drop 1 ls) (sym first.1 ∙ one))
 
       -- this is all that the bytes have after the last newline, if there were few
-      stopped_at_last : length talk.begun + length piece ≤ most_bytes + 1 → most_bytes < length (carried new (drop k.count piece))
+      stopped_at_last : length talk.begun + length piece ≤ most_bytes + 1
+          → most_bytes < length (carried new (drop k.count piece))
           → (last : Talk) × Says (silence_in form) (bytes ++ piece) last u w × (length last.begun ≡ most_bytes + 1)
       stopped_at_last few long =
           let front = take k.count piece in
           let rest = drop k.count piece in
           let alone = begun_alone (talk.begun ++ front) new.begun k.says.takes.ended k.says.takes.cut in
           let short = begun_short (talk.begun ++ front) new.begun k.says.takes.ended k.says.takes.cut in
-          let parts : length front + length rest ≡ length piece = sym (length-append front rest) ∙ ap length (take-append-drop k.count piece) in
+          let parts : length front + length rest
+          ≡ length piece = sym (length-append front rest) ∙ ap length (take-append-drop k.count piece) in
           let bound : length new.begun + length rest ≤ most_bytes + 1 = omega (arith, length-append talk.begun front) in
           let one : lines_of rest ≡ rest ∷ [] =
-          one_line rest (omega (arith, length-append new.begun (before_first ends_line rest), length-prefix_len (λ x. not (ends_line x)) rest)) in
+          one_line rest (omega (
+            arith,
+            length-append new.begun (before_first ends_line rest),
+            length-prefix_len
+                (λ x. not (ends_line x)) rest,
+          )) in
           let last : Talk = talk_at new.form (point_of new) (new.begun ++ rest) in
-          let tail : Says new rest last w w = record { text = []; takes = takes_none new last rest alone one refl refl refl; writes = Appends-nil w } in
-          let said = says_on (silence_in form) talk last bytes (front ++ rest) u v w h (says_on talk new last front rest v w w k.says tail) in
+          let tail : Says new rest last w w = record
+          { text = []; takes = takes_none new last rest alone one refl refl refl; writes = Appends-nil w } in
+          let said = says_on (silence_in form) talk last bytes (front ++ rest) u v w h
+          (says_on talk new last front rest v w w k.says tail) in
           let exact : length (new.begun ++ rest) ≡ most_bytes + 1 =
           omega (
             arith,
@@ -269,8 +301,12 @@ module _ (form : Form) (bytes : List ℕ) (talk : Talk) (u v : Option (List ℕ)
             length-append new.begun (before_first ends_line rest),
             length-prefix_len (λ x. not (ends_line x)) rest,
             prefix_len-le-length (λ x. not (ends_line x)) rest,
-          ) in
-          (last, subst (λ (l : List ℕ). Says (silence_in form) (bytes ++ l) last u w) (take-append-drop k.count piece) said, exact)
+          ) in (
+            last,
+            subst (λ (l : List ℕ). Says (silence_in form) (bytes ++ l) last u w)
+                (take-append-drop k.count piece) said,
+            exact,
+          )
 
     -- the piece was not answered to its end
     pub piece_failed : (r s : Option (List ℕ)) (new : Talk) (fault : RunFault) → Consumes r s (bytes ++ piece)

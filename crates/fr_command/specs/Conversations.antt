@@ -1,5 +1,6 @@
 -- The state of a conversation between the pieces of an input, and its answers. This project's own.
-use Rattle.std.specs.Prelude.{◌≡◌, ◌≢◌, ◌==◌, ℕ, ◌+◌, true, List, [], ◌∷◌, ◌++◌, length, min, Option, String, string_bytes}
+use Rattle.std.specs.Prelude.{◌≡◌, ◌≢◌, ◌==◌, ℕ, ◌+◌, true, List, [], ◌∷◌}
+use Rattle.std.specs.Prelude.{◌++◌, length, min, Option, String, string_bytes}
 use Rattle.std.specs.List.{before_first, position_or_len}
 use Rattle.std.specs.Option.{option_map_or}
 use Rattle.std.specs.Io.KnownBytes.{Appends}

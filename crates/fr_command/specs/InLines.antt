@@ -20,7 +20,8 @@ pub record BeginsAnswer (form : Form) (point : Point) (line : List ℕ) (before 
 
 -- why a line is not answered: a write failed; or the line is not blank, a thread or memory is missing, and nothing was
 -- written
-abbrev pub IsLineFault : (form : Form) (point : Point) (line : List ℕ) (before after : Option (List ℕ)) → RunFault → Type 0
+abbrev pub IsLineFault : (form : Form) (point : Point) (line : List ℕ) (before after : Option (List ℕ)) → RunFault
+    → Type 0
 IsLineFault form point line before after Read = ⊥
 IsLineFault form point line before after Write = BeginsAnswer form point line before after
 IsLineFault form point line before after TooLong = ⊥

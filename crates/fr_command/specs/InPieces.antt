@@ -8,7 +8,8 @@ use Rattle.fr_command.specs.Conversations.{Talk, Takes, Says, carried}
 use Rattle.fr_command.specs.Faults.{IsTakeFault}
 
 -- some bytes of the piece were taken, and their answer was written; with this fault, nothing was taken of the rest
-pub record StopsInPiece (fault : RunFault) (old : Talk) (piece : List ℕ) (new : Talk) (before after : Option (List ℕ)) : Type 0 where
+pub record StopsInPiece (fault : RunFault) (old : Talk) (piece : List ℕ) (new : Talk)
+    (before after : Option (List ℕ)) : Type 0 where
   pub count : ℕ
   pub says : Says old (take count piece) new before after
   pub untaken : IsTakeFault (carried new (drop count piece)) (drop count piece) fault
@@ -24,13 +25,15 @@ pub record BeginsInPiece (old : Talk) (piece : List ℕ) (before after : Option 
   pub writes : Appends before after out
 
 -- why a piece is not answered to its end: a write failed, or the conversation could not take a line
-abbrev pub IsPieceFault : (old : Talk) (piece : List ℕ) (new : Talk) (before after : Option (List ℕ)) → RunFault → Type 0
+abbrev pub IsPieceFault : (old : Talk) (piece : List ℕ) (new : Talk) (before after : Option (List ℕ)) → RunFault
+    → Type 0
 IsPieceFault old piece new before after Write = BeginsInPiece old piece before after
 IsPieceFault old piece new before after fault = StopsInPiece fault old piece new before after
 
 -- why the first line of a piece is not answered: a write failed; or the conversation could not take it, and nothing was
 -- written
-abbrev pub IsFrontFault : (old : Talk) (piece : List ℕ) (new : Talk) (before after : Option (List ℕ)) → RunFault → Type 0
+abbrev pub IsFrontFault : (old : Talk) (piece : List ℕ) (new : Talk) (before after : Option (List ℕ)) → RunFault
+    → Type 0
 IsFrontFault old piece new before after Write = BeginsInPiece old piece before after
 IsFrontFault old piece new before after fault =
     (new ≡ old) × Keeps before after × IsTakeFault (carried old piece) piece fault

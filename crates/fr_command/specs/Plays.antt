@@ -1,5 +1,6 @@
 -- The output of the play of a drawn schedule, defined by docs/PLAYS.md. This project's own.
-use Rattle.std.specs.Prelude.{◌≡◌, ℕ, ◌<◌, ◌⊎◌, ◌==◌, ◌&&◌, ◌||◌, not, Bool, List, [], ◌∷◌, ◌++◌, length, take, map, filter, find, replicate, codes, decimal, Option, Some, None, option_map, Result, Ok, Err}
+use Rattle.std.specs.Prelude.{◌≡◌, ℕ, ◌<◌, ◌⊎◌, ◌==◌, ◌&&◌, ◌||◌, not, Bool, List, [], ◌∷◌, ◌++◌, length, take, map}
+use Rattle.std.specs.Prelude.{filter, find, replicate, codes, decimal, Option, Some, None, option_map, Result, Ok, Err}
 use Rattle.std.specs.List.{list_any, repeat, range_with_len, flat_map}
 use Rattle.std.specs.Io.KnownBytes.{Appends}
 use Rattle.fr_graph.specs.Counts.{links_at}
@@ -65,7 +66,8 @@ pub record IsPlayText (draw : Draw) (n d : ℕ) (first : List (ℕ × ℕ)) (out
   pub entries : List Entry
   pub counts : List ℕ
   -- the entries are those of the drawn schedule, for workers with equal targets
-  pub play : IsPlay n d first (replicate draw.workers (targets_for n d first draw.steps)) (drawn draw.seed draw.steps draw.workers) entries
+  pub play : IsPlay n d first (replicate draw.workers (targets_for n d first draw.steps))
+      (drawn draw.seed draw.steps draw.workers) entries
   -- they lead to these counts
   pub run : IsRunTo n d first entries counts
   -- exactly this is printed

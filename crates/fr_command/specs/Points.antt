@@ -1,5 +1,6 @@
 -- The answers to lines, one after the other, in either form, and how many lines there are. This project's own.
-use Rattle.std.specs.Prelude.{◌≡◌, ◌↔◌, ◌+◌, ◌-◌, ◌^◌, ℕ, Bool, IsTrue, List, [], ◌∷◌, ◌++◌, MatchBool, min, if◌then◌else◌, Option, None}
+use Rattle.std.specs.Prelude.{◌≡◌, ◌↔◌, ◌+◌, ◌-◌, ◌^◌, ℕ, Bool, IsTrue, List, []}
+use Rattle.std.specs.Prelude.{◌∷◌, ◌++◌, MatchBool, min, if◌then◌else◌, Option, None}
 use Rattle.fr_lines.specs.Requests.{reading}
 use Rattle.fr_route.specs.Blank.{is_blank}
 use Rattle.fr_route.specs.Forms.{IsAnswerIn, IsLineRefused}
@@ -26,7 +27,7 @@ first_point = record { state = None; ended = 0; answered = 0; refused = 0 }
 abbrev pub after_blank : Point → Point
 after_blank point = record point { ended = one_more point.ended }
 
--- after a line that was answered, and refused or not, in this state
+-- after a line that was answered, which led to this state, and refused or not
 abbrev pub after_answer : Point → Bool → Option State → Point
 after_answer point is_refused next = record {
   state = next;

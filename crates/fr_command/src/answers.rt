@@ -1,6 +1,7 @@
 //! Answering the lines of an input.
 
-ghost use Rattle.std.specs.Prelude.{◌≡◌, ◌≢◌, [], ◌∷◌, List, ℕ, IfErr, IfNone, IfOk, IfSome, OnOk, false, string_bytes, true};
+ghost use Rattle.std.specs.Prelude.{◌≡◌, ◌≢◌, [], ◌∷◌, List, ℕ, IfErr, IfNone};
+ghost use Rattle.std.specs.Prelude.{IfOk, IfSome, OnOk, false, string_bytes, true};
 ghost use Rattle.std.specs.Io.KnownBytes.{Appends};
 ghost use Rattle.fr_route.specs.Blank.{is_blank};
 ghost use Rattle.fr_command.specs.InLines.{IsAnsweringFault, IsLineFault};
@@ -62,7 +63,8 @@ fn answer_one<T: Threads + Wait + Sync, W: Write, G: Gate + Sync>(
 ) -> Result<(), RunFault>
     ensures ok { OnOk result ((out : List ℕ) × AreAnswersIn form responder.old (line.now ∷ []) out responder.new
         × Appends (W.contents writer.old) (W.contents writer.new) out) }
-    ensures fault { IfErr result (IsLineFault form responder.old line.now (W.contents writer.old) (W.contents writer.new)) }
+    ensures fault { IfErr result
+        (IsLineFault form responder.old line.now (W.contents writer.old) (W.contents writer.new)) }
     ensures no_start { crew.now.plan.now.budget ≡ 0 → result ≢ Err RunFault.Start }
 {
     match answer_text(crew, form, responder, line) {
@@ -79,8 +81,11 @@ fn answer_text<T: Threads + Wait + Sync, G: Gate + Sync>(
     responder: &mut Responder,
     line: &[u8],
 ) -> Result<Option<String>, AnswerFault>
-    ensures blank { IfOk result (λ answer. IfNone answer (AreAnswersIn form responder.old (line.now ∷ []) [] responder.new)) }
-    ensures text { IfOk result (λ answer. IfSome answer (λ text. AreAnswersIn form responder.old (line.now ∷ []) (string_bytes text) responder.new)) }
+    ensures blank { IfOk result
+        (λ answer. IfNone answer (AreAnswersIn form responder.old (line.now ∷ []) [] responder.new)) }
+    ensures text { IfOk result
+        (λ answer. IfSome answer
+        (λ text. AreAnswersIn form responder.old (line.now ∷ []) (string_bytes text) responder.new)) }
     ensures asks { IfErr result (λ _. is_blank line.now ≡ false) }
     ensures no_start { crew.now.plan.now.budget ≡ 0 → result ≢ Err AnswerFault.Start }
 {

@@ -1,11 +1,13 @@
 //! A conversation: the bytes of an input come in pieces that can end anywhere, and each line is answered once it has
 //! ended.
 
-ghost use Rattle.std.specs.Prelude.{◌≡◌, ◌≢◌, ◌<◌, ◌≤◌, ◌+◌, ◌++◌, ◌↔◌, ◌∷◌, [], length, take, true, IfErr, IfOk, OnOk, OnErr};
+ghost use Rattle.std.specs.Prelude.{◌≡◌, ◌≢◌, ◌<◌, ◌≤◌, ◌+◌, ◌++◌, ◌↔◌, ◌∷◌, []};
+ghost use Rattle.std.specs.Prelude.{length, take, true, IfErr, IfOk, OnOk, OnErr};
 ghost use Rattle.fr_route.specs.Blank.{is_blank as is_blank_line};
 ghost use Rattle.fr_bytes.specs.Lines.{lines_of};
 ghost use Rattle.fr_bytes.specs.Bytes.{most_bytes};
-ghost use Rattle.fr_command.specs.Conversations.{Takes, Ends, silence, silence_in, carried, line_size, point_of, text_of};
+ghost use Rattle.fr_command.specs.Conversations.{Takes, Ends, silence, silence_in};
+ghost use Rattle.fr_command.specs.Conversations.{carried, line_size, point_of, text_of};
 ghost use Rattle.fr_command.specs.Faults.{IsTakeFault, IsFinishFault};
 ghost use Rattle.fr_command.specs.InPieces.{IsHoldFault};
 
@@ -118,7 +120,8 @@ impl Conversation {
         gate: &G,
     ) -> Result<Taken, RunFault>
         ensures count { IfOk result (λ taken. taken.count ≡ line_size piece.now) }
-        ensures takes { IfOk result (λ taken. Takes self.old (take taken.count piece.now) (text_of taken.answer) self.new) }
+        ensures takes { IfOk result
+            (λ taken. Takes self.old (take taken.count piece.now) (text_of taken.answer) self.new) }
         ensures within { OnOk result (length (carried self.old piece.now) ≤ most_bytes) }
         ensures unchanged { OnErr result (self.new ≡ self.old) }
         ensures fault { IfErr result (IsTakeFault (carried self.old piece.now) piece.now) }
@@ -188,7 +191,8 @@ impl Conversation {
     /// limit.
     fn ends_blank(&self, piece: &[u8], front: usize) -> bool
         requires { front ≤ length piece.now }
-        ensures { (result ≡ true) ↔ ((front < length piece.now) × (is_blank_line (self.now.begun ++ take front piece.now) ≡ true)
+        ensures { (result ≡ true)
+            ↔ ((front < length piece.now) × (is_blank_line (self.now.begun ++ take front piece.now) ≡ true)
             × (length (self.now.begun ++ take front piece.now) ≤ most_bytes)) }
     {
         front < piece.len()
@@ -200,7 +204,8 @@ impl Conversation {
     /// Keeps bytes without a newline after those of the line that has begun.
     fn hold(&mut self, bytes: &[u8]) -> Result<(), RunFault>
         requires { lines_of bytes.now ≡ bytes.now ∷ [] }
-        ensures ok { OnOk result ((self.new.begun ≡ self.old.begun ++ bytes.now) × (point_of self.new ≡ point_of self.old)
+        ensures ok { OnOk result ((self.new.begun ≡ self.old.begun ++ bytes.now)
+            × (point_of self.new ≡ point_of self.old)
             × (self.new.form ≡ self.old.form)) }
         ensures within { OnOk result (length self.old.begun + length bytes.now ≤ most_bytes) }
         ensures unchanged { OnErr result (self.new ≡ self.old) }

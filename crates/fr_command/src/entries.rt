@@ -6,7 +6,8 @@ ghost use Rattle.fr_core.specs.Targets.{lists_of};
 ghost use Rattle.fr_core.specs.Runs.{IsRunTo};
 ghost use Rattle.fr_core.specs.declared.targets.Target.TheVariants.{Turn};
 ghost use Rattle.fr_route.specs.Texts.{counts_text, links_text};
-ghost use Rattle.fr_command.specs.Plays.{turnable_nodes as turnable_nodes_of, targets_for, line_of, entry_text, reply_text, entries_text, end_text as end_text_of};
+ghost use Rattle.fr_command.specs.Plays.{turnable_nodes as turnable_nodes_of, targets_for, line_of};
+ghost use Rattle.fr_command.specs.Plays.{entry_text, reply_text, entries_text, end_text as end_text_of};
 
 use fr_core::{Entry, Reply, Target, check_run};
 use fr_graph::Net;

@@ -1,7 +1,8 @@
 //! The laws of outputs and of conversations. Each clause is a law of `specs/Laws.antt`, proved. The functions do
 //! nothing.
 
-ghost use Rattle.fr_command.specs.Laws.{EachInputHasAnOutput, OutputIsUnique, TextHasTheAnswers, AllBytesAreTaken, AnswerIsUnique, CutsDoNotMatter, AnswerStands, EndsWithTheOutput};
+ghost use Rattle.fr_command.specs.Laws.{EachInputHasAnOutput, OutputIsUnique, TextHasTheAnswers, AllBytesAreTaken};
+ghost use Rattle.fr_command.specs.Laws.{AnswerIsUnique, CutsDoNotMatter, AnswerStands, EndsWithTheOutput};
 
 /// Each input has exactly one output in each form: each line that is not blank has one answer, in the state after the
 /// lines before it. The output text consists of the text answers.

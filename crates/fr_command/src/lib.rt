@@ -2,8 +2,8 @@
 //!
 //! [`run`] answers the lines of an input as text, and [`play_drawn`] plays the schedule of a [`Draw`] on its network.
 //! [`serve`] answers each line as soon as it has ended. It uses a [`Conversation`], to which a caller can pass bytes
-//! from any source. [`run_in`] and [`serve_in`] answer in either [`Form`], as text or as JSON, and return a [`Tally`] of
-//! the answered and the refused lines.
+//! from any source. [`run_in`] and [`serve_in`] answer in either [`Form`], as text or as JSON, and return a [`Tally`]
+//! of the answered and the refused lines.
 //!
 //! Parts of [`run`] are public, for programs that read an input and write another text: [`read_input`], [`Lines`],
 //! [`first_line`] and [`write_whole`]. [`command_line`] and [`task_of`] read the words of a command line, and

@@ -124,7 +124,8 @@ fn play_net(alloc: Global, net: &Net, dest: u32, draw: Draw) -> Result<(String, 
 /// The entries of a play on a network: the calls and their replies.
 fn entries_of(alloc: Global, net: &Net, dest: u32, draw: Draw) -> Result<Vec<Entry>, AllocError>
     ensures { IfOk result (λ entries. IsPlay net.now.nodes dest net.now.links
-        (replicate draw.workers (targets_for net.now.nodes dest net.now.links draw.steps)) (drawn draw.seed draw.steps draw.workers) entries.items) }
+        (replicate draw.workers (targets_for net.now.nodes dest net.now.links draw.steps))
+        (drawn draw.seed draw.steps draw.workers) entries.items) }
 {
     let targets = targets_of(alloc, net, dest, draw)?;
     let schedule = draw.schedule(alloc)?;

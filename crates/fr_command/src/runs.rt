@@ -15,10 +15,10 @@ use std::io::{Read, Write};
 use std::sync::Wait;
 use std::thread::Threads;
 
-/// Reads the whole input, answers each line that is not blank, flushes once at the end, and returns how many lines were
-/// answered. Each line ends at a newline (byte 10). `specs/Answers.antt` of fr_route defines the answers. Threads
-/// settle each network, with this plan and gate; no answer depends on them. The call waits for these threads, which end
-/// once the calls of the gate return. At most one byte more than [`MAX_BYTES`](crate::MAX_BYTES) is read.
+/// Reads the whole input, answers each line that is not blank as text, flushes once at the end, and returns how many
+/// lines were answered. Each line ends at a newline (byte 10). `specs/Answers.antt` of fr_route defines the answers.
+/// Threads settle each network, with this plan and gate; no answer depends on them. The call waits for these threads,
+/// which end once the calls of the gate return. At most one byte more than [`MAX_BYTES`](crate::MAX_BYTES) is read.
 ///
 /// Fails with `Read` if a read fails, with `TooLong` if the input is longer than the limit, and with `Memory` if there
 /// is no memory for the input; then nothing was written. Fails with `Write` if a write or the flush fails; then a

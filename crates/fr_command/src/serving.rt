@@ -20,10 +20,10 @@ use std::io::{Read, Write};
 use std::sync::Wait;
 use std::thread::Threads;
 
-/// Answers each line of the input that is not blank. It writes each answer, and flushes, before it reads on. At the end
-/// of the input it has written exactly what [`run`](crate::run) writes. The input may have any length, and each line at
-/// most [`MAX_BYTES`] bytes. It waits for the reader, and for the threads that settle networks, as [`run`](crate::run)
-/// does.
+/// Answers each line of the input that is not blank as text. It writes each answer, and flushes, before it reads on.
+/// At the end of the input it has written exactly what [`run`](crate::run) writes. The input may have any length, and
+/// each line at most [`MAX_BYTES`] bytes. It waits for the reader, and for the threads that settle networks, as
+/// [`run`](crate::run) does.
 ///
 /// Fails with `Read` if a read fails, and with `TooLong` at the first byte that makes a line too long, after which
 /// nothing is read; then all lines that had ended were answered. Fails with `Start` or `Memory` if a thread or memory
@@ -113,7 +113,8 @@ fn answer_piece<T: Threads + Wait + Sync, W: Write, G: Gate + Sync>(
     writer: &mut W,
 ) -> Result<(), RunFault>
     requires { lines_of conversation.old.begun ≡ conversation.old.begun ∷ [] }
-    ensures ok { OnOk result (Says conversation.old piece.now conversation.new (W.contents writer.old) (W.contents writer.new)) }
+    ensures ok { OnOk result
+        (Says conversation.old piece.now conversation.new (W.contents writer.old) (W.contents writer.new)) }
     ensures fault { IfErr result (IsPieceFault conversation.old piece.now conversation.new
         (W.contents writer.old) (W.contents writer.new)) }
     ensures no_start { crew.now.plan.now.budget ≡ 0 → result ≢ Err RunFault.Start }
@@ -134,7 +135,9 @@ fn answer_front<T: Threads + Wait + Sync, W: Write, G: Gate + Sync>(
     writer: &mut W,
 ) -> Result<usize, RunFault>
     ensures count { IfOk result (λ count. count ≡ line_size piece.now) }
-    ensures ok { IfOk result (λ count. Says conversation.old (take count piece.now) conversation.new (W.contents writer.old) (W.contents writer.new)) }
+    ensures ok { IfOk result
+        (λ count. Says conversation.old (take count piece.now) conversation.new (W.contents writer.old)
+        (W.contents writer.new)) }
     ensures fault { IfErr result (IsFrontFault conversation.old piece.now conversation.new
         (W.contents writer.old) (W.contents writer.new)) }
     ensures no_start { crew.now.plan.now.budget ≡ 0 → result ≢ Err RunFault.Start }

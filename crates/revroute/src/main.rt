@@ -2,8 +2,10 @@
 //! it comes, or plays full reversal step by step.
 #![tactic(auto)]
 
-use fr_command::{CommandLine, Form, RunFault, Task, TaskFault};
-use fr_command::{command_line, play_drawn, run_end, run_in, serve_in, task_end};
+use fr_command::{
+    CommandLine, Form, RunFault, Task, TaskFault, command_line, play_drawn, run_end, run_in,
+    serve_in, task_end,
+};
 use fr_crew::{Crew, OpenGate, Plan};
 use std::alloc::Global;
 use std::io::{BufWriter, ErrorKind};
@@ -84,11 +86,7 @@ fn perform<R: Threads + Wait + Sync + Alloc<A = Global> + Input + Print>(
     let Ok(mut out) = BufWriter::new(alloc, io::writer(rt)) else {
         return Err(RunFault::Memory);
     };
-    let form = if line.json {
-        Form::Json
-    } else {
-        Form::Text
-    };
+    let form = if line.json { Form::Json } else { Form::Text };
     match line.task {
         Task::Run(plan) => {
             let tally = run_in(&crew_of(rt, &plan), form, &mut rt.reader(), &mut out)?;

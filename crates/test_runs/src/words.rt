@@ -8,9 +8,9 @@ use serde_json::Value;
 use std::alloc::Global;
 use std::fmt::Display;
 
-/// `["words", [word, ..]]`: the task that the words ask for with its flags, or the status, what they ask for, and the text.
-/// `["words", [word, ..], begin, middle, end]`: the same, but whether the text begins with `begin`, contains `middle` and ends
-/// with `end`.
+/// `["words", [word, ..]]`: the task that the words ask for with its flags, or the status, what they ask for, and the
+/// text. `["words", [word, ..], begin, middle, end]`: the same, but whether the text begins with `begin`, contains
+/// `middle` and ends with `end`.
 pub fn tell_words<R: AllocGlobal + Print>(rt: &R, case: &Case<'_>) -> Option<()> {
     let words = texts_of(rt.alloc(), case.value(1)?.as_array()?);
     match command_line(rt.alloc(), &words) {

@@ -1,4 +1,5 @@
-use Rattle.std.proofs.Common.{◌≡◌, ◌∷◌, [], List, ℕ, Result, Ok, Err, IfErr, OnErr, drop, string_bytes, subst, sym, take}
+use Rattle.std.proofs.Common.{◌≡◌, ◌∷◌, [], List, ℕ, Result, Ok, Err, IfErr}
+use Rattle.std.proofs.Common.{OnErr, drop, string_bytes, subst, sym, take}
 use Rattle.std.proofs.lemmas.List.{take-append-drop}
 use Rattle.std.proofs.lemmas.Result.{on_ok_weaker}
 use Rattle.std.specs.Io.KnownBytes.{Appends}
@@ -8,7 +9,8 @@ use Rattle.fr_command.specs.Points.{AreAnswersIn}
 use Rattle.fr_command.proofs.answers.answer_one.Goals as goal
 
 -- what holds if a result is an error, and of its only fault
-of_the_fault : {T E : Type 0} (r : Result T E) (one : E) (P : E → Type 0) (Q : Type 0) → IfErr r (λ fault. fault ≡ one) → OnErr r Q
+of_the_fault : {T E : Type 0} (r : Result T E) (one : E) (P : E → Type 0) (Q : Type 0)
+    → IfErr r (λ fault. fault ≡ one) → OnErr r Q
     → (Q → P one) → IfErr r P
 of_the_fault (Ok x) one P Q only h f = tt
 of_the_fault (Err y) one P Q only h f = subst P (sym only) (f h)
@@ -31,7 +33,8 @@ returns-in-Ok-Some-clause-fault g c =
     let told : AreAnswersIn c.args.form c.args.responder.now (c.args.line.now ∷ []) answer c.answer_text.new.responder =
     rw c.in-Ok-Some.field-0-is at c.in-Ok-Some.ensures.text in
     of_the_fault c.write_whole.result Write (IsLineFault c.args.form c.args.responder.now c.args.line.now old new)
-    ((n : ℕ) × Appends old new (take n answer)) c.write_whole.ensures.kind (rw c.as_bytes.ensures.value at c.write_whole.ensures.err)
+    ((n : ℕ) × Appends old new (take n answer)) c.write_whole.ensures.kind
+    (rw c.as_bytes.ensures.value at c.write_whole.ensures.err)
     (λ part. record {
       answer = answer;
       last = c.answer_text.new.responder;

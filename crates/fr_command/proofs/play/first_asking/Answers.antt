@@ -8,4 +8,5 @@ use Rattle.fr_command.proofs.play.first_asking.Goals as goal
 pub returns : goal.returns
 returns c =
     let yields = YieldsList-from_first (λ line. line.now) lines_left (lines_of c.args.input.now) c.new.ensures in
-    find_from_yields_List (λ line. not (is_blank line)) c.find.new.self _ _ c.find.ensures.ran yields (λ x b q k. search rules)
+    find_from_yields_List (λ line. not (is_blank line)) c.find.new.self _ _ c.find.ensures.ran yields
+    (λ x b q k. search rules)

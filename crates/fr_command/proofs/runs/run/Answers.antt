@@ -6,5 +6,9 @@ pub returns-in-Ok-clause-ok : goal.returns-in-Ok-clause-ok
 returns-in-Ok-clause-ok g c =
     let old = g.W.Write.contents c.args.writer.now in
     let new = g.W.Write.contents c.run_in.new.writer in
-    let h = c.in-Ok.ensures.ok in
-    (h.0, h.1, writes_text h.0 old new c.in-Ok.tally c.in-Ok.tally.answered h.2 (counts_all Text h.0 old new c.in-Ok.tally h.1.2 h.2))
+    let h = c.in-Ok.ensures.ok in (
+      h.0,
+      h.1,
+      writes_text h.0 old new c.in-Ok.tally c.in-Ok.tally.answered h.2
+          (counts_all Text h.0 old new c.in-Ok.tally h.1.2 h.2),
+    )

@@ -11,12 +11,17 @@ returns-in_err-flush-clause-fault g c =
     let old = g.W.Write.contents c.args.writer.now in
     let mid = g.W.Write.contents c.answer_all.new.writer in
     let new = g.W.Write.contents c.flush.new.writer in
-    let made : WritesOutputIn c.args.form bytes old mid c.in_ok-tally.tally = rw c.deref.ensures.value at c.in_ok-tally.ensures.ok in
-    let why = IsRunFaultIn c.args.form (g.R.Read.remaining c.args.reader.now) (g.R.Read.remaining c.read_input.new.reader) old new in
+    let made : WritesOutputIn c.args.form bytes old mid c.in_ok-tally.tally =
+    rw c.deref.ensures.value at c.in_ok-tally.ensures.ok in
+    let why = IsRunFaultIn c.args.form (g.R.Read.remaining c.args.reader.now)
+    (g.R.Read.remaining c.read_input.new.reader) old new in
     let exit = c.from_residual-in_err-flush in
     handed_on exit.result c.in_err-flush.field-0.0 why exit.ensures.1
-    (subst why (sym c.in_err-flush.ensures.kind)
-    (bytes, c.in_ok-input.ensures.ok, output_begins c.args.form bytes old mid new c.in_ok-tally.tally made c.flush.ensures.kept))
+    (subst why (sym c.in_err-flush.ensures.kind) (
+      bytes,
+      c.in_ok-input.ensures.ok,
+      output_begins c.args.form bytes old mid new c.in_ok-tally.tally made c.flush.ensures.kept,
+    ))
 
 pub returns-clause-ok : goal.returns-clause-ok
 returns-clause-ok g c =
@@ -24,5 +29,9 @@ returns-clause-ok g c =
     let old = g.W.Write.contents c.args.writer.now in
     let mid = g.W.Write.contents c.answer_all.new.writer in
     let new = g.W.Write.contents c.flush.new.writer in
-    let made : WritesOutputIn c.args.form bytes old mid c.in_ok-tally.tally = rw c.deref.ensures.value at c.in_ok-tally.ensures.ok in
-    (bytes, c.in_ok-input.ensures.ok, flushed c.args.form bytes old mid new c.in_ok-tally.tally made c.flush.ensures.kept)
+    let made : WritesOutputIn c.args.form bytes old mid c.in_ok-tally.tally =
+    rw c.deref.ensures.value at c.in_ok-tally.ensures.ok in (
+      bytes,
+      c.in_ok-input.ensures.ok,
+      flushed c.args.form bytes old mid new c.in_ok-tally.tally made c.flush.ensures.kept,
+    )

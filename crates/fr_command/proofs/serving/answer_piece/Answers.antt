@@ -25,9 +25,11 @@ loop-done-preserved g c =
     let count : ℕ = c.in_ok-count.count in
     let size : count ≡ line_size (drop done piece) = rw (rest_is piece done) at c.in_ok-count.ensures.count in
     let more = rw (rest_is piece done) at c.in_ok-count.ensures.ok in
-    let said = says_on c.args.conversation.now c.loop-done.conversation c.answer_front.new.conversation (take done piece)
+    let said = says_on c.args.conversation.now c.loop-done.conversation c.answer_front.new.conversation
+    (take done piece)
     (take count (drop done piece)) (g.W.Write.contents c.args.writer.now)
-    (g.W.Write.contents c.loop-done.writer) (g.W.Write.contents c.answer_front.new.writer) c.loop-done.invariant.says more in
+    (g.W.Write.contents c.loop-done.writer)
+    (g.W.Write.contents c.answer_front.new.writer) c.loop-done.invariant.says more in
     record {
       in_range = omega (arith, size, length-drop done piece);
       says = subst (λ (l : List ℕ). Says c.args.conversation.now l c.answer_front.new.conversation
@@ -46,7 +48,8 @@ returns-in_err-count-clause-fault g c =
     let fault = c.in_err-count.field-0.0 in
     let why = rw (rest_is piece done) at c.in_err-count.ensures.fault in
     handed_on c.from_residual.result fault (IsPieceFault first piece last old new) c.from_residual.ensures.1
-    (fails_later first c.loop-done.conversation piece done old (g.W.Write.contents c.loop-done.writer) c.loop-done.invariant.says last new fault why)
+    (fails_later first c.loop-done.conversation piece done old
+    (g.W.Write.contents c.loop-done.writer) c.loop-done.invariant.says last new fault why)
 
 pub returns-clause-ok : goal.returns-clause-ok
 returns-clause-ok g c =
@@ -66,5 +69,7 @@ returns-clause-fault g c =
     let done = c.loop-done.done in
     let old = g.W.Write.contents c.args.writer.now in
     let new = g.W.Write.contents c.flush.new.writer in
-    let said = says_kept first last (take done piece) old (g.W.Write.contents c.loop-done.writer) new c.loop-done.invariant.says c.flush.ensures.kept in
-    only_fault c.flush.result Write (IsPieceFault first piece last old new) c.flush.ensures.kind (says_begins first last piece done old new said)
+    let said = says_kept first last (take done piece) old
+    (g.W.Write.contents c.loop-done.writer) new c.loop-done.invariant.says c.flush.ensures.kept in
+    only_fault c.flush.result Write (IsPieceFault first piece last old new) c.flush.ensures.kind
+    (says_begins first last piece done old new said)

@@ -1,4 +1,5 @@
-use Rattle.std.proofs.Common.{◌≡◌, ◌<◌, ◌≤◌, ◌+◌, ◌++◌, ℕ, List, length, length-append, length-drop, length-take, take, drop, ap, refl, arith}
+use Rattle.std.proofs.Common.{◌≡◌, ◌<◌, ◌≤◌, ◌+◌, ◌++◌, ℕ, List, length, length-append}
+use Rattle.std.proofs.Common.{length-drop, length-take, take, drop, ap, refl, arith}
 use Rattle.std.proofs.lemmas.Result.{IfErr-weaker, IfOk-weaker}
 use Rattle.std.specs.Io.KnownBytes.{Appends, Consumes, IsAtEnd}
 use Rattle.fr_bytes.specs.Bytes.{most_bytes}
@@ -8,12 +9,14 @@ use Rattle.fr_command.specs.Faults.{IsServeFaultIn}
 use Rattle.fr_command.specs.InLines.{IsLineFault}
 use Rattle.fr_command.specs.Outputs.{WritesOutputIn}
 use Rattle.fr_command.specs.declared.responder.Tally.{Tally}
-use Rattle.fr_command.proofs.Served.{HasServed, nothing_served, read_nothing, read_on, output_written, end_failed, piece_failed, says_on}
+use Rattle.fr_command.proofs.Served.{HasServed, nothing_served, read_nothing, read_on}
+use Rattle.fr_command.proofs.Served.{output_written, end_failed, piece_failed, says_on}
 use Rattle.fr_command.proofs.serving.converse.Goals as goal
 
 pub reads-init : goal.reads-init
 reads-init g c = record {
-  served = nothing_served c.args.conversation.now.form (g.R.Read.remaining c.args.reader.now) (g.W.Write.contents c.args.writer.now) c.args.conversation.now c.requires;
+  served = nothing_served c.args.conversation.now.form (g.R.Read.remaining c.args.reader.now)
+      (g.W.Write.contents c.args.writer.now) c.args.conversation.now c.requires;
   long = refl;
 }
 
@@ -39,8 +42,10 @@ returns-then-count-eq0-clause-ok g c =
     let talk = c.reads.conversation in
     let new = c.answer_end.new.conversation in
     IfOk-weaker c.answer_end.result
-    (λ (tally : Tally). (text : List ℕ) × Ends talk text new × Appends v w text × (tally.answered ≡ new.answered) × (tally.refused ≡ new.refused))
-    (λ (tally : Tally). (bytes : List ℕ) × Consumes (g.R.Read.remaining c.args.reader.now) (g.R.Read.remaining c.read_piece.new.reader) bytes
+    (λ (tally : Tally). (text : List ℕ) × Ends talk text new × Appends v w text × (tally.answered ≡ new.answered)
+    × (tally.refused ≡ new.refused))
+    (λ (tally : Tally). (bytes : List ℕ)
+    × Consumes (g.R.Read.remaining c.args.reader.now) (g.R.Read.remaining c.read_piece.new.reader) bytes
     × IsAtEnd (g.R.Read.remaining c.read_piece.new.reader) × WritesOutputIn form bytes u w tally)
     (λ tally end. (
       h.bytes,
@@ -62,7 +67,8 @@ returns-then-count-eq0-clause-fault g c =
     let v = g.W.Write.contents c.reads.writer in
     let talk = c.reads.conversation in
     let form = c.args.conversation.now.form in
-    IfErr-weaker c.answer_end.result (IsLineFault talk.form (point_of talk) talk.begun v w) (IsServeFaultIn form r s u w)
+    IfErr-weaker c.answer_end.result (IsLineFault talk.form (point_of talk) talk.begun v w)
+    (IsServeFaultIn form r s u w)
     (λ fault why. end_failed form h.bytes talk u v h.says r s w fault reads why) c.answer_end.ensures.fault
 
 pub reads-preserved : goal.reads-preserved
@@ -70,15 +76,20 @@ reads-preserved g c =
     let h = c.reads.invariant.served in
     let room : List ℕ = drop c.min-room.result c.reads.piece in
     let piece : List ℕ = take c.in_ok-count.count (c.read_piece.new.piece ++ room) in
-    let few : c.in_ok-count.count ≤ length c.read_piece.new.piece = omega (arith, c.in_ok-count.ensures.bound, c.read_piece.auto.piece) in
+    let few : c.in_ok-count.count
+    ≤ length c.read_piece.new.piece = omega (arith, c.in_ok-count.ensures.bound, c.read_piece.auto.piece) in
     let reads = read_on (g.R.Read.remaining c.args.reader.now) (g.R.Read.remaining c.reads.reader)
-    (g.R.Read.remaining c.read_piece.new.reader) h.bytes c.read_piece.new.piece room c.in_ok-count.count few h.reads c.in_ok-count.ensures.bytes in
-    let served : HasServed c.args.conversation.now.form (g.R.Read.remaining c.args.reader.now) (g.R.Read.remaining c.read_piece.new.reader)
-    (g.W.Write.contents c.args.writer.now) (g.W.Write.contents c.answer_piece.new.writer) c.answer_piece.new.conversation =
+    (g.R.Read.remaining c.read_piece.new.reader) h.bytes c.read_piece.new.piece room c.in_ok-count.count few h.reads
+    c.in_ok-count.ensures.bytes in
+    let served : HasServed c.args.conversation.now.form (g.R.Read.remaining c.args.reader.now)
+    (g.R.Read.remaining c.read_piece.new.reader)
+    (g.W.Write.contents c.args.writer.now)
+    (g.W.Write.contents c.answer_piece.new.writer) c.answer_piece.new.conversation =
     record {
       bytes = h.bytes ++ piece;
       reads = reads;
-      says = says_on (silence_in c.args.conversation.now.form) c.reads.conversation c.answer_piece.new.conversation h.bytes piece
+      says = says_on (silence_in c.args.conversation.now.form) c.reads.conversation c.answer_piece.new.conversation
+          h.bytes piece
           (g.W.Write.contents c.args.writer.now) (g.W.Write.contents c.reads.writer)
           (g.W.Write.contents c.answer_piece.new.writer) h.says c.in_ok-answer_piece.ensures.ok;
     } in
@@ -101,8 +112,10 @@ returns-in_err-answer_piece-clause-fault g c =
     let s = g.R.Read.remaining c.read_piece.new.reader in
     let room : List ℕ = drop c.min-room.result c.reads.piece in
     let piece : List ℕ = take c.in_ok-count.count (c.read_piece.new.piece ++ room) in
-    let few : c.in_ok-count.count ≤ length c.read_piece.new.piece = omega (arith, c.in_ok-count.ensures.bound, c.read_piece.auto.piece) in
-    let reads = read_on r (g.R.Read.remaining c.reads.reader) s h.bytes c.read_piece.new.piece room c.in_ok-count.count few
+    let few : c.in_ok-count.count
+    ≤ length c.read_piece.new.piece = omega (arith, c.in_ok-count.ensures.bound, c.read_piece.auto.piece) in
+    let reads = read_on r
+    (g.R.Read.remaining c.reads.reader) s h.bytes c.read_piece.new.piece room c.in_ok-count.count few
     h.reads c.in_ok-count.ensures.bytes in
     let short : length c.reads.conversation.begun + length piece ≤ most_bytes + 1 =
     omega (
@@ -120,5 +133,6 @@ returns-in_err-answer_piece-clause-fault g c =
     let exit = c.from_residual-in_err-answer_piece in
     let form = c.args.conversation.now.form in
     handed_on exit.result fault (IsServeFaultIn form r s u w) exit.ensures.1
-    (piece_failed form h.bytes c.reads.conversation u (g.W.Write.contents c.reads.writer) h.says piece w r s c.answer_piece.new.conversation
+    (piece_failed form h.bytes c.reads.conversation u
+    (g.W.Write.contents c.reads.writer) h.says piece w r s c.answer_piece.new.conversation
     fault reads short c.in_err-answer_piece.ensures.fault)

@@ -1,4 +1,5 @@
-use Rattle.std.proofs.Common.{◌≡◌, ◌≢◌, ◌∙◌, ◌+◌, ◌<◌, ◌≤◌, ◌++◌, ◌∷◌, [], Bool, List, ℕ, false, true, length, length-append}
+use Rattle.std.proofs.Common.{◌≡◌, ◌≢◌, ◌∙◌, ◌+◌, ◌<◌, ◌≤◌, ◌++◌, ◌∷◌, [], Bool}
+use Rattle.std.proofs.Common.{List, ℕ, false, true, length, length-append}
 use Rattle.std.proofs.Common.{not, take, refl, ap, sym, subst, arith, ⊎_elim}
 use Rattle.std.proofs.lemmas.Bool.{cases_lt}
 use Rattle.std.proofs.lemmas.List.Sums.{prefix_len-le-length}
@@ -23,8 +24,10 @@ nothing_behind (x ∷ xs) ys nothing = cc
 
 -- if a blank line was not found to end in the piece, and fits, it goes on after the piece
 blank_goes_on : (begun piece : List ℕ) (end : ℕ) (found : Bool) → end ≡ position_or_len ends_line piece → found ≡ false
-    → ((end < length piece) × (is_blank (begun ++ take end piece) ≡ true) × (length (begun ++ take end piece) ≤ most_bytes) → found ≡ true)
-    → length begun + length (take end piece) ≤ most_bytes → is_blank (begun ++ before_first ends_line piece) ≡ true → lines_of piece ≡ piece ∷ []
+    → ((end < length piece) × (is_blank (begun ++ take end piece) ≡ true)
+    × (length (begun ++ take end piece) ≤ most_bytes) → found ≡ true)
+    → length begun + length (take end piece) ≤ most_bytes → is_blank (begun ++ before_first ends_line piece) ≡ true
+    → lines_of piece ≡ piece ∷ []
 blank_goes_on begun piece end found is missed all short blank = ⊎_elim
     (λ some. let yes = all (
       some,
@@ -36,13 +39,16 @@ blank_goes_on begun piece end found is missed all short blank = ⊎_elim
     (cases_lt end (length piece))
 
 -- a line that could not be kept was not taken
-not_held : (begun piece : List ℕ) (end : ℕ) (found : Bool) (fault : RunFault) → end ≡ position_or_len ends_line piece → found ≡ false
-    → ((end < length piece) × (is_blank (begun ++ take end piece) ≡ true) × (length (begun ++ take end piece) ≤ most_bytes) → found ≡ true)
+not_held : (begun piece : List ℕ) (end : ℕ) (found : Bool) (fault : RunFault) → end ≡ position_or_len ends_line piece
+    → found ≡ false
+    → ((end < length piece) × (is_blank (begun ++ take end piece) ≡ true)
+    × (length (begun ++ take end piece) ≤ most_bytes) → found ≡ true)
     → IsHoldFault begun (take end piece) fault → IsTakeFault (begun ++ before_first ends_line piece) piece fault
 not_held begun piece end found Read is missed all why = why
 not_held begun piece end found Write is missed all why = why
 not_held begun piece end found TooLong is missed all why =
-    subst (λ (l : List ℕ). most_bytes < length l) (ap (λ (n : ℕ). begun ++ take n piece) is) (omega (arith, why, length-append begun (take end piece)))
+    subst (λ (l : List ℕ). most_bytes < length l) (ap (λ (n : ℕ). begun ++ take n piece) is)
+    (omega (arith, why, length-append begun (take end piece)))
 not_held begun piece end found Start is missed all why = absurd why
 not_held begun piece end found Memory is missed all why = (
   λ nothing. why.0 (ap (λ (n : ℕ). take n piece) is ∙ nothing_behind begun (before_first ends_line piece) nothing),
@@ -105,7 +111,8 @@ returns-then-end-piece-clause-takes g c =
     let piece : List ℕ = c.args.piece.now in
     let end : ℕ = c.front_size-end.result in
     let alone = subst (λ (t : Talk). lines_of t.begun ≡ t.begun ∷ []) c.self.view_is c.self.invariant.0 in
-    let one = subst (λ (n : ℕ). lines_of (take n piece) ≡ take n piece ∷ []) (sym c.front_size-end.ensures) (front_alone piece) in
+    let one = subst (λ (n : ℕ). lines_of (take n piece) ≡ take n piece ∷ []) (sym c.front_size-end.ensures)
+    (front_alone piece) in
     let held = c.in_ok-hold.ensures.ok in
     takes_none c.args.self.now c.hold.new.self (take end piece) alone one held.0 held.1 held.2
 
@@ -121,8 +128,10 @@ returns-in-Ok-clause-takes g c =
     (text_of c.in-Ok.answer) alone ended held.0 held.1 held.2 c.in-Ok.ensures.ends
 
 pub returns-in-Ok-clause-count : goal.returns-in-Ok-clause-count
-returns-in-Ok-clause-count g c = size_with_end c.args.piece.now c.front_size-end.result c.front_size-end.ensures c.if-end-piece.false
+returns-in-Ok-clause-count g c =
+    size_with_end c.args.piece.now c.front_size-end.result c.front_size-end.ensures c.if-end-piece.false
 
 pub returns-in-Ok-clause-within : goal.returns-in-Ok-clause-within
 returns-in-Ok-clause-within g c =
-    held_within c.args.self.now.begun c.args.piece.now c.front_size-end.result c.front_size-end.ensures c.in_ok-hold.ensures.within
+    held_within c.args.self.now.begun c.args.piece.now c.front_size-end.result c.front_size-end.ensures
+    c.in_ok-hold.ensures.within
