@@ -14,7 +14,8 @@ use Rattle.fr_route.specs.declared.form.Form.{Form}
 use Rattle.fr_route.specs.declared.form.Form.TheVariants.{Text}
 use Rattle.fr_route.proofs.Determined.{Answered as TextAnswered, by_blank, not_both}
 use Rattle.fr_route.proofs.EachAnswer.{IsReached, each_line}
-use Rattle.fr_route.proofs.AnsweredIn.{answer_in_unique, each_line_in}
+use Rattle.fr_route.proofs.AnsweredIn.{answer_in_unique}
+use Rattle.fr_route.proofs.EachIn.{each_line_in}
 use Rattle.fr_bytes.specs.Bytes.{IsBeginning}
 use Rattle.fr_command.specs.Points.{Point, AreAnswersIn, IsAnswerAt, after_answer, after_blank, one_more}
 

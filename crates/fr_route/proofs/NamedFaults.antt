@@ -81,6 +81,7 @@ one_on links x into = go into.path.0 into.path.1.0 into.node into.path.1.1 into.
     round : (y : ℕ) (rest : List ℕ) → IsClosedWalk links y rest → (w : ℕ) × Points links y w × LeadsIntoCycle links w
     round y [] closed = absurd closed
     round y (v ∷ vs) closed = (v, closed.0.0, record { node = y; path = (vs, (closed.0.1, closed.1)); rest = v ∷ vs; closed = closed })
+
     go : (vs : List ℕ) → IsPath links x vs → (y : ℕ) → end_of x vs ≡ y → (rest : List ℕ) → IsClosedWalk links y rest
         → (w : ℕ) × Points links x w × LeadsIntoCycle links w
     go [] path y ends rest closed = subst (λ (z : ℕ). (w : ℕ) × Points links z w × LeadsIntoCycle links w) (sym ends) (round y rest closed)
@@ -98,8 +99,12 @@ module _ (n : ℕ) (links : List (ℕ × ℕ)) (below : AreBelow n links) where
       leads : (vs : List ℕ) → IsPath links x vs → length vs ≡ suc n → LeadsIntoCycle links x
       leads [] path long = absurd (omega (arith, long))
       leads (v ∷ vs) path long = ⊎_elim
-          (λ distinct. absurd (omega (arith, long, distinct_length n (x ∷ (v ∷ vs)) distinct
-          (path_in_range n links below x (v ∷ vs) (below_of n links x v below path.0).0 path))))
+          (λ distinct. absurd (omega (
+            arith,
+            long,
+            distinct_length n (x ∷ (v ∷ vs)) distinct
+                (path_in_range n links below x (v ∷ vs) (below_of n links x v below path.0).0 path),
+          )))
           (λ into. into)
           (distinct_or_into links x (v ∷ vs) path)
 
@@ -157,8 +162,12 @@ module _ (n : ℕ) (links : List (ℕ × ℕ)) (below : AreBelow n links) where
     first_met : (j : ℕ) × (j < suc n) × Met j × ((w : ℕ) → Met w → j ≤ w)
     first_met = ⊎_elim
         (λ l. l)
-        (λ none. absurd (omega (arith, length_before (suc n), distinct_length n (before (suc n)) (distinct_before (suc n) none)
-        (λ q h. let i = before_is (suc n) q h in subst (λ (z : ℕ). z < n) i.2 (into_below (at i.0) (place i.0).1)))))
+        (λ none. absurd (omega (
+          arith,
+          length_before (suc n),
+          distinct_length n (before (suc n)) (distinct_before (suc n) none)
+              (λ q h. let i = before_is (suc n) q h in subst (λ (z : ℕ). z < n) i.2 (into_below (at i.0) (place i.0).1)),
+        )))
         (cases_below Met met_or_not (suc n))
 
     -- the first k nodes of the way
@@ -180,10 +189,13 @@ module _ (n : ℕ) (links : List (ℕ × ℕ)) (below : AreBelow n links) where
     module _ (lowest : (y : ℕ) → LeadsIntoCycle links y → start ≤ y) where
       abbrev last : ℕ
       last = first_met.0
+
       abbrev back : ℕ
       back = first_met.2.0
+
       earlier : back < last
       earlier = first_met.2.1
+
       abbrev all : List ℕ
       all = way (suc last)
 
@@ -271,8 +283,7 @@ both_ends (k ∷ ks) l h =
       back k.1 (Contains-tail k.1 k.0 (k.1 ∷ ends_of ks) (Contains-head k.1 (ends_of ks))),
     ))
     (λ r.
-    let both = both_ends ks l r in
-    (
+    let both = both_ends ks l r in (
       back l.0 (Contains-tail l.0 k.0 (k.1 ∷ ends_of ks) (Contains-tail l.0 k.1 (ends_of ks) both.0)),
       back l.1 (Contains-tail l.1 k.0 (k.1 ∷ ends_of ks) (Contains-tail l.1 k.1 (ends_of ks) both.1)),
     ))
@@ -331,12 +342,14 @@ single_or_named n links below =
     some_or_not : (x : ℕ) → ((y : ℕ) × AreJoinedTwice links x y) ⊎ ¬ ((y : ℕ) × AreJoinedTwice links x y)
     some_or_not x = ⊎_elim (λ l. inl (l.0, l.2)) (λ none. inr (λ h. none h.0 (twice_below n links x h.0 below h.1).1 h.1))
         (cases_below (AreJoinedTwice links x) (twice_or_not links x) n)
+
     with_node : (u : ℕ) → IsLowest (λ x. (y : ℕ) × AreJoinedTwice links x y) u → (u : ℕ) × (v : ℕ) × AreJoinedTwice links u v
         × IsLowest (λ x. (y : ℕ) × AreJoinedTwice links x y) u × IsLowest (AreJoinedTwice links u) v
     with_node u is = ⊎_elim
         (λ l. (u, l.0, l.2, is, record { holds = l.2; least = l.3 }))
         (λ none. absurd (none is.holds.0 (twice_below n links u is.holds.0 below is.holds.1).1 is.holds.1))
         (cases_below (AreJoinedTwice links u) (twice_or_not links u) n)
+
     lowest : (x y : ℕ) → AreJoinedTwice links x y → (u : ℕ) × (v : ℕ) × AreJoinedTwice links u v
         × IsLowest (λ x. (y : ℕ) × AreJoinedTwice links x y) u × IsLowest (AreJoinedTwice links u) v
     lowest x y many = ⊎_elim
@@ -371,8 +384,11 @@ faultless_or_named n links = ⊎_elim
     cycles : IsWithinLimits n links → 0 < n → AreBelow n links → HasNoSelfLink links → AreSingle links → IsFaultless n links ⊎ NamedFault n links
     cycles limits some below no_self single =
         elim (acyclic_or_named n links below) [
-          | inl acyclic ↦ inl (record { limits = limits; some = some;
-              is_net = record { in_range = below; no_self = no_self; single = single; acyclic = acyclic } })
+          | inl acyclic ↦ inl (record {
+            limits = limits;
+            some = some;
+            is_net = record { in_range = below; no_self = no_self; single = single; acyclic = acyclic };
+          })
           | inr c ↦
               let walk = vec_with c.0 (omega (arith, c.3, limits.nodes_few)) in
               inr (
@@ -381,6 +397,7 @@ faultless_or_named n links = ⊎_elim
                 subst (IsLowestCycle links) (sym walk.1) c.1,
               )
         ]
+
     pairs : IsWithinLimits n links → 0 < n → AreBelow n links → IsFaultless n links ⊎ NamedFault n links
     pairs limits some below =
         elim (self_or_named links) [
@@ -390,6 +407,7 @@ faultless_or_named n links = ⊎_elim
             | inr t ↦ inr (Twice t.0 t.1, (limits, record { some = some; below = below }, no_self, t.2), (t.3, t.4))
           ]
         ]
+
     ends : IsWithinLimits n links → IsFaultless n links ⊎ NamedFault n links
     ends limits = ⊎_elim
         (λ some. ⊎_elim (pairs limits some) (λ p. inr (Range p.0, (limits, inr (some, p.2, p.3)), inr (some, p.1))) (below_or_named n links))
@@ -423,6 +441,7 @@ reaches_or_not links u (suc k) x = ⊎_elim
     on_or_not : ((y : ℕ) → Reaches links u k y ⊎ ¬ Reaches links u k y) → (l : ℕ × ℕ) → OnReaches links u k x l ⊎ ¬ OnReaches links u k x l
     on_or_not shorter l = ⊎_elim (λ e. ⊎_elim (λ r. inl (e, r)) (λ none. inr (λ h. none h.1)) (shorter l.1))
         (λ ne. inr (λ h. ne h.0)) (cases_eq l.0 x)
+
     further : x ≢ u → ((l : ℕ × ℕ) → Contains links l → ¬ OnReaches links u k x l) → (vs : List ℕ) → IsPath links x vs → end_of x vs ≡ u → length vs ≤ suc k → ⊥
     further ne none [] path e l = ne e
     further ne none (v ∷ vs) path e l = none (x, v) path.0 (refl, (vs, path.1, e, omega (arith, l)))
@@ -436,8 +455,11 @@ module _ (n : ℕ) (links : List (ℕ × ℕ)) (below : AreBelow n links) (acycl
   short : (x : ℕ) (vs : List ℕ) → IsPath links x vs → length vs ≤ n
   short x [] path = omega arith
   short x (v ∷ vs) path = ⊎_elim
-      (λ distinct. omega (arith, distinct_length n (x ∷ (v ∷ vs)) distinct
-      (path_in_range n links below x (v ∷ vs) (below_of n links x v below path.0).0 path)))
+      (λ distinct. omega (
+        arith,
+        distinct_length n (x ∷ (v ∷ vs)) distinct
+            (path_in_range n links below x (v ∷ vs) (below_of n links x v below path.0).0 path),
+      ))
       (λ into. absurd (acyclic into.node into.rest into.closed))
       (distinct_or_into links x (v ∷ vs) path)
 
@@ -452,6 +474,7 @@ module _ (n : ℕ) (links : List (ℕ × ℕ)) (below : AreBelow n links) (acycl
           (λ p. ⊎_elim (λ q. inl (p, q)) (λ none. inr (λ h. none h.1)) (leads_or_not w))
           (λ none. inr (λ h. none h.0))
           (cases_points links x w)
+
       go : (vs : List ℕ) → IsPath links x vs → end_of x vs ≡ u → (y : ℕ) × LeadsTowards links u x y
       go [] p e = absurd (apart e)
       go (v ∷ vs) p e = ⊎_elim
@@ -522,8 +545,7 @@ module _ (n : ℕ) (links : List (ℕ × ℕ)) (below : AreBelow n links) (acycl
   cycle_by v path =
       let w = way_to v path in
       let all = u ∷ w.way in
-      let follows : (k : ℕ) → k + 1 < length all → Points (added links u v) (get_or all k 0) (get_or all (k + 1) 0) = steps w in
-      (
+      let follows : (k : ℕ) → k + 1 < length all → Points (added links u v) (get_or all k 0) (get_or all (k + 1) 0) = steps w in (
         all,
         record { way = w.way; last = w.last; whole = w.whole; begins = w.begins; goes_on = w.goes_on; ends = w.ends; is = refl },
         cycle_from_steps (added links u v) all (suc w.last) (omega (arith, w.whole)) (omega arith) w.ends follows,
@@ -553,6 +575,7 @@ module _ (n : ℕ) (links : List (ℕ × ℕ)) (clear : IsFaultless n links) (u 
     where
       outside : (y : ℕ) → n ≤ y → (u ≡ y) ⊎ (v ≡ y) → IsOutOfRange n (added links u v) y
       outside y l is = out_of_range_added n links u v y (inr (clear.some, l, (0, (u, v), omega arith, refl, is)))
+
       past : u < n → (x : ℕ) → IsOutOfRange n (added links u v) x → n ≤ v
       past inside x out = ⊎_elim (λ l. absurd (range_stands n (added links u v) x clear.some (in_range n links u v clear.is_net.in_range inside l).below out))
           (λ g. g) (cases_lt v n)
@@ -652,15 +675,17 @@ batch_named net edits refused clear (inr few) =
     let some = Cut 0 0 in
     let edit = get_or edits refused.at some in
     let named = edit_named r.before edit refused.fault (made_faultless net (take refused.at edits) r.before clear r.made) (r.refused some) in
-    let same : (d : Edit) → get_or edits refused.at d ≡ edit = λ d. get_or_default edits refused.at d some r.inside in
-    (
+    let same : (d : Edit) → get_or edits refused.at d ≡ edit = λ d. get_or_default edits refused.at d some r.inside in (
       record { at = refused.at; fault = named.0 },
-      inr (few.0, record {
-        inside = r.inside;
-        before = r.before;
-        made = r.made;
-        refused = λ d. subst (λ (e : Edit). IsEditFault r.before e named.0) (sym (same d)) named.1;
-      }),
+      inr (
+        few.0,
+        record {
+          inside = r.inside;
+          before = r.before;
+          made = r.made;
+          refused = λ d. subst (λ (e : Edit). IsEditFault r.before e named.0) (sym (same d)) named.1;
+        },
+      ),
       λ before made d.
           subst (λ (e : Edit). NamesOfEdit before e named.0) (sym (same d))
           (subst (λ (b : Network). NamesOfEdit b edit named.0) (all_made_one net (take refused.at edits) r.before before r.made made) named.2),
