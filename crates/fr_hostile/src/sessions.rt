@@ -2,9 +2,9 @@
 //! line must be answered when it is asked again.
 
 use crate::telling::told;
-use fr_crew::{OpenGate, Plan};
+use fr_crew::{Crew, OpenGate, Plan};
 use fr_net::{Question, Request};
-use fr_route::{AnswerFault, Session};
+use fr_route::{AnswerFault, Form, Line, Session};
 use std::alloc::Global;
 use std::sync::Wait;
 use std::thread::Threads;
@@ -29,14 +29,24 @@ const LINES: [&str; 15] = [
     r#"["links"]"#,
 ];
 
-/// Writes the answers to the lines.
+/// Writes the answers to the lines, as text and then as JSON.
 pub fn tell_session<R: Threads + Wait + Sync + Alloc<A = Global> + Print + Eprint>(rt: &R) {
     let Some(plan) = Plan::new(3, 0, 1000) else {
         return;
     };
+    tell_lines(rt, Form::Text, &plan);
+    tell_lines(rt, Form::Json, &plan);
+}
+
+/// Writes the answers of a new session to the lines.
+fn tell_lines<R: Threads + Wait + Sync + Alloc<A = Global> + Print + Eprint>(
+    rt: &R,
+    form: Form,
+    plan: &Plan,
+) {
     let mut session = Session::new();
     for line in LINES {
-        tell_line(rt, &mut session, line, &plan);
+        tell_line(rt, &mut session, form, line, plan);
     }
 }
 
@@ -44,16 +54,17 @@ pub fn tell_session<R: Threads + Wait + Sync + Alloc<A = Global> + Print + Eprin
 fn tell_line<R: Threads + Wait + Sync + Alloc<A = Global> + Print + Eprint>(
     rt: &R,
     session: &mut Session,
+    form: Form,
     line: &str,
     plan: &Plan,
 ) {
     let before = links(rt, session, plan);
-    let mut answer = answered(rt, session, line, plan);
+    let mut answer = answered(rt, session, form, line, plan);
     if answer.is_none() {
         if links(rt, session, plan) != before {
             let _ = rt.println("the session has changed");
         }
-        answer = answered(rt, session, line, plan);
+        answer = answered(rt, session, form, line, plan);
     }
     let _ = match answer {
         Some(text) => rt.println(text),
@@ -65,13 +76,39 @@ fn tell_line<R: Threads + Wait + Sync + Alloc<A = Global> + Print + Eprint>(
 fn answered<R: Threads + Wait + Sync + Alloc<A = Global> + Eprint>(
     rt: &R,
     session: &mut Session,
+    form: Form,
     line: &str,
     plan: &Plan,
 ) -> Option<String> {
-    told(
+    match form {
+        Form::Text => told(
+            rt,
+            session.answer_line(rt, rt.alloc(), line.as_bytes(), plan, &OpenGate),
+        )?,
+        Form::Json => told(rt, json_answer(rt, session, line, plan))?,
+    }
+}
+
+/// The answer in JSON, as to the first line of an input.
+fn json_answer<R: Threads + Wait + Sync + Alloc<A = Global>>(
+    rt: &R,
+    session: &mut Session,
+    line: &str,
+    plan: &Plan,
+) -> Result<Option<String>, AnswerFault> {
+    let alloc = rt.alloc();
+    let crew = Crew {
         rt,
-        session.answer_line(rt, rt.alloc(), line.as_bytes(), plan, &OpenGate),
-    )?
+        alloc,
+        plan,
+        gate: &OpenGate,
+    };
+    let line = Line {
+        number: 1,
+        bytes: line.as_bytes(),
+    };
+    let answer = session.answer_line_in(&crew, Form::Json, line, &mut Vec::new(alloc))?;
+    Ok(answer.map(|it| it.text))
 }
 
 /// The answer of the session to the question for its links, asked once more if it fails.
