@@ -41,7 +41,7 @@ def full():
 
 
 # The methods of Drawn that draw a line, and how often each is taken.
-ALL_KINDS = {"edit": 6, "batch": 6, "question": 6, "walk": 3, "move": 2, "net": 2, "wild_net": 3, "no_request": 3}
+ALL_KINDS = {"edit": 8, "batch": 6, "question": 5, "walk": 3, "move": 2, "net": 2, "wild_net": 2, "double_net": 1, "cyclic_net": 4, "no_request": 3}
 CHANGES = {"edit": 6, "batch": 3, "move": 1, "net": 1}
 
 
@@ -114,25 +114,43 @@ class Drawn:
         self.ask(["net", size, self.by.randrange(size), self.order(size)])
 
     def wild_net(self):
-        """A network that is refused, mostly, and often for several faults."""
+        """A small network that is refused, mostly, and often for several faults."""
         size = self.by.randint(0, 6)
         links = [[self.by.randrange(size + 1), self.by.randrange(size + 1)] for _ in range(self.by.randint(0, 5))]
-        dest = self.by.randrange(size + 1)
-        if self.by.random() < 0.7:
-            size = self.by.randint(3, self.most_nodes)
-            links, dest = self.order(size), self.by.randrange(size + 1)
-            for _ in range(self.by.choice([0, 0, 1, 2])):
-                if links:
-                    u, v = self.by.choice(links)
-                    links.insert(self.by.randrange(len(links)), self.by.choice([[u, v], [v, u]]))
-            if self.by.random() < 0.7:
-                links = [link[:: self.by.choice([1, 1, -1])] for link in links]
-        self.ask(["net", size, dest, links])
+        self.ask(["net", size, self.by.randrange(size + 1), links])
+
+    def double_net(self):
+        """A network, mostly with two links between some nodes."""
+        size = self.by.randint(2, self.most_nodes)
+        links = self.order(size)
+        for u, v in self.by.choices(links, k=self.by.choice([1, 2, 3])) if links else []:
+            links.insert(self.by.randrange(len(links)), self.by.choice([[u, v], [v, u]]))
+        self.ask(["net", size, self.by.randrange(size + 1), links])
+
+    def cyclic_net(self):
+        """A network of which some links point the other way, so that they contain cycles, mostly."""
+        size = self.by.randint(3, self.most_nodes)
+        share = self.by.choice([2, 4, 10])
+        links = [link[::-1] if self.by.randrange(share) == 0 else link for link in self.order(size)]
+        self.ask(["net", size, self.by.randrange(size + 1), links])
+
+    def closing(self, links):
+        """The ends of a link that closes a cycle, if a way leads on for at least two links."""
+        way = [self.by.choice(links)[0]]
+        while heads := [v for u, v in links if u == way[-1]]:
+            way.append(self.by.choice(heads))
+        return (self.by.choice(way[2:]), way[0]) if way[2:] else self.two_nodes()
+
+    def two_nodes(self):
+        u = self.node()
+        return u, self.by.choice([it for it in range(self.size()) if it != u or self.by.random() < 0.2] or [u])
 
     def an_edit(self, network):
         """An edit of a network: mostly one that is made."""
         links = sorted(network.links) if network else []
-        u, v = self.by.choice(links)[:: self.by.choice([1, -1])] if links and self.by.random() < 0.5 else (self.node(), self.node())
+        if links and self.by.random() < 0.2:
+            return [self.by.choice(["add", "add", "join"]), *self.closing(links)]
+        u, v = self.by.choice(links)[:: self.by.choice([1, -1])] if links and self.by.random() < 0.5 else self.two_nodes()
         is_there = network is not None and bool({(u, v), (v, u)} & network.links)
         words = ["cut"] if is_there else ["add", "join"]
         return [self.by.choice(words if self.by.random() < 0.9 else ["cut", "add", "join"]), u, v]
