@@ -40,7 +40,7 @@ def stop(name, why):
 
 
 def follow(name, said, wanted):
-    """Makes the pushes that a controller has printed, one after another. They must close no loop, and must be the wanted ones."""
+    """Makes the pushes that a controller has printed. No push may close a loop, and they must be the wanted ones."""
     table, made = {}, []
     for at, line in enumerate(said.splitlines()):
         push = PUSH.fullmatch(line)

@@ -1,4 +1,4 @@
-"""Drawn lines: requests that are answered, requests that are refused for each reason, and lines that are no requests."""
+"""Draws lines: requests that are answered, requests that are refused for each reason, and lines without a request."""
 
 import copy
 import json
@@ -10,20 +10,25 @@ from plain import LARGEST, MOST_EDITS, MOST_LINKS, MOST_NODES, Refused
 
 BLANK = [b"", b" ", b"\t\r", b" \t \r"]
 NOT_JSON = [
-    b"[", b"]", b"links", b"['links']", b'["links"', b'["links"],', b'["links",]', b'["links"] ["links"]', b'["links"]]', b'["walk",01]', b'["walk",+1]',
-    b'["walk",.5]', b'["walk",1.]', b'["walk",-]', b'["walk",0x1]', b'["walk" 1]', b"NaN", b"[Infinity]", b"[-Infinity]", b"nul", b"True", b'{"a"}', b"{1:2}",
-    b"{'a':1}", b'["li\tnks"]', b'["\\x6c"]', b'["\\u12"]', b'["links\xff"]', b'["\xc0\xaf"]', b'["\xed\xa0\x80"]', b"\xef\xbb\xbf[]", b"\x00", b"\x0b[]",
-    b"// links", b"[/**/]", b"[" * 128 + b"]" * 128, b'{"a":' * 128 + b"1" + b"}" * 128, b"[" * 100_000, b"[" * 1000 + b"]" * 1000,
+    b"[", b"]", b"links", b"['links']", b'["links"', b'["links"],', b'["links",]', b'["links"] ["links"]',
+    b'["links"]]', b'["walk",01]', b'["walk",+1]', b'["walk",.5]', b'["walk",1.]', b'["walk",-]', b'["walk",0x1]',
+    b'["walk" 1]', b"NaN", b"[Infinity]", b"[-Infinity]", b"nul", b"True", b'{"a"}', b"{1:2}", b"{'a':1}",
+    b'["li\tnks"]', b'["\\x6c"]', b'["\\u12"]', b'["links\xff"]', b'["\xc0\xaf"]', b'["\xed\xa0\x80"]',
+    b"\xef\xbb\xbf[]", b"\x00", b"\x0b[]", b"// links", b"[/**/]", b"[" * 128 + b"]" * 128,
+    b'{"a":' * 128 + b"1" + b"}" * 128, b"[" * 100_000, b"[" * 1000 + b"]" * 1000,
 ]  # fmt: skip
 NOT_REQUESTS = [
-    b"[]", b"{}", b"0", b"null", b"true", b'"links"', b'["Links"]', b'["links "]', b'["links",0]', b'["counts",[]]', b'["hops",null]', b'[["links"]]',
-    b'{"links":[]}', b'["fly",1]', b'["fly"]', b"[1]", b'["walk"]', b'["walk",1,2]', b'["walk",[1]]', b'["walk",-0]', b'["walk",-1]', b'["walk",0.0]',
-    b'["walk",1e0]', b'["walk",1E+2]', b'["walk","0"]', b'["walk",true]', b'["walk",null]', b'["walk",4294967296]', b'["walk",18446744073709551616]',
-    b'["walk",' + b"9" * 300 + b"]", b'["dest"]', b'["dest",{}]', b'["cut",0]', b'["cut",0,1,2]', b'["cut",[0,1]]', b'["add",0,"1"]', b'["join",0.5,1]',
-    b'["net",1,0]', b'["net",1,0,[],0]', b'["net",1,[],0]', b'["net",2,0,[[1]]]', b'["net",2,0,[[1,0,0]]]', b'["net",2,0,[1,0]]', b'["net",2,0,{"0":[1,0]}]',
-    b'["net",2,0,[[1,0],[0,4294967296]]]', b'["net",-1,0,[]]', b'["net",1,"0",[]]', b'["batch"]', b'["batch",[],[]]', b'["batch",["cut",0,1]]',
-    b'["batch",[["dest",0]]]', b'["batch",[["links"]]]', b'["batch",[["cut",0]]]', b'["batch",[["batch",[]]]]', b'["batch",{}]', b"[" * 127 + b"]" * 127,
-    b'{"a":' * 127 + b"1" + b"}" * 127, b'["[[[[",' + b"[" * 126 + b"]" * 127,
+    b"[]", b"{}", b"0", b"null", b"true", b'"links"', b'["Links"]', b'["links "]', b'["links",0]', b'["counts",[]]',
+    b'["hops",null]', b'[["links"]]', b'{"links":[]}', b'["fly",1]', b'["fly"]', b"[1]", b'["walk"]', b'["walk",1,2]',
+    b'["walk",[1]]', b'["walk",-0]', b'["walk",-1]', b'["walk",0.0]', b'["walk",1e0]', b'["walk",1E+2]',
+    b'["walk","0"]', b'["walk",true]', b'["walk",null]', b'["walk",4294967296]', b'["walk",18446744073709551616]',
+    b'["walk",' + b"9" * 300 + b"]", b'["dest"]', b'["dest",{}]', b'["cut",0]', b'["cut",0,1,2]', b'["cut",[0,1]]',
+    b'["add",0,"1"]', b'["join",0.5,1]', b'["net",1,0]', b'["net",1,0,[],0]', b'["net",1,[],0]', b'["net",2,0,[[1]]]',
+    b'["net",2,0,[[1,0,0]]]', b'["net",2,0,[1,0]]', b'["net",2,0,{"0":[1,0]}]', b'["net",2,0,[[1,0],[0,4294967296]]]',
+    b'["net",-1,0,[]]', b'["net",1,"0",[]]', b'["batch"]', b'["batch",[],[]]', b'["batch",["cut",0,1]]',
+    b'["batch",[["dest",0]]]', b'["batch",[["links"]]]', b'["batch",[["cut",0]]]', b'["batch",[["batch",[]]]]',
+    b'["batch",{}]', b"[" * 127 + b"]" * 127, b'{"a":' * 127 + b"1" + b"}" * 127,
+    b'["[[[[",' + b"[" * 126 + b"]" * 127,
 ]  # fmt: skip
 QUESTIONS = (["links"], ["counts"], ["hops"])
 # A session begins with one of these, before there is a network.
@@ -35,18 +40,22 @@ def full():
     heads = range(1, 129)
     links = [[x, 0] for x in heads] + [[u, v] for u in range(129, 384) for v in heads]
     assert len(links) == MOST_LINKS
-    yield from (["net", 400, 0, links], ["add", 390, 0], ["join", 0, 390], ["join", 5, 5], ["add", 4095, 4096], ["batch", [["cut", 383, 1], ["join", 0, 390]]])
-    yield from (["batch", [["join", 383, 1], ["add", 383, 1]]], ["walk", 383], ["walk", 390], ["net", 400, 0, [*links, [1, 1]]], ["dest", 400], ["counts"])
-    yield from (["net", MOST_NODES + 1, 0, []], ["net", LARGEST, LARGEST, [[0, 0]]], ["batch", [["cut", 0, 0]] * MOST_EDITS], ["batch", [["cut", 0, 0]] * (MOST_EDITS + 1)])
+    yield ["net", 400, 0, links]
+    yield from (["add", 390, 0], ["join", 0, 390], ["join", 5, 5], ["add", 4095, 4096])
+    yield from (["batch", [["cut", 383, 1], ["join", 0, 390]]], ["batch", [["join", 383, 1], ["add", 383, 1]]])
+    yield from (["walk", 383], ["walk", 390], ["dest", 400], ["counts"])
+    yield from (["net", 400, 0, [*links, [1, 1]]], ["net", MOST_NODES + 1, 0, []], ["net", LARGEST, LARGEST, [[0, 0]]])
+    yield from (["batch", [["cut", 0, 0]] * count] for count in (MOST_EDITS, MOST_EDITS + 1))
 
 
 # The methods of Drawn that draw a line, and how often each is taken.
-ALL_KINDS = {"edit": 8, "batch": 6, "question": 5, "walk": 3, "move": 2, "net": 2, "wild_net": 2, "double_net": 1, "cyclic_net": 4, "no_request": 3}
+NETWORKS = {"net": 2, "wild_net": 2, "double_net": 1, "cyclic_net": 4}
+ALL_KINDS = {"edit": 8, "batch": 6, "question": 5, "walk": 3, "move": 2, "no_request": 3, **NETWORKS}
 CHANGES = {"edit": 6, "batch": 3, "move": 1, "net": 1}
 
 
 class Drawn:
-    """A session that is drawn line by line. The plain program answers each line, since the next line depends on the network after it."""
+    """A session that is drawn line by line. What is drawn next depends on the network that the plain program has."""
 
     def __init__(self, seed, most_nodes):
         self.seed, self.most_nodes, self.by = seed, most_nodes, random.Random(seed)
@@ -61,7 +70,8 @@ class Drawn:
         line = json.dumps(request, separators=self.by.choice([(",", ":"), (", ", ": "), (" ,\t", ":")]))
         if self.by.random() < 0.1:
             line = line.replace("e", "\\u0065").replace("[", "[ ")
-        self.add(self.by.choice(["", "", "", " ", "\t"]).encode() + line.encode() + self.by.choice([b"", b"", b"", b" ", b"\r"]))
+        before, behind = self.by.choice(["", "", "", " ", "\t"]), self.by.choice(["", "", "", " ", "\r"])
+        self.add(f"{before}{line}{behind}".encode())
 
     def draw(self, count, kinds):
         """Draws so many lines."""
@@ -150,7 +160,9 @@ class Drawn:
         links = sorted(network.links) if network else []
         if links and self.by.random() < 0.2:
             return [self.by.choice(["add", "add", "join"]), *self.closing(links)]
-        u, v = self.by.choice(links)[:: self.by.choice([1, -1])] if links and self.by.random() < 0.5 else self.two_nodes()
+        u, v = self.two_nodes()
+        if links and self.by.random() < 0.5:
+            u, v = self.by.choice(links)[:: self.by.choice([1, -1])]
         is_there = network is not None and bool({(u, v), (v, u)} & network.links)
         words = ["cut"] if is_there else ["add", "join"]
         return [self.by.choice(words if self.by.random() < 0.9 else ["cut", "add", "join"]), u, v]
