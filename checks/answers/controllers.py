@@ -14,7 +14,7 @@ from drawn import CHANGES, Drawn
 TOP = Path(__file__).resolve().parents[2]
 PIPE, PAGE = TOP / "examples" / "pipe", TOP / "docs" / "PUSHING.md"
 # Seeds, the most nodes of a network, and the number of changes.
-STORIES = [(50, 4, 30), (51, 8, 40), (52, 12, 40), (53, 20, 30)]
+STORIES = [(50, 4, 60), (51, 8, 80), (52, 12, 80), (53, 30, 60)]
 PUSH = re.compile(r"(\d+): (\w+) -> (\w+)")
 PATIENCE = 60
 
