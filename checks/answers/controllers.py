@@ -11,9 +11,10 @@ from pathlib import Path
 import plain
 from drawn import CHANGES, Drawn
 
-PIPE = Path(__file__).resolve().parents[2] / "examples" / "pipe"
+TOP = Path(__file__).resolve().parents[2]
+PIPE, PAGE = TOP / "examples" / "pipe", TOP / "docs" / "PUSHING.md"
 # Seeds, the most nodes of a network, and the number of changes.
-STORIES = [(50, 4, 30), (51, 8, 40), (52, 12, 40), (53, 20, 30)]
+STORIES = [(50, 4, 60), (51, 8, 80), (52, 12, 80), (53, 30, 60)]
 PUSH = re.compile(r"(\d+): (\w+) -> (\w+)")
 PATIENCE = 60
 
@@ -39,7 +40,7 @@ def stop(name, why):
 
 
 def follow(name, said, wanted):
-    """Makes the pushes that a controller has printed, one after another. They must close no loop, and must be the wanted ones."""
+    """Makes the pushes that a controller has printed. No push may close a loop, and they must be the wanted ones."""
     table, made = {}, []
     for at, line in enumerate(said.splitlines()):
         push = PUSH.fullmatch(line)
@@ -64,9 +65,20 @@ def pushes_of(changes):
     return [push for it in answers if it for push in it[1].get("changed", [])]
 
 
+def compare_page(name):
+    """Compares a controller with the program on the page that begins with the same two lines, if there is one."""
+    text = (PIPE / name).read_text()
+    begins = "".join(text.splitlines(keepends=True)[:2])
+    for shown in re.findall(r"^```\w+\n(.*?)^```$", PAGE.read_text(), re.M | re.S):
+        if shown.startswith(begins) and shown != text:
+            stop(name, f"docs/{PAGE.name} shows another program")
+
+
 def check(program):
     """Checks each controller."""
     names = ["controller.py", "controller.sh"]
+    for name in names:
+        compare_page(name)
     if not shutil.which("jq"):
         print("no jq: examples/pipe/controller.sh was left out")
         names.remove("controller.sh")

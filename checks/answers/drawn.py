@@ -1,4 +1,4 @@
-"""Drawn lines: requests that are answered, requests that are refused for each reason, and lines that are no requests."""
+"""Draws lines: requests that are answered, requests that are refused for each reason, and lines without a request."""
 
 import copy
 import json
@@ -10,21 +10,28 @@ from plain import LARGEST, MOST_EDITS, MOST_LINKS, MOST_NODES, Refused
 
 BLANK = [b"", b" ", b"\t\r", b" \t \r"]
 NOT_JSON = [
-    b"[", b"]", b"links", b"['links']", b'["links"', b'["links"],', b'["links",]', b'["links"] ["links"]', b'["links"]]', b'["walk",01]', b'["walk",+1]',
-    b'["walk",.5]', b'["walk",1.]', b'["walk",-]', b'["walk",0x1]', b'["walk" 1]', b"NaN", b"[Infinity]", b"[-Infinity]", b"nul", b"True", b'{"a"}', b"{1:2}",
-    b"{'a':1}", b'["li\tnks"]', b'["\\x6c"]', b'["\\u12"]', b'["links\xff"]', b'["\xc0\xaf"]', b'["\xed\xa0\x80"]', b"\xef\xbb\xbf[]", b"\x00", b"\x0b[]",
-    b"// links", b"[/**/]", b"[" * 128 + b"]" * 128, b'{"a":' * 128 + b"1" + b"}" * 128, b"[" * 100_000, b"[" * 1000 + b"]" * 1000,
-    b'["walk",1e999]', b'["walk",-1e400]', b"[" + b"9" * 400 + b"]", b'{"a":1e999}', b'["\\ud800"]', b'["\\ude00\\ud83d"]', b'{"\\ud800":1}',
+    b"[", b"]", b"links", b"['links']", b'["links"', b'["links"],', b'["links",]', b'["links"] ["links"]',
+    b'["links"]]', b'["walk",01]', b'["walk",+1]', b'["walk",.5]', b'["walk",1.]', b'["walk",-]', b'["walk",0x1]',
+    b'["walk" 1]', b"NaN", b"[Infinity]", b"[-Infinity]", b"nul", b"True", b'{"a"}', b"{1:2}", b"{'a':1}",
+    b'["li\tnks"]', b'["\\x6c"]', b'["\\u12"]', b'["links\xff"]', b'["\xc0\xaf"]', b'["\xed\xa0\x80"]',
+    b"\xef\xbb\xbf[]", b"\x00", b"\x0b[]", b"// links", b"[/**/]", b"[" * 128 + b"]" * 128,
+    b'{"a":' * 128 + b"1" + b"}" * 128, b"[" * 100_000, b"[" * 1000 + b"]" * 1000,
+    b'["walk",1e999]', b'["walk",-1e400]', b"[" + b"9" * 400 + b"]", b'{"a":1e999}', b'["\\ud800"]',
+    b'["\\ude00\\ud83d"]', b'{"\\ud800":1}',
 ]  # fmt: skip
 NOT_REQUESTS = [
-    b"[]", b"{}", b"0", b"null", b"true", b'"links"', b'["Links"]', b'["links "]', b'["links",0]', b'["counts",[]]', b'["hops",null]', b'[["links"]]',
-    b'{"links":[]}', b'["fly",1]', b'["fly"]', b"[1]", b'["walk"]', b'["walk",1,2]', b'["walk",[1]]', b'["walk",-0]', b'["walk",-1]', b'["walk",0.0]',
-    b'["walk",1e0]', b'["walk",1E+2]', b'["walk","0"]', b'["walk",true]', b'["walk",null]', b'["walk",4294967296]', b'["walk",18446744073709551616]',
-    b'["walk",' + b"9" * 300 + b"]", b'["walk",1e-999]', b'["\\ud83d\\ude00"]', b'["dest"]', b'["dest",{}]', b'["cut",0]', b'["cut",0,1,2]', b'["cut",[0,1]]', b'["add",0,"1"]', b'["join",0.5,1]',
-    b'["net",1,0]', b'["net",1,0,[],0]', b'["net",1,[],0]', b'["net",2,0,[[1]]]', b'["net",2,0,[[1,0,0]]]', b'["net",2,0,[1,0]]', b'["net",2,0,{"0":[1,0]}]',
-    b'["net",2,0,[[1,0],[0,4294967296]]]', b'["net",-1,0,[]]', b'["net",1,"0",[]]', b'["batch"]', b'["batch",[],[]]', b'["batch",["cut",0,1]]',
-    b'["batch",[["dest",0]]]', b'["batch",[["links"]]]', b'["batch",[["cut",0]]]', b'["batch",[["batch",[]]]]', b'["batch",{}]', b"[" * 127 + b"]" * 127,
-    b'{"a":' * 127 + b"1" + b"}" * 127, b'["[[[[",' + b"[" * 126 + b"]" * 127,
+    b"[]", b"{}", b"0", b"null", b"true", b'"links"', b'["Links"]', b'["links "]', b'["links",0]', b'["counts",[]]',
+    b'["hops",null]', b'[["links"]]', b'{"links":[]}', b'["fly",1]', b'["fly"]', b"[1]", b'["walk"]', b'["walk",1,2]',
+    b'["walk",[1]]', b'["walk",-0]', b'["walk",-1]', b'["walk",0.0]', b'["walk",1e0]', b'["walk",1E+2]',
+    b'["walk","0"]', b'["walk",true]', b'["walk",null]', b'["walk",4294967296]', b'["walk",18446744073709551616]',
+    b'["walk",1e-999]', b'["\\ud83d\\ude00"]',
+    b'["walk",' + b"9" * 300 + b"]", b'["dest"]', b'["dest",{}]', b'["cut",0]', b'["cut",0,1,2]', b'["cut",[0,1]]',
+    b'["add",0,"1"]', b'["join",0.5,1]', b'["net",1,0]', b'["net",1,0,[],0]', b'["net",1,[],0]', b'["net",2,0,[[1]]]',
+    b'["net",2,0,[[1,0,0]]]', b'["net",2,0,[1,0]]', b'["net",2,0,{"0":[1,0]}]', b'["net",2,0,[[1,0],[0,4294967296]]]',
+    b'["net",-1,0,[]]', b'["net",1,"0",[]]', b'["batch"]', b'["batch",[],[]]', b'["batch",["cut",0,1]]',
+    b'["batch",[["dest",0]]]', b'["batch",[["links"]]]', b'["batch",[["cut",0]]]', b'["batch",[["batch",[]]]]',
+    b'["batch",{}]', b"[" * 127 + b"]" * 127, b'{"a":' * 127 + b"1" + b"}" * 127,
+    b'["[[[[",' + b"[" * 126 + b"]" * 127,
 ]  # fmt: skip
 QUESTIONS = (["links"], ["counts"], ["hops"])
 # A session begins with one of these, before there is a network.
@@ -36,18 +43,22 @@ def full():
     heads = range(1, 129)
     links = [[x, 0] for x in heads] + [[u, v] for u in range(129, 384) for v in heads]
     assert len(links) == MOST_LINKS
-    yield from (["net", 400, 0, links], ["add", 390, 0], ["join", 0, 390], ["join", 5, 5], ["add", 4095, 4096], ["batch", [["cut", 383, 1], ["join", 0, 390]]])
-    yield from (["batch", [["join", 383, 1], ["add", 383, 1]]], ["walk", 383], ["walk", 390], ["net", 400, 0, [*links, [1, 1]]], ["dest", 400], ["counts"])
-    yield from (["net", MOST_NODES + 1, 0, []], ["net", LARGEST, LARGEST, [[0, 0]]], ["batch", [["cut", 0, 0]] * MOST_EDITS], ["batch", [["cut", 0, 0]] * (MOST_EDITS + 1)])
+    yield ["net", 400, 0, links]
+    yield from (["add", 390, 0], ["join", 0, 390], ["join", 5, 5], ["add", 4095, 4096])
+    yield from (["batch", [["cut", 383, 1], ["join", 0, 390]]], ["batch", [["join", 383, 1], ["add", 383, 1]]])
+    yield from (["walk", 383], ["walk", 390], ["dest", 400], ["counts"])
+    yield from (["net", 400, 0, [*links, [1, 1]]], ["net", MOST_NODES + 1, 0, []], ["net", LARGEST, LARGEST, [[0, 0]]])
+    yield from (["batch", [["cut", 0, 0]] * count] for count in (MOST_EDITS, MOST_EDITS + 1))
 
 
 # The methods of Drawn that draw a line, and how often each is taken.
-ALL_KINDS = {"edit": 6, "batch": 6, "question": 6, "walk": 3, "move": 2, "net": 2, "wild_net": 3, "no_request": 3}
+NETWORKS = {"net": 2, "wild_net": 2, "double_net": 1, "cyclic_net": 4}
+ALL_KINDS = {"edit": 8, "batch": 6, "question": 5, "walk": 3, "move": 2, "no_request": 3, **NETWORKS}
 CHANGES = {"edit": 6, "batch": 3, "move": 1, "net": 1}
 
 
 class Drawn:
-    """A session that is drawn line by line. The plain program answers each line, since the next line depends on the network after it."""
+    """A session that is drawn line by line. What is drawn next depends on the network that the plain program has."""
 
     def __init__(self, seed, most_nodes):
         self.seed, self.most_nodes, self.by = seed, most_nodes, random.Random(seed)
@@ -62,7 +73,8 @@ class Drawn:
         line = json.dumps(request, separators=self.by.choice([(",", ":"), (", ", ": "), (" ,\t", ":")]))
         if self.by.random() < 0.1:
             line = line.replace("e", "\\u0065").replace("[", "[ ")
-        self.add(self.by.choice(["", "", "", " ", "\t"]).encode() + line.encode() + self.by.choice([b"", b"", b"", b" ", b"\r"]))
+        before, behind = self.by.choice(["", "", "", " ", "\t"]), self.by.choice(["", "", "", " ", "\r"])
+        self.add(f"{before}{line}{behind}".encode())
 
     def draw(self, count, kinds):
         """Draws so many lines."""
@@ -115,25 +127,45 @@ class Drawn:
         self.ask(["net", size, self.by.randrange(size), self.order(size)])
 
     def wild_net(self):
-        """A network that is refused, mostly, and often for several faults."""
+        """A small network that is refused, mostly, and often for several faults."""
         size = self.by.randint(0, 6)
         links = [[self.by.randrange(size + 1), self.by.randrange(size + 1)] for _ in range(self.by.randint(0, 5))]
-        dest = self.by.randrange(size + 1)
-        if self.by.random() < 0.7:
-            size = self.by.randint(3, self.most_nodes)
-            links, dest = self.order(size), self.by.randrange(size + 1)
-            for _ in range(self.by.choice([0, 0, 1, 2])):
-                if links:
-                    u, v = self.by.choice(links)
-                    links.insert(self.by.randrange(len(links)), self.by.choice([[u, v], [v, u]]))
-            if self.by.random() < 0.7:
-                links = [link[:: self.by.choice([1, 1, -1])] for link in links]
-        self.ask(["net", size, dest, links])
+        self.ask(["net", size, self.by.randrange(size + 1), links])
+
+    def double_net(self):
+        """A network, mostly with two links between some nodes."""
+        size = self.by.randint(2, self.most_nodes)
+        links = self.order(size)
+        for u, v in self.by.choices(links, k=self.by.choice([1, 2, 3])) if links else []:
+            links.insert(self.by.randrange(len(links)), self.by.choice([[u, v], [v, u]]))
+        self.ask(["net", size, self.by.randrange(size + 1), links])
+
+    def cyclic_net(self):
+        """A network of which some links point the other way, so that they contain cycles, mostly."""
+        size = self.by.randint(3, self.most_nodes)
+        share = self.by.choice([2, 4, 10])
+        links = [link[::-1] if self.by.randrange(share) == 0 else link for link in self.order(size)]
+        self.ask(["net", size, self.by.randrange(size + 1), links])
+
+    def closing(self, links):
+        """The ends of a link that closes a cycle, if a way leads on for at least two links."""
+        way = [self.by.choice(links)[0]]
+        while heads := [v for u, v in links if u == way[-1]]:
+            way.append(self.by.choice(heads))
+        return (self.by.choice(way[2:]), way[0]) if way[2:] else self.two_nodes()
+
+    def two_nodes(self):
+        u = self.node()
+        return u, self.by.choice([it for it in range(self.size()) if it != u or self.by.random() < 0.2] or [u])
 
     def an_edit(self, network):
         """An edit of a network: mostly one that is made."""
         links = sorted(network.links) if network else []
-        u, v = self.by.choice(links)[:: self.by.choice([1, -1])] if links and self.by.random() < 0.5 else (self.node(), self.node())
+        if links and self.by.random() < 0.2:
+            return [self.by.choice(["add", "add", "join"]), *self.closing(links)]
+        u, v = self.two_nodes()
+        if links and self.by.random() < 0.5:
+            u, v = self.by.choice(links)[:: self.by.choice([1, -1])]
         is_there = network is not None and bool({(u, v), (v, u)} & network.links)
         words = ["cut"] if is_there else ["add", "join"]
         return [self.by.choice(words if self.by.random() < 0.9 else ["cut", "add", "join"]), u, v]

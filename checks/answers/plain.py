@@ -1,10 +1,10 @@
 #!/usr/bin/env python3
-"""Answers lines of requests, as docs/LINES.md and docs/RULES.md define the answers. It uses sets, lists and dictionaries only.
+"""Answers lines of requests, as docs/LINES.md and docs/RULES.md define the answers.
 
 usage: checks/answers/plain.py [--json] < INPUT
 
-It shares no code with revroute, so that checks can compare revroute's answers with these. It is slow: it turns one sink after another, and goes
-through all links for each turn.
+It shares no code with revroute, so that checks can compare revroute's answers with these. It uses sets, lists and
+dictionaries only. It is slow: it turns one sink after another, and goes through all links for each turn.
 """
 
 import copy
@@ -15,12 +15,13 @@ from collections import Counter
 from itertools import accumulate
 
 MOST_NODES, MOST_LINKS, MOST_EDITS, DEEPEST, LARGEST = 4096, 32768, 1024, 127, 4294967295
-FAULTS = {1: "not JSON", 2: "not a request", 3: "no network", 4: "no such node", 5: "self link", 6: "linked twice", 7: "cycle", 8: "no such link", 9: "too many"}
+NAMES = ["not JSON", "not a request", "no network", "no such node", "self link", "linked twice", "cycle"]
+FAULTS = dict(enumerate([*NAMES, "no such link", "too many"], 1))
 HERE, CUT = "here", "cut"
 
 
 class Refused(Exception):
-    """A line is refused, with this number, for these nodes. If it is a batch, `place` has the number of its refused edit."""
+    """A line is refused, with this number, for these nodes. `place` has the number of the refused edit of a batch."""
 
     def __init__(self, number, nodes=()):
         self.number, self.nodes, self.place = number, [*nodes], {}
@@ -104,7 +105,8 @@ def read(line):
 
 
 class Network:
-    """Nodes, a destination, and links as they point now, each a pair of its tail and its head. `counts` has the turns of each node in the last round."""
+    """Nodes, a destination, and links as they point now, each a pair of its tail and its head. `counts` has how often
+    each node turned in the last round."""
 
     def __init__(self, size, dest, links):
         self.size, self.dest, self.links, self.counts = size, dest, {(u, v) for u, v in links}, {}
@@ -253,8 +255,8 @@ class Session:
         try:
             return self.reply(read(line))
         except Refused as it:
-            value = {"refused": it.number, "fault": FAULTS[it.number], "nodes": it.nodes, **it.place, "line": self.number}
-            return f"refused {it.number}", value
+            shown = {"nodes": it.nodes, **it.place, "line": self.number}
+            return f"refused {it.number}", {"refused": it.number, "fault": FAULTS[it.number], **shown}
 
     def reply(self, request):
         word, *items = request
@@ -326,7 +328,8 @@ def outputs(given):
     """The output for an input, as text and in JSON."""
     session = Session()
     answers = [it for line in given.split(b"\n") if (it := session.answer(line))]
-    return "".join(f"{text}\n" for text, _ in answers).encode(), "".join(f"{in_json(value)}\n" for _, value in answers).encode()
+    lines = [text for text, _ in answers], [in_json(value) for _, value in answers]
+    return tuple("".join(f"{it}\n" for it in of).encode() for of in lines)
 
 
 def main():

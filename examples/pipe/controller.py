@@ -25,7 +25,8 @@ def comes_back(router):
     return at == router
 
 
-with subprocess.Popen(["./revroute", "serve", "--json", "--alone"], stdin=PIPE, stdout=PIPE, text=True, bufsize=1) as service:
+words = ["./revroute", "serve", "--json", "--alone"]
+with subprocess.Popen(words, stdin=PIPE, stdout=PIPE, text=True, bufsize=1) as service:
     for change in filter(str.strip, sys.stdin):  # a blank line has no answer
         print(change.strip(), file=service.stdin)  # bufsize=1: each line goes out at once
         answer = json.loads(service.stdout.readline())
