@@ -1,24 +1,19 @@
 -- The state and a line determine the answer in either form.
 use Rattle.std.proofs.Common.{◌≡◌, ◌∙◌, ℕ, ◌+◌, ◌==◌, if◌then◌else◌, List, [], ◌∷◌, Option, Some, None, Result, Ok, Err, ap, inl, inr, refl, slice_get, sym, subst}
-use Rattle.fr_graph.specs.Batches.{IsBatchFault, IsEditFault}
-use Rattle.fr_graph.specs.Faults.{IsFirstFault}
 use Rattle.fr_graph.specs.Network.{Network}
 use Rattle.fr_graph.specs.declared.edit.Edit.{Edit}
 use Rattle.fr_graph.specs.declared.edit.Edit.TheVariants as edit
-use Rattle.fr_graph.specs.declared.fault.EditFault.{EditFault}
 use Rattle.fr_graph.specs.declared.fault.NetFault.{NetFault}
 use Rattle.fr_graph.specs.declared.fault.NetFault.TheVariants.{TooMany, Range, SelfLink, Twice, Cycle, NoLink, Memory}
 use Rattle.fr_lines.specs.Requests.{PlainRequest, new_network, cut_link, add_link, join_nodes, make_edits, move_dest, walk_from, ask}
 use Rattle.fr_lines.specs.declared.requests.LineFault.{LineFault}
 use Rattle.fr_lines.specs.declared.requests.LineFault.TheVariants.{NotJson, NotRequest, Memory as LineMemory}
 use Rattle.fr_lines.specs.declared.requests.Question.TheVariants.{Links, Counts, Hops}
-use Rattle.fr_tables.specs.declared.hop.Hop.{Hop}
-use Rattle.fr_route.specs.Answers.{fault_number}
-use Rattle.fr_graph.specs.Evidence.{NamesFirst, NamesInBatch, NamesOfEdit, evidence}
+use Rattle.fr_graph.specs.Evidence.{evidence}
 use Rattle.fr_route.specs.Forms.{IsAnswerIn}
-use Rattle.fr_route.specs.Json.{AreChanged, AreChanges, IsBatchRefusal, IsEditRefusal, IsJsonAnswer, IsJsonLineAnswer, IsJsonReport, IsJsonText, IsJsonWalk, IsNewRefusal, IsRefusal, PlainRefusal}
-use Rattle.fr_route.specs.Json.{ends, ends_in, hops_json, no_node, refusal_for, refusal_json, report_json, walk_json}
-use Rattle.fr_route.specs.Reroutes.{AreReplaced, AreRerouted}
+use Rattle.fr_route.specs.Json.{AreChanged, AreChanges, IsBatchRefusal, IsEditRefusal, IsJsonAnswer, IsJsonReport, IsJsonText, IsJsonWalk, IsNewRefusal, IsRefusal, PlainRefusal}
+use Rattle.fr_route.specs.Json.{ends, ends_in, hops_json, refusal_for, refusal_json, report_json, walk_json}
+use Rattle.fr_route.specs.Reroutes.{AreReplaced}
 use Rattle.fr_route.specs.States.{State, net_at}
 use Rattle.fr_route.specs.declared.form.Form.{Form}
 use Rattle.fr_route.specs.declared.form.Form.TheVariants.{Text, Json}

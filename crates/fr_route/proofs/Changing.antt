@@ -1,5 +1,5 @@
 -- What a change makes, from the edits that it makes and the destination after them.
-use Rattle.std.proofs.Common.{List, [], Option, Some, ap, arith, inl, inr, refl, subst, sym, length, take, ℕ, ◌++◌, ◌<◌, ◌≤◌, ◌∙◌, ◌∷◌, ◌≡◌, ◌≢◌}
+use Rattle.std.proofs.Common.{List, [], ap, arith, inl, inr, refl, subst, sym, length, take, ℕ, ◌++◌, ◌<◌, ◌≤◌, ◌∙◌, ◌∷◌, ◌≡◌, ◌≢◌}
 use Rattle.std.specs.List.{HoldsAt}
 use Rattle.fr_graph.specs.Batches.{AreMade, IsBatchFault, IsEditFault, IsMade}
 use Rattle.fr_graph.specs.Edits.{IsCutFault, IsJoinFault, IsJoined, without}

@@ -1,9 +1,7 @@
 -- Each line has an answer in either form, in each state after a round, and in the state before any.
-use Rattle.std.proofs.Common.{◌≡◌, ◌∙◌, ℕ, ◌<◌, ◌≤◌, ◌⊎◌, List, [], ◌∷◌, length, max, replicate, ap, arith, inl, inr, refl, slice_get, subst, sym, Option, Some, None, Result, Ok, Err, sum}
+use Rattle.std.proofs.Common.{◌≡◌, ◌∙◌, ℕ, ◌≤◌, List, [], ◌∷◌, length, max, replicate, arith, inl, inr, refl, slice_get, subst, sym, Option, Some, None, Result, Ok, Err, sum}
 use Rattle.std.specs.List.{count_by}
 use Rattle.std.proofs.lemmas.List.{length-replicate}
-use Rattle.fr_graph.specs.Edits.{IsJoined, without}
-use Rattle.fr_graph.specs.declared.edit.Edit.{Edit}
 use Rattle.fr_graph.specs.declared.edit.Edit.TheVariants as edit
 use Rattle.fr_lines.specs.Requests.{PlainRequest, new_network, cut_link, add_link, join_nodes, make_edits, move_dest, walk_from, ask, reading}
 use Rattle.fr_lines.specs.declared.requests.LineFault.{LineFault}
@@ -19,7 +17,7 @@ use Rattle.fr_route.specs.Json.{IsJsonAnswer, IsJsonLineAnswer, IsJsonReport, Is
 use Rattle.fr_route.specs.Json.{counts_json, hops_json, links_json, no_walk_json, refusal_json, report_json, walk_json}
 use Rattle.fr_route.specs.Outcomes.{IsSettledTable}
 use Rattle.fr_route.specs.Reroutes.{AreHopsIn, AreReplaced, AreRerouted, nodes_in}
-use Rattle.fr_route.specs.Routes.{AreHops, is_cut_off}
+use Rattle.fr_route.specs.Routes.{is_cut_off}
 use Rattle.fr_route.specs.States.{State, IsAfterRound, IsReport, net_at}
 use Rattle.fr_route.specs.declared.form.Form.{Form}
 use Rattle.fr_route.specs.declared.form.Form.TheVariants.{Text, Json}

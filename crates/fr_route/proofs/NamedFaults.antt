@@ -1,9 +1,9 @@
 -- Links that have a fault have one that names its evidence, and so does an edit that is refused.
-use Rattle.std.proofs.Common.{Any, Bool, Contains, List, None, Option, Some, [], add-one, ap, arith, count_by, drop, eqb, false, find, get_or}
+use Rattle.std.proofs.Common.{Any, Bool, Contains, List, Some, [], add-one, ap, arith, count_by, drop, eqb, false, find, get_or}
 use Rattle.std.proofs.Common.{inl, inr, length, length-append, length-drop, refl, subst, suc, sym, take, true, zero, ℕ}
-use Rattle.std.proofs.Common.{⊎_elim, ◌&&◌, ◌+◌, ◌-◌, ◌++◌, ◌<◌, ◌≤◌, ◌^◌, ◌∙◌, ◌∷◌, ◌≡◌, ◌≢◌, ◌⊎◌}
+use Rattle.std.proofs.Common.{⊎_elim, ◌+◌, ◌-◌, ◌++◌, ◌<◌, ◌≤◌, ◌∙◌, ◌∷◌, ◌≡◌, ◌≢◌, ◌⊎◌}
 use Rattle.std.proofs.lemmas.Bool.{cases_Bool, cases_eq, cases_lt, eq-eqb, eqb-true, le-leb, leb-true}
-use Rattle.std.proofs.lemmas.List.{get_or-drop, get_or_append_left, get_or_default, get_or_push, length_push}
+use Rattle.std.proofs.lemmas.List.{get_or-drop, get_or_default, length_push}
 use Rattle.std.proofs.lemmas.List.Concat.{flat_map-cons}
 use Rattle.std.proofs.lemmas.List.Elements.{Contains-append_left, Contains-push, Contains-push_cases}
 use Rattle.std.specs.List.{IsDistinct}

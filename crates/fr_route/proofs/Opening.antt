@@ -1,5 +1,5 @@
 -- Why a network is refused.
-use Rattle.std.proofs.Common.{Err, IfErr, List, Ok, Option, Result, ap, arith, inl, inr, refl, ℕ, ◌≢◌}
+use Rattle.std.proofs.Common.{Err, IfErr, List, Ok, Result, ap, arith, refl, ℕ, ◌≢◌}
 use Rattle.fr_graph.specs.Faults.{IsFirstFault, IsNetworkOf}
 use Rattle.fr_graph.specs.Network.{Network}
 use Rattle.fr_graph.specs.declared.fault.NetFault.{NetFault}

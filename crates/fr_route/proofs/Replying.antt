@@ -1,5 +1,5 @@
 -- What a session replies to a request, from the result of the call below.
-use Rattle.std.proofs.Common.{Err, IfErr, IfOk, List, [], ◌∷◌, None, Ok, OnErr, OnOk, Option, Result, Some, ap, arith, get_or, inl, inr, length, refl, slice_get, string_bytes, subst, sym}
+use Rattle.std.proofs.Common.{Err, IfErr, IfOk, List, [], ◌∷◌, None, Ok, Option, Result, Some, ap, arith, get_or, inl, inr, length, refl, slice_get, string_bytes, subst, sym}
 use Rattle.std.proofs.Common.{ℕ, ◌∙◌, ◌≡◌, ◌≢◌, ◌<◌, ◌≤◌, ◌↔◌, ◌⊎◌, IfSome, Bool, true, false, IsTrue, rules}
 use Rattle.std.proofs.lemmas.Option.{slice_get-get_or}
 use Rattle.std.specs.Prelude.{String}
@@ -14,19 +14,19 @@ use Rattle.fr_graph.specs.declared.edit.Edit.TheVariants as edit
 use Rattle.fr_graph.specs.declared.fault.NetFault.{NetFault}
 use Rattle.fr_graph.specs.declared.fault.NetFault.TheVariants as net
 use Rattle.fr_route.specs.Blank.{is_blank}
-use Rattle.fr_route.specs.Answers.{IsAccepted, IsAnswer, IsLineAnswer, IsRefused, MayStartFor, MayStartForLine, fault_number}
+use Rattle.fr_route.specs.Answers.{IsAccepted, IsRefused, MayStartFor, MayStartForLine, fault_number}
 use Rattle.fr_route.specs.Forms.{IsAnswerIn, IsLineRefused}
-use Rattle.fr_route.specs.Json.{IsBatchRefusal, IsEditRefusal, IsNewRefusal, IsRefusal, PlainRefusal, bare_refusal, ends, ends_in, no_node, refusal_for, refusal_json}
+use Rattle.fr_route.specs.Json.{IsBatchRefusal, IsEditRefusal, IsNewRefusal, IsRefusal, PlainRefusal, bare_refusal, ends, ends_in, refusal_for, refusal_json}
 use Rattle.fr_route.specs.Listing.{IsListing, nodes_told}
 use Rattle.fr_route.specs.Outcomes.{IsEdited, IsEditingFault}
 use Rattle.fr_route.specs.Refusals.{IsNewFault, IsRefusalOf}
-use Rattle.fr_route.specs.Replies.{Accepts, HasList, IsLineRefusal, IsLineAnsweredIn, IsLineReplied, IsReplied, IsReply, IsReportIn, IsRevised, IsStillReply, IsTextIn, Refuses, RefusesBy, request_of_edit}
+use Rattle.fr_route.specs.Replies.{HasList, IsLineRefusal, IsLineAnsweredIn, IsLineReplied, IsReplied, IsReply, IsReportIn, IsRevised, IsStillReply, IsTextIn, Refuses, RefusesBy, request_of_edit}
 use Rattle.fr_route.specs.Reroutes.{AreReplaced, AreRerouted}
 use Rattle.fr_route.specs.Rooms.{report_room}
 use Rattle.fr_route.specs.Sessions.{IsAnswered, IsLineAnswered}
 use Rattle.fr_route.specs.States.{State, net_at}
 use Rattle.fr_route.specs.Texts.{longest_report, refusal_text}
-use Rattle.fr_route.specs.Told.{IsLineTold, IsTold, TellsOf}
+use Rattle.fr_route.specs.Told.{IsLineTold, TellsOf}
 use Rattle.fr_route.specs.Tries.{IsPlacedFault}
 use Rattle.fr_route.specs.declared.fault.AnswerFault.{AnswerFault}
 use Rattle.fr_route.specs.declared.fault.AnswerFault.TheVariants.{Memory, Start}

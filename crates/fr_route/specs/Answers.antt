@@ -1,10 +1,12 @@
 -- The answer to each request and to each line, from the state before it: the definition of docs/LINES.md. This
 -- project's own.
-use Rattle.std.specs.Prelude.{◌≡◌, ℕ, ◌<◌, ◌≤◌, ◌⊎◌, List, [], ◌∷◌, ◌++◌, MatchBool, Option, Some, None, Result, Ok, Err}
+use Rattle.std.specs.Prelude.{◌≡◌, ℕ, ◌<◌, ◌≤◌, ◌⊎◌, List, [], ◌∷◌, ◌++◌}
+use Rattle.std.specs.Prelude.{MatchBool, Option, Some, None, Result, Ok, Err}
 use Rattle.fr_graph.specs.Batches.{IsBatchFault}
 use Rattle.fr_graph.specs.Faults.{IsFirstFault, IsFaultless, IsNetworkOf}
 use Rattle.fr_graph.specs.Network.{Network}
-use Rattle.fr_lines.specs.Requests.{PlainRequest, new_network, cut_link, add_link, join_nodes, make_edits, move_dest, walk_from, ask, reading}
+use Rattle.fr_lines.specs.Requests.{PlainRequest, new_network, cut_link, add_link, join_nodes}
+use Rattle.fr_lines.specs.Requests.{make_edits, move_dest, walk_from, ask, reading}
 use Rattle.fr_lines.specs.declared.requests.Question.TheVariants.{Links, Counts, Hops}
 use Rattle.fr_lines.specs.declared.requests.LineFault.{LineFault}
 use Rattle.fr_lines.specs.declared.requests.LineFault.TheVariants.{NotJson, NotRequest, Memory as LineMemory}
@@ -37,10 +39,14 @@ IsRefused s (new_network n d links) number =
     ((fault : NetFault) × IsFirstFault n links fault × (number ≡ fault_number fault))
     ⊎ (IsFaultless n links × (n ≤ d) × (number ≡ 4))
 IsRefused None request number = number ≡ 3
-IsRefused (Some s) (cut_link u v) number = (fault : NetFault) × IsChangeFault s (Cut u v) fault × (number ≡ fault_number fault)
-IsRefused (Some s) (add_link u v) number = (fault : NetFault) × IsChangeFault s (Add u v) fault × (number ≡ fault_number fault)
-IsRefused (Some s) (join_nodes u v) number = (fault : NetFault) × IsChangeFault s (Join u v) fault × (number ≡ fault_number fault)
-IsRefused (Some s) (make_edits edits) number = (refused : EditFault) × IsBatchFault (net_at s) edits refused × (number ≡ fault_number refused.fault)
+IsRefused (Some s) (cut_link u v) number = (fault : NetFault) × IsChangeFault s (Cut u v) fault
+    × (number ≡ fault_number fault)
+IsRefused (Some s) (add_link u v) number = (fault : NetFault) × IsChangeFault s (Add u v) fault
+    × (number ≡ fault_number fault)
+IsRefused (Some s) (join_nodes u v) number = (fault : NetFault) × IsChangeFault s (Join u v) fault
+    × (number ≡ fault_number fault)
+IsRefused (Some s) (make_edits edits) number = (refused : EditFault) × IsBatchFault (net_at s) edits refused
+    × (number ≡ fault_number refused.fault)
 IsRefused (Some s) (move_dest d) number = (s.nodes ≤ d) × (number ≡ 4)
 IsRefused (Some s) (walk_from x) number = (s.nodes ≤ x) × (number ≡ 4)
 IsRefused (Some s) (ask question) number = ⊥
@@ -104,7 +110,8 @@ AreAnswers s [] out next = (out ≡ []) × (next ≡ s)
 AreAnswers s (line ∷ rest) out next =
     MatchBool (is_blank line) (AreAnswers s rest out next)
     ((text : List ℕ) × (between : Option State) × (more : List ℕ)
-    × IsLineAnswer s (reading line) text between × AreAnswers between rest more next × (out ≡ (text ++ 10 ∷ []) ++ more))
+    × IsLineAnswer s (reading line) text between × AreAnswers between rest more next
+    × (out ≡ (text ++ 10 ∷ []) ++ more))
 
 -- a new network may need a thread: it is accepted, and a node can turn
 abbrev pub MayStartNew : ℕ → ℕ → List (ℕ × ℕ) → Type 0

@@ -21,7 +21,8 @@ use Rattle.fr_route.specs.declared.fault.RouteFault.TheVariants.{Net, Range, Sta
 -- the edits are made, and `new` is the state after the round on the resulting network
 abbrev pub IsBatch : State → List Edit → State → Type 0
 IsBatch s edits new =
-    (length edits ≤ most_edits) × ((net : Network) × (AreMade (net_at s) edits net × IsRound net.nodes s.dest net.links new))
+    (length edits ≤ most_edits)
+    × ((net : Network) × (AreMade (net_at s) edits net × IsRound net.nodes s.dest net.links new))
 
 -- `new` is the state after the round on the network with u and v joined
 abbrev pub IsAfterJoin : State → ℕ → ℕ → State → Type 0
@@ -47,7 +48,8 @@ abbrev pub IsChangeFault : State → Change → NetFault → Type 0
 IsChangeFault s (Cut u v) fault = IsCutFault s.links u v fault
 IsChangeFault s (Add u v) fault = IsFirstFault s.nodes (s.links ++ (u, v) ∷ []) fault
 IsChangeFault s (Join u v) fault = IsJoinFault s.nodes s.links u v fault
-IsChangeFault s (Batch edits) fault = (refused : EditFault) × (IsBatchFault (net_at s) edits.items refused × (fault ≡ refused.fault))
+IsChangeFault s (Batch edits) fault = (refused : EditFault)
+    × (IsBatchFault (net_at s) edits.items refused × (fault ≡ refused.fault))
 IsChangeFault s (Destination d) fault = ⊥
 
 -- the change names a destination that is not a node
@@ -64,7 +66,8 @@ IsStill net d = AreSettled net.nodes d net.links (replicate net.nodes 0)
 
 -- the edits are accepted, d is a node, and a node can turn on the resulting network
 abbrev pub CanTurnAfter : State → List Edit → ℕ → Type 0
-CanTurnAfter s edits d = (length edits ≤ most_edits) × (d < s.nodes) × ((net : Network) × (AreMade (net_at s) edits net × ¬ IsStill net d))
+CanTurnAfter s edits d = (length edits ≤ most_edits) × (d < s.nodes)
+    × ((net : Network) × (AreMade (net_at s) edits net × ¬ IsStill net d))
 
 -- the change may need a thread: it is accepted, and a node can turn after it
 abbrev pub MayStart : State → Change → Type 0

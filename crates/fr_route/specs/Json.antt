@@ -1,6 +1,7 @@
 -- The answers in JSON, to each request and to each line: the definition of docs/LINES.md. This project's own; JSON is
 -- that of RFC 8259.
-use Rattle.std.specs.Prelude.{◌≡◌, ℕ, ◌<◌, ◌≤◌, ◌==◌, ◌⊎◌, Bool, true, false, List, [], ◌∷◌, ◌++◌, Option, Some, None, Result, Ok, Err, codes, decimal, map, slice_get, if◌then◌else◌}
+use Rattle.std.specs.Prelude.{◌≡◌, ℕ, ◌≤◌, ◌==◌, ◌⊎◌, Bool, true, false, List, [], ◌∷◌, ◌++◌, Option}
+use Rattle.std.specs.Prelude.{Some, None, Result, Ok, Err, codes, decimal, map, slice_get, if◌then◌else◌}
 use Rattle.std.specs.List.{AllByRecursion}
 use Rattle.fr_graph.specs.Batches.{IsBatchFault, IsEditFault}
 use Rattle.fr_graph.specs.Evidence.{NamesFirst, NamesInBatch, NamesOfEdit, evidence}
@@ -11,7 +12,8 @@ use Rattle.fr_graph.specs.declared.edit.Edit.TheVariants as edit
 use Rattle.fr_graph.specs.declared.fault.EditFault.{EditFault}
 use Rattle.fr_graph.specs.declared.fault.NetFault.{NetFault}
 use Rattle.fr_graph.specs.declared.fault.NetFault.TheVariants.{NoLink}
-use Rattle.fr_lines.specs.Requests.{PlainRequest, new_network, cut_link, add_link, join_nodes, make_edits, move_dest, walk_from, ask}
+use Rattle.fr_lines.specs.Requests.{PlainRequest, new_network, cut_link, add_link}
+use Rattle.fr_lines.specs.Requests.{join_nodes, make_edits, move_dest, walk_from, ask}
 use Rattle.fr_lines.specs.declared.requests.Question.TheVariants.{Links, Counts, Hops}
 use Rattle.fr_lines.specs.declared.requests.LineFault.{LineFault}
 use Rattle.fr_lines.specs.declared.requests.LineFault.TheVariants.{NotJson, NotRequest, Memory as LineMemory}
@@ -68,7 +70,8 @@ abbrev pub round_json : ℕ → ℕ → List ℕ
 round_json turned cut = codes "{\"turned\":" ++ (decimal turned ++ (codes ",\"cut_off\":" ++ decimal cut))
 
 abbrev pub report_json : ℕ → ℕ → List (ℕ × Hop) → List ℕ
-report_json turned cut changed = round_json turned cut ++ (codes ",\"changed\":[" ++ (listed change_json changed ++ codes "]}"))
+report_json turned cut changed = round_json turned cut
+    ++ (codes ",\"changed\":[" ++ (listed change_json changed ++ codes "]}"))
 
 -- a refusal: its number, the nodes that show the fault, and the place of the refused edit in a batch
 pub record PlainRefusal : Type 0 where
@@ -102,7 +105,8 @@ shown_json nodes place = codes "\",\"nodes\":[" ++ (listed decimal nodes ++ (cod
 -- the refusal of the line with this number
 abbrev pub refusal_json : PlainRefusal → ℕ → List ℕ
 refusal_json refusal line =
-    refused_json refusal.number ++ (shown_json refusal.nodes refusal.edit ++ (codes ",\"line\":" ++ (decimal line ++ codes "}")))
+    refused_json refusal.number
+    ++ (shown_json refusal.nodes refusal.edit ++ (codes ",\"line\":" ++ (decimal line ++ codes "}")))
 
 -- Refusals
 
@@ -138,7 +142,8 @@ IsNewRefusal n d links refusal =
 
 -- the edit is refused
 abbrev pub IsEditRefusal : Network → Edit → PlainRefusal → Type 0
-IsEditRefusal net e refusal = (fault : NetFault) × IsEditFault net e fault × NamesOfEdit net e fault × (refusal ≡ refusal_for fault (ends e) None)
+IsEditRefusal net e refusal = (fault : NetFault) × IsEditFault net e fault × NamesOfEdit net e fault
+    × (refusal ≡ refusal_for fault (ends e) None)
 
 -- one of the edits is refused, or there are too many
 abbrev pub IsBatchRefusal : Network → List Edit → PlainRefusal → Type 0

@@ -19,15 +19,18 @@ use Rattle.fr_tables.specs.declared.hop.Hop.{Hop}
 
 -- the first links determine the state after a round
 abbrev pub RoundIsUnique : Type 0
-RoundIsUnique = (n d : ℕ) (first : List (ℕ × ℕ)) (some other : State) → IsRound n d first some → IsRound n d first other → some ≡ other
+RoundIsUnique = (n d : ℕ) (first : List (ℕ × ℕ)) (some other : State) → IsRound n d first some
+    → IsRound n d first other → some ≡ other
 
 -- the links after a round contain no cycle
 abbrev pub RoundLeavesNoLoop : Type 0
-RoundLeavesNoLoop = (n d : ℕ) (first : List (ℕ × ℕ)) (s : State) → IsNet n first → d < n → IsRound n d first s → IsAcyclic s.links
+RoundLeavesNoLoop = (n d : ℕ) (first : List (ℕ × ℕ)) (s : State) → IsNet n first → d < n → IsRound n d first s
+    → IsAcyclic s.links
 
 -- the same nodes are joined with the destination before and after a round
 abbrev pub RoundKeepsJoined : Type 0
-RoundKeepsJoined = (n d : ℕ) (first : List (ℕ × ℕ)) (s : State) (x : ℕ) → IsNet n first → d < n → IsRound n d first s → IsConnected first d x ↔ IsConnected s.links d x
+RoundKeepsJoined = (n d : ℕ) (first : List (ℕ × ℕ)) (s : State) (x : ℕ) → IsNet n first → d < n → IsRound n d first s
+    → IsConnected first d x ↔ IsConnected s.links d x
 
 -- a state has only one report
 abbrev pub ReportIsUnique : Type 0
@@ -42,7 +45,8 @@ RoutesLeadHome = (n d : ℕ) (first : List (ℕ × ℕ)) (s : State) (x : ℕ) �
 
 -- no node has two routes
 abbrev pub RouteIsUnique : Type 0
-RouteIsUnique = (links : List (ℕ × ℕ)) (d x : ℕ) (some other : List ℕ) → IsRoute links d x some → IsRoute links d x other → some ≡ other
+RouteIsUnique = (links : List (ℕ × ℕ)) (d x : ℕ) (some other : List ℕ) → IsRoute links d x some
+    → IsRoute links d x other → some ≡ other
 
 -- a route is a path along the links that ends at the destination and visits no node twice
 abbrev pub RouteIsSimple : Type 0
@@ -57,7 +61,8 @@ HopIsUnique = (s : State) (x : ℕ) (some other : Hop) → IsHop s x some → Is
 
 -- the hops after a round have no loop, and all name nodes
 abbrev pub HopsHaveNoLoop : Type 0
-HopsHaveNoLoop = (s : State) (hops : List Hop) → IsAfterRound s → AreHops s s.nodes hops → IsLoopFree hops × IsInRange hops
+HopsHaveNoLoop = (s : State) (hops : List Hop) → IsAfterRound s → AreHops s s.nodes hops
+    → IsLoopFree hops × IsInRange hops
 
 -- exactly the rerouted nodes are listed
 abbrev pub ReroutedAreTold : Type 0
@@ -68,13 +73,16 @@ ReroutedAreTold = (old new : State) (nodes : List ℕ) (x : ℕ) → old.nodes �
 
 -- the state and the request determine the text of the answer and the state after it
 abbrev pub AnswerIsUnique : Type 0
-AnswerIsUnique = (s : Option State) (request : PlainRequest) (t u : List ℕ) (p q : Option State) → IsAnswer s request t p → IsAnswer s request u q → (t ≡ u) × (p ≡ q)
+AnswerIsUnique = (s : Option State) (request : PlainRequest) (t u : List ℕ) (p q : Option State)
+    → IsAnswer s request t p → IsAnswer s request u q → (t ≡ u) × (p ≡ q)
 
 -- the same holds for a line
 abbrev pub LineAnswerIsUnique : Type 0
-LineAnswerIsUnique = (s : Option State) (line : Result PlainRequest LineFault) (t u : List ℕ) (p q : Option State) → IsLineAnswer s line t p → IsLineAnswer s line u q → (t ≡ u) × (p ≡ q)
+LineAnswerIsUnique = (s : Option State) (line : Result PlainRequest LineFault) (t u : List ℕ) (p q : Option State)
+    → IsLineAnswer s line t p → IsLineAnswer s line u q → (t ≡ u) × (p ≡ q)
 
 -- in either form, the state, the number of a line and the line determine the answer and the state after it
 abbrev pub AnswerInIsUnique : Type 0
-AnswerInIsUnique = (form : Form) (number : ℕ) (s : Option State) (line : Result PlainRequest LineFault) (t u : List ℕ) (p q : Option State)
+AnswerInIsUnique = (form : Form) (number : ℕ) (s : Option State) (line : Result PlainRequest LineFault)
+    (t u : List ℕ) (p q : Option State)
     → IsAnswerIn form number s line t p → IsAnswerIn form number s line u q → (t ≡ u) × (p ≡ q)

@@ -1,5 +1,6 @@
 -- The outcome of a round on a network, and the nodes at which edits change links. For proofs only.
-use Rattle.std.specs.Prelude.{◌≡◌, ℕ, ◌<◌, ◌≤◌, ◌⊎◌, ◌↔◌, not, ◌==◌, ◌&&◌, List, [], ◌∷◌, ◌++◌, count_by, length, nat_eq, slice_get, slice_index, Some, ◌≢◌}
+use Rattle.std.specs.Prelude.{◌≡◌, ℕ, ◌<◌, ◌≤◌, ◌⊎◌, ◌↔◌, not, ◌==◌, ◌&&◌, List, [], ◌∷◌, ◌++◌}
+use Rattle.std.specs.Prelude.{count_by, length, nat_eq, slice_get, slice_index, Some, ◌≢◌}
 use Rattle.std.specs.List.{All, Contains, IsDistinct, filter, range_with_len}
 use Rattle.fr_graph.specs.Batches.{AreMade, IsBatchFault}
 use Rattle.fr_graph.specs.Counts.{links_at}
@@ -81,23 +82,27 @@ IsStale s y hop = (x : ℕ) × ((0 < slice_index s.counts x) × SendsTo s.links 
 -- all moved nodes are nodes of the state, and every other hop is right unless it is stale
 pub record HoldsMoved (s : State) (hops : List Hop) (moved : List ℕ) : Type 0 where
   pub below : All (λ x. x < s.nodes) moved
-  pub others : (x : ℕ) (hop : Hop) → slice_get hops x ≡ Some hop → ¬ Contains moved x → ¬ IsStale s x hop → IsHop s x hop
+  pub others : (x : ℕ) (hop : Hop) → slice_get hops x ≡ Some hop → ¬ Contains moved x → ¬ IsStale s x hop
+      → IsHop s x hop
 
 -- each hop is right now, or it is unchanged and satisfies `left`
 pub record AreRenewed (s : State) (old new : List Hop) (left : ℕ → Hop → Type 0) : Type 0 where
-  pub each : (x : ℕ) (hop : Hop) → slice_get new x ≡ Some hop → IsHop s x hop ⊎ ((slice_get old x ≡ Some hop) × left x hop)
+  pub each : (x : ℕ) (hop : Hop) → slice_get new x ≡ Some hop
+      → IsHop s x hop ⊎ ((slice_get old x ≡ Some hop) × left x hop)
 
 -- these are exactly the nodes whose hop differs from that in `before`, each once, and their hops are right
 pub record AreNoted (s : State) (before hops : List Hop) (nodes : List ℕ) : Type 0 where
   pub once : IsDistinct nat_eq nodes
-  pub these : (x : ℕ) → Contains nodes x → (hop : Hop) × ((slice_get hops x ≡ Some hop) × IsHop s x hop × ¬ (slice_get before x ≡ Some hop))
+  pub these : (x : ℕ) → Contains nodes x
+      → (hop : Hop) × ((slice_get hops x ≡ Some hop) × IsHop s x hop × ¬ (slice_get before x ≡ Some hop))
   pub others : (x : ℕ) → ¬ Contains nodes x → slice_get hops x ≡ slice_get before x
 
 -- while hops are updated, the list continues to note where they differ from any table `before`, if it has room for each
 -- node
 pub record NotesMore (s : State) (old : List Hop) (told : Told) (new : List Hop) (more : Told) : Type 0 where
   pub keeps : KeepsPlaces told more
-  pub noted : HasPlaces (length old) told → (before : List Hop) → AreNoted s before old (nodes_told told) → AreNoted s before new (nodes_told more)
+  pub noted : HasPlaces (length old) told → (before : List Hop) → AreNoted s before old (nodes_told told)
+      → AreNoted s before new (nodes_told more)
 
 -- these are exactly the nodes at which the hops differ, each once
 pub record AreOthers (old new : List Hop) (nodes : List ℕ) : Type 0 where
@@ -123,7 +128,8 @@ IsEdited s edits d new =
 
 -- why this fails: an edit is refused, or a thread or memory is missing
 abbrev pub IsEditingFault : State → List Edit → ℕ → RouteFault → Type 0
-IsEditingFault s edits d (Net fault) = (refused : EditFault) × (IsBatchFault (net_at s) edits refused × (fault ≡ refused.fault))
+IsEditingFault s edits d (Net fault) = (refused : EditFault)
+    × (IsBatchFault (net_at s) edits refused × (fault ≡ refused.fault))
 IsEditingFault s edits d Range = ⊥
 IsEditingFault s edits d Start = CanTurnAfter s edits d
 IsEditingFault s edits d Memory = Unit {0}

@@ -12,7 +12,8 @@ use Rattle.fr_route.specs.declared.change.Change.TheVariants.{Cut, Add, Join, Ba
 use Rattle.fr_route.specs.declared.fault.RouteFault.{RouteFault}
 use Rattle.fr_route.specs.declared.fault.RouteFault.TheVariants.{Net, Range, Start, Memory}
 use Rattle.fr_route.specs.declared.refusals.Reason.{Reason}
-use Rattle.fr_route.specs.declared.refusals.Reason.TheVariants.{NotJson, NotRequest, NoNetwork, NoNode, SelfLink, Twice, Cycle, NoLink, TooMany}
+use Rattle.fr_route.specs.declared.refusals.Reason.TheVariants.{NotJson, NotRequest, NoNetwork, NoNode}
+use Rattle.fr_route.specs.declared.refusals.Reason.TheVariants.{SelfLink, Twice, Cycle, NoLink, TooMany}
 
 -- the number of a refusal in an answer
 abbrev pub number_of : Reason → ℕ

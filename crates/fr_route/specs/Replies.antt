@@ -1,5 +1,6 @@
 -- What a session does with a request in either form, by any way to settle networks. For proofs only.
-use Rattle.std.specs.Prelude.{◌≡◌, ◌≢◌, ℕ, ◌≤◌, ◌⊎◌, ◌↔◌, IsTrue, true, false, length, List, Option, Some, Result, Ok, Err, String, IfOk, IfErr, IfSome, IfNone, OnErr, string_bytes}
+use Rattle.std.specs.Prelude.{◌≡◌, ◌≢◌, ℕ, ◌≤◌, ◌⊎◌, ◌↔◌, IsTrue, true, false, length, List, Option, Some}
+use Rattle.std.specs.Prelude.{Result, Ok, Err, String, IfOk, IfErr, IfSome, IfNone, OnErr, string_bytes}
 use Rattle.std.specs.declared.alloc.Global.{Global}
 use Rattle.fr_lines.specs.Requests.{PlainRequest, reading, cut_link, add_link, join_nodes}
 use Rattle.fr_lines.specs.declared.requests.LineFault.{LineFault}
@@ -39,7 +40,8 @@ refused_in Json line refusal = refusal_json refusal line
 
 -- the answer refuses the line so
 abbrev pub RefusesBy : Manner → PlainRefusal → Answer → Type 0
-RefusesBy manner refusal answer = (string_bytes answer.text ≡ refused_in manner.form manner.number refusal) × (answer.refused ≡ true)
+RefusesBy manner refusal answer = (string_bytes answer.text ≡ refused_in manner.form manner.number refusal)
+    × (answer.refused ≡ true)
 
 -- the report of a round in this form
 abbrev pub IsReportIn : Form → (List ℕ → Type 0) → State → List ℕ → Type 0
@@ -65,7 +67,8 @@ IsLineRefusal s (Err NotRequest) refusal = refusal ≡ bare_refusal 2
 IsLineRefusal s (Err Memory) refusal = ⊥
 
 -- the answer refuses what was read, and nothing changes
-pub record Refuses (manner : Manner) (s : Option State) (asked : Result PlainRequest LineFault) (told : Told) (answer : Answer) (next : Option State) (more : Told) : Type 0 where
+pub record Refuses (manner : Manner) (s : Option State) (asked : Result PlainRequest LineFault) (told : Told)
+    (answer : Answer) (next : Option State) (more : Told) : Type 0 where
   pub refusal : PlainRefusal
   pub why : IsLineRefusal s asked refusal
   pub by : RefusesBy manner refusal answer
@@ -73,17 +76,21 @@ pub record Refuses (manner : Manner) (s : Option State) (asked : Result PlainReq
   pub untold : nodes_told more ≡ nodes_told told
 
 -- the answer is that to an accepted request
-pub record Accepts (manner : Manner) (s : Option State) (request : PlainRequest) (told : Told) (answer : Answer) (next : Option State) (more : Told) : Type 0 where
+pub record Accepts (manner : Manner) (s : Option State) (request : PlainRequest) (told : Told) (answer : Answer)
+    (next : Option State) (more : Told) : Type 0 where
   pub new : State
   pub accepted : IsAccepted s request new
   pub text : HasList manner.form told → IsTextIn manner.form s request new (string_bytes answer.text)
   pub by : answer.refused ≡ false
   pub next_is : next ≡ Some new
   pub tells : IsListing told → TellsOf s request new (nodes_told told) (nodes_told more)
-  pub short : manner.form ≡ Text → ((next ≡ s) × (nodes_told more ≡ nodes_told told)) ⊎ (length (string_bytes answer.text) ≤ longest_report)
+  pub short : manner.form ≡ Text
+      → ((next ≡ s) × (nodes_told more ≡ nodes_told told)) ⊎ (length (string_bytes answer.text) ≤ longest_report)
 
-abbrev pub IsReply : Manner → Option State → Result PlainRequest LineFault → Told → Answer → Option State → Told → Type 0
-IsReply manner s (Ok request) told answer next more = Refuses manner s (Ok request) told answer next more ⊎ Accepts manner s request told answer next more
+abbrev pub IsReply : Manner → Option State → Result PlainRequest LineFault → Told → Answer → Option State → Told
+    → Type 0
+IsReply manner s (Ok request) told answer next more = Refuses manner s (Ok request) told answer next more
+    ⊎ Accepts manner s request told answer next more
 IsReply manner s (Err fault) told answer next more = Refuses manner s (Err fault) told answer next more
 
 -- the answer to a request that changes nothing, in this state
@@ -95,31 +102,38 @@ IsStillReply manner s request answer =
 
 -- The answer to what was read of a line, the state after it, and the list of rerouted nodes. With `never`, the way to
 -- settle starts no thread.
-pub record IsReplied (never : Type 0) (manner : Manner) (s : Option State) (asked : Result PlainRequest LineFault) (told : Told) (answer : Result Answer AnswerFault) (next : Option State) (more : Told) : Type 0 where
+pub record IsReplied (never : Type 0) (manner : Manner) (s : Option State) (asked : Result PlainRequest LineFault)
+    (told : Told) (answer : Result Answer AnswerFault) (next : Option State) (more : Told) : Type 0 where
   pub reply : IfOk answer (λ a. IsReply manner s asked told a next more)
   pub unchanged : OnErr answer ((next ≡ s) × (nodes_told more ≡ nodes_told told))
   pub start : IfErr answer (λ fault. fault ≡ Start → MayStartForLine s asked)
   pub no_start : never → IfErr answer (λ fault. fault ≢ Start)
 
 -- the same for a line. A blank line has no answer and changes nothing
-pub record IsLineReplied (never : Type 0) (manner : Manner) (s : Option State) (line : List ℕ) (told : Told) (answer : Result (Option Answer) AnswerFault) (next : Option State) (more : Told) : Type 0 where
+pub record IsLineReplied (never : Type 0) (manner : Manner) (s : Option State) (line : List ℕ) (told : Told)
+    (answer : Result (Option Answer) AnswerFault) (next : Option State) (more : Told) : Type 0 where
   pub blank : IfOk answer (λ a. IfNone a ((is_blank line ≡ true) × (next ≡ s) × (nodes_told more ≡ nodes_told told)))
-  pub reply : IfOk answer (λ a. IfSome a (λ it. (is_blank line ≡ false) × IsReply manner s (reading line) told it next more))
+  pub reply : IfOk answer
+      (λ a. IfSome a (λ it. (is_blank line ≡ false) × IsReply manner s (reading line) told it next more))
   pub unchanged : OnErr answer ((is_blank line ≡ false) × (next ≡ s) × (nodes_told more ≡ nodes_told told))
   pub start : IfErr answer (λ fault. fault ≡ Start → MayStartForLine s (reading line))
   pub no_start : never → IfErr answer (λ fault. fault ≢ Start)
 
 -- the same in this form, for the line with this number
-pub record IsLineAnsweredIn (never : Type 0) (form : Form) (number : ℕ) (s : Option State) (line : List ℕ) (answer : Result (Option Answer) AnswerFault) (next : Option State) : Type 0 where
+pub record IsLineAnsweredIn (never : Type 0) (form : Form) (number : ℕ) (s : Option State) (line : List ℕ)
+    (answer : Result (Option Answer) AnswerFault) (next : Option State) : Type 0 where
   pub blank : IfOk answer (λ a. IfNone a ((is_blank line ≡ true) × (next ≡ s)))
-  pub text : IfOk answer (λ a. IfSome a (λ it. (is_blank line ≡ false) × IsAnswerIn form number s (reading line) (string_bytes it.text) next))
+  pub text : IfOk answer
+      (λ a. IfSome a (λ it. (is_blank line ≡ false)
+      × IsAnswerIn form number s (reading line) (string_bytes it.text) next))
   pub refused : IfOk answer (λ a. IfSome a (λ it. IsTrue it.refused ↔ IsLineRefused s (reading line)))
   pub unchanged : OnErr answer ((is_blank line ≡ false) × (next ≡ s))
   pub start : IfErr answer (λ fault. fault ≡ Start → MayStartForLine s (reading line))
   pub no_start : never → IfErr answer (λ fault. fault ≢ Start)
 
 -- edits, and the report of the round after them
-pub record IsRevised (never : Type 0) (form : Form) (s : State) (revision : Revision) (told : Told) (text : Result (String Global) NotMade) (next : State) (more : Told) : Type 0 where
+pub record IsRevised (never : Type 0) (form : Form) (s : State) (revision : Revision) (told : Told)
+    (text : Result (String Global) NotMade) (next : State) (more : Told) : Type 0 where
   pub made : IfOk text (λ _. IsEdited s revision.edits.now revision.dest next)
   pub report : HasList form told → IfOk text (λ it. IsReportIn form (AreRerouted s next) next (string_bytes it))
   pub short : form ≡ Text → IfOk text (λ it. length (string_bytes it) ≤ longest_report)

@@ -1,7 +1,9 @@
 -- Which rerouted nodes an answered request lists, for a caller that keeps the hops of all nodes. This project's own.
-use Rattle.std.specs.Prelude.{◌≡◌, ℕ, ◌⊎◌, List, Option, Some, None, Result, Ok, Err, String, IfOk, IfSome, IfNone, OnErr}
+use Rattle.std.specs.Prelude.{◌≡◌, ℕ, ◌⊎◌, List, Option, Some, None, Result}
+use Rattle.std.specs.Prelude.{Ok, Err, String, IfOk, IfSome, IfNone, OnErr}
 use Rattle.std.specs.declared.alloc.Global.{Global}
-use Rattle.fr_lines.specs.Requests.{PlainRequest, new_network, cut_link, add_link, join_nodes, make_edits, move_dest, walk_from, ask}
+use Rattle.fr_lines.specs.Requests.{PlainRequest, new_network, cut_link, add_link}
+use Rattle.fr_lines.specs.Requests.{join_nodes, make_edits, move_dest, walk_from, ask}
 use Rattle.fr_lines.specs.declared.requests.LineFault.{LineFault}
 use Rattle.fr_route.specs.Answers.{IsAccepted, IsRefused}
 use Rattle.fr_route.specs.Reroutes.{AreReplaced, AreRerouted}
@@ -33,7 +35,8 @@ IsLineTold s (Ok request) next before after = IsTold s request next before after
 IsLineTold s (Err fault) next before after = (next ≡ s) × (after ≡ before)
 
 -- what a line makes of the caller's list: nothing if the line is blank or the call fails
-pub record TellsOfLine (s : Option State) (asked : Result PlainRequest LineFault) (answer : Result (Option (String Global)) AnswerFault) (next : Option State) (before after : List ℕ) : Type 0 where
+pub record TellsOfLine (s : Option State) (asked : Result PlainRequest LineFault)
+    (answer : Result (Option (String Global)) AnswerFault) (next : Option State) (before after : List ℕ) : Type 0 where
   pub answered : IfOk answer (λ a. IfSome a (λ _. IsLineTold s asked next before after))
   pub blank : IfOk answer (λ a. IfNone a (after ≡ before))
   pub fault : OnErr answer (after ≡ before)

@@ -43,7 +43,8 @@ missing_memory = record { at = 0; fault = Memory }
 -- the place of the fault is that of the first refused edit, and the fault names what it has to
 abbrev pub IsPlacedFault : State → List Edit → ℕ → RouteFault → Type 0
 IsPlacedFault s edits at (Net fault) =
-    IsBatchFault (net_at s) edits (record { at = at; fault = fault }) × NamesInBatch (net_at s) edits (record { at = at; fault = fault })
+    IsBatchFault (net_at s) edits (record { at = at; fault = fault })
+    × NamesInBatch (net_at s) edits (record { at = at; fault = fault })
 IsPlacedFault s edits at Range = Unit {0}
 IsPlacedFault s edits at Start = Unit {0}
 IsPlacedFault s edits at Memory = Unit {0}
@@ -59,7 +60,8 @@ without_place (Err undone) = Err undone.fault
 module _ {T : Type 0} where
   -- The attempt succeeded, and the answer is what `tell` made of the report; or it failed with a fault, and nothing has
   -- changed. With `never`, the way to settle starts no thread. If there is a list, it has the rerouted nodes.
-  pub record IsTried (never : Type 0) (trial : Trial) (Tells : Report → T → Type 0) (s : State) (told : Told) (answer : Result T RouteFault) (next : State) (more : Told) : Type 0 where
+  pub record IsTried (never : Type 0) (trial : Trial) (Tells : Report → T
+      → Type 0) (s : State) (told : Told) (answer : Result T RouteFault) (next : State) (more : Told) : Type 0 where
     pub made : IfOk answer (λ _. trial.Made next)
     pub told_of : IfOk answer (λ told. (report : Report) × IsReport next report.turned report.cut × Tells report told)
     pub rerouted : IfOk answer (λ _. IsListing told → AreRerouted s next (nodes_told more))

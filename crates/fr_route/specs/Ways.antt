@@ -20,10 +20,17 @@ pub record IsCountAnswer (net : Network) (d : ℕ) (answer : Result (List ℕ) C
 
 module _ {F : Type 0} where
   -- the way accepts all that it can be called with, and returns only such results
-  pub record Settles (pre : F → Bor Network → ℕ → Option (Bor (List ℕ)) → List ℕ → Type 0) (post : F → Bor Network → ℕ → Option (Bor (List ℕ)) → List ℕ → Result (List ℕ) CrewFault → Type 0) (settle : F) : Type 0 where
-    pub takes : (net : Bor Network) (d : ℕ) (from : Option (Bor (List ℕ))) (turns : List ℕ) → CanAsk net d from turns → pre settle net d from turns
-    pub gives : (net : Bor Network) (d : ℕ) (from : Option (Bor (List ℕ))) (turns : List ℕ) (answer : Result (List ℕ) CrewFault) → CanAsk net d from turns → post settle net d from turns answer → IsCountAnswer net.now d answer
+  pub record Settles (pre : F → Bor Network → ℕ → Option (Bor (List ℕ)) → List ℕ → Type 0) (post : F → Bor Network
+      → ℕ → Option (Bor (List ℕ)) → List ℕ → Result (List ℕ) CrewFault → Type 0) (settle : F) : Type 0 where
+    pub takes : (net : Bor Network) (d : ℕ) (from : Option (Bor (List ℕ))) (turns : List ℕ) → CanAsk net d from turns
+        → pre settle net d from turns
+    pub gives : (net : Bor Network) (d : ℕ) (from : Option (Bor (List ℕ))) (turns : List ℕ)
+        (answer : Result (List ℕ) CrewFault) → CanAsk net d from turns → post settle net d from turns answer
+        → IsCountAnswer net.now d answer
 
   -- the way never fails with `Start`
-  abbrev pub NeverStarts : (post : F → Bor Network → ℕ → Option (Bor (List ℕ)) → List ℕ → Result (List ℕ) CrewFault → Type 0) → F → Type 0
-  NeverStarts post settle = (net : Bor Network) (d : ℕ) (from : Option (Bor (List ℕ))) (turns : List ℕ) (answer : Result (List ℕ) CrewFault) → CanAsk net d from turns → post settle net d from turns answer → IfErr answer (λ fault. fault ≢ Start)
+  abbrev pub NeverStarts : (post : F → Bor Network → ℕ → Option (Bor (List ℕ)) → List ℕ → Result (List ℕ) CrewFault
+      → Type 0) → F → Type 0
+  NeverStarts post settle = (net : Bor Network) (d : ℕ) (from : Option (Bor (List ℕ))) (turns : List ℕ)
+      (answer : Result (List ℕ) CrewFault) → CanAsk net d from turns → post settle net d from turns answer
+      → IfErr answer (λ fault. fault ≢ Start)

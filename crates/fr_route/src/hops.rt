@@ -1,6 +1,7 @@
 //! The next hop of each node.
 
-ghost use Rattle.std.specs.Prelude.{◌≡◌, ℕ, ◌<◌, ◌≤◌, ◌↔◌, ◌++◌, ◌-◌, All, Contains, IsTrue, length, replicate, take, IfOk, MatchOption};
+ghost use Rattle.std.specs.Prelude.{◌≡◌, ℕ, ◌<◌, ◌≤◌, ◌↔◌, ◌++◌, ◌-◌, All, Contains};
+ghost use Rattle.std.specs.Prelude.{IsTrue, length, replicate, take, IfOk, MatchOption};
 ghost use Rattle.fr_graph.specs.Links.{Points};
 ghost use Rattle.fr_route.specs.Routes.{IsNextHop, IsHop, AreHops};
 ghost use Rattle.fr_route.specs.Outcomes.{AreRenewed, HoldsMoved, IsStale, NotesMore, SendsTo, state_after};
@@ -92,7 +93,8 @@ pub(crate) fn renew_hops(hops: &mut [Hop], round: &AfterRound<'_>, moved: &[u32]
 fn renew_turned(hops: &mut [Hop], round: &AfterRound<'_>, told: &mut Told)
     requires round { IsAfterRound (state_after round.now) }
     requires one_each { length hops.old ≡ round.now.net.now.nodes }
-    ensures renewed { AreRenewed (state_after round.now) hops.old hops.new (λ x hop. ¬ IsStale (state_after round.now) x hop) }
+    ensures renewed { AreRenewed (state_after round.now) hops.old hops.new
+        (λ x hop. ¬ IsStale (state_after round.now) x hop) }
     ensures noted { NotesMore (state_after round.now) hops.old told.old hops.new told.new }
 {
     for x in round.turns.nodes() {
@@ -105,7 +107,8 @@ fn renew_near(hops: &mut [Hop], round: &AfterRound<'_>, x: u32, told: &mut Told)
     requires round { IsAfterRound (state_after round.now) }
     requires one_each { length hops.old ≡ round.now.net.now.nodes }
     requires node { x < round.now.net.now.nodes }
-    ensures renewed { AreRenewed (state_after round.now) hops.old hops.new (λ y hop. ¬ SendsTo round.now.net.now.links x y hop) }
+    ensures renewed { AreRenewed (state_after round.now) hops.old hops.new
+        (λ y hop. ¬ SendsTo round.now.net.now.links x y hop) }
     ensures noted { NotesMore (state_after round.now) hops.old told.old hops.new told.new }
 {
     // By this law, the row has each link of `x`.

@@ -1,7 +1,10 @@
 //! The answers in JSON.
 
-ghost use Rattle.std.specs.Prelude.{◌≡◌, ◌≤◌, ◌++◌, ◌+◌, ◌*◌, length, slice_get, IfOk, OnOk, codes, decimal, string_bytes};
-ghost use Rattle.fr_route.specs.Json.{change_json, changes_of, comma_before, counts_json, hop_in, hop_json, hops_json, link_json, links_json, listed, no_walk_json, place_json, refusal_json, refused_json, report_json, round_json, shown_json, walk_json};
+ghost use Rattle.std.specs.Prelude.{◌≡◌, ◌≤◌, ◌++◌, ◌+◌, ◌*◌, length, slice_get};
+ghost use Rattle.std.specs.Prelude.{IfOk, OnOk, codes, decimal, string_bytes};
+ghost use Rattle.fr_route.specs.Json.{change_json, changes_of, comma_before, counts_json, hop_in, hop_json};
+ghost use Rattle.fr_route.specs.Json.{hops_json, link_json, links_json, listed, no_walk_json, place_json};
+ghost use Rattle.fr_route.specs.Json.{refusal_json, refused_json, report_json, round_json, shown_json, walk_json};
 ghost use Rattle.fr_route.specs.Refusals.{number_of, plain_refusal};
 ghost use Rattle.fr_route.specs.Rooms.{Fits};
 
@@ -175,7 +178,8 @@ fn push_change(
     change: (u32, Hop),
     buffer: &mut Buffer,
 ) -> Result<(), AllocError>
-    ensures text { OnOk result (string_bytes line.new ≡ string_bytes line.old ++ (comma_before first ++ change_json change)) }
+    ensures text { OnOk result
+        (string_bytes line.new ≡ string_bytes line.old ++ (comma_before first ++ change_json change)) }
     ensures room { Fits line.old line.new result 24 }
 {
     push_comma(line, first)?;
@@ -193,7 +197,8 @@ fn push_changes(
     hops: &[Hop],
     buffer: &mut Buffer,
 ) -> Result<(), AllocError>
-    ensures text { OnOk result (string_bytes line.new ≡ string_bytes line.old ++ listed change_json (changes_of hops.now changed.now)) }
+    ensures text { OnOk result
+        (string_bytes line.new ≡ string_bytes line.old ++ listed change_json (changes_of hops.now changed.now)) }
     ensures room { Fits line.old line.new result (24 * length changed.now) }
 {
     let mut first = true;
@@ -224,7 +229,9 @@ pub(crate) fn push_report_object(
     changed: &[u32],
     hops: &[Hop],
 ) -> Result<(), AllocError>
-    ensures text { OnOk result (string_bytes line.new ≡ string_bytes line.old ++ report_json report.turned report.cut (changes_of hops.now changed.now)) }
+    ensures text { OnOk result
+        (string_bytes line.new
+        ≡ string_bytes line.old ++ report_json report.turned report.cut (changes_of hops.now changed.now)) }
     ensures room { Fits line.old line.new result (80 + 24 * length changed.now) }
 {
     let mut buffer = Buffer::new();
@@ -273,7 +280,8 @@ fn push_shown(
     refusal: &Refusal<'_>,
     buffer: &mut Buffer,
 ) -> Result<(), AllocError>
-    ensures { OnOk result (string_bytes line.new ≡ string_bytes line.old ++ shown_json refusal.now.nodes.now refusal.now.edit) }
+    ensures { OnOk result
+        (string_bytes line.new ≡ string_bytes line.old ++ shown_json refusal.now.nodes.now refusal.now.edit) }
 {
     line.push_str("\",\"nodes\":[")?;
     push_nodes(line, refusal.nodes, buffer)?;

@@ -1,6 +1,7 @@
 //! The outcome of a round on a network, computed before any of it is put in place.
 
-ghost use Rattle.std.specs.Prelude.{◌≡◌, ℕ, ◌<◌, ◌==◌, ◌↔◌, List, [], ◌∷◌, ◌++◌, All, Any, IsTrue, count_by, length, slice_index, sum, IfOk, OnOk};
+ghost use Rattle.std.specs.Prelude.{◌≡◌, ℕ, ◌<◌, ◌==◌, ◌↔◌, List, [], ◌∷◌, ◌++◌, All, Any};
+ghost use Rattle.std.specs.Prelude.{IsTrue, count_by, length, slice_index, sum, IfOk, OnOk};
 ghost use Rattle.std.specs.List.{filter, range_with_len};
 ghost use Rattle.fr_core.specs.History.{moment_of};
 ghost use Rattle.fr_core.specs.Legal.{CanTurn};
@@ -140,7 +141,9 @@ pub(crate) fn push_capped(
     counts: &[u64],
 ) -> Result<(), AllocError>
     requires { length counts.now ≡ nodes }
-    ensures { OnOk result (capped.new.items ≡ capped.old.items ++ filter (λ x. slice_index counts.now x == nodes) (range_with_len 0 nodes)) }
+    ensures { OnOk result
+        (capped.new.items ≡ capped.old.items
+        ++ filter (λ x. slice_index counts.now x == nodes) (range_with_len 0 nodes)) }
 {
     let cap = u64::from(nodes);
     for x in 0..nodes {

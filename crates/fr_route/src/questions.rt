@@ -54,7 +54,8 @@ pub(crate) fn walk_in(
 
 /// The answer for this route from node `x`.
 fn walked_in(alloc: Global, form: Form, x: u32, walked: &Walked) -> Result<String, AllocError>
-    ensures { IfOk result (λ text. (s : State) → IsWalked s x walked.now → IsTextIn form None (walk_from x) s (string_bytes text)) }
+    ensures { IfOk result (λ text. (s : State) → IsWalked s x walked.now
+        → IsTextIn form None (walk_from x) s (string_bytes text)) }
 {
     match (form, walked) {
         (Form::Text, Walked::Route(nodes)) => walk_line(alloc, nodes),

@@ -25,7 +25,8 @@ pub(crate) fn refuse(
     nodes: &[u32],
     edit: Option<usize>,
 ) -> Result<Answer, AnswerFault>
-    ensures refuses { IfOk result (RefusesBy manner (record { number = number_of reason; nodes = nodes.now; edit = edit })) }
+    ensures refuses { IfOk result
+        (RefusesBy manner (record { number = number_of reason; nodes = nodes.now; edit = edit })) }
     ensures memory { IfErr result (λ fault. fault ≡ Memory) }
 {
     let refusal = Refusal {
@@ -40,7 +41,8 @@ pub(crate) fn refuse(
 
 /// The text of the answer that refuses a line.
 fn refused_text(alloc: Global, manner: Manner, refusal: &Refusal<'_>) -> Result<String, AllocError>
-    ensures { IfOk result (λ text. string_bytes text ≡ refused_in manner.form manner.number (plain_refusal refusal.now)) }
+    ensures { IfOk result
+        (λ text. string_bytes text ≡ refused_in manner.form manner.number (plain_refusal refusal.now)) }
 {
     match manner.form {
         Form::Text => refusal_line(alloc, refusal.reason),
@@ -57,7 +59,8 @@ fn refuse_fault(
     named: &[u32],
     edit: Option<usize>,
 ) -> Result<Answer, AnswerFault>
-    ensures refuses { IfOk result (λ answer. (refusal : PlainRefusal) × IsRefusalOf fault.now named.now edit refusal × RefusesBy manner refusal answer) }
+    ensures refuses { IfOk result (λ answer. (refusal : PlainRefusal) × IsRefusalOf fault.now named.now edit refusal
+        × RefusesBy manner refusal answer) }
     ensures start { IfErr result (λ why. (why ≡ Start) ↔ (fault.now ≡ RouteStart)) }
 {
     match fault {
@@ -76,7 +79,8 @@ pub(crate) fn refuse_for(
     named: &[u32],
     edit: Option<usize>,
 ) -> Result<Answer, AnswerFault>
-    ensures refuses { IfOk result (λ answer. (refusal : PlainRefusal) × IsRefusalOf fault named.now edit refusal × RefusesBy manner refusal answer) }
+    ensures refuses { IfOk result (λ answer. (refusal : PlainRefusal) × IsRefusalOf fault named.now edit refusal
+        × RefusesBy manner refusal answer) }
     ensures start { IfErr result (λ why. (why ≡ Start) ↔ (fault ≡ RouteStart)) }
 {
     refuse_fault(alloc, manner, &fault, named, edit)

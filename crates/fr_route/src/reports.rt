@@ -37,7 +37,8 @@ pub(crate) fn push_report_in(
     changed: &[u32],
     hops: &[Hop],
 ) -> Result<(), AllocError>
-    ensures text { OnOk result (string_bytes line.new ≡ string_bytes line.old ++ report_in form report changed.now hops.now) }
+    ensures text { OnOk result
+        (string_bytes line.new ≡ string_bytes line.old ++ report_in form report changed.now hops.now) }
     ensures room { Fits line.old line.new result (report_room form (length changed.now)) }
 {
     match form {

@@ -1,6 +1,7 @@
 //! A router: a settled network with its next hops and routes, and the changes after which it settles again.
 
-ghost use Rattle.std.specs.Prelude.{◌≡◌, ◌≢◌, ◌<◌, ◌≤◌, ◌⊎◌, [], ◌∷◌, length, replicate, Ok, Some, IfOk, IfErr, IfSome, OnErr, OnOk};
+ghost use Rattle.std.specs.Prelude.{◌≡◌, ◌≢◌, ◌<◌, ◌≤◌, ◌⊎◌, [], ◌∷◌, length, replicate};
+ghost use Rattle.std.specs.Prelude.{Ok, Some, IfOk, IfErr, IfSome, OnErr, OnOk};
 ghost use Rattle.std.specs.Option.{option_copied};
 ghost use Rattle.fr_crew.specs.Settlements.{CanBegin, HoldsSinks, IsCounted};
 ghost use Rattle.fr_route.specs.Ways.{Settles, NeverStarts};
@@ -11,7 +12,8 @@ ghost use Rattle.fr_route.specs.Routes.{IsHop, AreHops, IsWalked};
 ghost use Rattle.fr_route.specs.Changes.{IsOpenFault, IsChanged, IsRouteFault, IsStill};
 ghost use Rattle.fr_route.specs.Reroutes.{ArePushes, AreReplaced, IsPushesFault, TellsRerouted};
 ghost use Rattle.fr_route.specs.Tries.{IsPlaced, IsTried, change_of, revision_of, without_place};
-ghost use Rattle.fr_route.specs.Outcomes.{IsEditingFault, IsOutcome, IsRoundFault, IsSettledTable, cut_off_nodes, movable};
+ghost use Rattle.fr_route.specs.Outcomes.{IsEditingFault, IsOutcome, IsRoundFault};
+ghost use Rattle.fr_route.specs.Outcomes.{IsSettledTable, cut_off_nodes, movable};
 
 use crate::change::{Change, Report};
 use crate::fault::{NotMade, RouteFault, placeless};
@@ -104,7 +106,8 @@ impl<'a, F: Fn(&Net, u32, Option<&[u32]>, Turns) -> Result<Turns, CrewFault>> As
     ) -> Result<T, RouteFault>
         requires settles { Settles F.pre F.post self.now.settle.now }
         requires tells { K.IsAlwaysCallable tell.now }
-        ensures { IsTried (NeverStarts F.post self.now.settle.now) (change_of router.old change.now) (λ report told. K.post tell.now report (Ok told)) router.old told.old result router.new told.new }
+        ensures { IsTried (NeverStarts F.post self.now.settle.now) (change_of router.old change.now)
+            (λ report told. K.post tell.now report (Ok told)) router.old told.old result router.new told.new }
     {
         let dest = router.dest();
         match change {
@@ -145,7 +148,9 @@ impl<'a, F: Fn(&Net, u32, Option<&[u32]>, Turns) -> Result<Turns, CrewFault>> As
         requires settles { Settles F.pre F.post self.now.settle.now }
         requires tells { K.IsAlwaysCallable tell.now }
         requires node { revision.now.dest < router.old.nodes }
-        ensures tried { IsTried (NeverStarts F.post self.now.settle.now) (revision_of router.old revision.now) (λ report told. K.post tell.now report (Ok told)) router.old told.old (without_place result) router.new told.new }
+        ensures tried { IsTried (NeverStarts F.post self.now.settle.now) (revision_of router.old revision.now)
+            (λ report told. K.post tell.now report (Ok told)) router.old told.old
+            (without_place result) router.new told.new }
         ensures place { IfErr result (IsPlaced router.old revision.now.edits.now) }
     {
         told.make_room(router.net.nodes())?;
@@ -162,7 +167,8 @@ impl<'a, F: Fn(&Net, u32, Option<&[u32]>, Turns) -> Result<Turns, CrewFault>> As
                 requires from { (dest < net.now.nodes) × HoldsSinks net.now dest from.now }
                 ensures outcome { IfOk result (λ made. IsOutcome net.entry.now dest made.0) }
                 ensures told { IfOk result (λ made. K.post tell.entry.now made.0.report (Ok made.1)) }
-                ensures fault { IfErr result (IsRoundFault (NeverStarts F.post self.entry.now.settle.now) net.entry.now dest) }
+                ensures fault { IfErr result
+                    (IsRoundFault (NeverStarts F.post self.entry.now.settle.now) net.entry.now dest) }
             {
                 net.network_law();
                 let turns = spare.take(self.alloc, net.nodes())?;
@@ -344,7 +350,8 @@ impl Router {
         ensures told { TellsRerouted self.old result self.new rerouted.old.items rerouted.new.items }
         ensures fault { IfErr result (IsRouteFault self.old change) }
         ensures unchanged { OnErr result (self.new ≡ self.old) }
-        ensures no_start { (crew.now.plan.now.budget ≡ 0) ⊎ (crew.now.plan.now.workers ≡ 1) → IfErr result (λ fault. fault ≢ Start) }
+        ensures no_start { (crew.now.plan.now.budget ≡ 0) ⊎ (crew.now.plan.now.workers ≡ 1)
+            → IfErr result (λ fault. fault ≢ Start) }
     {
         let mut told = Told::taken(rerouted, crew.alloc);
         let report = Asking::new(
@@ -388,8 +395,10 @@ impl Router {
     /// cut off. Every other node with a link still has a link that points away from it. Too many edits are refused
     /// before anything is allocated.
     fn movable(&self, alloc: Global, revision: &Revision<'_>) -> Result<Vec<u32>, NotMade>
-        ensures movable { IfOk result (λ nodes. nodes.items ≡ movable self.now revision.now.dest revision.now.edits.now) }
-        ensures fault { IfErr result (λ undone. IsEditingFault self.now revision.now.edits.now revision.now.dest undone.fault) }
+        ensures movable { IfOk result
+            (λ nodes. nodes.items ≡ movable self.now revision.now.dest revision.now.edits.now) }
+        ensures fault { IfErr result
+            (λ undone. IsEditingFault self.now revision.now.edits.now revision.now.dest undone.fault) }
         ensures place { IfErr result (IsPlaced self.now revision.now.edits.now) }
         ensures no_start { IfErr result (λ undone. undone.fault ≢ Start) }
     {

@@ -1,6 +1,7 @@
 //! The state that the requests so far have made, and the answer to the next request.
 
-ghost use Rattle.std.specs.Prelude.{◌≡◌, ◌≢◌, ◌<◌, ◌≤◌, ◌⊎◌, ◌↔◌, length, true, false, slice_get, Ok, Some, None, IfOk, IfErr, OnErr, OnOk, IfSome, IfNone, IsTrue, MatchOption, string_bytes};
+ghost use Rattle.std.specs.Prelude.{◌≡◌, ◌≢◌, ◌<◌, ◌≤◌, ◌⊎◌, ◌↔◌, length, true, false, slice_get, Ok, Some, None};
+ghost use Rattle.std.specs.Prelude.{IfOk, IfErr, OnErr, OnOk, IfSome, IfNone, IsTrue, MatchOption, string_bytes};
 ghost use Rattle.std.specs.Option.{option_copied};
 ghost use Rattle.fr_lines.specs.Requests.{ask, make_edits, move_dest, new_network, walk_from, plain, reading};
 ghost use Rattle.fr_crew.specs.Settlements.{CanBegin};
@@ -10,7 +11,8 @@ ghost use Rattle.fr_route.specs.Answers.{IsAccepted, IsAnswer, IsLineAnswer, May
 ghost use Rattle.fr_route.specs.Forms.{IsAnswerIn, IsLineRefused};
 ghost use Rattle.fr_route.specs.Json.{ends};
 ghost use Rattle.fr_route.specs.Listing.{IsListing, nodes_told};
-ghost use Rattle.fr_route.specs.Replies.{HasList, IsLineAnsweredIn, IsLineReplied, IsReplied, IsReportIn, IsRevised, IsStillReply, request_of_edit};
+ghost use Rattle.fr_route.specs.Replies.{HasList, IsLineAnsweredIn, IsLineReplied, IsReplied};
+ghost use Rattle.fr_route.specs.Replies.{IsReportIn, IsRevised, IsStillReply, request_of_edit};
 ghost use Rattle.fr_route.specs.Sessions.{IsAnswered, IsLineAnswered};
 ghost use Rattle.fr_route.specs.Told.{IsTold, TellsOfLine};
 ghost use Rattle.fr_route.specs.Reroutes.{AreReplaced};
@@ -123,7 +125,8 @@ impl Session {
         plan: &Plan,
         gate: &G,
     ) -> Result<Option<String>, AnswerFault>
-        ensures blank { IfOk result (λ answer. IfNone answer ((is_blank_line line.now ≡ true) × (self.new ≡ self.old))) }
+        ensures blank { IfOk result
+            (λ answer. IfNone answer ((is_blank_line line.now ≡ true) × (self.new ≡ self.old))) }
         ensures text { IfOk result (λ answer. IfSome answer (λ text. (is_blank_line line.now ≡ false)
             × IsLineAnswer self.old (reading line.now) (string_bytes text) self.new)) }
         ensures unchanged { OnErr result ((is_blank_line line.now ≡ false) × (self.new ≡ self.old)) }
@@ -153,11 +156,13 @@ impl Session {
         alloc: Global,
         line: &[u8],
     ) -> Result<Option<String>, AnswerFault>
-        ensures blank { IfOk result (λ answer. IfNone answer ((is_blank_line line.now ≡ true) × (self.new ≡ self.old))) }
+        ensures blank { IfOk result
+            (λ answer. IfNone answer ((is_blank_line line.now ≡ true) × (self.new ≡ self.old))) }
         ensures text { IfOk result (λ answer. IfSome answer (λ text. (is_blank_line line.now ≡ false)
             × IsLineAnswer self.old (reading line.now) (string_bytes text) self.new)) }
         ensures unchanged { OnErr result ((is_blank_line line.now ≡ false) × (self.new ≡ self.old)) }
-        ensures short { IfOk result (λ answer. IfSome answer (λ text. (self.new ≡ self.old) ⊎ (length (string_bytes text) ≤ longest_report))) }
+        ensures short { IfOk result
+            (λ answer. IfSome answer (λ text. (self.new ≡ self.old) ⊎ (length (string_bytes text) ≤ longest_report))) }
         ensures no_start { IfErr result (λ fault. fault ≢ Start) }
     {
         Asking::new(
@@ -177,12 +182,15 @@ impl Session {
         line: &[u8],
         rerouted: &mut Vec<u32>,
     ) -> Result<Option<String>, AnswerFault>
-        ensures blank { IfOk result (λ answer. IfNone answer ((is_blank_line line.now ≡ true) × (self.new ≡ self.old))) }
+        ensures blank { IfOk result
+            (λ answer. IfNone answer ((is_blank_line line.now ≡ true) × (self.new ≡ self.old))) }
         ensures text { IfOk result (λ answer. IfSome answer (λ text. (is_blank_line line.now ≡ false)
             × IsLineAnswer self.old (reading line.now) (string_bytes text) self.new)) }
         ensures told { TellsOfLine self.old (reading line.now) result self.new rerouted.old.items rerouted.new.items }
         ensures unchanged { OnErr result ((is_blank_line line.now ≡ false) × (self.new ≡ self.old)) }
-        ensures short { IfOk result (λ answer. IfSome answer (λ text. ((self.new ≡ self.old) × (rerouted.new.items ≡ rerouted.old.items)) ⊎ (length (string_bytes text) ≤ longest_report))) }
+        ensures short { IfOk result
+            (λ answer. IfSome answer (λ text. ((self.new ≡ self.old) × (rerouted.new.items ≡ rerouted.old.items))
+            ⊎ (length (string_bytes text) ≤ longest_report))) }
         ensures no_start { IfErr result (λ fault. fault ≢ Start) }
     {
         let mut told = Told::taken(rerouted, alloc);
@@ -252,9 +260,11 @@ impl Session {
         rerouted: &mut Vec<u32>,
     ) -> Result<String, AnswerFault>
         ensures text { IfOk result (λ text. IsAnswer self.old (plain request.now) (string_bytes text) self.new) }
-        ensures told { IfOk result (λ _. IsTold self.old (plain request.now) self.new rerouted.old.items rerouted.new.items) }
+        ensures told { IfOk result
+            (λ _. IsTold self.old (plain request.now) self.new rerouted.old.items rerouted.new.items) }
         ensures unchanged { OnErr result ((self.new ≡ self.old) × (rerouted.new.items ≡ rerouted.old.items)) }
-        ensures short { IfOk result (λ text. ((self.new ≡ self.old) × (rerouted.new.items ≡ rerouted.old.items)) ⊎ (length (string_bytes text) ≤ longest_report)) }
+        ensures short { IfOk result (λ text. ((self.new ≡ self.old) × (rerouted.new.items ≡ rerouted.old.items))
+            ⊎ (length (string_bytes text) ≤ longest_report)) }
         ensures no_start { IfErr result (λ fault. fault ≢ Start) }
     {
         let mut told = Told::taken(rerouted, alloc);
@@ -280,12 +290,17 @@ impl Session {
         line: Line<'_>,
         rerouted: &mut Vec<u32>,
     ) -> Result<Option<Answer>, AnswerFault>
-        ensures blank { IfOk result (λ answer. IfNone answer ((is_blank_line line.entry.bytes.now ≡ true) × (self.new ≡ self.old))) }
+        ensures blank { IfOk result
+            (λ answer. IfNone answer ((is_blank_line line.entry.bytes.now ≡ true) × (self.new ≡ self.old))) }
         ensures answer { IfOk result (λ answer. IfSome answer (λ it. (is_blank_line line.entry.bytes.now ≡ false)
-            × IsAnswerIn form line.entry.number self.old (reading line.entry.bytes.now) (string_bytes it.text) self.new)) }
-        ensures refused { IfOk result (λ answer. IfSome answer (λ it. IsTrue it.refused ↔ IsLineRefused self.old (reading line.entry.bytes.now))) }
+            × IsAnswerIn form line.entry.number self.old (reading line.entry.bytes.now)
+            (string_bytes it.text) self.new)) }
+        ensures refused { IfOk result
+            (λ answer. IfSome answer (λ it. IsTrue it.refused
+            ↔ IsLineRefused self.old (reading line.entry.bytes.now))) }
         ensures unchanged { OnErr result ((is_blank_line line.entry.bytes.now ≡ false) × (self.new ≡ self.old)) }
-        ensures start { IfErr result (λ fault. fault ≡ Start → MayStartForLine self.old (reading line.entry.bytes.now)) }
+        ensures start { IfErr result (λ fault. fault ≡ Start
+            → MayStartForLine self.old (reading line.entry.bytes.now)) }
         ensures one_worker { crew.now.plan.now.workers ≡ 1 → IfErr result (λ fault. fault ≢ Start) }
         ensures no_start { crew.now.plan.now.budget ≡ 0 → IfErr result (λ fault. fault ≢ Start) }
     {
@@ -307,10 +322,14 @@ impl Session {
         line: Line<'_>,
         rerouted: &mut Vec<u32>,
     ) -> Result<Option<Answer>, AnswerFault>
-        ensures blank { IfOk result (λ answer. IfNone answer ((is_blank_line line.entry.bytes.now ≡ true) × (self.new ≡ self.old))) }
+        ensures blank { IfOk result
+            (λ answer. IfNone answer ((is_blank_line line.entry.bytes.now ≡ true) × (self.new ≡ self.old))) }
         ensures answer { IfOk result (λ answer. IfSome answer (λ it. (is_blank_line line.entry.bytes.now ≡ false)
-            × IsAnswerIn form line.entry.number self.old (reading line.entry.bytes.now) (string_bytes it.text) self.new)) }
-        ensures refused { IfOk result (λ answer. IfSome answer (λ it. IsTrue it.refused ↔ IsLineRefused self.old (reading line.entry.bytes.now))) }
+            × IsAnswerIn form line.entry.number self.old (reading line.entry.bytes.now)
+            (string_bytes it.text) self.new)) }
+        ensures refused { IfOk result
+            (λ answer. IfSome answer (λ it. IsTrue it.refused
+            ↔ IsLineRefused self.old (reading line.entry.bytes.now))) }
         ensures unchanged { OnErr result ((is_blank_line line.entry.bytes.now ≡ false) × (self.new ≡ self.old)) }
         ensures no_start { IfErr result (λ fault. fault ≢ Start) }
     {
@@ -330,7 +349,8 @@ impl Session {
         router: Router,
         told: &mut Told,
     ) -> Result<String, AnswerFault>
-        ensures report { HasList form told.old → IfOk result (λ text. IsReportIn form (AreReplaced self.old router) router (string_bytes text)) }
+        ensures report { HasList form told.old
+            → IfOk result (λ text. IsReportIn form (AreReplaced self.old router) router (string_bytes text)) }
         ensures put { OnOk result (self.new ≡ Some router) }
         ensures told { IsListing told.old → OnOk result (AreReplaced self.old router (nodes_told told.new)) }
         ensures unchanged { OnErr result ((self.new ≡ self.old) × (nodes_told told.new ≡ nodes_told told.old)) }
@@ -395,7 +415,8 @@ fn told_replaced(
     router: &Router,
     told: &Told,
 ) -> Result<Told, AnswerFault>
-    ensures told { IsListing told.now → IfOk result (λ replaced. AreReplaced (option_copied before.entry) router.now (nodes_told replaced)) }
+    ensures told { IsListing told.now
+        → IfOk result (λ replaced. AreReplaced (option_copied before.entry) router.now (nodes_told replaced)) }
     ensures memory { IfErr result (λ fault. fault ≡ Memory) }
 {
     match told {
@@ -429,7 +450,8 @@ impl<'a, F: Fn(&Net, u32, Option<&[u32]>, Turns) -> Result<Turns, CrewFault>> As
         told: &mut Told,
     ) -> Result<Option<String>, AnswerFault>
         requires { Settles F.pre F.post self.now.settle.now }
-        ensures { IsLineAnswered (NeverStarts F.post self.now.settle.now) session.old line.now told.old result session.new told.new }
+        ensures { IsLineAnswered
+            (NeverStarts F.post self.now.settle.now) session.old line.now told.old result session.new told.new }
     {
         match self.reply_line(session, AS_TEXT, line, told)? {
             Some(answer) => Ok(Some(answer.text)),
@@ -445,7 +467,8 @@ impl<'a, F: Fn(&Net, u32, Option<&[u32]>, Turns) -> Result<Turns, CrewFault>> As
         told: &mut Told,
     ) -> Result<String, AnswerFault>
         requires { Settles F.pre F.post self.now.settle.now }
-        ensures { IsAnswered (NeverStarts F.post self.now.settle.now) session.old (Ok (plain request.now)) told.old result session.new told.new }
+        ensures { IsAnswered (NeverStarts F.post self.now.settle.now) session.old
+            (Ok (plain request.now)) told.old result session.new told.new }
     {
         Ok(self.reply(session, AS_TEXT, request, told)?.text)
     }
@@ -484,7 +507,8 @@ impl<'a, F: Fn(&Net, u32, Option<&[u32]>, Turns) -> Result<Turns, CrewFault>> As
     ) -> Result<Option<Answer>, AnswerFault>
         requires settles { Settles F.pre F.post self.now.settle.now }
         requires lists { HasList manner.form told.old }
-        ensures { IsLineReplied (NeverStarts F.post self.now.settle.now) manner session.old line.now told.old result session.new told.new }
+        ensures { IsLineReplied
+            (NeverStarts F.post self.now.settle.now) manner session.old line.now told.old result session.new told.new }
     {
         if is_blank(line) {
             return Ok(None);
@@ -502,7 +526,8 @@ impl<'a, F: Fn(&Net, u32, Option<&[u32]>, Turns) -> Result<Turns, CrewFault>> As
     ) -> Result<Answer, AnswerFault>
         requires settles { Settles F.pre F.post self.now.settle.now }
         requires lists { HasList manner.form told.old }
-        ensures { IsReplied (NeverStarts F.post self.now.settle.now) manner session.old (reading line.now) told.old result session.new told.new }
+        ensures { IsReplied (NeverStarts F.post self.now.settle.now) manner session.old
+            (reading line.now) told.old result session.new told.new }
     {
         match session.reader.read(self.alloc, line) {
             Ok(request) => self.reply(session, manner, &request, told),
@@ -522,7 +547,8 @@ impl<'a, F: Fn(&Net, u32, Option<&[u32]>, Turns) -> Result<Turns, CrewFault>> As
     ) -> Result<Answer, AnswerFault>
         requires settles { Settles F.pre F.post self.now.settle.now }
         requires lists { HasList manner.form told.old }
-        ensures { IsReplied (NeverStarts F.post self.now.settle.now) manner session.old (Ok (plain request.now)) told.old result session.new told.new }
+        ensures { IsReplied (NeverStarts F.post self.now.settle.now) manner session.old
+            (Ok (plain request.now)) told.old result session.new told.new }
     {
         match request {
             Request::Network { nodes, dest, links } => {
@@ -575,7 +601,8 @@ impl<'a, F: Fn(&Net, u32, Option<&[u32]>, Turns) -> Result<Turns, CrewFault>> As
     ) -> Result<Answer, AnswerFault>
         requires settles { Settles F.pre F.post self.now.settle.now }
         requires lists { HasList manner.form told.old }
-        ensures { IsReplied (NeverStarts F.post self.now.settle.now) manner session.old (Ok (request_of_edit edit)) told.old result session.new told.new }
+        ensures { IsReplied (NeverStarts F.post self.now.settle.now) manner session.old
+            (Ok (request_of_edit edit)) told.old result session.new told.new }
     {
         let Some(router) = &mut session.router else {
             return refuse(self.alloc, manner, Reason::NoNetwork, &[], None);
@@ -600,7 +627,8 @@ impl<'a, F: Fn(&Net, u32, Option<&[u32]>, Turns) -> Result<Turns, CrewFault>> As
     ) -> Result<Answer, AnswerFault>
         requires settles { Settles F.pre F.post self.now.settle.now }
         requires lists { HasList manner.form told.old }
-        ensures { IsReplied (NeverStarts F.post self.now.settle.now) manner session.old (Ok (make_edits edits.now)) told.old result session.new told.new }
+        ensures { IsReplied (NeverStarts F.post self.now.settle.now) manner session.old
+            (Ok (make_edits edits.now)) told.old result session.new told.new }
     {
         let Some(router) = &mut session.router else {
             return refuse(self.alloc, manner, Reason::NoNetwork, &[], None);
@@ -631,7 +659,8 @@ impl<'a, F: Fn(&Net, u32, Option<&[u32]>, Turns) -> Result<Turns, CrewFault>> As
     ) -> Result<Answer, AnswerFault>
         requires settles { Settles F.pre F.post self.now.settle.now }
         requires lists { HasList manner.form told.old }
-        ensures { IsReplied (NeverStarts F.post self.now.settle.now) manner session.old (Ok (move_dest dest)) told.old result session.new told.new }
+        ensures { IsReplied (NeverStarts F.post self.now.settle.now) manner session.old
+            (Ok (move_dest dest)) told.old result session.new told.new }
     {
         let Some(router) = &mut session.router else {
             return refuse(self.alloc, manner, Reason::NoNetwork, &[], None);

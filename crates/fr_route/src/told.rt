@@ -73,7 +73,8 @@ impl Told {
 
     /// Appends a node. Each node is noted only once, so a list with room for each node has room for this one.
     pub fn note(&mut self, x: u32)
-        ensures noted { (n : ℕ) → HasPlaces n self.old → length (nodes_told self.old) < n → nodes_told self.new ≡ nodes_told self.old ++ x ∷ [] }
+        ensures noted { (n : ℕ) → HasPlaces n self.old → length (nodes_told self.old) < n
+            → nodes_told self.new ≡ nodes_told self.old ++ x ∷ [] }
         ensures keeps { KeepsPlaces self.old self.new }
     {
         match self {

@@ -1,5 +1,5 @@
-use Rattle.std.proofs.Common.{◌≡◌, ◌≤◌, Option, length, string_bytes, sym, None, ap, inl, inr, refl, subst, [], ◌∷◌, Some}
-use Rattle.fr_route.proofs.Replying.{done, faulty, new_refusal, new_text, no_memory, still, walk_tells, ask_tells}
+use Rattle.std.proofs.Common.{◌≡◌, ◌≤◌, Option, length, string_bytes, sym, None, refl, subst, [], ◌∷◌}
+use Rattle.fr_route.proofs.Replying.{done, faulty, new_refusal, new_text, still, walk_tells, ask_tells}
 use Rattle.std.specs.Prelude.{String}
 use Rattle.std.specs.declared.alloc.Global.{Global}
 use Rattle.fr_lines.specs.Requests.{new_network}

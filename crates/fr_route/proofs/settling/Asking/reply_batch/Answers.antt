@@ -1,9 +1,8 @@
-use Rattle.std.proofs.Common.{◌≡◌, ◌∙◌, List, None, Ok, Some, [], ◌∷◌, ap, refl, subst, sym, ℕ}
+use Rattle.std.proofs.Common.{◌≡◌, ◌∙◌, Ok, Some, ap, refl, subst, sym, ℕ}
 use Rattle.fr_lines.specs.Requests.{make_edits}
 use Rattle.fr_route.specs.Outcomes.{IsEdited, IsEditingFault}
 use Rattle.fr_route.specs.States.{State}
 use Rattle.fr_route.specs.declared.fault.RouteFault.TheVariants.{Start}
-use Rattle.fr_route.specs.declared.revision.Revision.{Revision}
 use Rattle.fr_route.proofs.Replying.{batch_refusal, batch_text, faulty, none_yet, revised}
 use Rattle.fr_route.proofs.settling.Asking.reply_batch.Goals as goal
 use Rattle.fr_route.proofs.settling.Asking.reply_batch.Goals.{in-Ok, in-Err}

@@ -1,9 +1,8 @@
-use Rattle.std.proofs.Common.{◌≡◌, ◌∙◌, List, None, Ok, Some, [], ◌∷◌, ap, refl, subst, sym, ℕ}
+use Rattle.std.proofs.Common.{◌≡◌, ◌∙◌, None, Ok, Some, [], ◌∷◌, ap, subst, sym, ℕ}
 use Rattle.fr_route.specs.Outcomes.{IsEdited, IsEditingFault}
 use Rattle.fr_route.specs.Replies.{request_of_edit}
 use Rattle.fr_route.specs.States.{State}
 use Rattle.fr_route.specs.declared.fault.RouteFault.TheVariants.{Start}
-use Rattle.fr_route.specs.declared.revision.Revision.{Revision}
 use Rattle.fr_route.proofs.Replying.{edit_accepted, edit_is_refused, edit_may_start, edit_refusal, edit_tells, edit_text, edit_wants, faulty, none_yet, revised}
 use Rattle.fr_route.proofs.settling.Asking.reply_edit.Goals as goal
 use Rattle.fr_route.proofs.settling.Asking.reply_edit.Goals.{in-Ok, in-Err}

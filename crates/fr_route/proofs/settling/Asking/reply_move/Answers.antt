@@ -1,11 +1,9 @@
-use Rattle.std.proofs.Common.{◌≡◌, ◌∙◌, ◌<◌, ◌≤◌, List, None, Ok, Some, [], ◌∷◌, ap, arith, refl, subst, sym, ℕ}
+use Rattle.std.proofs.Common.{◌≡◌, ◌∙◌, ◌<◌, None, Ok, Some, [], ap, arith, refl, subst, sym}
 use Rattle.fr_graph.specs.Network.{Network}
 use Rattle.fr_lines.specs.Requests.{move_dest}
-use Rattle.fr_route.specs.Json.{no_node}
-use Rattle.fr_route.specs.Outcomes.{IsEdited, IsEditingFault}
+use Rattle.fr_route.specs.Outcomes.{IsEditingFault}
 use Rattle.fr_route.specs.States.{State, IsRound}
-use Rattle.fr_route.specs.declared.revision.Revision.{Revision}
-use Rattle.fr_route.proofs.Replying.{faulty, move_text, no_refusal, none_yet, refusing, revised}
+use Rattle.fr_route.proofs.Replying.{faulty, move_text, no_refusal, none_yet, revised}
 use Rattle.fr_route.proofs.settling.Asking.reply_move.Goals as goal
 use Rattle.fr_route.proofs.settling.Asking.reply_move.Goals.{in-Ok, in-Err}
 
