@@ -9,6 +9,7 @@ from itertools import zip_longest
 from pathlib import Path
 
 import plain
+import shared
 from drawn import CHANGES, Drawn
 
 TOP = Path(__file__).resolve().parents[2]
@@ -59,10 +60,10 @@ def follow(name, said, wanted):
 
 
 def pushes_of(changes):
-    """What a controller has to push for these changes, by the plain program."""
+    """What a controller has to push for these changes, by the plain program, and how many of them are refused."""
     session = plain.Session()
-    answers = [session.answer(it) for it in changes]
-    return [push for it in answers if it for push in it[1].get("changed", [])]
+    values = [it[1] for it in map(session.answer, changes) if it]
+    return [push for it in values for push in it.get("changed", [])], sum("refused" in it for it in values)
 
 
 def compare_page(name):
@@ -80,15 +81,16 @@ def check(program):
     for name in names:
         compare_page(name)
     if not shutil.which("jq"):
-        print("no jq: examples/pipe/controller.sh was left out")
+        shared.skip("the controller in bash", "jq")
         names.remove("controller.sh")
     with tempfile.TemporaryDirectory(prefix="answers-") as folder:
         Path(folder, "revroute").symlink_to(program)
         for seed, nodes, count in STORIES:
             changes = Drawn(seed, nodes).draw(count, CHANGES)
-            wanted, given = pushes_of(changes), b"\n".join(changes)
+            (wanted, refused), given = pushes_of(changes), b"\n".join(changes)
             for name in names:
                 ran = subprocess.run([PIPE / name], cwd=folder, input=given, capture_output=True, timeout=PATIENCE)
                 follow(name, ran.stdout.decode(), wanted)
-                if ran.returncode or ran.stderr:
-                    stop(name, f"status {ran.returncode}, {ran.stderr[-300:].decode()}")
+                said = ran.stderr.decode().splitlines()
+                if ran.returncode or len(said) != refused or not all(it.startswith("refused: ") for it in said):
+                    stop(name, f"status {ran.returncode}, {refused} refusals, and it said {said[-3:]}")
