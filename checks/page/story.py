@@ -11,6 +11,8 @@ import json
 NO_REQUEST = {'refused 1': 'no JSON', 'refused 2': 'no request'}
 NODES = 256
 TURNS = 4096
+# After each of so many lines comes the whole state.
+LINES_BETWEEN_STATES = 256
 
 
 class Network:
@@ -161,19 +163,36 @@ def answered(network, request):
     return words('hops', network.hops()) if request[0] == 'hops' else network.walk(request[1])
 
 
-def round_of(network, old):
-    """The answer to a round, and the lines of the story after it. Before the round the table was `old`."""
-    first = {frozenset(link): link for link in network.links()}
+def state_of(network):
+    """The lines of a whole state."""
+    return [words('links', texts(network.links())), words('counts', network.counts), words('hops', network.hops())]
+
+
+def changes_of(before, network):
+    """The lines of what a round changed in the links that were there before it."""
+    links = network.links()
+    joined = {frozenset(link) for link in links}
+    return [words('gone', texts(link for link in before if frozenset(link) not in joined)),
+            words('new', texts(sorted(set(links) - set(before)))),
+            words('counted', [f'{node}:{count}' for node, count in enumerate(network.counts) if count])]
+
+
+def round_of(network, before, old):
+    """The answer to a round, the lines of the story after it, and the round: its links at first and its turns.
+    Before the round the links were `before`, or None for a new network, and the table was `old`."""
+    first = network.links()
     turns = network.settle() if network.nodes <= NODES else network.settle_by_steps()
     answer = f'turned {sum(network.counts)} cut {network.nodes - len(network.joined())}'
     lines = [f'net {network.nodes} {network.destination}']
-    if network.nodes > NODES or len(turns) > TURNS:
-        return answer, lines + ['omitted']
-    links, hops = network.links(), network.hops()
-    pushes = push_order(padded(old, len(hops)), padded(hops, len(old)))
-    return answer, lines + [words('first', texts(first[frozenset(link)] for link in links)), words('turns', turns),
-                            words('links', texts(links)), words('counts', network.counts), words('hops', hops),
-                            words('pushes', pushes)]
+    made = {'nodes': network.nodes, 'home': network.destination, 'first': first, 'turns': None}
+    if network.nodes > NODES:
+        return answer, lines + ['omitted'], made
+    made['turns'] = turns[:TURNS]
+    hops = network.hops()
+    longer = padded(hops, len(old))
+    pushes = [f'{node}:{longer[node]}' for node in push_order(padded(old, len(hops)), longer)]
+    result = state_of(network) if before is None else changes_of(before, network)
+    return answer, [*lines, words('turns', turns[:TURNS]), *result, words('pushes', pushes)], made
 
 
 def changed(network, request):
@@ -188,24 +207,41 @@ def changed(network, request):
     return network
 
 
-def story(data, answers):
-    """The story of this input. `answers` are the lines of `run`."""
-    network, table, out = None, [], []
-    for (number, line), answer in zip(request_lines(data), answers, strict=True):
-        out += [f'line {number}', answer]
+class Story:
+    """The story of this input, and its rounds by the numbers of their lines. `answers` are the lines of `run`."""
+
+    def __init__(self, data, answers):
+        self.network, self.table, self.rounds, out = None, [], {}, []
+        given = dict(zip((number for number, _ in request_lines(data)), answers, strict=True))
+        for number, line in enumerate(data.split(b'\n'), 1):
+            if number in given:
+                out += self.block(number, line, given[number])
+            if number % LINES_BETWEEN_STATES == 0 and self.network and self.network.nodes <= NODES:
+                out += ['state', *state_of(self.network)]
+        self.text = ''.join(line + '\n' for line in out)
+
+    def block(self, number, line, answer):
+        """The lines of the story for a line that is not blank."""
+        out = [f'line {number}', answer]
         if answer in NO_REQUEST:
-            continue
+            return out
         request = json.loads(line)
         out.append(words('asks', asked(request)))
         if answer.startswith('refused'):
-            continue
-        network = changed(network, request)
+            return out
+        before = None if request[0] == 'net' else self.network.links() if answer.startswith('turned') else None
+        self.network = changed(self.network, request)
         if answer.startswith('turned'):
-            expected, lines = round_of(network, table)
-            table = network.hops()
+            expected, lines, self.rounds[number] = round_of(self.network, before, self.table)
+            self.table = self.network.hops()
             out += lines
         else:
-            expected = answered(network, request)
+            expected = answered(self.network, request)
         if answer != expected:
             raise AssertionError(f'line {number}: answered {answer[:80]}, and the oracle says {expected[:80]}')
-    return ''.join(line + '\n' for line in out)
+        return out
+
+
+def story(data, answers):
+    """The story of this input. `answers` are the lines of `run`."""
+    return Story(data, answers).text

@@ -1,4 +1,5 @@
 pub mod Asking
+pub mod Linked
 pub mod Sinks
 pub mod Turning
 pub mod Beginnings

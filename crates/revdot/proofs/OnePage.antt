@@ -7,15 +7,17 @@ use Rattle.fr_lines.specs.declared.requests.Question.{Question}
 use Rattle.fr_lines.specs.declared.requests.Question.TheVariants.{Links, Counts, Hops}
 use Rattle.fr_route.specs.Blank.{is_blank}
 use Rattle.fr_route.specs.States.{State}
-use Rattle.fr_route.proofs.Determined.{answer_unique, line_unique, not_both}
+use Rattle.fr_graph.specs.Network.{Network}
+use Rattle.fr_route.proofs.Determined.{answer_unique, hops_unique, line_unique, not_both}
 use Rattle.fr_route.proofs.OneTelling.{line_told_unique}
 use Rattle.fr_route.specs.Told.{IsLineTold}
 use Rattle.fr_bytes.specs.Lines.{lines_of}
 use Rattle.revdot.specs.Pages.{IsPage}
 use Rattle.revdot.specs.Asked.{asked_text}
+use Rattle.revdot.specs.Changes.{pushes_line}
 use Rattle.revdot.specs.Stories.{AreBlocks, AreSettledLines, HasBegun, HasLineBegun, IsAnswerLine, IsAnsweredBlock, IsBlock}
-use Rattle.revdot.specs.Stories.{IsRoundStory, IsToldRound, IsTurnByTurn, answer_text}
-use Rattle.revdot.specs.Stories.{beginning_text, is_short, most_told_turns, net_text, nodes_line}
+use Rattle.revdot.specs.Stories.{IsMark, IsResult, IsRoundStory, IsStep, IsToldRound, IsTurnByTurn, answer_text, is_marked}
+use Rattle.revdot.specs.Stories.{is_told, line_before, most_told_turns, net_text, turns_line}
 use Rattle.revdot.specs.Strips.{beginning}
 use Rattle.revdot.proofs.OneDrawing.{all_turns_unique}
 
@@ -30,30 +32,38 @@ settled_unique s a b h k =
     let texts : h.links ++ (h.counts ++ h.hops) ≡ k.links ++ (k.counts ++ k.hops) = (λ i. links i ++ (counts i ++ hops i)) in
     h.text ∙ (texts ∙ sym k.text)
 
-turn_by_turn_unique : (s : State) (rerouted a b : List ℕ) → IsTurnByTurn s rerouted a → IsTurnByTurn s rerouted b → a ≡ b
-turn_by_turn_unique s rerouted a b h k =
-    let pushes = nodes_line (codes "pushes") rerouted in
-    let turns : h.turns ≡ k.turns = all_turns_unique most_told_turns s.nodes s.dest (beginning s) h.turns k.turns h.are_all k.are_all in
-    let left : h.left ≡ k.left = settled_unique (Some s) h.left k.left h.settled k.settled in
-    let texts : beginning_text s h.turns ++ (h.left ++ pushes) ≡ beginning_text s k.turns ++ (k.left ++ pushes) =
-    (λ i. beginning_text s (turns i) ++ (left i ++ pushes)) in
+result_unique : (before : Option Network) (s : State) (a b : List ℕ) → IsResult before s a → IsResult before s b → a ≡ b
+result_unique None s a b h k = settled_unique (Some s) a b h k
+result_unique (Some net) s a b h k = h ∙ sym k
+
+turn_by_turn_unique : (before : Option Network) (s : State) (rerouted a b : List ℕ) → IsTurnByTurn before s rerouted a
+    → IsTurnByTurn before s rerouted b → a ≡ b
+turn_by_turn_unique before s rerouted a b h k =
+    let turns : h.turns ≡ k.turns =
+    all_turns_unique most_told_turns s.nodes s.dest (beginning s) h.turns k.turns h.are_all k.are_all in
+    let left : h.left ≡ k.left = result_unique before s h.left k.left h.is_result k.is_result in
+    let hops : h.hops ≡ k.hops = hops_unique s s.nodes h.hops k.hops h.are_hops k.are_hops in
+    let texts : turns_line h.turns ++ (h.left ++ pushes_line h.hops rerouted)
+    ≡ turns_line k.turns ++ (k.left ++ pushes_line k.hops rerouted) =
+    (λ i. turns_line (turns i) ++ (left i ++ pushes_line (hops i) rerouted)) in
     h.text ∙ (texts ∙ sym k.text)
 
-told_round_unique : (s : State) (rerouted a b : List ℕ) → IsToldRound s rerouted a → IsToldRound s rerouted b → a ≡ b
-told_round_unique s rerouted a b h k = of (is_short s) h k
+told_round_unique : (before : Option Network) (s : State) (rerouted a b : List ℕ) → IsToldRound before s rerouted a
+    → IsToldRound before s rerouted b → a ≡ b
+told_round_unique before s rerouted a b h k = of (is_told s) h k
   where
-    of : (short : Bool) → MatchBool short (IsTurnByTurn s rerouted a) (a ≡ codes "omitted\n")
-        → MatchBool short (IsTurnByTurn s rerouted b) (b ≡ codes "omitted\n") → a ≡ b
-    of true h k = turn_by_turn_unique s rerouted a b h k
+    of : (told : Bool) → MatchBool told (IsTurnByTurn before s rerouted a) (a ≡ codes "omitted\n")
+        → MatchBool told (IsTurnByTurn before s rerouted b) (b ≡ codes "omitted\n") → a ≡ b
+    of true h k = turn_by_turn_unique before s rerouted a b h k
     of false h k = h ∙ sym k
 
-round_story_unique : (reports : Bool) (s : Option State) (rerouted a b : List ℕ)
-    → IsRoundStory reports s rerouted a → IsRoundStory reports s rerouted b → a ≡ b
-round_story_unique true (Some s) rerouted a b h k =
-    let one = told_round_unique s rerouted h.0 k.0 h.1 k.1 in
+round_story_unique : (began : Bool) (before : Option Network) (s : Option State) (rerouted a b : List ℕ)
+    → IsRoundStory began before s rerouted a → IsRoundStory began before s rerouted b → a ≡ b
+round_story_unique true before (Some s) rerouted a b h k =
+    let one = told_round_unique before s rerouted h.0 k.0 h.1 k.1 in
     h.2 ∙ (ap (λ (t : List ℕ). net_text s.nodes s.dest ++ t) one ∙ sym k.2)
-round_story_unique true None rerouted a b h k = h ∙ sym k
-round_story_unique false s rerouted a b h k = h ∙ sym k
+round_story_unique true before None rerouted a b h k = h ∙ sym k
+round_story_unique false before s rerouted a b h k = h ∙ sym k
 
 begun_unique : (s : Option State) (request : PlainRequest) (a b : Bool) → HasBegun s request a → HasBegun s request b → a ≡ b
 begun_unique s request a b (inl (j, h, e)) (inl (k, g, f)) = e ∙ sym f
@@ -72,8 +82,9 @@ answered_unique s number asked a b p q h k =
     let are_rerouted = subst (λ (t : Option State). IsLineTold s asked t [] h.rerouted) one.1 h.are_rerouted in
     let same : h.rerouted ≡ k.rerouted = line_told_unique s asked q [] h.rerouted k.rerouted are_rerouted k.are_rerouted in
     let began : h.began ≡ k.began = line_begun_unique s asked h.began k.began h.has_begun k.has_begun in
-    let of_round : IsRoundStory k.began q k.rerouted h.told = rw (← began, ← one.1, ← same) h.of_round in
-    let told : h.told ≡ k.told = round_story_unique k.began q k.rerouted h.told k.told of_round k.of_round in
+    let before = line_before s asked in
+    let of_round : IsRoundStory k.began before q k.rerouted h.told = rw (← began, ← one.1, ← same) h.of_round in
+    let told : h.told ≡ k.told = round_story_unique k.began before q k.rerouted h.told k.told of_round k.of_round in
     let texts : answer_text number h.answer ++ (asked_text asked ++ h.told) ≡ answer_text number k.answer ++ (asked_text asked ++ k.told) =
     (λ i. answer_text number (one.0 i) ++ (asked_text asked ++ told i)) in
     (h.text ∙ (texts ∙ sym k.text), one.1)
@@ -89,11 +100,35 @@ block_unique s number line a b p q h k = of (is_blank line) h k
     of true h k = (h.0 ∙ sym k.0, h.1 ∙ sym k.1)
     of false h k = answered_unique s number (reading line) a b p q h k
 
-blocks_unique : (s : Option State) (number : ℕ) (lines : List (List ℕ)) (a b : List ℕ) → AreBlocks s number lines a → AreBlocks s number lines b → a ≡ b
+mark_unique : (number : ℕ) (s : Option State) (a b : List ℕ) → IsMark number s a → IsMark number s b → a ≡ b
+mark_unique number s a b h k = of (is_marked number s) h k
+  where
+    IsOf : Bool → List ℕ → Type 0
+    IsOf marked out = MatchBool marked ((lines : List ℕ) × AreSettledLines s lines × (out ≡ codes "state\n" ++ lines)) (out ≡ [])
+
+    of : (marked : Bool) → IsOf marked a → IsOf marked b → a ≡ b
+    of true h k =
+        let one = settled_unique s h.0 k.0 h.1 k.1 in
+        h.2 ∙ (ap (λ (t : List ℕ). codes "state\n" ++ t) one ∙ sym k.2)
+    of false h k = h ∙ sym k
+
+step_unique : (s : Option State) (number : ℕ) (line a b : List ℕ) (p q : Option State) → IsStep s number line p a
+    → IsStep s number line q b → (a ≡ b) × (p ≡ q)
+step_unique s number line a b p q h k =
+    let one = block_unique s number line h.block k.block p q h.is_block k.is_block in
+    let at : IsMark number q h.mark = subst (λ (t : Option State). IsMark number t h.mark) one.1 h.is_mark in
+    let mark = mark_unique number q h.mark k.mark at k.is_mark in
+    let texts : h.block ++ h.mark ≡ k.block ++ k.mark = (λ i. one.0 i ++ mark i) in
+    (h.text ∙ (texts ∙ sym k.text), one.1)
+
+blocks_unique : (s : Option State) (number : ℕ) (lines : List (List ℕ)) (a b : List ℕ) → AreBlocks s number lines a
+    → AreBlocks s number lines b → a ≡ b
 blocks_unique s number [] a b h k = h ∙ sym k
 blocks_unique s number (line ∷ rest) a b h k =
-    let one = block_unique s number line h.0 k.0 h.1 k.1 h.3 k.3 in
-    let more = blocks_unique k.1 (number + 1) rest h.2 k.2 (subst (λ (t : Option State). AreBlocks t (number + 1) rest h.2) one.1 h.4) k.4 in
+    let one = step_unique s number line h.0 k.0 h.1 k.1 h.3 k.3 in
+    let left : AreBlocks k.1 (number + 1) rest h.2 =
+    subst (λ (t : Option State). AreBlocks t (number + 1) rest h.2) one.1 h.4 in
+    let more = blocks_unique k.1 (number + 1) rest h.2 k.2 left k.4 in
     let texts : h.0 ++ h.2 ≡ k.0 ++ k.2 = (λ i. one.0 i ++ more i) in
     h.5 ∙ (texts ∙ sym k.5)
 

@@ -2,7 +2,10 @@
 use Rattle.std.proofs.Common.{◌≡◌, ◌∙◌, ℕ, ◌+◌, ◌≤◌, List, [], ◌∷◌, ◌++◌, length, ap, append_assoc, append-nil, arith, Option, None, Some, true}
 use Rattle.std.proofs.Common.{Bool, false, inl, inr, not, refl, rules, subst, sym, ◌&&◌}
 use Rattle.std.specs.List.{starts_with}
+use Rattle.fr_graph.specs.Network.{Network}
+use Rattle.fr_route.specs.Routes.{AreHops}
 use Rattle.fr_route.specs.States.{State}
+use Rattle.fr_tables.specs.declared.hop.Hop.{Hop}
 use Rattle.fr_bytes.specs.Lines.{lines_of}
 use Rattle.fr_bytes.proofs.Ending.{few_lines}
 use Rattle.std.specs.Prelude.{Err, Ok, codes, eqb}
@@ -14,8 +17,10 @@ use Rattle.fr_route.specs.Blank.{is_blank}
 use Rattle.fr_route.specs.Texts.{refusal_text}
 use Rattle.fr_route.specs.Told.{IsTold}
 use Rattle.revdot.specs.Asked.{asked_text}
-use Rattle.revdot.specs.Stories.{AreBlocks, AreSettledLines, IsAnswerLine, IsAnsweredBlock, IsBlock, IsRoundStory, IsStory, IsTurnByTurn, answer_text}
-use Rattle.revdot.specs.Stories.{HasBegun, beginning_text, is_short, makes_round, most_told_turns, net_text, nodes_line}
+use Rattle.revdot.specs.Changes.{pushes_line}
+use Rattle.revdot.specs.Stories.{AreBlocks, AreSettledLines, HasBegun, IsAnswerLine, IsAnsweredBlock, IsBlock, IsMark, IsResult}
+use Rattle.revdot.specs.Stories.{IsRoundStory, IsStep, IsStory, IsTurnByTurn, answer_text, is_told, makes_round}
+use Rattle.revdot.specs.Stories.{most_told_turns, net_before, net_text, turns_line}
 use Rattle.revdot.specs.Strips.{AreAllTurns, beginning}
 use Rattle.revdot.proofs.Beginnings.{begins}
 
@@ -49,14 +54,28 @@ next_line whole line all left now number old new is h = subst (λ (ls : List (Li
 
 -- the story has one more line
 pub one_line_more : (whole line : List ℕ) (left : List (List ℕ)) (now next : Option State) (number : ℕ)
-    (old new newer block : List ℕ) → HasTold whole (line ∷ left) now number old new
-    → IsBlock now (number + 1) line block next → newer ≡ new ++ block → HasTold whole left next (number + 1) old newer
-one_line_more whole line left now next number old new newer block h is text = record {
-  told = h.told ++ block;
-  text = text ∙ (ap (λ (t : List ℕ). t ++ block) h.text ∙ append_assoc old h.told block);
-  rest = λ more are. subst (IsStory whole) (sym (append_assoc h.told block more)) (h.rest (block ++ more) (block, next, more, is, are, refl));
+    (old new newer step : List ℕ) → HasTold whole (line ∷ left) now number old new
+    → IsStep now (number + 1) line next step → newer ≡ new ++ step → HasTold whole left next (number + 1) old newer
+one_line_more whole line left now next number old new newer step h is text = record {
+  told = h.told ++ step;
+  text = text ∙ (ap (λ (t : List ℕ). t ++ step) h.text ∙ append_assoc old h.told step);
+  rest = λ more are. subst (IsStory whole) (sym (append_assoc h.told step more)) (h.rest (step ++ more) (step, next, more, is, are, refl));
   within = let within = h.within in omega (arith, within);
 }
+
+-- a line, and what follows it
+pub step_told : (s next : Option State) (number : ℕ) (line block mark old one new : List ℕ) → IsBlock s number line block next
+    → IsMark number next mark → one ≡ old ++ block → new ≡ one ++ mark
+    → (step : List ℕ) × IsStep s number line next step × (new ≡ old ++ step)
+step_told s next number line block mark old one new is_block is_mark e f =
+    let step : IsStep s number line next (block ++ mark) = record {
+      block = block;
+      is_block = is_block;
+      mark = mark;
+      is_mark = is_mark;
+      text = refl;
+    } in
+    (block ++ mark, step, f ∙ (ap (λ (t : List ℕ). t ++ mark) e ∙ append_assoc old block mark))
 
 -- no line is left
 pub all_told : (whole : List ℕ) (left : List (List ℕ)) (now : Option State) (number : ℕ) (old new : List ℕ) → left ≡ [] → HasTold whole left now number old new
@@ -81,29 +100,31 @@ settled_told s links counts hops old one two new are_links are_counts are_hops e
     } in
     (links ++ (counts ++ hops), lines, three old links counts hops one two new e f g)
 
--- a short round: its nodes and destination, its beginning, its result, and the nodes that it reroutes
-pub round_told : (s : State) (session : Option State) (turns settled rerouted old one two more new : List ℕ)
-    → Some s ≡ session → is_short s ≡ true → AreAllTurns most_told_turns s.nodes s.dest (beginning s) turns
-    → AreSettledLines session settled → one ≡ old ++ net_text s.nodes s.dest → two ≡ one ++ beginning_text s turns
-    → more ≡ two ++ settled → new ≡ more ++ nodes_line (codes "pushes") rerouted
-    → (out : List ℕ) × IsRoundStory true session rerouted out × (new ≡ old ++ out)
-round_told s session turns settled rerouted old one two more new some short are_all are e f g k =
+-- a round: its nodes and destination, its turns, its result, and the nodes that it reroutes
+pub round_told : (before : Option Network) (s : State) (session : Option State) (turns left rerouted : List ℕ) (hops : List Hop)
+    (old one two more new : List ℕ) → Some s ≡ session → is_told s ≡ true
+    → AreAllTurns most_told_turns s.nodes s.dest (beginning s) turns → IsResult before s left → AreHops s s.nodes hops
+    → one ≡ old ++ net_text s.nodes s.dest → two ≡ one ++ turns_line turns → more ≡ two ++ left
+    → new ≡ more ++ pushes_line hops rerouted
+    → (out : List ℕ) × IsRoundStory true before session rerouted out × (new ≡ old ++ out)
+round_told before s session turns left rerouted hops old one two more new some small are_all is_result are_hops e f g k =
     let net = net_text s.nodes s.dest in
-    let pushes = nodes_line (codes "pushes") rerouted in
-    let end : new ≡ two ++ (settled ++ pushes) =
-    k ∙ (ap (λ (t : List ℕ). t ++ pushes) g ∙ append_assoc two settled pushes) in
-    let rest = beginning_text s turns ++ (settled ++ pushes) in
-    let told : IsTurnByTurn s rerouted rest = record {
+    let pushes = pushes_line hops rerouted in
+    let end : new ≡ two ++ (left ++ pushes) = k ∙ (ap (λ (t : List ℕ). t ++ pushes) g ∙ append_assoc two left pushes) in
+    let rest = turns_line turns ++ (left ++ pushes) in
+    let told : IsTurnByTurn before s rerouted rest = record {
       begins = λ first net below round. begins s.nodes s.dest first s net below round;
       turns = turns;
       are_all = are_all;
-      left = settled;
-      settled = subst (λ (t : Option State). AreSettledLines t settled) (sym some) are;
+      left = left;
+      is_result = is_result;
+      hops = hops;
+      are_hops = are_hops;
       text = refl;
     } in
-    let story : IsRoundStory true (Some s) rerouted (net ++ rest) = (rest, rw short told, refl) in
-    let in_session = subst (λ (t : Option State). IsRoundStory true t rerouted (net ++ rest)) some story in
-    (net ++ rest, in_session, three old net (beginning_text s turns) (settled ++ pushes) one two new e f end)
+    let story : IsRoundStory true before (Some s) rerouted (net ++ rest) = (rest, rw small told, refl) in
+    let in_session = subst (λ (t : Option State). IsRoundStory true before t rerouted (net ++ rest)) some story in
+    (net ++ rest, in_session, three old net (turns_line turns) (left ++ pushes) one two new e f end)
 
 -- a report is not a refusal
 no_refusal : (s : State) (request : PlainRequest) (answer : List ℕ) → IsText s request answer
@@ -128,7 +149,8 @@ begun_by s next request answer began (inr (new, accepted, is, same)) e = inr (ne
 
 -- the answer to a request, what it asks, and its round
 pub answered_told : (s next : Option State) (number : ℕ) (request : PlainRequest) (began : Bool) (answer rerouted told old one two new : List ℕ)
-    → IsAnswer s request answer next → IsTold s request next [] rerouted → HasBegun s request began → IsRoundStory began next rerouted told
+    → IsAnswer s request answer next → IsTold s request next [] rerouted → HasBegun s request began
+    → IsRoundStory began (net_before s request) next rerouted told
     → one ≡ old ++ answer_text number answer → two ≡ one ++ asked_text (Ok request) → new ≡ two ++ told
     → (block : List ℕ) × IsAnsweredBlock s number (Ok request) block next × (new ≡ old ++ block)
 answered_told s next number request began answer rerouted told old one two new is_answer are_rerouted has_begun of_round e f g =

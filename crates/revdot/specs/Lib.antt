@@ -4,6 +4,7 @@ pub mod Strips
 pub mod Drawings
 pub mod Ends
 pub mod Asked
+pub mod Changes
 pub mod Stories
 pub mod Pages
 pub mod Written

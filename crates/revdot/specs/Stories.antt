@@ -1,49 +1,50 @@
--- The story of an input: the answer to each line, and each round turn by turn, with the nodes that get new hops. This
--- project's own.
-use Rattle.std.specs.Prelude.{◌≡◌, ℕ, ◌+◌, nat_le, ◌⊎◌, ◌&&◌, Bool, true, false, List, [], ◌∷◌, ◌++◌}
-use Rattle.std.specs.Prelude.{Option, Some, None, Result, Ok, Err, MatchBool, codes, decimal, sum}
-use Rattle.fr_lines.specs.Requests.{PlainRequest, walk_from, ask, reading}
+-- The story of an input: the answer to each line, and each round turn by turn, with what it changed and the nodes that
+-- get new hops. This project's own.
+use Rattle.std.specs.Prelude.{◌≡◌, ℕ, ◌+◌, ◌%◌, ◌==◌, nat_le, ◌⊎◌, ◌&&◌, Bool, true, false, List, [], ◌∷◌, ◌++◌}
+use Rattle.std.specs.Prelude.{Option, Some, None, Result, Ok, Err, MatchBool, if◌then◌else◌, codes, decimal}
+use Rattle.fr_graph.specs.Network.{Network}
+use Rattle.fr_lines.specs.Requests.{PlainRequest, new_network, walk_from, ask, reading}
 use Rattle.fr_lines.specs.declared.requests.LineFault.{LineFault}
 use Rattle.fr_lines.specs.declared.requests.Question.{Question}
 use Rattle.fr_lines.specs.declared.requests.Question.TheVariants.{Links, Counts, Hops}
 use Rattle.fr_route.specs.Answers.{IsAccepted, IsAnswer, IsLineAnswer, IsRefused}
 use Rattle.fr_route.specs.Blank.{is_blank}
-use Rattle.fr_route.specs.States.{State}
-use Rattle.fr_route.specs.Texts.{spaced, spaced_links}
+use Rattle.fr_route.specs.Routes.{AreHops}
+use Rattle.fr_route.specs.States.{State, net_at}
+use Rattle.fr_route.specs.Texts.{spaced}
 use Rattle.fr_route.specs.Told.{IsLineTold}
 use Rattle.fr_bytes.specs.Lines.{lines_of}
+use Rattle.fr_tables.specs.declared.hop.Hop.{Hop}
 use Rattle.revdot.specs.Asked.{asked_text}
+use Rattle.revdot.specs.Changes.{changes_text, pushes_line}
 use Rattle.revdot.specs.Strips.{AreAllTurns, BeginsTheRound, beginning}
 
--- the limits for a round that is told turn by turn
+-- the greatest network whose rounds are told, and the greatest number of turns of a round that are
 abbrev pub most_told_nodes : ℕ
 most_told_nodes = 256
 
 abbrev pub most_told_turns : ℕ
 most_told_turns = 4096
 
-abbrev pub is_short : State → Bool
-is_short s = nat_le s.nodes most_told_nodes && nat_le (sum s.counts) most_told_turns
+-- after each of so many lines of the input the story has the whole state
+abbrev pub lines_between_states : ℕ
+lines_between_states = 256
+
+abbrev pub is_told : State → Bool
+is_told s = nat_le s.nodes most_told_nodes
 
 abbrev pub net_text : ℕ → ℕ → List ℕ
 net_text n d = codes "net " ++ (decimal n ++ (codes " " ++ (decimal d ++ codes "\n")))
 
-abbrev pub first_text : List (ℕ × ℕ) → List ℕ
-first_text links = codes "first" ++ (spaced_links links ++ codes "\n")
-
--- a word and nodes, as a line
-abbrev pub nodes_line : List ℕ → List ℕ → List ℕ
-nodes_line word nodes = word ++ (spaced nodes ++ codes "\n")
-
--- the links before the round, listed in the order of the settled links, and the turns
-abbrev pub beginning_text : State → List ℕ → List ℕ
-beginning_text s turns = first_text (beginning s).links ++ nodes_line (codes "turns") turns
+-- the nodes that turned, one after the other, as a line
+abbrev pub turns_line : List ℕ → List ℕ
+turns_line nodes = codes "turns" ++ (spaced nodes ++ codes "\n")
 
 -- the answer to a question, as a line
 abbrev pub IsAnswerLine : Option State → Question → List ℕ → Type 0
 IsAnswerLine s question out = (answer : List ℕ) × IsAnswer s (ask question) answer s × (out ≡ answer ++ codes "\n")
 
--- the result of the round, as the session answers it
+-- a whole state, as the session answers it
 pub record AreSettledLines (s : Option State) (out : List ℕ) : Type 0 where
   pub links : List ℕ
   pub counts : List ℕ
@@ -53,31 +54,51 @@ pub record AreSettledLines (s : Option State) (out : List ℕ) : Type 0 where
   pub are_hops : IsAnswerLine s Hops hops
   pub text : out ≡ links ++ (counts ++ hops)
 
--- the story of a round: its first links, its turns, its result, and the nodes that get new hops
-pub record IsTurnByTurn (s : State) (rerouted out : List ℕ) : Type 0 where
+-- the result of a round: what it changed in the network before it, or the whole state of a new network
+abbrev pub IsResult : Option Network → State → List ℕ → Type 0
+IsResult None s out = AreSettledLines (Some s) out
+IsResult (Some before) s out = out ≡ changes_text before.links s.links s.counts
+
+-- the story of a round: its first turns, all if they are few; its result; and the nodes that get new hops
+pub record IsTurnByTurn (before : Option Network) (s : State) (rerouted out : List ℕ) : Type 0 where
   pub begins : BeginsTheRound s
   pub turns : List ℕ
   pub are_all : AreAllTurns most_told_turns s.nodes s.dest (beginning s) turns
   pub left : List ℕ
-  pub settled : AreSettledLines (Some s) left
-  pub text : out ≡ beginning_text s turns ++ (left ++ nodes_line (codes "pushes") rerouted)
+  pub is_result : IsResult before s left
+  pub hops : List Hop
+  pub are_hops : AreHops s s.nodes hops
+  pub text : out ≡ turns_line turns ++ (left ++ pushes_line hops rerouted)
 
--- the part after the line of nodes and destination: the whole story if the round is short
-abbrev pub IsToldRound : State → List ℕ → List ℕ → Type 0
-IsToldRound s rerouted out = MatchBool (is_short s) (IsTurnByTurn s rerouted out) (out ≡ codes "omitted\n")
+-- the part after the line of nodes and destination
+abbrev pub IsToldRound : Option Network → State → List ℕ → List ℕ → Type 0
+IsToldRound before s rerouted out =
+    MatchBool (is_told s) (IsTurnByTurn before s rerouted out) (out ≡ codes "omitted\n")
 
 -- the part after an answer, for the state after it: the story of a round if the line began one
-abbrev pub IsRoundStory : Bool → Option State → List ℕ → List ℕ → Type 0
-IsRoundStory true (Some s) rerouted told =
-    (out : List ℕ) × IsToldRound s rerouted out × (told ≡ net_text s.nodes s.dest ++ out)
-IsRoundStory true None rerouted told = told ≡ []
-IsRoundStory false s rerouted told = told ≡ []
+abbrev pub IsRoundStory : Bool → Option Network → Option State → List ℕ → List ℕ → Type 0
+IsRoundStory true before (Some s) rerouted told =
+    (out : List ℕ) × IsToldRound before s rerouted out × (told ≡ net_text s.nodes s.dest ++ out)
+IsRoundStory true before None rerouted told = told ≡ []
+IsRoundStory false before s rerouted told = told ≡ []
 
 -- a request that begins a round if it is accepted: a network or a change
 abbrev pub makes_round : PlainRequest → Bool
 makes_round (walk_from x) = false
 makes_round (ask question) = false
 makes_round request = true
+
+-- the network that a request changes if it is accepted, and if it is told; a new network changes none
+abbrev pub net_before : Option State → PlainRequest → Option Network
+net_before None request = None
+net_before (Some s) (new_network n d links) = None
+net_before (Some s) (walk_from x) = None
+net_before (Some s) (ask question) = None
+net_before (Some s) request = if is_told s then Some (net_at s) else None
+
+abbrev pub line_before : Option State → Result PlainRequest LineFault → Option Network
+line_before s (Ok request) = net_before s request
+line_before s (Err fault) = None
 
 -- whether a request began a round: it was accepted, and is a network or a change
 abbrev pub HasBegun : Option State → PlainRequest → Bool → Type 0
@@ -104,7 +125,7 @@ pub record IsAnsweredBlock (s : Option State) (number : ℕ) (asked : Result Pla
   pub began : Bool
   pub has_begun : HasLineBegun s asked began
   pub told : List ℕ
-  pub of_round : IsRoundStory began next rerouted told
+  pub of_round : IsRoundStory began (line_before s asked) next rerouted told
   pub text : block ≡ answer_text number answer ++ (asked_text asked ++ told)
 
 -- the story of a line, and the state after it: nothing for a blank line
@@ -112,12 +133,30 @@ abbrev pub IsBlock : Option State → ℕ → List ℕ → List ℕ → Option S
 IsBlock s number line block next = MatchBool (is_blank line) ((block ≡ [])
     × (next ≡ s)) (IsAnsweredBlock s number (reading line) block next)
 
+-- whether a whole state follows a line with this number
+abbrev pub is_marked : ℕ → Option State → Bool
+is_marked number (Some s) = (number % lines_between_states == 0) && is_told s
+is_marked number None = false
+
+-- the whole state after a line, if it follows this line
+abbrev pub IsMark : ℕ → Option State → List ℕ → Type 0
+IsMark number s out = MatchBool (is_marked number s)
+    ((lines : List ℕ) × AreSettledLines s lines × (out ≡ codes "state\n" ++ lines)) (out ≡ [])
+
+-- the story of a line, and the whole state if it follows this line
+pub record IsStep (s : Option State) (number : ℕ) (line : List ℕ) (next : Option State) (out : List ℕ) : Type 0 where
+  pub block : List ℕ
+  pub is_block : IsBlock s number line block next
+  pub mark : List ℕ
+  pub is_mark : IsMark number next mark
+  pub text : out ≡ block ++ mark
+
 -- the story of lines, the first of which has this number
 abbrev pub AreBlocks : Option State → ℕ → List (List ℕ) → List ℕ → Type 0
 AreBlocks s number [] out = out ≡ []
 AreBlocks s number (line ∷ rest) out =
-    (block : List ℕ) × (next : Option State) × (more : List ℕ)
-    × IsBlock s number line block next × AreBlocks next (number + 1) rest more × (out ≡ block ++ more)
+    (step : List ℕ) × (next : Option State) × (more : List ℕ)
+    × IsStep s number line next step × AreBlocks next (number + 1) rest more × (out ≡ step ++ more)
 
 -- the story of an input
 abbrev pub IsStory : List ℕ → List ℕ → Type 0

@@ -3,6 +3,7 @@
 #![tactic(auto)]
 
 mod asked;
+mod changes;
 mod drawing;
 mod graphs;
 mod page;

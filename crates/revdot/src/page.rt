@@ -14,9 +14,9 @@ use std::io::{Read, Write};
 /// of the viewer), and flushes once. It reads at most one byte more than the limit of 16,777,216 bytes. If it fails
 /// with any fault but `Write`, it has written nothing.
 ///
-/// The whole text is made before any of it is written. A round of at most 4,096 turns, on a network of at most 256
-/// nodes, is made again turn by turn; each turn takes time linear in the nodes and links. Of any other round the page
-/// has only the size.
+/// The whole text is made before any of it is written. On a network of at most 256 nodes the first 4,096 turns of each
+/// round are made again, one by one; each takes time linear in the nodes and links. Of a round on a larger network the
+/// page has only the size. A change takes room for what the round changed, and each 256th line for the whole state.
 pub fn page<R: Read, W: Write>(
     alloc: Global,
     reader: &mut R,

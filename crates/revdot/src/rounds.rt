@@ -1,44 +1,48 @@
-//! The part of a story about a round: its first links, its turns, its result, and the nodes that get new hops.
+//! The part of a story about a round: its turns, its result, and the nodes that get new hops.
 
-ghost use Rattle.std.specs.Prelude.{◌≡◌, ◌++◌, ℕ, List, true, IfOk, OnOk, codes, decimal, length, string_bytes};
+ghost use Rattle.std.specs.Prelude.{◌≡◌, ◌++◌, ℕ, List, true, IfOk, OnOk, codes, decimal, string_bytes, option_copied};
 ghost use Rattle.revdot.specs.Replays.{IsReplay, moment_of};
 ghost use Rattle.revdot.specs.Strips.{AreAllTurns, beginning};
 ghost use Rattle.fr_route.specs.Texts.{spaced, spaced_links};
-ghost use Rattle.revdot.specs.Stories.{IsRoundStory, AreSettledLines, IsAnswerLine, beginning_text};
-ghost use Rattle.revdot.specs.Stories.{first_text, is_short, most_told_turns, net_text, nodes_line};
+ghost use Rattle.revdot.specs.Stories.{IsRoundStory, IsResult, AreSettledLines, IsAnswerLine, turns_line};
+ghost use Rattle.revdot.specs.Stories.{is_told as is_told_of, most_told_turns, net_text};
 
+use crate::changes::{push_changes, push_pushes};
 use crate::turns::Replay;
+use fr_graph::Net;
 use fr_lines::Question;
 use fr_route::{Router, Session};
 use std::alloc::{AllocError, Global};
 use std::fmt::Write;
 
-/// The greatest number of nodes of a network whose rounds are told turn by turn.
+/// The greatest number of nodes of a network whose rounds are told.
 const MOST_NODES: u32 = 256;
 
-/// The greatest number of turns of a round that is told turn by turn.
+/// The greatest number of turns of a round that are told.
 const MOST_TURNS: u64 = 4_096;
 
-/// Appends the story of the last round of a session. The round gave the nodes of `rerouted` new hops.
+/// Appends the story of the last round of a session. The round changed the network `before`, or began a new network,
+/// and gave the nodes of `rerouted` new hops.
 pub fn push_round(
     story: &mut String,
     alloc: Global,
+    before: Option<&Net>,
     session: &Session,
     rerouted: &[u32],
 ) -> Result<(), AllocError>
-    ensures { OnOk result ((told : List ℕ) × IsRoundStory true session.now rerouted.now told
+    ensures { OnOk result ((told : List ℕ) × IsRoundStory true (option_copied before.entry) session.now rerouted.now told
         × (string_bytes story.new ≡ string_bytes story.old ++ told)) }
 {
     let Some(router) = session.router() else {
         return Ok(());
     };
     push_net(story, router.net().nodes(), router.dest())?;
-    if !is_short_round(router) {
+    if !is_told(router) {
         return story.push_str("omitted\n");
     }
-    push_beginning(story, alloc, router)?;
-    push_settled_lines(story, alloc, session)?;
-    push_nodes_line(story, "pushes", rerouted)
+    push_turns(story, alloc, router)?;
+    push_result(story, alloc, before, session, router)?;
+    push_pushes(story, router.hops(), rerouted)
 }
 
 /// Appends the number of nodes and the destination.
@@ -48,32 +52,42 @@ fn push_net(story: &mut String, nodes: u32, dest: u32) -> Result<(), AllocError>
     writeln!(story, "net {nodes} {dest}")
 }
 
-/// Whether a round is told turn by turn.
-fn is_short_round(router: &Router) -> bool
-    ensures { result ≡ is_short router.now }
+/// Whether rounds of this router's network are told.
+pub fn is_told(router: &Router) -> bool
+    ensures { result ≡ is_told_of router.now }
 {
-    router.net().nodes() <= MOST_NODES && router.report().turned <= MOST_TURNS
+    router.net().nodes() <= MOST_NODES
 }
 
-/// Appends the links before a round, and the turns of the round.
-fn push_beginning(story: &mut String, alloc: Global, router: &Router) -> Result<(), AllocError>
+/// Appends the first turns of a round, all if they are few.
+fn push_turns(story: &mut String, alloc: Global, router: &Router) -> Result<(), AllocError>
     ensures { OnOk result ((turns : List ℕ)
         × AreAllTurns most_told_turns router.now.nodes router.now.dest (beginning router.now) turns
-        × (string_bytes story.new ≡ string_bytes story.old ++ beginning_text router.now turns)) }
+        × (string_bytes story.new ≡ string_bytes story.old ++ turns_line turns)) }
 {
     let replay = Replay::begin(alloc, router)?;
-    push_first(story, &replay.links)?;
     let turns = turns_of(alloc, router, replay)?;
-    push_nodes_line(story, "turns", &turns)
+    story.push_str("turns")?;
+    push_nodes(story, &turns)?;
+    story.push_str("\n")
 }
 
-/// Appends the links before a round.
-fn push_first(story: &mut String, links: &[(u32, u32)]) -> Result<(), AllocError>
-    ensures { OnOk result (string_bytes story.new ≡ string_bytes story.old ++ first_text links.now) }
+/// Appends what a round changed in the network `before`, or the whole state of a new network.
+fn push_result(
+    story: &mut String,
+    alloc: Global,
+    before: Option<&Net>,
+    session: &Session,
+    router: &Router,
+) -> Result<(), AllocError>
+    requires { session.now ≡ Some router.now }
+    ensures { OnOk result ((left : List ℕ) × IsResult (option_copied before.entry) router.now left
+        × (string_bytes story.new ≡ string_bytes story.old ++ left)) }
 {
-    story.push_str("first")?;
-    push_links(story, links)?;
-    story.push_str("\n")
+    match before {
+        Some(before) => push_changes(story, alloc, before, router.net(), router.counts()),
+        None => push_settled_lines(story, alloc, session),
+    }
 }
 
 pub fn push_links(story: &mut String, links: &[(u32, u32)]) -> Result<(), AllocError>
@@ -93,15 +107,6 @@ fn push_link(story: &mut String, link: (u32, u32)) -> Result<(), AllocError>
     write!(story, " {}>{}", link.0, link.1)
 }
 
-/// Appends a line: a word and these nodes.
-fn push_nodes_line(story: &mut String, word: &str, nodes: &[u32]) -> Result<(), AllocError>
-    ensures { OnOk result (string_bytes story.new ≡ string_bytes story.old ++ nodes_line word.now nodes.now) }
-{
-    story.push_str(word)?;
-    push_nodes(story, nodes)?;
-    story.push_str("\n")
-}
-
 fn push_nodes(story: &mut String, nodes: &[u32]) -> Result<(), AllocError>
     ensures { OnOk result (string_bytes story.new ≡ string_bytes story.old ++ spaced nodes.now) }
 {
@@ -111,7 +116,7 @@ fn push_nodes(story: &mut String, nodes: &[u32]) -> Result<(), AllocError>
     Ok(())
 }
 
-/// The nodes that turn in a round, one after the other.
+/// The nodes that turn in a round, one after the other, up to the limit.
 fn turns_of(alloc: Global, router: &Router, mut replay: Replay) -> Result<Vec<u32>, AllocError>
     requires replay { IsReplay router.now replay }
     requires first { moment_of replay ≡ beginning router.now }
@@ -129,8 +134,8 @@ fn turns_of(alloc: Global, router: &Router, mut replay: Replay) -> Result<Vec<u3
     Ok(turns)
 }
 
-/// Appends the links, the counts and the hops after a round, as a session answers them.
-fn push_settled_lines(
+/// Appends a whole state: the links, the counts and the hops, as a session answers them.
+pub fn push_settled_lines(
     story: &mut String,
     alloc: Global,
     session: &Session,

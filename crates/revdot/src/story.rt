@@ -1,19 +1,25 @@
-//! The story of an input: the answer to each line, and each round turn by turn, with the nodes that get new hops.
+//! The story of an input: the answer to each line, and each round turn by turn, with what it changed and the nodes that
+//! get new hops.
 
-ghost use Rattle.std.specs.Prelude.{◌≡◌, ◌++◌, ◌&&◌, ℕ, List, Ok, OnOk, codes, eqb, not, string_bytes};
+ghost use Rattle.std.specs.Prelude.{◌≡◌, ◌++◌, ◌&&◌, ℕ, IfOk, List, Ok, OnOk, codes, eqb, not, string_bytes};
 ghost use Rattle.std.specs.List.{starts_with};
 ghost use Rattle.fr_lines.specs.Requests.{plain};
 ghost use Rattle.fr_route.specs.Refusals.{number_of};
 ghost use Rattle.fr_route.specs.Texts.{refusal_text};
-ghost use Rattle.revdot.specs.Stories.{IsAnsweredBlock, IsBlock, IsStory, answer_text, makes_round};
+ghost use Rattle.revdot.specs.Stories.{IsAnsweredBlock, IsBlock, IsMark, IsStep, IsStory, answer_text, makes_round};
+ghost use Rattle.revdot.specs.Stories.{is_marked as is_marked_at, net_before as net_before_of};
 
 use crate::asked::push_asked;
-use crate::rounds::push_round;
+use crate::rounds::{is_told, push_round, push_settled_lines};
 use fr_bytes::Lines;
+use fr_graph::Net;
 use fr_lines::{LineFault, Request, read_line};
 use fr_route::{Reason, Session, is_blank};
 use std::alloc::{AllocError, Global};
 use std::fmt::Write;
+
+/// After each of so many lines of the input, the story has the whole state.
+const LINES_BETWEEN_STATES: u64 = 256;
 
 /// Appends the story of an input. It starts no thread.
 pub fn push_story(story: &mut String, alloc: Global, input: &[u8]) -> Result<(), AllocError>
@@ -24,9 +30,51 @@ pub fn push_story(story: &mut String, alloc: Global, input: &[u8]) -> Result<(),
     let mut number = 0u64;
     for line in Lines::new(input) {
         number += 1;
-        push_line(story, alloc, &mut session, number, line)?;
+        push_step(story, alloc, &mut session, number, line)?;
     }
     Ok(())
+}
+
+/// Appends the story of a line, and after some lines the whole state.
+fn push_step(
+    story: &mut String,
+    alloc: Global,
+    session: &mut Session,
+    number: u64,
+    line: &[u8],
+) -> Result<(), AllocError>
+    ensures { OnOk result ((step : List ℕ) × IsStep session.old number line.now session.new step
+        × (string_bytes story.new ≡ string_bytes story.old ++ step)) }
+{
+    push_line(story, alloc, session, number, line)?;
+    push_mark(story, alloc, session, number)
+}
+
+/// Appends the whole state if it follows the line with this number.
+fn push_mark(
+    story: &mut String,
+    alloc: Global,
+    session: &Session,
+    number: u64,
+) -> Result<(), AllocError>
+    ensures { OnOk result ((mark : List ℕ) × IsMark number session.now mark
+        × (string_bytes story.new ≡ string_bytes story.old ++ mark)) }
+{
+    if !is_marked(session, number) {
+        return Ok(());
+    }
+    story.push_str("state\n")?;
+    push_settled_lines(story, alloc, session)
+}
+
+/// Whether the whole state follows the line with this number.
+fn is_marked(session: &Session, number: u64) -> bool
+    ensures { result ≡ is_marked_at number session.now }
+{
+    match session.router() {
+        Some(router) => number % LINES_BETWEEN_STATES == 0 && is_told(router),
+        None => false,
+    }
 }
 
 /// Appends the story of a line: nothing if the line is blank.
@@ -71,6 +119,7 @@ fn push_answered(
         × IsAnsweredBlock session.old number (Ok (plain request.now)) block session.new
         × (string_bytes story.new ≡ string_bytes story.old ++ block)) }
 {
+    let before = net_before(alloc, session, request)?;
     let mut rerouted = Vec::new(alloc);
     let Ok(answer) = session.answer_telling_alone(alloc, request, &mut rerouted) else {
         return Err(AllocError);
@@ -78,7 +127,7 @@ fn push_answered(
     writeln!(story, "line {number}\n{answer}")?;
     push_asked(story, request)?;
     if has_begun(request, &answer) {
-        push_round(story, alloc, session, &rerouted)
+        push_round(story, alloc, before.as_ref(), session, &rerouted)
     } else {
         Ok(())
     }
@@ -92,4 +141,25 @@ fn has_begun(request: &Request, answer: &str) -> bool
         Request::Walk { .. } | Request::Ask(_) => false,
         _ => !answer.starts_with("refused"),
     }
+}
+
+/// The network that a request changes if it is accepted, and if it is told. A new network changes none.
+fn net_before(
+    alloc: Global,
+    session: &Session,
+    request: &Request,
+) -> Result<Option<Net>, AllocError>
+    ensures { IfOk result (λ net. net ≡ net_before_of session.now (plain request.now)) }
+{
+    let Some(router) = session.router() else {
+        return Ok(None);
+    };
+    if matches!(
+        request,
+        Request::Network { .. } | Request::Walk { .. } | Request::Ask(_)
+    ) || !is_told(router)
+    {
+        return Ok(None);
+    }
+    Ok(Some(router.net().copied(alloc)?))
 }

@@ -26,6 +26,7 @@ align-content:safe center}
 aside{grid-area:side;border-right:1px solid var(--edge);background:var(--panel);display:flex;flex-direction:column;
 min-height:0}
 #list{list-style:none;margin:0;padding:.3rem;overflow:auto;flex:1 1 40%;min-height:4rem}
+#list li{content-visibility:auto;contain-intrinsic-height:auto 1.6em}
 #list button{display:grid;grid-template-columns:2.2em minmax(0,1fr) minmax(0,1fr);gap:0 .5em;align-items:baseline;
 width:100%;text-align:left;border:0;border-radius:6px;background:none;color:inherit;padding:.2rem .5rem;font:inherit;
 white-space:nowrap;cursor:pointer}
@@ -167,13 +168,76 @@ const faults = {1: 'the line is no JSON, or nests too deep', 2: 'the value is no
   4: 'the end of a link is no node', 5: 'a link joins a node with itself', 6: 'two links join the same nodes',
   7: 'the links contain a cycle', 8: 'there is no link between the two nodes',
   9: 'more nodes, links or edits than the limits'};
-const settledLines = ['first', 'turns', 'links', 'counts', 'hops', 'pushes'];
+const roundLines = new Set(['turns', 'gone', 'new', 'counted', 'links', 'counts', 'hops', 'pushes']);
 const listed = (text, item) => text.split(' ').slice(1).map(item);
 const linkOf = word => word.split('>').map(Number);
+const hopIn = word => { const [node, hop] = word.split(':'); return [Number(node), hop]; };
+// How many items a line has after its first word.
+function itemsIn(line) {
+  let items = 0;
+  for (let at = line.indexOf(' '); at >= 0; at = line.indexOf(' ', at + 1)) items++;
+  return items;
+}
 const stepsOf = walk => new Set(walk.slice(1).map((node, at) => walk[at] + '>' + node));
 const short = text => text.length > 300 ? text.slice(0, 300) + ' ..' : text;
 const isLab = document.querySelector('meta[name=lab]') !== null;
-const keyOf = (a, b) => a < b ? a * 4096 + b : b * 4096 + a;
+// A number for two nodes, in either order.
+const WIDTH = 65536, keyOf = (a, b) => a < b ? a * WIDTH + b : b * WIDTH + a;
+
+// A round of the story. Its lines are read when they are needed: the story may have thousands of rounds.
+class Round {
+  constructor([nodes, home], before, block) {
+    Object.assign(this, {nodes, home, before, block, drawn: true, said: {}, view: null, kept: null});
+  }
+  get turns() { return this.listed ??= listed(this.said.turns, Number); }
+  get turned() { return itemsIn(this.said.turns); }
+  // All turns of the round, also those that the story leaves out.
+  get total() { return Number(this.block.answer.split(' ')[1]); }
+  get pushes() { return listed(this.said.pushes, word => hopIn(word)[0]); }
+  get pushed() { return itemsIn(this.said.pushes); }
+  get gone() { return listed(this.said.gone, linkOf); }
+  get fresh() { return listed(this.said.new, linkOf); }
+  get isWhole() { return this.said.links !== undefined; }
+  // The links, counts and hops after the round.
+  get links() { return settled(this).links; }
+  get counts() { return settled(this).counts; }
+  get hops() { return settled(this).hops; }
+  // The links before the round: a link points as it did if its ends turned equally often.
+  get first() { return this.links.map(([a, b]) => this.counts[a] === this.counts[b] ? [a, b] : [b, a]); }
+}
+
+// The states of the rounds that were needed last.
+const keeping = [], MOST_KEPT = 8;
+function keep(round, state) {
+  const sorted = [...state.links.values()].sort((a, b) => a[0] - b[0] || a[1] - b[1]);
+  round.kept = {links: sorted, counts: state.counts.slice(), hops: state.hops.slice()};
+  keeping.push(round);
+  if (keeping.length > MOST_KEPT) keeping.shift().kept = null;
+  return round.kept;
+}
+
+const byKey = links => new Map(links.map(link => [keyOf(...link), link]));
+
+// The state after a round: the last whole state before it, and what each round since then changed.
+function settled(round) {
+  if (round.kept) return round.kept;
+  const later = [];
+  let from = round;
+  for (; !from.kept && !from.isWhole; from = from.before) later.push(from);
+  const {links, counts, hops} = from.kept ?? wholeState(from), state = {links: byKey(links), counts: counts.slice(), hops: hops.slice()};
+  while (later.length) change(state, later.pop());
+  return keep(round, state);
+}
+
+const wholeState = ({said}) => ({links: listed(said.links, linkOf), counts: listed(said.counts, Number), hops: listed(said.hops, String)});
+
+function change(state, round) {
+  for (const link of round.gone) state.links.delete(keyOf(...link));
+  for (const link of round.fresh) state.links.set(keyOf(...link), link);
+  state.counts.fill(0);
+  for (const [node, count] of listed(round.said.counted, hopIn)) state.counts[node] = Number(count);
+  for (const [node, hop] of listed(round.said.pushes, hopIn)) state.hops[node] = hop;
+}
 
 // The story, read: a block for each line of the input; a round has what its block says, and a question the round before it.
 function readStory(text, before) {
@@ -188,13 +252,10 @@ function readStory(text, before) {
     else if (block.answer === null) block.answer = line;
     else if (name === 'asks') block.asks = line.slice(5);
     else if (name === 'net') {
-      const words = listed(line, Number);
-      before = block.round = {nodes: words[0], home: words[1], drawn: true, before: before, block: block};
+      before = block.round = new Round(listed(line, Number), before, block);
       block.own = true;
     } else if (name === 'omitted') block.round.drawn = false;
-    else if (settledLines.includes(name)) {
-      block.round[name] = listed(line, name === 'first' || name === 'links' ? linkOf : name === 'hops' ? String : Number);
-    }
+    else if (roundLines.has(name)) block.round.said[name] = line;
   }
   return blocks;
 }
@@ -286,22 +347,34 @@ function walkOf(block) {
 
 // Rounds that share a node number and most links are of one network: it is laid out once, as its last round leaves it.
 function layOut(from) {
-  const keysOf = round => new Set(round.links.map(([a, b]) => keyOf(a, b)));
   let view = null;
   for (const [at, {own, round}] of blocks.entries()) {
     if (!own || !round.drawn) continue;
-    if (at < from) { view = Object.assign(round.view, {round, last: null}); continue; }
-    if (view) view.last ??= keysOf(view.round);
-    const keys = keysOf(round);
-    const shared = view ? [...view.last].filter(key => keys.has(key)).length : 0;
-    if (!view || view.nodes !== round.nodes || 2 * shared < Math.min(view.last.size, keys.size)) {
-      view = {nodes: round.nodes, all: new Set(), shapes: new Map(), group: null};
+    if (at < from) { view = Object.assign(round.view, {round, pairs: null}); continue; }
+    const pairs = view && (view.pairs ??= new Set(byKey(view.round.links).keys())), share = pairs && sharedPairs(pairs, round);
+    if (!view || view.nodes !== round.nodes || 2 * share.both < Math.min(share.before, share.pairs.size)) {
+      view = {nodes: round.nodes, all: new Set(share ? share.pairs : byKey(round.links).keys()), shapes: new Map(), group: null};
+      view.pairs = new Set(view.all);
+    } else {
+      view.pairs = share.pairs;
+      for (const key of share.fresh) view.all.add(key);
     }
-    view.last = keys;
     view.round = round;
-    for (const key of keys) view.all.add(key);
     round.view = view;
   }
+}
+
+// The pairs of nodes that are joined after a round, with those that are new, and how many were there before it and how many stayed.
+function sharedPairs(pairs, round) {
+  const before = pairs.size;
+  if (round.said.gone === undefined) {
+    const fresh = [...byKey(round.links).keys()];
+    return {pairs: new Set(fresh), fresh, before, both: fresh.filter(key => pairs.has(key)).length};
+  }
+  const keysOf = line => listed(line, word => keyOf(...linkOf(word))), gone = keysOf(round.said.gone), fresh = keysOf(round.said.new);
+  for (const key of gone) pairs.delete(key);
+  for (const key of fresh) pairs.add(key);
+  return {pairs, fresh, before, both: before - gone.length};
 }
 
 // Parts of a network, each a list of nodes: that of the destination first, then by size.
@@ -426,7 +499,7 @@ function bendOf(view, a, b) {
     }
     return true;
   };
-  if (view.all.size > 1500) return 0;
+  if (view.all.size > MOST_CURVES) return 0;
   for (const bend of [0, 50, -50, 90, -90, 140, -140, 200, -200, 280, -280]) if (clear(bend)) return bend;
   return 30;
 }
@@ -461,7 +534,7 @@ function mark(element, attributes) {
 
 // The shape of a link. In the lab a broad line that is not seen takes its clicks.
 function shapeOf(view, key) {
-  const a = Math.floor(key / 4096), b = key % 4096, g = make(view.lines, 'g', {class: 'link'});
+  const a = Math.floor(key / WIDTH), b = key % WIDTH, g = make(view.lines, 'g', {class: 'link'});
   const shape = {a, b, bend: bendOf(view, a, b), g, line: make(g, 'path', {}), tip: make(g, 'path', {class: 'tip'})};
   if (isLab) {
     shape.hit = make(g, 'path', {class: 'hit'});
@@ -493,7 +566,7 @@ function arrange(view) {
   view.shapes.clear();
   view.lines.replaceChildren();
   view.bends.clear();
-  for (const key of view.all) shapeOf(view, key);
+  addShapes(view);
   makeRoom(view);
   const placeOf = node => view.place[node].map(at => at.toFixed(1)).join(' ');
   view.spots.forEach(({g}, node) => mark(g, {transform: 'translate(' + placeOf(node) + ')'}));
@@ -502,13 +575,19 @@ function arrange(view) {
 function setUp(view) {
   if (!view.group) build(view);
   if (view.pane !== pane.clientWidth + ' ' + pane.clientHeight) { arrange(view); return true; }
-  for (const key of view.all) if (!view.shapes.has(key)) shapeOf(view, key);
+  addShapes(view);
   return false;
+}
+
+// The links of all rounds get their shapes at once, if they are few; otherwise each when it is drawn.
+function addShapes(view) {
+  if (view.all.size > MOST_CURVES) return;
+  for (const key of view.all) if (!view.shapes.has(key)) shapeOf(view, key);
 }
 
 // What of the drawing the pane shows: where its corner is, and how large it is.
 const pane = document.querySelector('main'), camera = {x: 0, y: 0, scale: 1, isFitted: true};
-const MOST_SCALE = 2.4, LARGEST = 6, EDGE = 8, BUTTONS = 44;
+const MOST_SCALE = 2.4, LARGEST = 6, EDGE = 8, BUTTONS = 44, MOST_CURVES = 1500;
 // The width and height that the drawing may take: beside it are the buttons for its size.
 const room = () => [pane.clientWidth - EDGE - BUTTONS, pane.clientHeight - 2 * EDGE].map(side => Math.max(64, side));
 
@@ -585,6 +664,7 @@ function load(kept, text) {
   layOut(kept);
   starts = [];
   steps = 0;
+  chart = null;
   for (const block of blocks) { starts.push(steps); steps += stepsIn(block); }
   by('slide').max = Math.max(0, steps - 1);
   // Its width stays the same, so that the bar and the drawing beside it do.
@@ -599,7 +679,7 @@ const pushesOf = round => isRising() ? [...round.pushes].sort((a, b) => a - b) :
 // How many steps a line has: a round has one before each turn, one after them, and one for each push.
 function stepsIn(block) {
   const round = block.round;
-  return block.own && round.drawn ? round.turns.length + 1 + (tableBefore(round) ? round.pushes.length : 0) : 1;
+  return block.own && round.drawn ? round.turned + 1 + (isTableKnown(round) ? round.pushed : 0) : 1;
 }
 
 function blockAt(step) {
@@ -609,9 +689,9 @@ function blockAt(step) {
 }
 
 // A round after some of its turns. A link points as at first where both its ends have turned equally often, and else the other way.
-// After all turns, the hops are those of the tables after so many pushes, or the settled ones.
+// After all turns that the story has, the round has settled, and the hops are those of the tables after so many pushes.
 function stateOf(round, turn, push) {
-  if (turn === round.turns.length) {
+  if (turn === round.turned) {
     const hops = push ? tableAfter(round, push) : round.hops, node = push ? pushesOf(round)[push - 1] : null;
     return {links: round.links, counts: round.counts, sink: null, hops, push, node, loop: push ? loopIn(hops) : []};
   }
@@ -623,9 +703,10 @@ function stateOf(round, turn, push) {
 
 // The routers' tables before the first push, or null where they are not known. They have a hop for each node of this
 // network and of the one before it. A node that is not in a network has no hop there.
+const isTableKnown = round => !round.before || round.before.drawn;
 function tableBefore(round) {
   const before = round.before;
-  if (before && !before.drawn) return null;
+  if (!isTableKnown(round)) return null;
   const nodes = Math.max(round.nodes, before ? before.nodes : 0);
   return Array.from({length: nodes}, (_, node) => before && before.hops[node] || 'cut');
 }
@@ -684,7 +765,9 @@ function drawLinks(view, round, state, way, walk) {
   const there = new Set(), steps = stepsOf(way), closed = stepsOf(walk), hops = hopsIn(state.hops || [], round.nodes);
   const marks = step => (steps.has(step) ? ' way' : '') + (closed.delete(step) ? ' closed' : '');
   for (const [tail, head] of state.links) {
-    const key = keyOf(tail, head), shape = view.shapes.get(key), step = tail + '>' + head;
+    const key = keyOf(tail, head), step = tail + '>' + head;
+    if (!view.shapes.has(key)) shapeOf(view, key);
+    const shape = view.shapes.get(key);
     there.add(key);
     if (shape.tail !== tail) {
       const drawn = curve(view, shape, tail, head);
@@ -759,27 +842,32 @@ function drawNodes(view, round, state, way, news) {
   });
 }
 
-// How often the node that was chosen has turned, at each step of the whole page.
-function drawChart(node) {
-  const chart = by('chart'), wide = 280, high = 70, points = [];
+// How often a node has turned, at each step of the whole page: the steps at which this changes.
+function chartOf(node) {
+  const points = [[0, 0]], word = ' ' + node;
   let most = 1, count = 0;
-  blocks.forEach((block, at) => {
-    const round = block.round;
-    if (block.own) {
-      count = 0;
-      points.push([starts[at], 0]);
-      if (round.drawn) round.turns.forEach((turned, turn) => { if (turned === node) { count++; points.push([starts[at] + turn + 1, count]); } });
-      most = Math.max(most, count);
-    }
+  const put = (step, value) => { if (value !== count) points.push([step, value]); count = value; };
+  blocks.forEach(({own, round}, at) => {
+    if (!own) return;
+    put(starts[at], 0);
+    if (!round.drawn || !round.said.turns.includes(word)) return;
+    listed(round.said.turns, Number).forEach((turned, turn) => { if (turned === node) put(starts[at] + turn + 1, count + 1); });
+    most = Math.max(most, count);
   });
-  points.push([steps, count]);
+  return {node, most, points: [...points, [steps, count]]};
+}
+
+let chart = null;
+function drawChart(node) {
+  if (!chart || chart.node !== node) chart = chartOf(node);
+  const {points, most} = chart, svg = by('chart'), wide = 280, high = 70;
   const x = step => (4 + (wide - 8) * step / Math.max(1, steps)).toFixed(1), y = value => (high - 8 - (high - 24) * value / most).toFixed(1);
-  chart.replaceChildren();
-  mark(chart, {viewBox: '0 0 ' + wide + ' ' + high, 'aria-label': 'The count of node ' + node + ' over all steps; at most ' + most});
-  make(chart, 'path', {d: 'M' + points.map(([step, value], at) => (at ? 'H' + x(step) + 'V' : x(step) + ' ') + y(value)).join('')});
-  make(chart, 'line', {x1: x(now), x2: x(now), y1: 10, y2: high - 6});
-  make(chart, 'text', {x: 4, y: 10}).textContent = 'count of node ' + node + ', at most ' + most;
-  chart.removeAttribute('hidden');
+  svg.replaceChildren();
+  mark(svg, {viewBox: '0 0 ' + wide + ' ' + high, 'aria-label': 'The count of node ' + node + ' over all steps; at most ' + most});
+  make(svg, 'path', {d: 'M' + points.map(([step, value], at) => (at ? 'H' + x(step) + 'V' : x(step) + ' ') + y(value)).join('')});
+  make(svg, 'line', {x1: x(now), x2: x(now), y1: 10, y2: high - 6});
+  make(svg, 'text', {x: 4, y: 10}).textContent = 'count of node ' + node + ', at most ' + most;
+  svg.removeAttribute('hidden');
 }
 
 function tellNode(block, round, state) {
@@ -799,16 +887,16 @@ const hopName = hop => hop === 'here' ? 'the destination' : hop === 'cut' ? 'no 
 
 // A turn, the end of the turns, or a push, in words; and what is pushed next.
 function roundText(round, turn, state) {
-  const turned = 'turn ' + turn + ' of ' + round.turns.length;
-  if (!state.hops) return turned + '. Node ' + state.sink + ' is a sink, and turns next.';
+  const {turned, total} = round, left = turned < total ? '. Turns ' + (turned + 1) + ' to ' + total + ' are not shown' : '';
+  if (!state.hops) return 'turn ' + turn + ' of ' + total + '. Node ' + state.sink + ' is a sink, and turns next.';
   if (state.push) return pushText(round, state) + nextText(round, state.push);
-  return (round.turns.length ? turned + ', the round has ended.' : 'no node turns.') + nextText(round, 0);
+  return (total ? 'turn ' + total + ' of ' + total + ', the round has ended' + left + '.' : 'no node turns.') + nextText(round, 0);
 }
 
 function pushText(round, {push, node, hops, loop}) {
   const gone = node < round.nodes ? '' : ', which is gone,', before = hopName(tableBefore(round)[node]);
   const order = isRising() ? ', by rising number' : '';
-  return 'push ' + push + ' of ' + round.pushes.length + order + '. Node ' + node + gone + ' now ' + hopText(hops[node]) +
+  return 'push ' + push + ' of ' + round.pushed + order + '. Node ' + node + gone + ' now ' + hopText(hops[node]) +
     ' (before: ' + before + '). ' +
     (loop.length ? 'A loop is in the tables: ' + loop.join(' ') + '.' : 'No loop is in the tables.');
 }
@@ -846,11 +934,12 @@ function tellStep(block, turn, state, news) {
   document.title = 'revroute: ' + by('title').textContent;
 }
 
+let current = null;
 function currentButton(at) {
-  const old = by('list').querySelector('[aria-current]'), button = by('list').children[at].firstChild;
-  if (old) old.removeAttribute('aria-current');
-  button.setAttribute('aria-current', 'step');
-  button.scrollIntoView({block: 'nearest'});
+  if (current) current.removeAttribute('aria-current');
+  current = by('list').children[at].firstChild;
+  current.setAttribute('aria-current', 'step');
+  current.scrollIntoView({block: 'nearest'});
 }
 
 // Moves the drawing if this node is outside of the pane.
@@ -877,7 +966,7 @@ function show(step, keep) {
   if (!blocks.length) return showNothing();
   now = Math.max(0, Math.min(steps - 1, step));
   const at = blockAt(now), block = blocks[at], round = block.round, drawn = round && round.drawn;
-  const place = now - starts[at], last = drawn ? round.turns.length : 0;
+  const place = now - starts[at], last = drawn ? round.turned : 0;
   const turn = block.own ? Math.min(place, last) : last, push = block.own ? place - turn : 0;
   const state = drawn ? stateOf(round, turn, push) : null, net = by('net'), none = by('none');
   const changes = drawn && block.own && state.hops ? changedHops(round) : [];
@@ -898,7 +987,7 @@ function show(step, keep) {
     const moved = state.sink ?? state.node;
     if (moved !== null && moved < round.nodes) keepInSight(view, moved);
   } else none.textContent = !round ? 'There is no network yet.'
-    : 'This network, or its round, is larger than a page shows (256 nodes, 4,096 turns). The answers are in the list.';
+    : 'This network is larger than a page shows (256 nodes). The answers are in the list.';
   drawRing(isNetwork ? walk : []);
   tellNode(block, round, state);
   tellStep(block, turn, state, changes);
@@ -949,7 +1038,7 @@ function goFragment() {
   const words = new URLSearchParams(location.hash.slice(1)), at = blocks.findIndex(block => block.line === Number(words.get('line')));
   if (at < 0) return false;
   by('order').value = words.get('order') === 'rising' ? 'rising' : 'push';
-  const block = blocks[at], turns = block.own && block.round.drawn ? block.round.turns.length : 0;
+  const block = blocks[at], turns = block.own && block.round.drawn ? block.round.turned : 0;
   const number = name => Math.max(0, Number(words.get(name)) || 0);
   const turn = words.has('turn') ? Math.min(turns, number('turn')) : turns;
   const place = words.has('push') ? turns + number('push') : turn;
@@ -969,22 +1058,28 @@ const acts = {node: pick, link: () => {}, shown: () => {}, pace: wait => wait};
 
 // The list of lines, from this one on.
 function list(from) {
+  const items = document.createDocumentFragment();
   while (by('list').children.length > from) by('list').lastChild.remove();
-  for (const [at, block] of blocks.entries()) {
-    if (at < from) continue;
-    const item = document.createElement('li'), button = document.createElement('button'), request = requestOf(block).slice(0, 80), answer = block.answer.slice(0, 80);
-    for (const [name, text] of [['b', block.line], ['code', request], ['span', answer]]) button.append(Object.assign(document.createElement(name), {textContent: text}));
-    const fault = faultOf(block);
-    if (fault) {
-      button.className = 'no';
-      button.append(Object.assign(document.createElement('small'), {textContent: fault}));
-    }
-    const told = 'Line ' + block.line + ', ' + request + ': ' + answer;
-    button.setAttribute('aria-label', fault ? told + ', ' + fault : told);
-    button.addEventListener('click', () => { play(false); show(starts[at]); });
-    item.append(button);
-    by('list').append(item);
+  for (let at = from; at < blocks.length; at++) items.append(itemOf(blocks[at], at));
+  by('list').append(items);
+}
+
+function itemOf(block, at) {
+  const item = document.createElement('li'), button = document.createElement('button');
+  const request = requestOf(block).slice(0, 80), answer = block.answer.slice(0, 80), fault = faultOf(block);
+  const put = (name, text) => button.append(Object.assign(document.createElement(name), {textContent: text}));
+  put('b', block.line);
+  put('code', request);
+  put('span', answer);
+  if (fault) {
+    button.className = 'no';
+    put('small', fault);
   }
+  const told = 'Line ' + block.line + ', ' + request + ': ' + answer;
+  button.setAttribute('aria-label', fault ? told + ', ' + fault : told);
+  button.at = at;
+  item.append(button);
+  return item;
 }
 
 function listenToKeys() {
@@ -1027,6 +1122,7 @@ function start() {
   by('slide').addEventListener('input', () => go(Number(by('slide').value)));
   by('order').addEventListener('change', () => show(now));
   by('net').addEventListener('click', event => { const g = event.target.closest('.node, .link'); if (g) act(g); });
+  by('list').addEventListener('click', event => { const it = event.target.closest('button'); if (it) go(starts[it.at]); });
   listenToKeys();
   listenToPointers();
   addEventListener('hashchange', goFragment);

@@ -16,9 +16,9 @@ loop-line-preserved c =
     let left = lines_left c.next.new.self in
     let h = next_line c.args.input.now c.in-Some.line.now (lines_left c.loop-line.line-iterator)
     left c.loop-line.session c.loop-line.number old new c.in-Some.ensures.steps c.loop-line.invariant in
-    let told = c.in_ok-push_line.ensures in
-    one_line_more c.args.input.now c.in-Some.line.now left c.loop-line.session c.push_line.new.session c.loop-line.number
-    old new (string_bytes c.push_line.new.story) told.0 h told.1 told.2
+    let told = c.in_ok-push_step.ensures in
+    one_line_more c.args.input.now c.in-Some.line.now left c.loop-line.session c.push_step.new.session c.loop-line.number
+    old new (string_bytes c.push_step.new.story) told.0 h told.1 told.2
 
 pub returns : goal.returns
 returns c =
