@@ -26,7 +26,7 @@ align-content:safe center}
 aside{grid-area:side;border-right:1px solid var(--edge);background:var(--panel);display:flex;flex-direction:column;
 min-height:0}
 #list{list-style:none;margin:0;padding:.3rem;overflow:auto;flex:1 1 40%;min-height:4rem}
-#list li{content-visibility:auto;contain-intrinsic-height:auto 1.6em}
+#list.long small{display:none}
 #list button{display:grid;grid-template-columns:2.2em minmax(0,1fr) minmax(0,1fr);gap:0 .5em;align-items:baseline;
 width:100%;text-align:left;border:0;border-radius:6px;background:none;color:inherit;padding:.2rem .5rem;font:inherit;
 white-space:nowrap;cursor:pointer}
@@ -862,9 +862,15 @@ function drawChart(node) {
   if (!chart || chart.node !== node) chart = chartOf(node);
   const {points, most} = chart, svg = by('chart'), wide = 280, high = 70;
   const x = step => (4 + (wide - 8) * step / Math.max(1, steps)).toFixed(1), y = value => (high - 8 - (high - 24) * value / most).toFixed(1);
+  // One value for each half of a pixel, the greatest, is all that can be seen.
+  const seen = new Map();
+  for (const [step, value] of points) {
+    const place = Math.round(2 * x(step)) / 2;
+    seen.set(place, Math.max(value, seen.get(place) ?? 0));
+  }
   svg.replaceChildren();
   mark(svg, {viewBox: '0 0 ' + wide + ' ' + high, 'aria-label': 'The count of node ' + node + ' over all steps; at most ' + most});
-  make(svg, 'path', {d: 'M' + points.map(([step, value], at) => (at ? 'H' + x(step) + 'V' : x(step) + ' ') + y(value)).join('')});
+  make(svg, 'path', {d: 'M' + [...seen].map(([place, value], at) => (at ? 'H' + place + 'V' : place + ' ') + y(value)).join('')});
   make(svg, 'line', {x1: x(now), x2: x(now), y1: 10, y2: high - 6});
   make(svg, 'text', {x: 4, y: 10}).textContent = 'count of node ' + node + ', at most ' + most;
   svg.removeAttribute('hidden');
@@ -934,12 +940,25 @@ function tellStep(block, turn, state, news) {
   document.title = 'revroute: ' + by('title').textContent;
 }
 
+// The button of a line in the list, scrolled into sight.
+function buttonOf(at) {
+  const box = by('list');
+  if (!box.classList.contains('long')) {
+    const button = box.children[at].firstChild;
+    button.scrollIntoView({block: 'nearest'});
+    return button;
+  }
+  const top = at * rows.height, least = top + rows.height + 2 * RIM - box.clientHeight;
+  box.scrollTop = Math.min(top, Math.max(least, box.scrollTop));
+  placeRows();
+  return box.children[1 + at - rows.first].firstChild;
+}
+
 let current = null;
 function currentButton(at) {
   if (current) current.removeAttribute('aria-current');
-  current = by('list').children[at].firstChild;
+  current = buttonOf(at);
   current.setAttribute('aria-current', 'step');
-  current.scrollIntoView({block: 'nearest'});
 }
 
 // Moves the drawing if this node is outside of the pane.
@@ -1058,10 +1077,43 @@ const acts = {node: pick, link: () => {}, shown: () => {}, pace: wait => wait};
 
 // The list of lines, from this one on.
 function list(from) {
-  const items = document.createDocumentFragment();
-  while (by('list').children.length > from) by('list').lastChild.remove();
-  for (let at = from; at < blocks.length; at++) items.append(itemOf(blocks[at], at));
-  by('list').append(items);
+  const box = by('list'), items = document.createDocumentFragment(), wasLong = box.classList.contains('long');
+  rows.first = rows.last = 0;
+  box.classList.toggle('long', blocks.length > MOST_ROWS);
+  if (blocks.length > MOST_ROWS) return placeRows();
+  const kept = wasLong ? 0 : from;
+  while (box.children.length > kept) box.lastChild.remove();
+  for (let at = kept; at < blocks.length; at++) items.append(itemOf(blocks[at], at));
+  box.append(items);
+}
+
+// A list of more lines than this has only those near its sight, all of one height, and room for the others.
+const MOST_ROWS = 1000, MARGIN = 40, RIM = 5, rows = {first: 0, last: 0, height: 0};
+
+function placeRows() {
+  const box = by('list');
+  if (!rows.height) {
+    box.replaceChildren(itemOf(blocks[0], 0));
+    rows.height = box.firstChild.getBoundingClientRect().height || 28;
+  }
+  const seen = Math.floor(box.scrollTop / rows.height), last = Math.min(blocks.length, seen + Math.ceil(box.clientHeight / rows.height) + 1);
+  if (rows.first <= seen && last <= rows.last) return;
+  Object.assign(rows, {first: Math.max(0, seen - MARGIN), last: Math.min(blocks.length, last + MARGIN)});
+  const top = box.scrollTop, focus = box.contains(document.activeElement) ? document.activeElement.at : null, items = [];
+  for (let at = rows.first; at < rows.last; at++) items.push(itemOf(blocks[at], at));
+  box.replaceChildren(roomFor(rows.first), ...items, roomFor(blocks.length - rows.last));
+  box.scrollTop = top;
+  for (const item of items) {
+    mark(item, {'aria-setsize': blocks.length, 'aria-posinset': item.firstChild.at + 1});
+    if (current && item.firstChild.at === current.at) (current = item.firstChild).setAttribute('aria-current', 'step');
+    if (item.firstChild.at === focus) item.firstChild.focus({preventScroll: true});
+  }
+}
+
+function roomFor(lines) {
+  const item = document.createElement('li');
+  mark(item, {'aria-hidden': true, style: 'height:' + lines * rows.height + 'px'});
+  return item;
 }
 
 function itemOf(block, at) {
@@ -1080,6 +1132,12 @@ function itemOf(block, at) {
   button.at = at;
   item.append(button);
   return item;
+}
+
+function listenToList() {
+  const box = by('list'), place = () => { if (box.classList.contains('long')) placeRows(); };
+  box.addEventListener('scroll', place, {passive: true});
+  new ResizeObserver(() => { rows.height = rows.last = 0; place(); }).observe(box);
 }
 
 function listenToKeys() {
@@ -1127,6 +1185,7 @@ function start() {
   listenToPointers();
   addEventListener('hashchange', goFragment);
   new ResizeObserver(() => { if (shown) show(now, true); }).observe(pane);
+  listenToList();
   if (!goFragment()) show(0, true);
 }
 
