@@ -26,7 +26,6 @@ align-content:safe center}
 aside{grid-area:side;border-right:1px solid var(--edge);background:var(--panel);display:flex;flex-direction:column;
 min-height:0}
 #list{list-style:none;margin:0;padding:.3rem;overflow:auto;flex:1 1 40%;min-height:4rem}
-#list.long small{display:none}
 #list button{display:grid;grid-template-columns:2.2em minmax(0,1fr) minmax(0,1fr);gap:0 .5em;align-items:baseline;
 width:100%;text-align:left;border:0;border-radius:6px;background:none;color:inherit;padding:.2rem .5rem;font:inherit;
 white-space:nowrap;cursor:pointer}
@@ -37,6 +36,7 @@ white-space:nowrap;cursor:pointer}
 #list code{font-size:.85em}
 #list .no{color:var(--bad)}
 #list small{grid-column:2/4;white-space:normal;line-height:1.3}
+#list.long small{display:none}#list.long button{grid-template-columns:3.6em minmax(0,1fr) minmax(0,1fr)}
 #about{border-top:1px solid var(--edge);padding:.6rem .9rem;overflow:auto;flex:0 1 auto;max-height:55%}
 #about p{margin:0 0 .4rem;overflow-wrap:anywhere}
 #request,#answer{max-height:7rem;overflow:auto;font-family:ui-monospace,monospace;font-size:.9em}
@@ -1092,10 +1092,7 @@ const MOST_ROWS = 1000, MARGIN = 40, RIM = 5, rows = {first: 0, last: 0, height:
 
 function placeRows() {
   const box = by('list');
-  if (!rows.height) {
-    box.replaceChildren(itemOf(blocks[0], 0));
-    rows.height = box.firstChild.getBoundingClientRect().height || 28;
-  }
+  rows.height ||= heightOfRow();
   const seen = Math.floor(box.scrollTop / rows.height), last = Math.min(blocks.length, seen + Math.ceil(box.clientHeight / rows.height) + 1);
   if (rows.first <= seen && last <= rows.last) return;
   Object.assign(rows, {first: Math.max(0, seen - MARGIN), last: Math.min(blocks.length, last + MARGIN)});
@@ -1108,6 +1105,14 @@ function placeRows() {
     if (current && item.firstChild.at === current.at) (current = item.firstChild).setAttribute('aria-current', 'step');
     if (item.firstChild.at === focus) item.firstChild.focus({preventScroll: true});
   }
+}
+
+function heightOfRow() {
+  const item = itemOf(blocks[0], 0);
+  by('list').append(item);
+  const {height} = item.getBoundingClientRect();
+  item.remove();
+  return height || 28;
 }
 
 function roomFor(lines) {
@@ -1135,9 +1140,14 @@ function itemOf(block, at) {
 }
 
 function listenToList() {
-  const box = by('list'), place = () => { if (box.classList.contains('long')) placeRows(); };
-  box.addEventListener('scroll', place, {passive: true});
-  new ResizeObserver(() => { rows.height = rows.last = 0; place(); }).observe(box);
+  const box = by('list'), isLong = () => box.classList.contains('long');
+  box.addEventListener('scroll', () => { if (isLong()) placeRows(); }, {passive: true});
+  new ResizeObserver(() => {
+    if (!isLong()) return;
+    Object.assign(rows, {first: 0, last: 0, height: 0});
+    placeRows();
+    currentButton(blockAt(now));
+  }).observe(box);
 }
 
 function listenToKeys() {
