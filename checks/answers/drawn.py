@@ -40,14 +40,15 @@ WITHOUT_NETWORK = (["cut", 0, 1], ["add", 0, 1], ["join", 0, 1], ["batch", []], 
 
 def full():
     """Lines at the limits: as many links as there may be, one more, and one node more."""
-    heads = range(1, 129)
-    links = [[x, 0] for x in heads] + [[u, v] for u in range(129, 384) for v in heads]
+    heads, end = range(1, 129), 128 + MOST_LINKS // 128
+    links = [[x, 0] for x in heads] + [[u, v] for u in range(129, end) for v in heads]
     assert len(links) == MOST_LINKS
-    yield ["net", 400, 0, links]
-    yield from (["add", 390, 0], ["join", 0, 390], ["join", 5, 5], ["add", 4095, 4096])
-    yield from (["batch", [["cut", 383, 1], ["join", 0, 390]]], ["batch", [["join", 383, 1], ["add", 383, 1]]])
-    yield from (["walk", 383], ["walk", 390], ["dest", 400], ["counts"])
-    yield from (["net", 400, 0, [*links, [1, 1]]], ["net", MOST_NODES + 1, 0, []], ["net", LARGEST, LARGEST, [[0, 0]]])
+    last, alone, nodes = end - 1, end + 6, end + 16
+    yield ["net", nodes, 0, links]
+    yield from (["add", alone, 0], ["join", 0, alone], ["join", 5, 5], ["add", MOST_NODES - 1, MOST_NODES])
+    yield from (["batch", [["cut", last, 1], ["join", 0, alone]]], ["batch", [["join", last, 1], ["add", last, 1]]])
+    yield from (["walk", last], ["walk", alone], ["dest", nodes], ["counts"])
+    yield from (["net", nodes, 0, [*links, [1, 1]]], ["net", MOST_NODES + 1, 0, []], ["net", LARGEST, LARGEST, [[0, 0]]])
     yield from (["batch", [["cut", 0, 0]] * count] for count in (MOST_EDITS, MOST_EDITS + 1))
 
 

@@ -27,6 +27,7 @@ pub mod LaidOut  -- rows with room after each
 pub mod ShownLinks  -- the links in the rows
 pub mod Remaking  -- a graph from its rows
 -- Links that turn
+pub mod Largest  -- what the code needs of the limits
 pub mod TurnedRows  -- rows as counts turn them
 pub mod PartTurned  -- how rows turn in place
 pub mod TurnedNodes  -- the list of nodes that have turned

@@ -6,7 +6,7 @@ ghost use Rattle.fr_graph.specs.Counts.{IsKept};
 use crate::answers::Answer;
 use crate::cases::{counts, links, number};
 use fr_net::laws::rows_law;
-use fr_net::{Net, NetFault, Turns};
+use fr_net::{MAX_NODES, Net, NetFault, Turns};
 use serde_json::Value;
 use std::alloc::{AllocError, Global};
 
@@ -164,7 +164,8 @@ fn copied(answer: &mut Answer, net: &Net) {
 fn turned(answer: &mut Answer, given: &Value, given_counts: &Value) {
     let links = links(answer, given);
     let counts = counts(answer, given_counts);
-    match Net::new(answer.alloc, counts.len().min(4097) as u32, &links) {
+    let nodes = counts.len().min(MAX_NODES as usize + 1) as u32;
+    match Net::new(answer.alloc, nodes, &links) {
         Ok(net) => turned_if_kept(answer, net, counts),
         Err(fault) => tell_fault(answer, fault),
     }

@@ -3,7 +3,9 @@
 mod order;
 
 use order::push_order;
-use revroute::{Edit, Hop, Network, Refused, RefusedEdit, Report, Session, Size, TableFault};
+use revroute::{
+    Edit, Hop, MAX_NODES, Network, Refused, RefusedEdit, Report, Session, Size, TableFault,
+};
 use std::error::Error;
 use std::thread;
 
@@ -320,7 +322,7 @@ fn what_is_no_network_is_refused() {
         (2, 2, &[], Refused::NoSuchNode(2)),
         (2, 0, &[(0, 2)], Refused::NoSuchNode(2)),
         (2, 0, &[(1, 1)], Refused::SelfLink(1)),
-        (4097, 0, &[], Refused::TooMany),
+        (MAX_NODES as u32 + 1, 0, &[], Refused::TooMany),
         (4096, 0, &[&many[..], &[(0, 9)]].concat(), Refused::TooMany),
     ] {
         assert_eq!(Network::new(nodes, dest, links).err(), Some(why));

@@ -131,7 +131,7 @@ fn a_walk_has_an_end_for_each_room() -> Result<(), Refused> {
 #[test]
 fn what_can_be_no_node_panics() -> Result<(), Refused> {
     let reader = Network::new(2, 0, &[(0, 1)])?.reader()?;
-    for node in [4096, u32::MAX] {
+    for node in [MAX_NODES as u32, u32::MAX] {
         assert_eq!(reader.try_next_hop(node), None);
         let reader = panic::AssertUnwindSafe(&reader);
         assert!(panic::catch_unwind(|| reader.next_hop(node)).is_err());

@@ -113,14 +113,14 @@ class Reader(Generic[Name]):
         Raises NoSuchNode if there is no such node, and WalkTooLong if the walk has visited 4,096 nodes.
         """
         number, length = self._number(node), ctypes.c_size_t()
-        room, status = 64, _calls.TOO_SHORT
+        room, status = 0, _calls.TOO_SHORT
         while status == _calls.TOO_SHORT:
-            if room > _MOST:
-                raise WalkTooLong("the walk has met 4,096 nodes and has not ended")
+            if room == _MOST:
+                raise WalkTooLong(f"the walk has met {_MOST:,} nodes and has not ended")
+            room = min(8 * room or 64, _MOST)
             nodes = (ctypes.c_uint32 * room)()
             with self._lock:
                 status = questions.revroute_reader_walk(self._at, number, nodes, room, ctypes.byref(length))
-            room *= 8
         if status == _calls.NO_NETWORK:
             self._refuse()
         return [self._name(it) for it in nodes[: length.value]] if status == _calls.ANSWERED else None
