@@ -2,15 +2,23 @@
 use Rattle.std.proofs.Common.{◌≡◌, List, [], Result, Ok, Err, IfOk, IfErr, true, inl, inr, subst, sym, refl}
 use Rattle.clap.specs.Faults.{fault_of, is_simple_and_free}
 use Rattle.clap.specs.Kinds.{FailsBy, HasKind, IsAmong}
-use Rattle.clap.specs.Simple.{App}
+use Rattle.clap.specs.Simple.{App, HasMatchesOf, is_simple, subcommand_of, subcommand_rows_of}
 use Rattle.clap.specs.Values.{kind_of}
 use Rattle.clap.specs.Walk.{Text}
 use Rattle.clap.specs.declared.error.Error.{Error}
 use Rattle.clap.specs.declared.error.kind.ErrorKind.{ErrorKind}
+use Rattle.clap.specs.declared.parser.matches.ArgMatches.{ArgMatches}
 use Rattle.fr_words.specs.Commands.{command}
 use Rattle.fr_words.specs.Tasks.{IsUsageOf, IsFaultOf}
 use Rattle.fr_words.specs.declared.task.TaskFault.{TaskFault}
 use Rattle.fr_words.specs.declared.task.TaskFault.TheVariants.{Usage, Version, Memory}
+
+-- words that the command accepts have its subcommand
+pub taken_subcommand : (app : App) (words : List Text) (r : Result ArgMatches Error) → app ≡ command
+    → IfOk r (HasMatchesOf app words) → IfOk r (λ m. subcommand_rows_of m ≡ subcommand_of command words)
+taken_subcommand app words (Ok m) same has =
+    subst (λ (a : App). subcommand_rows_of m ≡ subcommand_of a words) same (has (subst (λ (a : App). is_simple a ≡ true) (sym same) refl)).1
+taken_subcommand app words (Err e) same has = tt
 
 module _ {T : Type 0} where
   -- words that the command accepts have no fault
