@@ -107,6 +107,14 @@ ways_agree step one some other begin on off (suc k) l m =
     let here : step (get_or other k 0) (get_or some (k + 1) 0) = rw before at (on k (omega arith)) in
     rw (← add-one k) (one (get_or other k 0) (get_or some (k + 1) 0) (get_or other (k + 1) 0) here (off k (omega arith)))
 
+-- two numbers are equal if neither is less than the other
+neither_less : (a b : ℕ) → ¬ (a < b) → ¬ (b < a) → a ≡ b
+neither_less a b not_less not_more =
+    elim (cases_lt a b) [
+      | inl less ↦ absurd (not_less less)
+      | inr ge ↦ elim (cases_lt b a) [ inl more ↦ absurd (not_more more) | inr le ↦ omega arith ]
+    ]
+
 module _ (links : List (ℕ × ℕ)) where
   cycles_agree : {walk round : List ℕ} (some : IsLowestCycle links walk) (other : IsLowestCycle links round) → (k : ℕ)
       → k ≤ some.last → k ≤ other.last → get_or some.way k 0 ≡ get_or other.way k 0
@@ -125,22 +133,15 @@ module _ (links : List (ℕ × ℕ)) where
   cycle_one some other =
       let early = some.earlier in
       let soon = other.earlier in
-      let long : some.last ≡ other.last = elim (cases_lt some.last other.last) [
-        | inl less ↦ absurd (not_shorter some other less)
-        | inr ge ↦ elim (cases_lt other.last some.last) [ inl less ↦ absurd (not_shorter other some less) | inr le ↦ omega arith ]
-      ] in
+      let long : some.last ≡ other.last = neither_less some.last other.last (not_shorter some other) (not_shorter other some) in
       let way : some.way ≡ other.way = ext_get_or 0 some.way other.way (omega (arith, some.whole, other.whole, long))
       (λ k l. cycles_agree some other k (omega (arith, l, some.whole)) (omega (arith, l, some.whole, long))) in
       let meets : get_or other.way some.back 0 ≡ get_or other.way other.back 0 =
       sym (cycles_agree some other some.back (omega arith) (omega (arith, long))) ∙ sym some.again
       ∙ cycles_agree some other some.last (omega arith) (omega (arith, long)) ∙ ap (λ (k : ℕ). get_or other.way k 0) long ∙ other.again in
-      let back : some.back ≡ other.back = elim (cases_lt some.back other.back) [
-        | inl less ↦ absurd (other.first some.back other.back less soon meets)
-        | inr ge ↦ elim (cases_lt other.back some.back) [
-          | inl less ↦ absurd (other.first other.back some.back less (omega (arith, long)) (sym meets))
-          | inr le ↦ omega arith
-        ]
-      ] in
+      let back : some.back ≡ other.back = neither_less some.back other.back
+      (λ less. other.first some.back other.back less soon meets)
+      (λ less. other.first other.back some.back less (omega (arith, long)) (sym meets)) in
       some.is ∙ ap (drop some.back) way ∙ ap (λ (k : ℕ). drop k other.way) back ∙ sym other.is
 
 -- there is one lowest cycle by an added link
@@ -157,10 +158,7 @@ module _ (links : List (ℕ × ℕ)) (u v : ℕ) where
 
   pub cycle_by_one : {walk round : List ℕ} → IsLowestCycleBy links u v walk → IsLowestCycleBy links u v round → walk ≡ round
   cycle_by_one some other =
-      let long : some.last ≡ other.last = elim (cases_lt some.last other.last) [
-        | inl less ↦ absurd (not_shorter_by some other less)
-        | inr ge ↦ elim (cases_lt other.last some.last) [ inl less ↦ absurd (not_shorter_by other some less) | inr le ↦ omega arith ]
-      ] in
+      let long : some.last ≡ other.last = neither_less some.last other.last (not_shorter_by some other) (not_shorter_by other some) in
       let way : some.way ≡ other.way = ext_get_or 0 some.way other.way (omega (arith, some.whole, other.whole, long))
       (λ k l. ways_agree_by some other k (omega (arith, l, some.whole)) (omega (arith, l, some.whole, long))) in
       some.is ∙ ap (λ (ns : List ℕ). u ∷ ns) way ∙ sym other.is

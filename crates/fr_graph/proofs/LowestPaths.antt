@@ -16,11 +16,11 @@ use Rattle.fr_graph.proofs.MetNodes.{fewer_never, met_set}
 use Rattle.fr_graph.proofs.Neighbours.{out_of_row, row_of_out, row_rises}
 use Rattle.fr_graph.proofs.Sides.{met_reached, side_begins, start_met}
 use Rattle.fr_graph.proofs.TwoEnds.{none_met, path_behind, side_closed}
-use Rattle.fr_graph.specs.Evidence.{IsLowestCycleBy, LeadsTowards}
+use Rattle.fr_graph.specs.Evidence.{IsLowestCycleBy, IsLowestWay, LeadsTowards}
 use Rattle.fr_graph.specs.Heights.{AreFalling}
 use Rattle.fr_graph.specs.Links.{HasPath, IsCycle, IsNet, IsPath, Points, end_of}
 use Rattle.fr_graph.specs.Network.{Network}
-use Rattle.fr_graph.specs.PathSearch.{HasBegun, HasMet, IsFirstMet, IsLowestWay, IsSide, IsUnmet, is_never}
+use Rattle.fr_graph.specs.PathSearch.{HasBegun, HasMet, IsFirstMet, IsSide, IsUnmet, is_never}
 use Rattle.fr_graph.specs.Rows.{row}
 use Rattle.fr_graph.specs.declared.path_search.Met.{Met}
 use Rattle.fr_graph.specs.declared.path_search.Met.TheVariants.{Backward, Never}

@@ -71,16 +71,19 @@ pub record LeadsTowards (links : List (ℕ × ℕ)) (u x y : ℕ) : Type 0 where
   pub apart : x ≢ u
   pub lowest : IsLowest (λ w. Points links x w × HasPath links w u) y
 
--- A link from u to v would close this cycle: it begins at u, goes to v, and always goes on to the lowest node from
--- which links lead to u, until it comes to u.
-pub record IsLowestCycleBy (links : List (ℕ × ℕ)) (u v : ℕ) (walk : List ℕ) : Type 0 where
+-- the walk goes from u to v and then, always to the lowest node from which links lead to u, to x
+pub record IsLowestWay (links : List (ℕ × ℕ)) (u v x : ℕ) (walk : List ℕ) : Type 0 where
   pub way : List ℕ
   pub last : ℕ
   pub whole : last + 1 ≡ length way
   pub begins : slice_index way 0 ≡ v
   pub goes_on : IsWayBy (LeadsTowards links u) way
-  pub ends : slice_index way last ≡ u
+  pub ends : slice_index way last ≡ x
   pub is : walk ≡ u ∷ way
+
+-- a link from u to v would close this cycle: the same walk, to u itself
+abbrev pub IsLowestCycleBy : List (ℕ × ℕ) → ℕ → ℕ → List ℕ → Type 0
+IsLowestCycleBy links u v = IsLowestWay links u v u
 
 -- Of n nodes and these links, the fault names: the first end that is not a node, or 0 if there are no nodes; the first
 -- link from a node to itself; the lowest node that is joined twice, and the lowest one that it is joined with twice;

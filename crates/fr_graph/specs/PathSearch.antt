@@ -2,7 +2,6 @@
 use Rattle.std.specs.Prelude.{◌≡◌, ℕ, ◌<◌, ◌≤◌, ◌+◌, ◌-◌, ◌++◌, ◌⊎◌, Bool, true, false, List, [], ◌∷◌}
 use Rattle.std.specs.Prelude.{length, slice_index, slice_index_or, slice_set, vec_capacity, count_by}
 use Rattle.std.specs.List.{All, Contains}
-use Rattle.fr_graph.specs.Evidence.{IsWayBy, LeadsTowards}
 use Rattle.fr_graph.specs.Heights.{AreFalling, FitBetween}
 use Rattle.fr_graph.specs.KeptRows.{ShowsNet, net_in}
 use Rattle.fr_graph.specs.Links.{HasPath, Points}
@@ -203,13 +202,3 @@ pub record IsFirstMet (entries : List (ℕ × First)) (met : List Met) (w : ℕ)
   pub is : (d : ℕ × First) → slice_index_or entries place d ≡ (w, Outward)
   pub has : HasMet Inward met w
   pub before : (k : ℕ) (d : ℕ × First) → k < place → IsUnmet met (slice_index_or entries k d)
-
--- the walk goes from u to v and then, always to the lowest node from which links lead to u, to x
-pub record IsLowestWay (links : List (ℕ × ℕ)) (u v x : ℕ) (walk : List ℕ) : Type 0 where
-  pub way : List ℕ
-  pub last : ℕ
-  pub whole : last + 1 ≡ length way
-  pub begins : slice_index way 0 ≡ v
-  pub goes_on : IsWayBy (LeadsTowards links u) way
-  pub ends : slice_index way last ≡ x
-  pub is : walk ≡ u ∷ way

@@ -1,7 +1,7 @@
 use Rattle.std.proofs.Common.{slice_index, ◌≤◌}
+use Rattle.fr_graph.specs.Evidence.{IsLowestWay}
 use Rattle.fr_graph.specs.KeptRows.{net_in}
 use Rattle.fr_graph.specs.Links.{HasPath}
-use Rattle.fr_graph.specs.PathSearch.{IsLowestWay}
 use Rattle.fr_graph.proofs.path_search.lowest_cycle.Given as goal
 
 abbrev pub invariant-loop-at : goal.invariant-loop-at
