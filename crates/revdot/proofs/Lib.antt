@@ -1,5 +1,6 @@
 pub mod Asking
 pub mod Linked
+pub mod Following
 pub mod Sinks
 pub mod Turning
 pub mod Beginnings

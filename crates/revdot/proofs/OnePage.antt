@@ -34,7 +34,7 @@ settled_unique s a b h k =
 
 result_unique : (before : Option Network) (s : State) (a b : List ℕ) → IsResult before s a → IsResult before s b → a ≡ b
 result_unique None s a b h k = settled_unique (Some s) a b h k
-result_unique (Some net) s a b h k = h ∙ sym k
+result_unique (Some net) s a b h k = h.1 ∙ sym k.1
 
 turn_by_turn_unique : (before : Option Network) (s : State) (rerouted a b : List ℕ) → IsTurnByTurn before s rerouted a
     → IsTurnByTurn before s rerouted b → a ≡ b

@@ -1,7 +1,8 @@
 -- What a round changed, as lines of a story. This project's own.
-use Rattle.std.specs.Prelude.{ℕ, ◌+◌, ◌==◌, ◌||◌, Bool, false, if◌then◌else◌, not, List, [], ◌∷◌, ◌++◌}
+use Rattle.std.specs.Prelude.{ℕ, ◌+◌, ◌==◌, ◌||◌, ◌⊎◌, ◌↔◌, Bool, false, if◌then◌else◌, not, List, [], ◌∷◌, ◌++◌}
 use Rattle.std.specs.Prelude.{slice_index_or, codes, decimal}
 use Rattle.std.specs.List.{filter}
+use Rattle.fr_graph.specs.Links.{Joins, Points}
 use Rattle.fr_graph.specs.Rows.{has_link}
 use Rattle.fr_graph.specs.declared.first.First.{First}
 use Rattle.fr_graph.specs.declared.first.First.TheVariants.{Inward, Outward}
@@ -21,6 +22,13 @@ gone_links before after = filter (λ (l : ℕ × ℕ). not (has_link after l.0 l
 -- the links after a round that were not there before it, or pointed the other way
 abbrev pub new_links : List (ℕ × ℕ) → List (ℕ × ℕ) → List (ℕ × ℕ)
 new_links before after = filter (λ (l : ℕ × ℕ). not (has_link before l.0 l.1)) after
+
+-- The links after a round follow from those before it and from what changed: they are the new links, and the links
+-- before it between nodes that neither a link that is gone nor a new one joins.
+abbrev pub LinksFollow : List (ℕ × ℕ) → List (ℕ × ℕ) → Type 0
+LinksFollow before after = (u v : ℕ) → Points after u v
+    ↔ (Points (new_links before after) u v
+    ⊎ (Points before u v × ¬ Joins (gone_links before after) u v × ¬ Joins (new_links before after) u v))
 
 -- a word and links, as a line
 abbrev pub links_line : List ℕ → List (ℕ × ℕ) → List ℕ

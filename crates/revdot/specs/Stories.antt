@@ -16,7 +16,7 @@ use Rattle.fr_route.specs.Told.{IsLineTold}
 use Rattle.fr_bytes.specs.Lines.{lines_of}
 use Rattle.fr_tables.specs.declared.hop.Hop.{Hop}
 use Rattle.revdot.specs.Asked.{asked_text}
-use Rattle.revdot.specs.Changes.{changes_text, pushes_line}
+use Rattle.revdot.specs.Changes.{LinksFollow, changes_text, pushes_line}
 use Rattle.revdot.specs.Strips.{AreAllTurns, BeginsTheRound, beginning}
 
 -- the greatest network whose rounds are told, and the greatest number of turns of a round that are
@@ -57,7 +57,7 @@ pub record AreSettledLines (s : Option State) (out : List ℕ) : Type 0 where
 -- the result of a round: what it changed in the network before it, or the whole state of a new network
 abbrev pub IsResult : Option Network → State → List ℕ → Type 0
 IsResult None s out = AreSettledLines (Some s) out
-IsResult (Some before) s out = out ≡ changes_text before.links s.links s.counts
+IsResult (Some before) s out = LinksFollow before.links s.links × (out ≡ changes_text before.links s.links s.counts)
 
 -- the story of a round: its first turns, all if they are few; its result; and the nodes that get new hops
 pub record IsTurnByTurn (before : Option Network) (s : State) (rerouted out : List ℕ) : Type 0 where

@@ -5,9 +5,9 @@ ghost use Rattle.std.specs.List.{list_any};
 ghost use Rattle.fr_graph.specs.Rows.{has_link as has_link_of};
 ghost use Rattle.fr_route.specs.Texts.{hop_word};
 ghost use Rattle.fr_tables.specs.declared.hop.Hop.TheVariants.{CutOff};
-ghost use Rattle.revdot.specs.Changes.{changes_text, counted_line, gone_links as gone_links_of, leads_to as leads_to_of};
-ghost use Rattle.revdot.specs.Changes.{links_line, new_links as new_links_of, of_node, pushes_line};
-ghost use Rattle.revdot.specs.Changes.{spaced_counts, spaced_pushes};
+ghost use Rattle.revdot.specs.Changes.{LinksFollow, changes_text, counted_line, gone_links as gone_links_of};
+ghost use Rattle.revdot.specs.Changes.{leads_to as leads_to_of, links_line, new_links as new_links_of, of_node};
+ghost use Rattle.revdot.specs.Changes.{pushes_line, spaced_counts, spaced_pushes};
 
 use crate::rounds::push_links;
 use fr_graph::{First, Net};
@@ -29,6 +29,15 @@ pub fn push_changes(
     push_links_line(story, "gone", &gone_links(alloc, before, after)?)?;
     push_links_line(story, "new", &new_links(alloc, before, after)?)?;
     push_counted(story, counts)
+}
+
+/// The law of what a round changed: the links after it follow from this and from the links before it. The function does
+/// nothing; call it where a proof needs the law.
+pub fn follow_law(before: &Net, after: &Net)
+    ensures { LinksFollow before.now.links after.now.links }
+{
+    before.network_law();
+    after.network_law();
 }
 
 /// The links before a round between nodes that no link joins after it.

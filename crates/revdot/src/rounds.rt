@@ -7,7 +7,7 @@ ghost use Rattle.fr_route.specs.Texts.{spaced, spaced_links};
 ghost use Rattle.revdot.specs.Stories.{IsRoundStory, IsResult, AreSettledLines, IsAnswerLine, turns_line};
 ghost use Rattle.revdot.specs.Stories.{is_told as is_told_of, most_told_turns, net_text};
 
-use crate::changes::{push_changes, push_pushes};
+use crate::changes::{follow_law, push_changes, push_pushes};
 use crate::turns::Replay;
 use fr_graph::Net;
 use fr_lines::Question;
@@ -85,7 +85,11 @@ fn push_result(
         × (string_bytes story.new ≡ string_bytes story.old ++ left)) }
 {
     match before {
-        Some(before) => push_changes(story, alloc, before, router.net(), router.counts()),
+        Some(before) => {
+            let after = router.net();
+            follow_law(before, after);
+            push_changes(story, alloc, before, after, router.counts())
+        }
         None => push_settled_lines(story, alloc, session),
     }
 }
