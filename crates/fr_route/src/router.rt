@@ -11,7 +11,7 @@ ghost use Rattle.fr_route.specs.States.{IsAfterRound, IsRound, IsReport};
 ghost use Rattle.fr_route.specs.Routes.{IsHop, AreHops, IsWalked};
 ghost use Rattle.fr_route.specs.Changes.{IsOpenFault, IsChanged, IsRouteFault, IsStill};
 ghost use Rattle.fr_route.specs.Reroutes.{ArePushes, AreReplaced, IsPushesFault, TellsRerouted};
-ghost use Rattle.fr_route.specs.Tries.{IsPlaced, IsTried, change_of, revision_of, without_place};
+ghost use Rattle.fr_route.specs.Tries.{IsPlaced, IsTried, change_of, edit_of, revision_of, without_place};
 ghost use Rattle.fr_route.specs.Outcomes.{IsEditingFault, IsOutcome, IsRoundFault};
 ghost use Rattle.fr_route.specs.Outcomes.{IsSettledTable, cut_off_nodes, movable};
 
@@ -112,16 +112,13 @@ impl<'a, F: Fn(&Net, u32, Option<&[u32]>, Turns) -> Result<Turns, CrewFault>> As
         let dest = router.dest();
         match change {
             Change::Cut { u, v } => {
-                let edits = &[Edit::Cut { u: *u, v: *v }];
-                placeless(self.edit(router, &Revision { edits, dest }, tell, told))
+                self.edit_one(router, Edit::Cut { u: *u, v: *v }, tell, told)
             }
             Change::Add { u, v } => {
-                let edits = &[Edit::Add { u: *u, v: *v }];
-                placeless(self.edit(router, &Revision { edits, dest }, tell, told))
+                self.edit_one(router, Edit::Add { u: *u, v: *v }, tell, told)
             }
             Change::Join { u, v } => {
-                let edits = &[Edit::Join { u: *u, v: *v }];
-                placeless(self.edit(router, &Revision { edits, dest }, tell, told))
+                self.edit_one(router, Edit::Join { u: *u, v: *v }, tell, told)
             }
             Change::Batch(edits) => {
                 placeless(self.edit(router, &Revision { edits, dest }, tell, told))
@@ -135,6 +132,24 @@ impl<'a, F: Fn(&Net, u32, Option<&[u32]>, Turns) -> Result<Turns, CrewFault>> As
                 placeless(self.edit(router, &Revision { edits, dest }, tell, told))
             }
         }
+    }
+
+    /// Makes one edit in place, and settles the network again.
+    fn edit_one<T, K: Fn(Report) -> Result<T, AllocError>>(
+        &self,
+        router: &mut Router,
+        edit: Edit,
+        tell: &K,
+        told: &mut Told,
+    ) -> Result<T, RouteFault>
+        requires settles { Settles F.pre F.post self.now.settle.now }
+        requires tells { K.IsAlwaysCallable tell.now }
+        ensures { IsTried (NeverStarts F.post self.now.settle.now) (edit_of router.old edit router.old.dest)
+            (λ report told. K.post tell.now report (Ok told)) router.old told.old result router.new told.new }
+    {
+        let dest = router.dest();
+        let edits = &[edit];
+        placeless(self.edit(router, &Revision { edits, dest }, tell, told))
     }
 
     /// Makes these edits in place, and settles the network again, with the destination after them.

@@ -58,18 +58,8 @@ loop-x-preserved c =
     rw more (c.push_law.ensures.step old new (take i nodes) c.loop-x.table x (get_or new x Here) order.tables.one_length.same
     (slice_get-get_or new x Here low) c.loop-x.invariant)
 
-pub returns-clause-pushed : goal.returns-clause-pushed
-returns-clause-pushed c =
-    let nodes = c.deref-x-items.result.now in
-    let order = c.in_ok-order.ensures.order in
-    let is : IsPushOrder c.args.table.now c.args.new.now nodes =
-    subst (IsPushOrder c.args.table.now c.args.new.now) (sym c.deref-x-items.ensures.value) order.is_order in
-    let all : take c.loop-x.x-index nodes ≡ nodes = take_all c.loop-x.x-index nodes (omega arith) in
-    c.order_law.ensures.whole c.args.table.now c.args.new.now nodes c.loop-x.table order.tables.one_length.same is
-    (subst (λ (done : List ℕ). IsPushed c.args.table.now c.args.new.now done c.loop-x.table) all c.loop-x.invariant)
-
-pub returns-clause-loop_free : goal.returns-clause-loop_free
-returns-clause-loop_free c =
+pub returns : goal.returns
+returns c =
     let nodes = c.deref-x-items.result.now in
     let order = c.in_ok-order.ensures.order in
     let is : IsPushOrder c.args.table.now c.args.new.now nodes =
@@ -77,4 +67,4 @@ returns-clause-loop_free c =
     let all : take c.loop-x.x-index nodes ≡ nodes = take_all c.loop-x.x-index nodes (omega arith) in
     let same : c.loop-x.table ≡ c.args.new.now = c.order_law.ensures.whole c.args.table.now c.args.new.now nodes c.loop-x.table order.tables.one_length.same is
     (subst (λ (done : List ℕ). IsPushed c.args.table.now c.args.new.now done c.loop-x.table) all c.loop-x.invariant) in
-    subst IsLoopFree (sym same) order.loop_free
+    record { pushed = same; loop_free = subst IsLoopFree (sym same) order.loop_free; unchanged = tt }

@@ -1,4 +1,4 @@
-use Rattle.std.proofs.Common.{◌≡◌, ◌∷◌, [], List, ℕ, Result, Ok, Err, IfErr}
+use Rattle.std.proofs.Common.{rules, ◌≡◌, ◌∷◌, [], List, ℕ, Result, Ok, Err, IfErr}
 use Rattle.std.proofs.Common.{OnErr, drop, string_bytes, subst, sym, take}
 use Rattle.std.proofs.lemmas.List.{take-append-drop}
 use Rattle.std.proofs.lemmas.Result.{on_ok_weaker}
@@ -15,31 +15,26 @@ of_the_fault : {T E : Type 0} (r : Result T E) (one : E) (P : E → Type 0) (Q :
 of_the_fault (Ok x) one P Q only h f = tt
 of_the_fault (Err y) one P Q only h f = subst P (sym only) (f h)
 
-pub returns-in-Ok-Some-clause-ok : goal.returns-in-Ok-Some-clause-ok
-returns-in-Ok-Some-clause-ok g c =
+pub returns-in-Ok-Some : goal.returns-in-Ok-Some
+returns-in-Ok-Some g c =
     let old = g.W.Write.contents c.args.writer.now in
     let new = g.W.Write.contents c.write_whole.new.writer in
     let answer : List ℕ = string_bytes c.in-Ok-Some.text in
     let told : AreAnswersIn c.args.form c.args.responder.now (c.args.line.now ∷ []) answer c.answer_text.new.responder =
     rw c.in-Ok-Some.field-0-is at c.in-Ok-Some.ensures.text in
-    on_ok_weaker c.write_whole.result (λ (whole : Appends old new answer). (answer, told, whole))
-    (rw c.as_bytes.ensures.value at c.write_whole.ensures.ok)
-
-pub returns-in-Ok-Some-clause-fault : goal.returns-in-Ok-Some-clause-fault
-returns-in-Ok-Some-clause-fault g c =
-    let old = g.W.Write.contents c.args.writer.now in
-    let new = g.W.Write.contents c.write_whole.new.writer in
-    let answer : List ℕ = string_bytes c.in-Ok-Some.text in
-    let told : AreAnswersIn c.args.form c.args.responder.now (c.args.line.now ∷ []) answer c.answer_text.new.responder =
-    rw c.in-Ok-Some.field-0-is at c.in-Ok-Some.ensures.text in
-    of_the_fault c.write_whole.result Write (IsLineFault c.args.form c.args.responder.now c.args.line.now old new)
-    ((n : ℕ) × Appends old new (take n answer)) c.write_whole.ensures.kind
-    (rw c.as_bytes.ensures.value at c.write_whole.ensures.err)
-    (λ part. record {
-      answer = answer;
-      last = c.answer_text.new.responder;
-      out = take part.0 answer;
-      are_answers = told;
-      begins = (drop part.0 answer, sym (take-append-drop part.0 answer));
-      writes = part.1;
-    })
+    record {
+      ok = on_ok_weaker c.write_whole.result (λ (whole : Appends old new answer). (answer, told, whole))
+          (rw c.as_bytes.ensures.value at c.write_whole.ensures.ok);
+      fault = of_the_fault c.write_whole.result Write (IsLineFault c.args.form c.args.responder.now c.args.line.now old new)
+          ((n : ℕ) × Appends old new (take n answer)) c.write_whole.ensures.kind
+          (rw c.as_bytes.ensures.value at c.write_whole.ensures.err)
+          (λ part. record {
+            answer = answer;
+            last = c.answer_text.new.responder;
+            out = take part.0 answer;
+            are_answers = told;
+            begins = (drop part.0 answer, sym (take-append-drop part.0 answer));
+            writes = part.1;
+          });
+      no_start = search rules;
+    }

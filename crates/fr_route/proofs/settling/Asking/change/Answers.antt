@@ -1,4 +1,5 @@
-use Rattle.fr_route.specs.Tries.{change_of, without_place}
+use Rattle.std.proofs.Common.{refl}
+use Rattle.fr_route.specs.Tries.{change_of}
 use Rattle.fr_graph.specs.declared.edit.Edit.TheVariants as edit
 use Rattle.fr_route.specs.declared.change.Change.TheVariants.{Add, Cut, Join}
 use Rattle.fr_route.proofs.Changing.{add_by, cut_by, join_by}
@@ -11,9 +12,9 @@ returns-in-Cut g c =
     let u = c.in-Cut.u in
     let v = c.in-Cut.v in
     let by = cut_by s u v in
-    rw (c.in-Cut.is, c.placeless.ensures)
-    (edit_as _ (edit.Cut u v) c.dest-dest.result (change_of s (Cut u v)) _ s c.args.told.now (without_place c.edit.result) c.edit.new.router c.edit.new.told
-    by.done by.undone c.dest-dest.ensures.value c.edit.ensures.tried)
+    rw c.in-Cut.is
+    (edit_as _ (edit.Cut u v) s.dest (change_of s (Cut u v)) _ s c.args.told.now c.edit_one.result c.edit_one.new.router c.edit_one.new.told
+    by.done by.undone refl c.edit_one.ensures)
 
 pub returns-in-Add : goal.returns-in-Add
 returns-in-Add g c =
@@ -21,10 +22,9 @@ returns-in-Add g c =
     let u = c.in-Add.u in
     let v = c.in-Add.v in
     let by = add_by s u v in
-    rw (c.in-Add.is, c.placeless-in-Add.ensures)
-    (edit_as _ (edit.Add u v) c.dest-dest.result (change_of s (Add u v)) _ s c.args.told.now (without_place c.edit-in-Add.result)
-    c.edit-in-Add.new.router c.edit-in-Add.new.told
-    by.done by.undone c.dest-dest.ensures.value c.edit-in-Add.ensures.tried)
+    rw c.in-Add.is
+    (edit_as _ (edit.Add u v) s.dest (change_of s (Add u v)) _ s c.args.told.now c.edit_one-in-Add.result c.edit_one-in-Add.new.router
+    c.edit_one-in-Add.new.told by.done by.undone refl c.edit_one-in-Add.ensures)
 
 pub returns-in-Join : goal.returns-in-Join
 returns-in-Join g c =
@@ -32,7 +32,6 @@ returns-in-Join g c =
     let u = c.in-Join.u in
     let v = c.in-Join.v in
     let by = join_by s u v in
-    rw (c.in-Join.is, c.placeless-in-Join.ensures)
-    (edit_as _ (edit.Join u v) c.dest-dest.result (change_of s (Join u v)) _ s c.args.told.now (without_place c.edit-in-Join.result)
-    c.edit-in-Join.new.router c.edit-in-Join.new.told
-    by.done by.undone c.dest-dest.ensures.value c.edit-in-Join.ensures.tried)
+    rw c.in-Join.is
+    (edit_as _ (edit.Join u v) s.dest (change_of s (Join u v)) _ s c.args.told.now c.edit_one-in-Join.result c.edit_one-in-Join.new.router
+    c.edit_one-in-Join.new.told by.done by.undone refl c.edit_one-in-Join.ensures)
