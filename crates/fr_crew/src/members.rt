@@ -44,14 +44,29 @@ pub(crate) fn equip<J: Naming>(
     let mut members = Vec::with_capacity(alloc, workers.len())?;
     let mut stealers = Vec::with_capacity(alloc, workers.len())?;
     for worker in workers {
-        let mut deque = Deque::new(alloc, room, seed, worker.number())?;
-        stealers.push(deque.stealer()?)?;
-        if is_one {
-            deque.unshare(alloc, round)?;
-        }
-        members.push(Member { worker, deque })?;
+        let deque = Deque::new(alloc, room, seed, worker.number())?;
+        let (deque, stealer) = with_stealer(alloc, round, deque, is_one)?;
+        stealers.push_reserved(stealer);
+        members.push_reserved(Member { worker, deque });
     }
     Ok(Members { members, stealers })
+}
+
+/// A new deque, and the handle with which the others steal from it. The deque of an only worker shares nothing from now
+/// on.
+fn with_stealer<J: Naming>(
+    alloc: Global,
+    round: &Round,
+    mut deque: Deque<J>,
+    is_one: bool,
+) -> Result<(Deque<J>, Stealer<J>), AllocError>
+    requires { round.now.setup ≡ J.setup }
+{
+    let stealer = deque.stealer()?;
+    if is_one {
+        deque.unshare(alloc, round)?;
+    }
+    Ok((deque, stealer))
 }
 
 /// How much more room a deque has at first than it is dealt: a turn makes candidates of all neighbours of a node.

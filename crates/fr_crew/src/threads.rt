@@ -171,7 +171,7 @@ fn run_each<'s, 'e, J: Naming + Send + Sync, R: Threads, G: Gate + Sync>(
     scope: &'s Scope<'s, &'e ()>,
     crew: &'e Crew<'e, R, G>,
     job: &'e Job<J>,
-    mut members: Vec<Member<J>>,
+    members: Vec<Member<J>>,
 ) -> Result<Vec<Worker>, CrewFault>
     requires named { job.now.round.setup ≡ J.setup }
     requires own { Each (IsOwnMember job.now.round) members.items }
@@ -180,7 +180,27 @@ fn run_each<'s, 'e, J: Naming + Send + Sync, R: Threads, G: Gate + Sync>(
     ensures fault { IfErr result (λ fault. fault ≢ Range) }
     ensures no_start { vec_len members ≡ 1 → IfErr result (λ fault. fault ≢ Start) }
 {
-    let Rooms { back, threads } = make_room(crew.alloc, members.len())?;
+    let rooms = make_room(crew.alloc, members.len())?;
+    run_within(scope, crew, job, members, rooms)
+}
+
+/// Does the same in memory that was allocated before.
+fn run_within<'s, 'e, J: Naming + Send + Sync, R: Threads, G: Gate + Sync>(
+    scope: &'s Scope<'s, &'e ()>,
+    crew: &'e Crew<'e, R, G>,
+    job: &'e Job<J>,
+    mut members: Vec<Member<J>>,
+    rooms: Rooms,
+) -> Result<Vec<Worker>, CrewFault>
+    requires own { (job.now.round.setup ≡ J.setup) × Each (IsOwnMember job.now.round) members.items }
+    requires room { (vec_len rooms.back ≡ 0) × (vec_len members ≤ vec_capacity rooms.back)
+        × (vec_len rooms.threads ≡ 0) × (vec_len members ≤ vec_capacity rooms.threads) }
+    ensures own { IfOk result (λ back. Each (IsOwn job.now.round) back.items) }
+    ensures len { IfOk result (λ back. vec_len back ≡ vec_len members) }
+    ensures fault { IfErr result (λ fault. fault ≡ Start) }
+    ensures no_start { vec_len members ≡ 1 → IfErr result (λ fault. fault ≢ Start) }
+{
+    let Rooms { back, threads } = rooms;
     let Some(last) = members.pop() else {
         return Ok(back);
     };
@@ -221,6 +241,52 @@ fn run_threads<J: Naming + Send + Sync, R: Threads + Wait, G: Gate + Sync>(
     )
 }
 
+/// The members of a crew, who were dealt their first candidates.
+fn dealt_members<J: Naming, R: Threads, G: Gate>(
+    crew: &Crew<'_, R, G>,
+    round: &Round,
+    standing: &Standing<J>,
+    workers: Vec<Worker>,
+    from: Option<&[u32]>,
+) -> Result<Members<J>, AllocError>
+    requires named { round.now.setup ≡ J.setup }
+    requires own { Each (IsOwn round.now) workers.items }
+    requires some { 0 < vec_len workers }
+    ensures own { IfOk result (λ all. Each (IsOwnMember round.now) all.members.items) }
+    ensures members { IfOk result (λ all. vec_len all.members ≡ vec_len workers) }
+    ensures stealers { IfOk result (λ all. vec_len all.stealers ≡ vec_len workers) }
+{
+    let room = room_for(round, from, workers.len());
+    let mut all = equip::<J>(crew.alloc, round, workers, room, crew.plan.seed())?;
+    deal(round, standing, &mut all.members, from);
+    Ok(all)
+}
+
+/// The job of these workers, and the members of the crew, who were dealt their first candidates.
+fn make_job<J: Naming, R: Threads, G: Gate>(
+    crew: &Crew<'_, R, G>,
+    round: Round,
+    workers: Vec<Worker>,
+    from: Option<&[u32]>,
+) -> Result<(Job<J>, Vec<Member<J>>), AllocError>
+    requires named { round.setup ≡ J.setup }
+    requires own { Each (IsOwn round) workers.items }
+    requires some { 0 < vec_len workers }
+    ensures round { IfOk result (λ made. made.0.round ≡ round) }
+    ensures own { IfOk result (λ made. Each (IsOwnMember round) made.1.items) }
+    ensures len { IfOk result (λ made. vec_len made.1 ≡ vec_len workers) }
+{
+    let standing = Standing::none(crew.alloc, &round)?;
+    let Members { members, stealers } = dealt_members(crew, &round, &standing, workers, from)?;
+    let job = Job {
+        round,
+        stealers,
+        standing,
+        budget: crew.plan.budget(),
+    };
+    Ok((job, members))
+}
+
 /// Lets all workers work at the same time, each in a thread of its own, except the last one, which uses the calling
 /// thread. Returns them in their order, with their round. At first they are dealt the nodes of `from`, or all nodes if
 /// there is no `from`. Their deques have room for all dealt nodes before the first thread is started. If a thread
@@ -238,19 +304,7 @@ pub(crate) fn run_crew<J: Naming + Send + Sync, R: Threads + Wait, G: Gate + Syn
     ensures fault { IfErr result (λ fault. fault ≢ Range) }
     ensures no_start { vec_len workers ≡ 1 → IfErr result (λ fault. fault ≢ Start) }
 {
-    let room = room_for(&round, from, workers.len());
-    let Members {
-        mut members,
-        stealers,
-    } = equip::<J>(crew.alloc, &round, workers, room, crew.plan.seed())?;
-    let standing = Standing::none(crew.alloc, &round)?;
-    deal(&round, &standing, &mut members, from);
-    let job = Job {
-        round,
-        stealers,
-        standing,
-        budget: crew.plan.budget(),
-    };
+    let (job, members) = make_job::<J, R, G>(crew, round, workers, from)?;
     let workers = run_threads(crew, &job, members)?;
     let Job { round, .. } = job;
     Ok((round, workers))

@@ -2,7 +2,7 @@
 use Rattle.std.proofs.Common.{◌≡◌, ◌∙◌, ◌≤◌, ◌<◌, ◌+◌, ◌++◌, ◌∷◌, [], ℕ, List, ap, arith, get_or, inl, inr, length}
 use Rattle.std.proofs.Common.{refl, subst, sym, take, ⊎_elim}
 use Rattle.std.specs.Prelude.{Err, IfErr, IfOk, Ok, Result}
-use Rattle.std.proofs.lemmas.List.{append-nil, append_assoc, length-append, take_all, take_more}
+use Rattle.std.proofs.lemmas.List.{append_assoc, length-append, take_more}
 use Rattle.fr_core.specs.Played.{answer_of}
 use Rattle.fr_core.specs.Replies.{IsAnswerTo}
 use Rattle.fr_core.specs.Targets.{IsLookable, IsTurnable, node_of}
@@ -88,19 +88,6 @@ pub record IsFollowing (b : Setup) (first : Recording) (plan : List Target) (mad
   pub followed : HasFollowed b first (take made plan) now
   pub room : length plan ≤ now.room + made
 
-pub following_none : (b : Setup) (r : Recording) (plan : List Target) → length plan ≤ r.room → IsFollowing b r plan 0 r
-following_none b r plan room = record {
-  followed = record {
-    keeps = record { table = refl; setup = refl; number = refl; seen = λ z. omega arith };
-    begins = ([], sym (append-nil r.worker.known));
-    gained = [];
-    log = sym (append-nil (log_of r));
-    answers = refl;
-    room = omega arith;
-  };
-  room = omega (arith, room);
-}
-
 module _ (b : Setup) (first : Recording) (plan : List Target) (made : ℕ) (now : Recording)
     (f : IsFollowing b first plan made now)
     (d t : Target) (inside : made < length plan) (here : get_or plan made d ≡ t) where
@@ -146,9 +133,3 @@ module _ (b : Setup) (first : Recording) (plan : List Target) (made : ℕ) (now 
   following_next (Err (Refused why)) next ok err =
       subst (λ (r : Recording). IsFollowing b first plan (made + 1) r) (sym err.1)
       (following_refused (refused_target b t why err.0.1))
-
-pub following_all : (b : Setup) (first : Recording) (plan : List Target) (made : ℕ) (now : Recording)
-    → IsFollowing b first plan made now
-    → length plan ≤ made → HasFollowed b first plan now
-following_all b first plan made now f end = subst (λ (l : List Target). HasFollowed b first l now)
-    (take_all made plan end) f.followed

@@ -90,11 +90,6 @@ pub left_in : (t : Option Knowledge) (s : Option State) (nodes : List ℕ) (t' :
 left_in None s nodes t' has p = p
 left_in (Some k) s nodes t' has p = p.1 ∙ ap Some (left k s nodes has p.0 p.2)
 
-pub has_then : (t : Option Knowledge) (s : Option State) (nodes : List ℕ) (t' : Option Knowledge) → PublishesIn t s nodes t'
-    → IfSome t' (HasHopsOf s)
-has_then None s nodes t' p = subst (λ (u : Option Knowledge). IfSome u (HasHopsOf s)) (sym p) tt
-has_then (Some k) s nodes t' p = subst (λ (u : Option Knowledge). IfSome u (HasHopsOf s)) (sym p.1) p.2.has
-
 -- a table that was opened has the hops of a session without a network
 pub opened_blank : (k : Knowledge) → k.nodes ≡ most_nodes → k.known ≡ [] → HasHopsOf None k
 opened_blank k largest none = record {

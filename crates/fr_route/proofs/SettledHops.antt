@@ -1,22 +1,18 @@
 -- The hops of a settled network as a table: it has no loop, and each hop names a node. Which nodes are listed as
 -- rerouted, from such tables.
-use Rattle.std.proofs.Common.{Contains, Err, IfErr, List, Ok, Result, Some, [], ap, arith, get_or, inl, inr, le_refl, length, refl, replicate}
+use Rattle.std.proofs.Common.{Contains, List, Some, [], ap, arith, get_or, le_refl, length, refl, replicate}
 use Rattle.std.proofs.Common.{slice_get, subst, sym, take, ℕ, ⊎_elim, ◌+◌, ◌++◌, ◌-◌, ◌<◌, ◌≤◌, ◌∙◌, ◌∷◌, ◌≡◌, ◌↔◌}
 use Rattle.std.proofs.Math.ListN.{get_or-append}
 use Rattle.std.proofs.lemmas.Bool.{cases_lt}
 use Rattle.std.proofs.lemmas.List.{get_or-append-add, get_or-replicate, length-append, length-replicate, take_all}
 use Rattle.std.proofs.lemmas.Option.{get_or_from_slice_get, slice_get-get_or, slice_get_past, slice_get_within}
 use Rattle.fr_graph.specs.Links.{IsAcyclic, IsNet, IsPath, end_of}
-use Rattle.fr_graph.specs.Limits.{most_nodes}
-use Rattle.fr_route.specs.Reroutes.{AreRerouted, IsPushesFault, IsRerouted}
+use Rattle.fr_route.specs.Reroutes.{AreRerouted, IsRerouted}
 use Rattle.fr_core.specs.Walks.{IsConnected}
 use Rattle.fr_route.specs.Outcomes.{IsSettledTable}
 use Rattle.fr_route.specs.Routes.{AreHops, IsHop}
 use Rattle.fr_route.specs.States.{State, IsAfterRound, IsCutOff}
-use Rattle.fr_tables.specs.Faults.{IsFaultOf}
 use Rattle.fr_tables.specs.Tables.{IsInRange, IsLoop, IsLoopFree, IsWalk}
-use Rattle.fr_tables.specs.declared.fault.TableFault.{TableFault}
-use Rattle.fr_tables.specs.declared.fault.TableFault.TheVariants.{Length, Range, Loop, Memory}
 use Rattle.fr_tables.specs.declared.hop.Hop.{Hop}
 use Rattle.fr_tables.specs.declared.hop.Hop.TheVariants.{CutOff, Here, To}
 use Rattle.fr_route.proofs.Determined.{one_hop}
@@ -97,23 +93,6 @@ module _ (s : State) (after : IsAfterRound s) where
       } in
       subst (λ (front : List Hop). IsSettledTable s n (front ++ fill)) (sym whole)
       (settled_table s n (hops ++ fill) are_all after enough)
-
--- the faults of a table that is compared with them
-push_fault_is : (s : State) (hops table : List Hop) → IsAfterRound s → AreHops s s.nodes hops → s.nodes ≤ most_nodes
-    → (fault : TableFault) → IsFaultOf table hops fault → IsPushesFault s table fault
-push_fault_is s hops table after are few Length (inl other) = λ same. other (same ∙ sym are.one_each)
-push_fault_is s hops table after are few Length (inr long) = λ same. omega (arith, long, are.one_each, few)
-push_fault_is s hops table after are few (Range x) (one, inl first) = (one.same ∙ are.one_each, first)
-push_fault_is s hops table after are few (Range x) (one, inr first) =
-    absurd (omega (arith, settled_in_range s hops after are first.1.at x first.1.sends, first.1.outside))
-push_fault_is s hops table after are few (Loop nodes) h = settled_loop_free s hops after are nodes.items h.1.is_loop
-push_fault_is s hops table after are few Memory h = tt
-
-pub push_fault : {T : Type 0} (s : State) (hops table : List Hop) → IsAfterRound s → AreHops s s.nodes hops
-    → s.nodes ≤ most_nodes → (r : Result T TableFault) → IfErr r (IsFaultOf table hops)
-    → IfErr r (IsPushesFault s table)
-push_fault s hops table after are few (Ok nodes) h = h
-push_fault s hops table after are few (Err fault) h = push_fault_is s hops table after are few fault h
 
 -- exactly the rerouted nodes are listed
 pub rerouted_told : (old new : State) (nodes : List ℕ) (x : ℕ) → old.nodes ≡ new.nodes → AreRerouted old new nodes

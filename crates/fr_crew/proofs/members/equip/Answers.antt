@@ -11,8 +11,10 @@ loop-worker-preserved g c =
     let next = c.in-Some.ensures.steps.0 in record {
       members = search rules;
       stealers = search rules;
+      room = search rules;
+      handles = search rules;
       rest = λ round each. (subst (Each (IsOwn round)) next (was.rest round each)).1;
       own = λ round each.
           let here = subst (Each (IsOwn round)) next (was.rest round each) in
-          rw c.in_ok-push-2.ensures.items (each_snoc (IsOwnMember {J = g.row.J.Denot} round) _ _ (was.own round each) here.0);
+          rw c.push_reserved-in-loop-worker.ensures.items (each_snoc (IsOwnMember {J = g.row.J.Denot} round) _ _ (was.own round each) here.0);
     }

@@ -1,4 +1,4 @@
-use Rattle.std.proofs.Common.{◌≡◌, ◌+◌, vec_len}
+use Rattle.std.proofs.Common.{◌≡◌, ◌+◌, ◌≤◌, vec_len, vec_capacity}
 use Rattle.std.specs.List.{AllByRecursion as Each}
 use Rattle.std.specs.Vec.Iter.{into_iter_items, into_iter_len}
 use Rattle.fr_round.specs.Knowledge.{OpenRound, IsOwn}
@@ -9,6 +9,8 @@ abbrev pub invariant-loop-worker : goal.invariant-loop-worker
 invariant-loop-worker g l = record {
   members : vec_len l.members + into_iter_len l.worker-iterator ≡ vec_len l.fn.workers;
   stealers : vec_len l.stealers ≡ vec_len l.members;
+  room : vec_len l.fn.workers ≤ vec_capacity l.members;
+  handles : vec_len l.fn.workers ≤ vec_capacity l.stealers;
   rest : (round : OpenRound) → Each (IsOwn round) l.fn.workers.items → Each (IsOwn round) (into_iter_items l.worker-iterator);
   own : (round : OpenRound) → Each (IsOwn round) l.fn.workers.items → Each (IsOwnMember round) l.members.items;
 }
