@@ -2,8 +2,8 @@
 use Rattle.std.proofs.Common.{List, [], ap, arith, inl, inr, refl, subst, sym, length, take, ℕ, ◌++◌, ◌<◌, ◌≤◌, ◌∙◌, ◌∷◌, ◌≡◌, ◌≢◌}
 use Rattle.std.specs.List.{HoldsAt}
 use Rattle.fr_graph.specs.Batches.{AreMade, IsBatchFault, IsEditFault, IsMade}
-use Rattle.fr_graph.specs.Edits.{IsCutFault, IsJoinFault, IsJoined, without}
-use Rattle.fr_graph.specs.Faults.{IsFirstFault, IsNetworkOf}
+use Rattle.fr_graph.specs.Edits.{IsJoined, without}
+use Rattle.fr_graph.specs.Faults.{IsNetworkOf}
 use Rattle.fr_graph.specs.Limits.{most_edits}
 use Rattle.fr_graph.specs.declared.fault.EditFault.{EditFault}
 use Rattle.fr_graph.specs.declared.fault.NetFault.{NetFault}
@@ -13,9 +13,8 @@ use Rattle.fr_graph.specs.declared.edit.Edit.{Edit}
 use Rattle.fr_graph.specs.declared.edit.Edit.TheVariants as edit
 use Rattle.fr_route.specs.Changes.{IsChanged, IsOpenFault, IsRouteFault, IsStill}
 use Rattle.fr_route.specs.Faults.{of_net_fault}
-use Rattle.fr_route.specs.Outcomes.{IsEdited, IsEditingFault}
+use Rattle.fr_route.specs.Outcomes.{IsEdited, IsEditingFault, IsPlacedFault}
 use Rattle.fr_graph.specs.Evidence.{NamesInBatch, NamesOfEdit}
-use Rattle.fr_route.specs.Tries.{IsPlacedFault}
 use Rattle.fr_route.specs.States.{State, IsRound, net_at}
 use Rattle.fr_route.specs.declared.change.Change.{Change}
 use Rattle.fr_route.specs.declared.change.Change.TheVariants.{Add, Cut, Join}
@@ -41,19 +40,22 @@ made_nodes net [] after made = ap (λ (m : Network). m.nodes) made
 made_nodes net (e ∷ es) after made = made_nodes made.0 es after made.1.1 ∙ edited_nodes net e made.0 made.1.0
 
 -- the edits are not made because one is refused
-refused_for : (s : State) (edits : List Edit) (d : ℕ) (refused : EditFault) (fault : NetFault) → refused.fault ≡ fault
-    → (refused.fault ≢ net.Memory → IsBatchFault (net_at s) edits refused) → IsEditingFault s edits d (of_net_fault fault)
-refused_for s edits d refused net.TooMany is why = (refused, (why (λ e. absurd cc), sym is))
-refused_for s edits d refused (net.Range x) is why = (refused, (why (λ e. absurd cc), sym is))
-refused_for s edits d refused (net.SelfLink x) is why = (refused, (why (λ e. absurd cc), sym is))
-refused_for s edits d refused (net.Twice x y) is why = (refused, (why (λ e. absurd cc), sym is))
-refused_for s edits d refused (net.Cycle walk) is why = (refused, (why (λ e. absurd cc), sym is))
-refused_for s edits d refused net.NoLink is why = (refused, (why (λ e. absurd cc), sym is))
-refused_for s edits d refused net.Memory is why = tt
+refused_for : (s : State) (edits : List Edit) (d at : ℕ) (fault : NetFault)
+    → (fault ≢ net.Memory → IsBatchFault (net_at s) edits (record { at = at; fault = fault }))
+    → NamesInBatch (net_at s) edits (record { at = at; fault = fault })
+    → IsPlacedFault s edits d at (of_net_fault fault)
+refused_for s edits d at net.TooMany why names = (why (λ e. absurd cc), names)
+refused_for s edits d at (net.Range x) why names = (why (λ e. absurd cc), names)
+refused_for s edits d at (net.SelfLink x) why names = (why (λ e. absurd cc), names)
+refused_for s edits d at (net.Twice x y) why names = (why (λ e. absurd cc), names)
+refused_for s edits d at (net.Cycle walk) why names = (why (λ e. absurd cc), names)
+refused_for s edits d at net.NoLink why names = (why (λ e. absurd cc), names)
+refused_for s edits d at net.Memory why names = tt
 
 pub refused_fault : (s : State) (edits : List Edit) (d : ℕ) (refused : EditFault)
-    → (refused.fault ≢ net.Memory → IsBatchFault (net_at s) edits refused) → IsEditingFault s edits d (of_net_fault refused.fault)
-refused_fault s edits d refused why = refused_for s edits d refused refused.fault refl why
+    → (refused.fault ≢ net.Memory → IsBatchFault (net_at s) edits refused) → NamesInBatch (net_at s) edits refused
+    → IsPlacedFault s edits d refused.at (of_net_fault refused.fault)
+refused_fault s edits d refused why names = refused_for s edits d refused.at refused.fault why names
 
 -- too many edits name no node
 pub too_many_named : (made : Network) (e : Edit) → NamesOfEdit made e net.TooMany
@@ -61,38 +63,14 @@ too_many_named made (edit.Cut u v) = tt
 too_many_named made (edit.Add u v) = tt
 too_many_named made (edit.Join u v) = tt
 
--- the place is that of the refused edit
-placed_for : (s : State) (edits : List Edit) (at : ℕ) (fault : NetFault)
-    → (fault ≢ net.Memory → IsBatchFault (net_at s) edits (record { at = at; fault = fault })) → NamesInBatch (net_at s) edits (record { at = at; fault = fault })
-    → IsPlacedFault s edits at (of_net_fault fault)
-placed_for s edits at net.TooMany why names = (why (λ e. absurd cc), names)
-placed_for s edits at (net.Range x) why names = (why (λ e. absurd cc), names)
-placed_for s edits at (net.SelfLink x) why names = (why (λ e. absurd cc), names)
-placed_for s edits at (net.Twice x y) why names = (why (λ e. absurd cc), names)
-placed_for s edits at (net.Cycle walk) why names = (why (λ e. absurd cc), names)
-placed_for s edits at net.NoLink why names = (why (λ e. absurd cc), names)
-placed_for s edits at net.Memory why names = tt
-
-pub refused_place : (s : State) (edits : List Edit) (refused : EditFault)
-    → (refused.fault ≢ net.Memory → IsBatchFault (net_at s) edits refused) → NamesInBatch (net_at s) edits refused
-    → IsPlacedFault s edits refused.at (of_net_fault refused.fault)
-refused_place s edits refused why names = placed_for s edits refused.at refused.fault why names
-
--- no edit is refused if there is no round
-pub round_place : (s : State) (edits : List Edit) (at n d : ℕ) (fault : RouteFault) → IsOpenFault n d fault → IsPlacedFault s edits at fault
-round_place s edits at n d (Net fault) why = absurd why
-round_place s edits at n d Range why = tt
-round_place s edits at n d Start why = tt
-round_place s edits at n d Memory why = tt
-
 -- or because there is no round on the network that they make
-pub round_fault : (s : State) (edits : List Edit) (net : Network) (d : ℕ) (fault : RouteFault) → d < s.nodes
+pub round_fault : (s : State) (edits : List Edit) (net : Network) (d at : ℕ) (fault : RouteFault) → d < s.nodes
     → length edits ≤ most_edits → AreMade (net_at s) edits net → IsOpenFault net.nodes d fault
-    → (IsStill net d → fault ≢ Start) → IsEditingFault s edits d fault
-round_fault s edits net d (Net fault) below few made why moves = absurd why
-round_fault s edits net d Range below few made why moves = omega (arith, below, why, made_nodes (net_at s) edits net made)
-round_fault s edits net d Start below few made why moves = (few, below, (net, (made, λ still. moves still refl)))
-round_fault s edits net d Memory below few made why moves = tt
+    → (IsStill net d → fault ≢ Start) → IsPlacedFault s edits d at fault
+round_fault s edits net d at (Net fault) below few made why moves = absurd why
+round_fault s edits net d at Range below few made why moves = omega (arith, below, why, made_nodes (net_at s) edits net made)
+round_fault s edits net d at Start below few made why moves = (few, below, (net, (made, λ still. moves still refl)))
+round_fault s edits net d at Memory below few made why moves = tt
 
 -- the change makes exactly this edit
 pub record IsBy (s : State) (change : Change) (e : Edit) : Type 0 where
@@ -109,6 +87,17 @@ refused_edit s e refused (inr (few, at)) =
     subst (λ (k : ℕ). HoldsAt (λ edit. IsEditFault at.before edit refused.fault) (e ∷ []) k) first at.refused e in
     subst (λ (m : Network). IsEditFault m e refused.fault) before here
 
+-- and names what it has to
+pub named_edit : (s : State) (e : Edit) (refused : EditFault) → IsBatchFault (net_at s) (e ∷ []) refused
+    → NamesInBatch (net_at s) (e ∷ []) refused → NamesOfEdit (net_at s) e refused.fault
+named_edit s e refused (inl more) names = absurd (omega (arith, more.0))
+named_edit s e refused (inr (few, at)) names =
+    let first : refused.at ≡ 0 = omega (arith, at.inside) in
+    let made : AreMade (net_at s) (take refused.at (e ∷ [])) (net_at s) =
+    subst (λ (k : ℕ). AreMade (net_at s) (take k (e ∷ [])) (net_at s)) (sym first) refl in
+    subst (λ (k : ℕ). HoldsAt (λ edit. NamesOfEdit (net_at s) edit refused.fault) (e ∷ []) k) first
+    (names (net_at s) made) e
+
 pub cut_by : (s : State) (u v : ℕ) → IsBy s (Cut u v) (edit.Cut u v)
 cut_by s u v = record { done = done; undone = undone }
   where
@@ -117,10 +106,10 @@ cut_by s u v = record { done = done; undone = undone }
         (made.0, round_listed s.nodes s.dest (without u v s.links) next new made.1 (subst (λ (m : Network). IsRound m.nodes s.dest m.links new) is round))
 
     undone : (fault : RouteFault) → IsEditingFault s (edit.Cut u v ∷ []) s.dest fault → IsRouteFault s (Cut u v) fault
-    undone (Net fault) (refused, (why, is)) = subst (IsCutFault s.links u v) (sym is) (refused_edit s (edit.Cut u v) refused why)
-    undone Range h = h
-    undone Start h = h
-    undone Memory h = tt
+    undone (Net fault) (at, (why, names)) = refused_edit s (edit.Cut u v) (record { at = at; fault = fault }) why
+    undone Range (at, h) = h
+    undone Start (at, h) = h
+    undone Memory (at, h) = tt
 
 pub add_by : (s : State) (u v : ℕ) → IsBy s (Add u v) (edit.Add u v)
 add_by s u v = record { done = done; undone = undone }
@@ -133,10 +122,12 @@ add_by s u v = record { done = done; undone = undone }
     )
 
     undone : (fault : RouteFault) → IsEditingFault s (edit.Add u v ∷ []) s.dest fault → IsRouteFault s (Add u v) fault
-    undone (Net fault) (refused, (why, is)) = subst (IsFirstFault s.nodes (s.links ++ (u, v) ∷ [])) (sym is) (refused_edit s (edit.Add u v) refused why)
-    undone Range h = h
-    undone Start h = h
-    undone Memory h = tt
+    undone (Net fault) (at, (why, names)) =
+        let refused : EditFault = record { at = at; fault = fault } in
+        (refused_edit s (edit.Add u v) refused why, named_edit s (edit.Add u v) refused why names)
+    undone Range (at, h) = h
+    undone Start (at, h) = h
+    undone Memory (at, h) = tt
 
 pub join_by : (s : State) (u v : ℕ) → IsBy s (Join u v) (edit.Join u v)
 join_by s u v = record { done = done; undone = undone }
@@ -145,16 +136,9 @@ join_by s u v = record { done = done; undone = undone }
     done new (few, (net, ((next, (made, is)), round))) = (next, (made, subst (λ (m : Network). IsRound m.nodes s.dest m.links new) is round))
 
     undone : (fault : RouteFault) → IsEditingFault s (edit.Join u v ∷ []) s.dest fault → IsRouteFault s (Join u v) fault
-    undone (Net fault) (refused, (why, is)) = subst (IsJoinFault s.nodes s.links u v) (sym is) (refused_edit s (edit.Join u v) refused why)
-    undone Range h = h
-    undone Start h = h
-    undone Memory h = tt
-
--- and names what it has to
-pub named_edit : (s : State) (e : Edit) (refused : EditFault) → IsBatchFault (net_at s) (e ∷ []) refused
-    → NamesInBatch (net_at s) (e ∷ []) refused → NamesOfEdit (net_at s) e refused.fault
-named_edit s e refused (inl more) names = absurd (omega (arith, more.0))
-named_edit s e refused (inr (few, at)) names =
-    let first : refused.at ≡ 0 = omega (arith, at.inside) in
-    let made : AreMade (net_at s) (take refused.at (e ∷ [])) (net_at s) = subst (λ (k : ℕ). AreMade (net_at s) (take k (e ∷ [])) (net_at s)) (sym first) refl in
-    subst (λ (k : ℕ). HoldsAt (λ edit. NamesOfEdit (net_at s) edit refused.fault) (e ∷ []) k) first (names (net_at s) made) e
+    undone (Net fault) (at, (why, names)) =
+        let refused : EditFault = record { at = at; fault = fault } in
+        (refused_edit s (edit.Join u v) refused why, named_edit s (edit.Join u v) refused why names)
+    undone Range (at, h) = h
+    undone Start (at, h) = h
+    undone Memory (at, h) = tt

@@ -18,7 +18,7 @@ use Rattle.fr_route.specs.Answers.{IsAccepted, IsRefused, MayStartFor, MayStartF
 use Rattle.fr_route.specs.Forms.{IsAnswerIn, IsLineRefused}
 use Rattle.fr_route.specs.Json.{IsBatchRefusal, IsEditRefusal, IsNewRefusal, IsRefusal, PlainRefusal, bare_refusal, ends, ends_in, refusal_for, refusal_json}
 use Rattle.fr_route.specs.Listing.{IsListing, nodes_told}
-use Rattle.fr_route.specs.Outcomes.{IsEdited, IsEditingFault}
+use Rattle.fr_route.specs.Outcomes.{IsEdited, IsPlacedFault}
 use Rattle.fr_route.specs.Refusals.{IsNewFault, IsRefusalOf}
 use Rattle.fr_route.specs.Replies.{HasList, IsLineRefusal, IsLineAnsweredIn, IsLineReplied, IsReplied, IsReply, IsReportIn, IsRevised, IsStillReply, IsTextIn, Refuses, RefusesBy, request_of_edit}
 use Rattle.fr_route.specs.Reroutes.{AreReplaced, AreRerouted}
@@ -27,7 +27,6 @@ use Rattle.fr_route.specs.Sessions.{IsAnswered, IsLineAnswered}
 use Rattle.fr_route.specs.States.{State, net_at}
 use Rattle.fr_route.specs.Texts.{longest_report, refusal_text}
 use Rattle.fr_route.specs.Told.{IsLineTold, TellsOf}
-use Rattle.fr_route.specs.Tries.{IsPlacedFault}
 use Rattle.fr_route.specs.declared.fault.AnswerFault.{AnswerFault}
 use Rattle.fr_route.specs.declared.fault.AnswerFault.TheVariants.{Memory, Start}
 use Rattle.fr_route.specs.declared.fault.RouteFault.{RouteFault}
@@ -167,18 +166,17 @@ new_refusal n d links route.Start why refusal is = absurd is
 new_refusal n d links route.Memory why refusal is = absurd is
 
 -- an edit is refused for this fault
-pub edit_refusal : (s : State) (e : Edit) (d at : ℕ) (fault : RouteFault) → IsEditingFault s (e ∷ []) d fault
-    → IsPlacedFault s (e ∷ []) at fault → (named : List ℕ) → named ≡ ends e
+pub edit_refusal : (s : State) (e : Edit) (d at : ℕ) (fault : RouteFault) → IsPlacedFault s (e ∷ []) d at fault → (named : List ℕ) → named ≡ ends e
     → (refusal : PlainRefusal) → IsRefusalOf fault named None refusal → IsEditRefusal (net_at s) e refusal
-edit_refusal s e d at (route.Net fault) why place named here refusal is = (
+edit_refusal s e d at (route.Net fault) why named here refusal is = (
   fault,
-  refused_edit s e (record { at = at; fault = fault }) place.0,
-  named_edit s e (record { at = at; fault = fault }) place.0 place.1,
+  refused_edit s e (record { at = at; fault = fault }) why.0,
+  named_edit s e (record { at = at; fault = fault }) why.0 why.1,
   is ∙ ap (λ (nodes : List ℕ). refusal_for fault nodes None) here,
 )
-edit_refusal s e d at route.Range why place named here refusal is = absurd why
-edit_refusal s e d at route.Start why place named here refusal is = absurd is
-edit_refusal s e d at route.Memory why place named here refusal is = absurd is
+edit_refusal s e d at route.Range why named here refusal is = absurd why
+edit_refusal s e d at route.Start why named here refusal is = absurd is
+edit_refusal s e d at route.Memory why named here refusal is = absurd is
 
 -- the place of a refused edit is within the batch
 place_inside : (s : State) (edits : List Edit) (at : ℕ) (fault : NetFault) → IsBatchFault (net_at s) edits (record { at = at; fault = fault }) → at < length edits
@@ -193,27 +191,27 @@ ends_inside edits at named low here =
     same ∙ ap ends_in (sym is)
 
 -- a batch is refused for this fault
-pub batch_refusal : (s : State) (edits : List Edit) (d at : ℕ) (fault : RouteFault) → IsEditingFault s edits d fault
-    → IsPlacedFault s edits at fault → (named : List ℕ) → IfSome (slice_get edits at) (λ e. named ≡ ends e)
+pub batch_refusal : (s : State) (edits : List Edit) (d at : ℕ) (fault : RouteFault) → IsPlacedFault s edits d at fault
+    → (named : List ℕ) → IfSome (slice_get edits at) (λ e. named ≡ ends e)
     → (refusal : PlainRefusal) → IsRefusalOf fault named (Some at) refusal → IsBatchRefusal (net_at s) edits refusal
-batch_refusal s edits d at (route.Net fault) why place named here refusal is =
-    let low = place_inside s edits at fault place.0 in (
+batch_refusal s edits d at (route.Net fault) why named here refusal is =
+    let low = place_inside s edits at fault why.0 in (
       record { at = at; fault = fault },
-      place.0,
-      place.1,
+      why.0,
+      why.1,
       is ∙ ap (λ (nodes : List ℕ). refusal_for fault nodes (Some at)) (ends_inside edits at named low here),
     )
-batch_refusal s edits d at route.Range why place named here refusal is = absurd why
-batch_refusal s edits d at route.Start why place named here refusal is = absurd is
-batch_refusal s edits d at route.Memory why place named here refusal is = absurd is
+batch_refusal s edits d at route.Range why named here refusal is = absurd why
+batch_refusal s edits d at route.Start why named here refusal is = absurd is
+batch_refusal s edits d at route.Memory why named here refusal is = absurd is
 
 -- without an edit none is refused
-pub no_refusal : (s : State) (d at : ℕ) (fault : RouteFault) → IsEditingFault s [] d fault → IsPlacedFault s [] at fault → (named : List ℕ) (place : Option ℕ)
+pub no_refusal : (s : State) (d at : ℕ) (fault : RouteFault) → IsPlacedFault s [] d at fault → (named : List ℕ) (place : Option ℕ)
     (refusal : PlainRefusal) → IsRefusalOf fault named place refusal → ⊥
-no_refusal s d at (route.Net fault) why place named at_edit refusal is = let low = place_inside s [] at fault place.0 in omega (arith, low)
-no_refusal s d at route.Range why place named at_edit refusal is = why
-no_refusal s d at route.Start why place named at_edit refusal is = is
-no_refusal s d at route.Memory why place named at_edit refusal is = is
+no_refusal s d at (route.Net fault) why named at_edit refusal is = let low = place_inside s [] at fault why.0 in omega (arith, low)
+no_refusal s d at route.Range why named at_edit refusal is = why
+no_refusal s d at route.Start why named at_edit refusal is = is
+no_refusal s d at route.Memory why named at_edit refusal is = is
 
 -- a request for an edit is refused as the edit is
 pub edit_is_refused : (s : State) (e : Edit) (refusal : PlainRefusal) → IsEditRefusal (net_at s) e refusal → IsRefusal (Some s) (request_of_edit e) refusal
@@ -257,10 +255,10 @@ edit_tells s (edit.Cut u v) new before after is = is
 edit_tells s (edit.Add u v) new before after is = is
 edit_tells s (edit.Join u v) new before after is = is
 
-pub edit_may_start : (s : State) (e : Edit) → IsEditingFault s (e ∷ []) s.dest route.Start → MayStartFor (Some s) (request_of_edit e)
-edit_may_start s (edit.Cut u v) may = may
-edit_may_start s (edit.Add u v) may = may
-edit_may_start s (edit.Join u v) may = may
+pub edit_may_start : (s : State) (e : Edit) (at : ℕ) → IsPlacedFault s (e ∷ []) s.dest at route.Start → MayStartFor (Some s) (request_of_edit e)
+edit_may_start s (edit.Cut u v) at may = may
+edit_may_start s (edit.Add u v) at may = may
+edit_may_start s (edit.Join u v) at may = may
 
 -- an edit needs a network
 pub edit_wants : (e : Edit) → IsRefusal None (request_of_edit e) (bare_refusal 3)

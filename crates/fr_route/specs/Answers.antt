@@ -2,7 +2,7 @@
 -- project's own.
 use Rattle.std.specs.Prelude.{◌≡◌, ℕ, ◌<◌, ◌≤◌, ◌⊎◌, List, [], ◌∷◌, ◌++◌}
 use Rattle.std.specs.Prelude.{MatchBool, Option, Some, None, Result, Ok, Err}
-use Rattle.fr_graph.specs.Batches.{IsBatchFault}
+use Rattle.fr_graph.specs.Batches.{IsBatchFault, IsEditFault}
 use Rattle.fr_graph.specs.Faults.{IsFirstFault, IsFaultless, IsNetworkOf}
 use Rattle.fr_graph.specs.Network.{Network}
 use Rattle.fr_lines.specs.Requests.{PlainRequest, new_network, cut_link, add_link, join_nodes}
@@ -10,13 +10,14 @@ use Rattle.fr_lines.specs.Requests.{make_edits, move_dest, walk_from, ask, readi
 use Rattle.fr_lines.specs.declared.requests.Question.TheVariants.{Links, Counts, Hops}
 use Rattle.fr_lines.specs.declared.requests.LineFault.{LineFault}
 use Rattle.fr_lines.specs.declared.requests.LineFault.TheVariants.{NotJson, NotRequest, Memory as LineMemory}
+use Rattle.fr_graph.specs.declared.edit.Edit.TheVariants as edit
 use Rattle.fr_graph.specs.declared.fault.EditFault.{EditFault}
 use Rattle.fr_graph.specs.declared.fault.NetFault.{NetFault}
 use Rattle.fr_graph.specs.declared.fault.NetFault.TheVariants.{TooMany, Range, SelfLink, Twice, Cycle, NoLink, Memory}
 use Rattle.fr_route.specs.Blank.{is_blank}
 use Rattle.fr_route.specs.States.{State, IsRound, IsReport, IsCutOff, net_at}
 use Rattle.fr_route.specs.Routes.{IsRoute, AreHops}
-use Rattle.fr_route.specs.Changes.{CanTurnAfter, IsBatch, IsChanged, IsChangeFault, IsMoved, IsStill, MayStart}
+use Rattle.fr_route.specs.Changes.{CanTurnAfter, IsBatch, IsChanged, IsMoved, IsStill, MayStart}
 use Rattle.fr_route.specs.Texts.{counts_text, links_text, hops_text, walk_text, no_walk_text, report_text, refusal_text}
 use Rattle.fr_route.specs.declared.change.Change.TheVariants.{Cut, Add, Join, Destination}
 use Rattle.fr_tables.specs.declared.hop.Hop.{Hop}
@@ -39,11 +40,11 @@ IsRefused s (new_network n d links) number =
     ((fault : NetFault) × IsFirstFault n links fault × (number ≡ fault_number fault))
     ⊎ (IsFaultless n links × (n ≤ d) × (number ≡ 4))
 IsRefused None request number = number ≡ 3
-IsRefused (Some s) (cut_link u v) number = (fault : NetFault) × IsChangeFault s (Cut u v) fault
+IsRefused (Some s) (cut_link u v) number = (fault : NetFault) × IsEditFault (net_at s) (edit.Cut u v) fault
     × (number ≡ fault_number fault)
-IsRefused (Some s) (add_link u v) number = (fault : NetFault) × IsChangeFault s (Add u v) fault
+IsRefused (Some s) (add_link u v) number = (fault : NetFault) × IsEditFault (net_at s) (edit.Add u v) fault
     × (number ≡ fault_number fault)
-IsRefused (Some s) (join_nodes u v) number = (fault : NetFault) × IsChangeFault s (Join u v) fault
+IsRefused (Some s) (join_nodes u v) number = (fault : NetFault) × IsEditFault (net_at s) (edit.Join u v) fault
     × (number ≡ fault_number fault)
 IsRefused (Some s) (make_edits edits) number = (refused : EditFault) × IsBatchFault (net_at s) edits refused
     × (number ≡ fault_number refused.fault)

@@ -1,13 +1,13 @@
 -- What a change makes of a state, and why a change is refused. This project's own; failed and added links are those of
 -- Gafni and Bertsekas (1981).
-use Rattle.std.specs.Prelude.{◌≡◌, ℕ, ◌<◌, ◌≤◌, List, [], ◌∷◌, ◌++◌, length, replicate}
+use Rattle.std.specs.Prelude.{ℕ, ◌<◌, ◌≤◌, List, [], ◌∷◌, ◌++◌, length, replicate}
 use Rattle.fr_graph.specs.Batches.{AreMade, IsBatchFault}
 use Rattle.fr_graph.specs.Edits.{IsCutFault, IsJoined, IsJoinFault, without}
+use Rattle.fr_graph.specs.Evidence.{NamesInBatch, NamesOfLink}
 use Rattle.fr_graph.specs.Faults.{IsFirstFault, IsFaultless}
 use Rattle.fr_graph.specs.Limits.{most_edits}
 use Rattle.fr_graph.specs.Links.{Joins}
 use Rattle.fr_graph.specs.Network.{Network}
-use Rattle.fr_graph.specs.declared.fault.EditFault.{EditFault}
 use Rattle.fr_graph.specs.declared.fault.NetFault.{NetFault}
 use Rattle.fr_graph.specs.declared.edit.Edit.{Edit}
 use Rattle.fr_graph.specs.declared.edit.Edit.TheVariants as edit
@@ -43,13 +43,20 @@ IsChanged s (Join u v) new = IsAfterJoin s u v new
 IsChanged s (Batch edits) new = IsBatch s edits.items new
 IsChanged s (Destination d) new = IsMoved s d new
 
--- the change is refused with this fault
+-- the edits are refused with this fault, at this place, and the fault names exactly what `NamesInBatch` says
+abbrev pub AreRefused : Network → List Edit → ℕ → NetFault → Type 0
+AreRefused net edits at fault =
+    IsBatchFault net edits (record { at = at; fault = fault })
+    × NamesInBatch net edits (record { at = at; fault = fault })
+
+-- the change is refused with this fault, and the fault of an added link, a join or a batch names exactly what
+-- `NamesOfLink` or `NamesInBatch` says
 abbrev pub IsChangeFault : State → Change → NetFault → Type 0
 IsChangeFault s (Cut u v) fault = IsCutFault s.links u v fault
-IsChangeFault s (Add u v) fault = IsFirstFault s.nodes (s.links ++ (u, v) ∷ []) fault
-IsChangeFault s (Join u v) fault = IsJoinFault s.nodes s.links u v fault
-IsChangeFault s (Batch edits) fault = (refused : EditFault)
-    × (IsBatchFault (net_at s) edits.items refused × (fault ≡ refused.fault))
+IsChangeFault s (Add u v) fault =
+    IsFirstFault s.nodes (s.links ++ (u, v) ∷ []) fault × NamesOfLink (net_at s) u v fault
+IsChangeFault s (Join u v) fault = IsJoinFault s.nodes s.links u v fault × NamesOfLink (net_at s) u v fault
+IsChangeFault s (Batch edits) fault = (at : ℕ) × AreRefused (net_at s) edits.items at fault
 IsChangeFault s (Destination d) fault = ⊥
 
 -- the change names a destination that is not a node

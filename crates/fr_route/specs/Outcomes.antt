@@ -2,18 +2,17 @@
 use Rattle.std.specs.Prelude.{◌≡◌, ℕ, ◌<◌, ◌≤◌, ◌⊎◌, ◌↔◌, not, ◌==◌, ◌&&◌, List, [], ◌∷◌, ◌++◌}
 use Rattle.std.specs.Prelude.{count_by, length, nat_eq, slice_get, slice_index, Some, ◌≢◌}
 use Rattle.std.specs.List.{All, Contains, IsDistinct, filter, range_with_len}
-use Rattle.fr_graph.specs.Batches.{AreMade, IsBatchFault}
+use Rattle.fr_graph.specs.Batches.{AreMade}
 use Rattle.fr_graph.specs.Counts.{links_at}
 use Rattle.fr_graph.specs.Limits.{most_edits}
 use Rattle.fr_graph.specs.Network.{Network, net_of}
 use Rattle.fr_graph.specs.Links.{Joins}
 use Rattle.fr_graph.specs.Rows.{has_no_neighbour}
-use Rattle.fr_graph.specs.declared.fault.EditFault.{EditFault}
 use Rattle.fr_graph.specs.declared.edit.Edit.{Edit}
 use Rattle.fr_graph.specs.declared.edit.Edit.TheVariants.{Cut, Add, Join}
 use Rattle.fr_crew.specs.Settlements.{IsCounted}
 use Rattle.fr_route.specs.Routes.{AreHops, IsHop}
-use Rattle.fr_route.specs.Changes.{CanTurnAfter, IsOpenFault, IsStill}
+use Rattle.fr_route.specs.Changes.{AreRefused, CanTurnAfter, IsOpenFault, IsStill}
 use Rattle.fr_route.specs.Listing.{HasPlaces, KeepsPlaces, nodes_told}
 use Rattle.fr_route.specs.States.{State, IsReport, IsRound, net_at, state_with}
 use Rattle.fr_route.specs.declared.fault.RouteFault.{RouteFault}
@@ -126,10 +125,13 @@ abbrev pub IsEdited : State → List Edit → ℕ → State → Type 0
 IsEdited s edits d new =
     (length edits ≤ most_edits) × ((net : Network) × (AreMade (net_at s) edits net × IsRound net.nodes d net.links new))
 
--- why this fails: an edit is refused, or a thread or memory is missing
+-- why this fails: the edits are refused at this place, or a thread or memory is missing
+abbrev pub IsPlacedFault : State → List Edit → ℕ → ℕ → RouteFault → Type 0
+IsPlacedFault s edits d at (Net fault) = AreRefused (net_at s) edits at fault
+IsPlacedFault s edits d at Range = ⊥
+IsPlacedFault s edits d at Start = CanTurnAfter s edits d
+IsPlacedFault s edits d at Memory = Unit {0}
+
+-- the same at any place
 abbrev pub IsEditingFault : State → List Edit → ℕ → RouteFault → Type 0
-IsEditingFault s edits d (Net fault) = (refused : EditFault)
-    × (IsBatchFault (net_at s) edits refused × (fault ≡ refused.fault))
-IsEditingFault s edits d Range = ⊥
-IsEditingFault s edits d Start = CanTurnAfter s edits d
-IsEditingFault s edits d Memory = Unit {0}
+IsEditingFault s edits d fault = (at : ℕ) × IsPlacedFault s edits d at fault

@@ -12,7 +12,7 @@ use Rattle.fr_route.specs.Blank.{is_blank}
 use Rattle.fr_route.specs.Forms.{IsAnswerIn, IsLineRefused}
 use Rattle.fr_route.specs.Json.{IsJsonReport, IsJsonText, IsRefusal, PlainRefusal, bare_refusal, refusal_json}
 use Rattle.fr_route.specs.Listing.{IsListing, nodes_told}
-use Rattle.fr_route.specs.Outcomes.{IsEdited, IsEditingFault}
+use Rattle.fr_route.specs.Outcomes.{IsEdited}
 use Rattle.fr_route.specs.Reroutes.{AreRerouted}
 use Rattle.fr_route.specs.States.{State}
 use Rattle.fr_route.specs.Texts.{longest_report, refusal_text}
@@ -138,7 +138,6 @@ pub record IsRevised (never : Type 0) (form : Form) (s : State) (revision : Revi
   pub report : HasList form told → IfOk text (λ it. IsReportIn form (AreRerouted s next) next (string_bytes it))
   pub short : form ≡ Text → IfOk text (λ it. length (string_bytes it) ≤ longest_report)
   pub rerouted : IsListing told → IfOk text (λ _. AreRerouted s next (nodes_told more))
-  pub fault : IfErr text (λ undone. IsEditingFault s revision.edits.now revision.dest undone.fault)
-  pub place : IfErr text (IsPlaced s revision.edits.now)
+  pub fault : IfErr text (IsPlaced s revision.edits.now revision.dest)
   pub unchanged : OnErr text ((next ≡ s) × (nodes_told more ≡ nodes_told told))
   pub no_start : never → IfErr text (λ undone. undone.fault ≢ route.Start)

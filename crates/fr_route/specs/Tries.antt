@@ -1,17 +1,15 @@
 -- What a router does with edits or a change, by any way to settle networks. For proofs only.
 use Rattle.std.specs.Prelude.{◌≡◌, ◌≢◌, ℕ, List, [], ◌∷◌, Result, Ok, Err, IfOk, IfErr, OnErr}
-use Rattle.fr_graph.specs.Batches.{IsBatchFault}
 use Rattle.fr_graph.specs.declared.edit.Edit.{Edit}
-use Rattle.fr_graph.specs.Evidence.{NamesInBatch}
 use Rattle.fr_route.specs.Changes.{IsChanged, IsRouteFault}
 use Rattle.fr_route.specs.Listing.{IsListing, nodes_told}
-use Rattle.fr_route.specs.Outcomes.{IsEdited, IsEditingFault}
+use Rattle.fr_route.specs.Outcomes.{IsEdited, IsEditingFault, IsPlacedFault}
 use Rattle.fr_route.specs.Reroutes.{AreRerouted}
-use Rattle.fr_route.specs.States.{State, IsReport, net_at}
+use Rattle.fr_route.specs.States.{State, IsReport}
 use Rattle.fr_route.specs.declared.change.Change.{Change}
 use Rattle.fr_route.specs.declared.change.Report.{Report}
 use Rattle.fr_route.specs.declared.fault.RouteFault.{RouteFault}
-use Rattle.fr_route.specs.declared.fault.RouteFault.TheVariants.{Net, Range, Start, Memory}
+use Rattle.fr_route.specs.declared.fault.RouteFault.TheVariants.{Start, Memory}
 use Rattle.fr_route.specs.declared.fault.NotMade.{NotMade}
 use Rattle.fr_route.specs.declared.revision.Revision.{Revision}
 use Rattle.fr_route.specs.declared.told.Told.{Told}
@@ -40,17 +38,9 @@ change_of s change = record { Made = IsChanged s change; Undone = IsRouteFault s
 abbrev pub missing_memory : NotMade
 missing_memory = record { at = 0; fault = Memory }
 
--- the place of the fault is that of the first refused edit, and the fault names what it has to
-abbrev pub IsPlacedFault : State → List Edit → ℕ → RouteFault → Type 0
-IsPlacedFault s edits at (Net fault) =
-    IsBatchFault (net_at s) edits (record { at = at; fault = fault })
-    × NamesInBatch (net_at s) edits (record { at = at; fault = fault })
-IsPlacedFault s edits at Range = Unit {0}
-IsPlacedFault s edits at Start = Unit {0}
-IsPlacedFault s edits at Memory = Unit {0}
-
-abbrev pub IsPlaced : State → List Edit → NotMade → Type 0
-IsPlaced s edits undone = IsPlacedFault s edits undone.at undone.fault
+-- why edits are not made, with the place of the refused edit
+abbrev pub IsPlaced : State → List Edit → ℕ → NotMade → Type 0
+IsPlaced s edits d undone = IsPlacedFault s edits d undone.at undone.fault
 
 -- the result without the place of the refused edit
 abbrev pub without_place : {T : Type 0} → Result T NotMade → Result T RouteFault

@@ -12,7 +12,7 @@ ghost use Rattle.fr_route.specs.Routes.{IsHop, AreHops, IsWalked};
 ghost use Rattle.fr_route.specs.Changes.{IsOpenFault, IsChanged, IsRouteFault, IsStill};
 ghost use Rattle.fr_route.specs.Reroutes.{ArePushes, AreReplaced, IsPushesFault, TellsRerouted};
 ghost use Rattle.fr_route.specs.Tries.{IsPlaced, IsTried, change_of, revision_of, without_place};
-ghost use Rattle.fr_route.specs.Outcomes.{IsEditingFault, IsOutcome, IsRoundFault};
+ghost use Rattle.fr_route.specs.Outcomes.{IsOutcome, IsRoundFault};
 ghost use Rattle.fr_route.specs.Outcomes.{IsSettledTable, cut_off_nodes, movable};
 
 use crate::change::{Change, Report};
@@ -151,7 +151,7 @@ impl<'a, F: Fn(&Net, u32, Option<&[u32]>, Turns) -> Result<Turns, CrewFault>> As
         ensures tried { IsTried (NeverStarts F.post self.now.settle.now) (revision_of router.old revision.now)
             (λ report told. K.post tell.now report (Ok told)) router.old told.old
             (without_place result) router.new told.new }
-        ensures place { IfErr result (IsPlaced router.old revision.now.edits.now) }
+        ensures place { IfErr result (IsPlaced router.old revision.now.edits.now revision.now.dest) }
     {
         told.make_room(router.net.nodes())?;
         let movable = router.movable(self.alloc, revision)?;
@@ -271,8 +271,9 @@ impl Router {
     ///
     /// Fails with `Net` and the fault for which the change is refused: a cut only for `NoLink`, an added link or a join
     /// for the faults of `Net::with_link` or `Net::with_join`, and a batch for its length or the first edit that
-    /// `Net::with_edits` refuses. Fails with `Range` only for a destination that is not a node. Fails with `Start` and
-    /// `Memory` as `open` does, but never with `Start` if the change is refused. If it fails, the router is unchanged.
+    /// `Net::with_edits` refuses. The fault names exactly the nodes or the cycle that these calls name. Fails with
+    /// `Range` only for a destination that is not a node. Fails with `Start` and `Memory` as `open` does, but never
+    /// with `Start` if the change is refused. If it fails, the router is unchanged.
     ///
     /// The change is made in place, and everything that can fail comes before anything is kept. To find nodes that can
     /// turn, the call looks only at the ends of the edited links, at the two destinations, and at the nodes with links
@@ -397,9 +398,7 @@ impl Router {
     fn movable(&self, alloc: Global, revision: &Revision<'_>) -> Result<Vec<u32>, NotMade>
         ensures movable { IfOk result
             (λ nodes. nodes.items ≡ movable self.now revision.now.dest revision.now.edits.now) }
-        ensures fault { IfErr result
-            (λ undone. IsEditingFault self.now revision.now.edits.now revision.now.dest undone.fault) }
-        ensures place { IfErr result (IsPlaced self.now revision.now.edits.now) }
+        ensures fault { IfErr result (IsPlaced self.now revision.now.edits.now revision.now.dest) }
         ensures no_start { IfErr result (λ undone. undone.fault ≢ Start) }
     {
         if revision.edits.len() > MAX_EDITS {

@@ -11,7 +11,7 @@ use Rattle.fr_route.specs.Changes.{IsOpenFault, IsStill}
 use Rattle.fr_route.specs.Faults.{of_not_edited}
 use Rattle.fr_route.specs.Listing.{HasPlaces, IsListing, nodes_told}
 use Rattle.fr_crew.specs.Settlements.{IsCounted}
-use Rattle.fr_route.specs.Outcomes.{AreOthers, HoldsMoved, IsEditingFault, IsOutcome, movable, settled_state}
+use Rattle.fr_route.specs.Outcomes.{AreOthers, HoldsMoved, IsOutcome, movable, settled_state}
 use Rattle.fr_route.specs.Reroutes.{AreRerouted}
 use Rattle.fr_route.specs.Routes.{AreHops}
 use Rattle.fr_route.specs.RouterInside.{state_of}
@@ -24,14 +24,14 @@ use Rattle.std.specs.declared.vec.Vec.{Vec}
 use Rattle.fr_tables.specs.Pushes.{IsPushOrder}
 use Rattle.fr_tables.specs.declared.hop.Hop.{Hop}
 use Rattle.fr_route.proofs.CutNodes.{after_outcome, ended}
-use Rattle.fr_route.proofs.Changing.{made_nodes, refused_fault, refused_place, round_fault, round_place}
+use Rattle.fr_route.proofs.Changing.{made_nodes, refused_fault, round_fault}
 use Rattle.fr_route.proofs.Inside.{sound_after}
 use Rattle.fr_route.proofs.Moving.{made_net, movable_sinks, unmoved_hops}
 use Rattle.fr_route.proofs.Noting.{listing_has}
 use Rattle.fr_route.proofs.SettledHops.{settled_in_range, settled_loop_free}
 use Rattle.fr_route.proofs.settling.Asking.edit.Given.{Over}
 use Rattle.fr_route.proofs.settling.Asking.edit.Goals as goal
-use Rattle.fr_route.proofs.settling.Asking.edit.Goals.{After-as_slice-from, After-put_in_place, After-router, In_ok-outcome}
+use Rattle.fr_route.proofs.settling.Asking.edit.Goals.{After-as_slice-from, After-put_in_place, After-router, In_err-outcome, In_ok-outcome}
 
 items_put : (v : Vec Hop Global) (hops : List Hop) → length hops ≡ length v.items → (with_items v hops).items ≡ hops
 items_put v hops as_many = with_items_is v hops (omega (arith, as_many, v.ok.0))
@@ -84,35 +84,58 @@ returns-in_err-make_room-clause-tried g c =
       made = tt;
       told_of = tt;
       rerouted = tt;
-      fault = tt;
+      fault = (0, tt);
       unchanged = refl;
       untold = c.make_room.ensures.same;
       no_start = λ _ e. absurd cc;
     })
 
-pub returns-in_err-outcome-clause-tried : goal.returns-in_err-outcome-clause-tried
-returns-in_err-outcome-clause-tried g c =
+pub returns-in_err-movable-clause-tried : goal.returns-in_err-movable-clause-tried
+returns-in_err-movable-clause-tried g c =
+    let p = err_from_is_err_and c.from_residual-in_err-movable.result c.from_residual-in_err-movable.ensures.1 in
+    rw (p.1, p.2) (record {
+      made = tt;
+      told_of = tt;
+      rerouted = tt;
+      fault = (c.in_err-movable.field-0.0.at, c.in_err-movable.ensures.fault);
+      unchanged = refl;
+      untold = c.make_room.ensures.same;
+      no_start = λ _. c.in_err-movable.ensures.no_start;
+    })
+
+-- why the edits are not made, or why there is no round on the network that they make
+not_made : (g : Over) (c : In_err-outcome g) → c.args.revision.now.dest < (state_of c.router.inside).nodes
+    → state_of c.router.inside ≡ c.args.router.now
+    → IsPlaced c.args.router.now c.args.revision.now.edits.now c.args.revision.now.dest (of_not_edited c.in_err-outcome.field-0.0)
+not_made g c below same =
     let s : State = state_of c.router.inside in
     let edits = c.args.revision.now.edits.now in
-    let at = (goal.at.returns-in_err-outcome-clause-tried g c).After-router in
-    let below = in_range g at in
+    let d = c.args.revision.now.dest in
     let reason = c.in_err-outcome.field-0.0 in
-    let fault : (r : NotEdited RouteFault) → c.in_err-outcome.field-0.0 ≡ r → IsEditingFault s edits c.args.revision.now.dest (of_not_edited r).fault =
-    λ r. elim r as (λ (r : NotEdited RouteFault). c.in_err-outcome.field-0.0 ≡ r → IsEditingFault s edits c.args.revision.now.dest (of_not_edited r).fault) [
-      | Refused refused ↦ λ is. refused_fault s edits c.args.revision.now.dest refused (rw is at c.in_err-outcome.ensures.refused)
+    let placed : (r : NotEdited RouteFault) → reason ≡ r → IsPlaced s edits d (of_not_edited r) =
+    λ r. elim r as (λ (r : NotEdited RouteFault). c.in_err-outcome.field-0.0 ≡ r → IsPlaced s edits d (of_not_edited r)) [
+      | Refused refused ↦ λ is.
+          refused_fault s edits d refused (rw is at c.in_err-outcome.ensures.refused)
+          (rw is at c.in_err-outcome.ensures.names)
       | Fault fault ↦ λ is.
           let why = rw is at c.in_err-outcome.ensures.refused in
           let told = why.1.1.1.1.1.1 in
-          round_fault s edits why.0 c.args.revision.now.dest fault below why.1.1.0 why.1.0
-          (subst (λ (m : Network). IsOpenFault m.nodes c.args.revision.now.dest fault) {y = why.0} why.1.1.1.2 told.why)
-          (subst (λ (m : Network). IsStill m c.args.revision.now.dest → fault ≢ Start) {y = why.0} why.1.1.1.2 told.still)
+          round_fault s edits why.0 d 0 fault below why.1.1.0 why.1.0
+          (subst (λ (m : Network). IsOpenFault m.nodes d fault) {y = why.0} why.1.1.1.2 told.why)
+          (subst (λ (m : Network). IsStill m d → fault ≢ Start) {y = why.0} why.1.1.1.2 told.still)
     ] in
+    subst (λ (now : State). IsPlaced now edits d (of_not_edited reason)) same (placed reason refl)
+
+pub returns-in_err-outcome-clause-tried : goal.returns-in_err-outcome-clause-tried
+returns-in_err-outcome-clause-tried g c =
+    let at = goal.at.returns-in_err-outcome-clause-tried g c in
+    let reason = c.in_err-outcome.field-0.0 in
     let p = err_from_is_err_and c.from_residual-in_err-outcome.result c.from_residual-in_err-outcome.ensures.1 in
     rw (p.1, p.2) (record {
       made = tt;
       told_of = tt;
       rerouted = tt;
-      fault = subst (λ (now : State). IsEditingFault now edits c.args.revision.now.dest (of_not_edited reason).fault) (now_is g at) (fault reason refl);
+      fault = ((of_not_edited reason).at, not_made g at.In_err-outcome (in_range g at.After-router) (now_is g at.After-router));
       unchanged = search rules;
       untold = c.make_room.ensures.same;
       no_start = search rules;
@@ -120,21 +143,9 @@ returns-in_err-outcome-clause-tried g c =
 
 pub returns-in_err-outcome-clause-place : goal.returns-in_err-outcome-clause-place
 returns-in_err-outcome-clause-place g c =
-    let s : State = state_of c.router.inside in
-    let edits = c.args.revision.now.edits.now in
-    let at = (goal.at.returns-in_err-outcome-clause-place g c).After-router in
-    let reason = c.in_err-outcome.field-0.0 in
-    let place : (r : NotEdited RouteFault) → c.in_err-outcome.field-0.0 ≡ r → IsPlaced s edits (of_not_edited r) =
-    λ r. elim r as (λ (r : NotEdited RouteFault). c.in_err-outcome.field-0.0 ≡ r → IsPlaced s edits (of_not_edited r)) [
-      | Refused refused ↦ λ is. refused_place s edits refused (rw is at c.in_err-outcome.ensures.refused) (rw is at c.in_err-outcome.ensures.names)
-      | Fault fault ↦ λ is.
-          let why = rw is at c.in_err-outcome.ensures.refused in
-          let told = why.1.1.1.1.1.1 in
-          round_place s edits 0 why.0.nodes c.args.revision.now.dest fault
-          (subst (λ (m : Network). IsOpenFault m.nodes c.args.revision.now.dest fault) {y = why.0} why.1.1.1.2 told.why)
-    ] in
+    let at = goal.at.returns-in_err-outcome-clause-place g c in
     let p = err_from_is_err_and c.from_residual-in_err-outcome.result c.from_residual-in_err-outcome.ensures.1 in
-    rw (p.1, p.2) (subst (λ (now : State). IsPlaced now edits (of_not_edited reason)) (now_is g at) (place reason refl))
+    rw (p.1, p.2) (not_made g at.In_err-outcome (in_range g at.After-router) (now_is g at.After-router))
 
 pub put_in_place-requires-clause-one_each : goal.put_in_place-requires-clause-one_each
 put_in_place-requires-clause-one_each g c =

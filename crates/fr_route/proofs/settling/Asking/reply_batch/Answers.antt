@@ -1,6 +1,6 @@
 use Rattle.std.proofs.Common.{◌≡◌, ◌∙◌, Ok, Some, ap, refl, subst, sym, ℕ}
 use Rattle.fr_lines.specs.Requests.{make_edits}
-use Rattle.fr_route.specs.Outcomes.{IsEdited, IsEditingFault}
+use Rattle.fr_route.specs.Outcomes.{IsEdited, IsPlacedFault}
 use Rattle.fr_route.specs.States.{State}
 use Rattle.fr_route.specs.declared.fault.RouteFault.TheVariants.{Start}
 use Rattle.fr_route.proofs.Replying.{batch_refusal, batch_text, faulty, none_yet, revised}
@@ -25,9 +25,9 @@ returns g c =
           (λ after is. is))
       | in-Err w ↦ rw (here, w.result-is) (faulty _ c.args.manner (Some s) (Ok (make_edits edits)) c.args.told.now w.in-Err.undone.fault w.ends_at.result (Some w.in-Err.undone.at) w.refuse_for.result
           (Some c.revise.new.router) c.revise.new.told
-          (λ refusal is. batch_refusal s edits c.dest-dest.result w.in-Err.undone.at w.in-Err.undone.fault w.in-Err.ensures.fault w.in-Err.ensures.place w.ends_at.result w.ends_at.ensures refusal is)
-          (λ e. subst (λ (d : ℕ). IsEditingFault s edits d Start) c.dest-dest.ensures.value
-          (subst (IsEditingFault s edits c.dest-dest.result) e w.in-Err.ensures.fault))
+          (λ refusal is. batch_refusal s edits c.dest-dest.result w.in-Err.undone.at w.in-Err.undone.fault w.in-Err.ensures.fault w.ends_at.result w.ends_at.ensures refusal is)
+          (λ e. subst (λ (d : ℕ). IsPlacedFault s edits d w.in-Err.undone.at Start) c.dest-dest.ensures.value
+          (subst (IsPlacedFault s edits c.dest-dest.result w.in-Err.undone.at) e w.in-Err.ensures.fault))
           w.in-Err.ensures.no_start (ap (λ (z : State). Some z) w.in-Err.ensures.unchanged.0) w.in-Err.ensures.unchanged.1
           w.refuse_for.ensures.refuses w.refuse_for.ensures.start)
     ]

@@ -1,5 +1,5 @@
 use Rattle.std.proofs.Common.{◌≡◌, ◌∙◌, None, Ok, Some, [], ◌∷◌, ap, subst, sym, ℕ}
-use Rattle.fr_route.specs.Outcomes.{IsEdited, IsEditingFault}
+use Rattle.fr_route.specs.Outcomes.{IsEdited, IsPlacedFault}
 use Rattle.fr_route.specs.Replies.{request_of_edit}
 use Rattle.fr_route.specs.States.{State}
 use Rattle.fr_route.specs.declared.fault.RouteFault.TheVariants.{Start}
@@ -25,9 +25,10 @@ returns g c =
       | in-Err w ↦ rw (here, w.result-is) (faulty _ c.args.manner (Some s) (Ok (request_of_edit c.args.edit)) c.args.told.now w.in-Err.undone.fault w.ends_at.result None w.refuse_for.result
           (Some c.revise.new.router) c.revise.new.told
           (λ refusal is. edit_is_refused s c.args.edit refusal
-          (edit_refusal s c.args.edit c.dest-dest.result w.in-Err.undone.at w.in-Err.undone.fault w.in-Err.ensures.fault w.in-Err.ensures.place w.ends_at.result w.ends_at.ensures refusal is))
-          (λ e. edit_may_start s c.args.edit (subst (λ (d : ℕ). IsEditingFault s (c.args.edit ∷ []) d Start) c.dest-dest.ensures.value
-          (subst (IsEditingFault s (c.args.edit ∷ []) c.dest-dest.result) e w.in-Err.ensures.fault)))
+          (edit_refusal s c.args.edit c.dest-dest.result w.in-Err.undone.at w.in-Err.undone.fault w.in-Err.ensures.fault w.ends_at.result w.ends_at.ensures refusal is))
+          (λ e. edit_may_start s c.args.edit w.in-Err.undone.at
+          (subst (λ (d : ℕ). IsPlacedFault s (c.args.edit ∷ []) d w.in-Err.undone.at Start) c.dest-dest.ensures.value
+          (subst (IsPlacedFault s (c.args.edit ∷ []) c.dest-dest.result w.in-Err.undone.at) e w.in-Err.ensures.fault)))
           w.in-Err.ensures.no_start (ap (λ (z : State). Some z) w.in-Err.ensures.unchanged.0) w.in-Err.ensures.unchanged.1
           w.refuse_for.ensures.refuses w.refuse_for.ensures.start)
     ]

@@ -1,7 +1,7 @@
 use Rattle.std.proofs.Common.{◌≡◌, ◌∙◌, ◌<◌, None, Ok, Some, [], ap, arith, refl, subst, sym}
 use Rattle.fr_graph.specs.Network.{Network}
 use Rattle.fr_lines.specs.Requests.{move_dest}
-use Rattle.fr_route.specs.Outcomes.{IsEditingFault}
+use Rattle.fr_route.specs.Outcomes.{IsPlacedFault}
 use Rattle.fr_route.specs.States.{State, IsRound}
 use Rattle.fr_route.proofs.Replying.{faulty, move_text, no_refusal, none_yet, revised}
 use Rattle.fr_route.proofs.settling.Asking.reply_move.Goals as goal
@@ -26,8 +26,8 @@ returns g c =
           (λ after is. is))
       | in-Err w ↦ rw (here, w.result-is) (faulty _ c.args.manner (Some s) (Ok (move_dest d)) c.args.told.now w.in-Err.undone.fault [] None w.refuse_for.result
           (Some c.revise.new.router) c.revise.new.told
-          (λ refusal is. absurd (no_refusal s d w.in-Err.undone.at w.in-Err.undone.fault w.in-Err.ensures.fault w.in-Err.ensures.place [] None refusal is))
-          (λ e. subst (IsEditingFault s [] d) e w.in-Err.ensures.fault)
+          (λ refusal is. absurd (no_refusal s d w.in-Err.undone.at w.in-Err.undone.fault w.in-Err.ensures.fault [] None refusal is))
+          (λ e. subst (IsPlacedFault s [] d w.in-Err.undone.at) e w.in-Err.ensures.fault)
           w.in-Err.ensures.no_start (ap (λ (z : State). Some z) w.in-Err.ensures.unchanged.0) w.in-Err.ensures.unchanged.1
           w.refuse_for.ensures.refuses w.refuse_for.ensures.start)
     ]

@@ -38,7 +38,6 @@ returns g c =
           omega (arith, room, c.in_ok-push_report_in.ensures.room.length, c.in_ok-text.ensures.length, c.push_report_in.new.line.bytes.ok.0);
       rerouted = λ listing. tried.rerouted listing;
       fault = tt;
-      place = tt;
       unchanged = tt;
       no_start = λ h. tt;
     }
