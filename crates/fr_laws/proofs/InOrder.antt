@@ -1,5 +1,5 @@
 -- Which call came first: a call that knows another one comes after it, and finds no counts from before it.
-use Rattle.std.proofs.Common.{◌≡◌, ℕ, ◌+◌, ◌<◌, ◌≤◌, ◌&&◌, ◌==◌, cond, ◌⊎◌, ⊎_elim, inl, inr, List, [], ◌∷◌, ◌++◌, append_assoc, refl, sym, ap, ◌∙◌}
+use Rattle.std.proofs.Common.{◌≡◌, ℕ, ◌+◌, ◌≤◌, ◌&&◌, ◌==◌, cond, ◌⊎◌, ⊎_elim, inl, inr, List, [], ◌∷◌, ◌++◌, append_assoc, ap, ◌∙◌}
 use Rattle.std.proofs.Common.{arith, subst}
 use Rattle.std.proofs.lemmas.List.Sums.{sum_by-append}
 use Rattle.std.specs.Prelude.{slice_index}
@@ -10,7 +10,6 @@ use Rattle.fr_core.proofs.Rounds.{run_parts}
 use Rattle.fr_core.specs.History.{is_turned, turn_count_of}
 use Rattle.fr_core.specs.Legal.{IsLegal, IsLegalReply}
 use Rattle.fr_core.specs.declared.entry.Entry.{Entry}
-use Rattle.fr_core.specs.declared.entry.Reply.{Reply}
 use Rattle.fr_core.specs.declared.entry.Reply.TheVariants.{Turned, Held}
 use Rattle.fr_round.proofs.Entries.{lawful_after, reached_count}
 use Rattle.fr_round.specs.Calls.{ShowsCount}

@@ -1,4 +1,4 @@
-use Rattle.std.proofs.Common.{◌≡◌, ◌∙◌, ◌||◌, ap, false}
+use Rattle.std.proofs.Common.{◌≡◌, ◌∙◌, ◌||◌, false}
 use Rattle.std.proofs.lemmas.Result.{IfOk-weaker}
 use Rattle.clap.specs.Simple.{app_of, with_rule}
 use Rattle.clap.specs.Words.{rule_of}
