@@ -6,5 +6,6 @@ pub returns : goal.returns
 returns g c =
     let s = c.args.router.now in
     rw c.placeless.ensures
-    (edit_as _ c.args.edit c.dest-dest.result (edit_of s c.args.edit s.dest) _ s c.args.told.now (without_place c.edit.result) c.edit.new.router c.edit.new.told
+    (edit_as _ c.args.edit c.dest-dest.result (edit_of s c.args.edit s.dest) _ s c.args.told.now (without_place c.edit.result)
+    c.edit.new.router c.edit.new.told
     (λ new h. h) (λ fault h. h) c.dest-dest.ensures.value c.edit.ensures.tried)
