@@ -5,7 +5,7 @@ ghost use Rattle.fr_lines.specs.Requests.{plain};
 ghost use Rattle.fr_route.specs.Texts.{spaced_links};
 ghost use Rattle.revdot.specs.Asked.{asked_text, edit_text, pair_text, question_text, request_text, spaced_edits};
 
-use crate::rounds::push_links;
+use crate::links::push_links;
 use fr_graph::Edit;
 use fr_lines::{Question, Request};
 use std::alloc::AllocError;

@@ -9,7 +9,7 @@ ghost use Rattle.revdot.specs.Changes.{LinksFollow, changes_text, counted_line, 
 ghost use Rattle.revdot.specs.Changes.{leads_to as leads_to_of, links_line, new_links as new_links_of, of_node};
 ghost use Rattle.revdot.specs.Changes.{pushes_line, spaced_counts, spaced_pushes};
 
-use crate::rounds::push_links;
+use crate::links::push_links;
 use fr_graph::{First, Net};
 use fr_route::Hop;
 use std::alloc::{AllocError, Global};

@@ -6,6 +6,7 @@ mod asked;
 mod changes;
 mod drawing;
 mod graphs;
+mod links;
 mod page;
 mod rounds;
 mod settled;

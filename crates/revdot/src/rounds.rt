@@ -1,9 +1,9 @@
 //! The part of a story about a round: its turns, its result, and the nodes that get new hops.
 
-ghost use Rattle.std.specs.Prelude.{◌≡◌, ◌++◌, ℕ, List, true, IfOk, OnOk, codes, decimal, string_bytes, option_copied};
+ghost use Rattle.std.specs.Prelude.{◌≡◌, ◌++◌, ℕ, List, true, IfOk, OnOk, string_bytes, option_copied};
 ghost use Rattle.revdot.specs.Replays.{IsReplay, moment_of};
 ghost use Rattle.revdot.specs.Strips.{AreAllTurns, beginning};
-ghost use Rattle.fr_route.specs.Texts.{spaced, spaced_links};
+ghost use Rattle.fr_route.specs.Texts.{spaced};
 ghost use Rattle.revdot.specs.Stories.{IsRoundStory, IsResult, AreSettledLines, IsAnswerLine, turns_line};
 ghost use Rattle.revdot.specs.Stories.{is_told as is_told_of, most_told_turns, net_text};
 
@@ -92,23 +92,6 @@ fn push_result(
         }
         None => push_settled_lines(story, alloc, session),
     }
-}
-
-pub fn push_links(story: &mut String, links: &[(u32, u32)]) -> Result<(), AllocError>
-    ensures { OnOk result (string_bytes story.new ≡ string_bytes story.old ++ spaced_links links.now) }
-{
-    for link in links {
-        push_link(story, *link)?;
-    }
-    Ok(())
-}
-
-fn push_link(story: &mut String, link: (u32, u32)) -> Result<(), AllocError>
-    ensures { OnOk result
-        (string_bytes story.new
-        ≡ string_bytes story.old ++ (codes " " ++ (decimal link.0 ++ (codes ">" ++ decimal link.1)))) }
-{
-    write!(story, " {}>{}", link.0, link.1)
 }
 
 fn push_nodes(story: &mut String, nodes: &[u32]) -> Result<(), AllocError>
