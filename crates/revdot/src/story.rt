@@ -127,7 +127,7 @@ fn push_answered(
     writeln!(story, "line {number}\n{answer}")?;
     push_asked(story, request)?;
     if has_begun(request, &answer) {
-        push_round(story, alloc, before.as_ref(), session, &rerouted)
+        push_round(story, alloc, before.net.as_ref(), session, &rerouted)
     } else {
         Ok(())
     }
@@ -143,23 +143,34 @@ fn has_begun(request: &Request, answer: &str) -> bool
     }
 }
 
-/// The network that a request changes if it is accepted, and if it is told. A new network changes none.
-fn net_before(
-    alloc: Global,
-    session: &Session,
-    request: &Request,
-) -> Result<Option<Net>, AllocError>
-    ensures { IfOk result (λ net. net ≡ net_before_of session.now (plain request.now)) }
+/// What a request may change.
+struct Before {
+    /// The network, if rounds on it are told. A new network changes none.
+    net: Option<Net>,
+}
+
+// A call, so that each return of a function that owns this has little to prove.
+impl Drop for Before {
+    fn drop(self) {
+        let Before { net } = self;
+        drop(net);
+    }
+}
+
+/// The network that a request changes if it is accepted, and if it is told.
+fn net_before(alloc: Global, session: &Session, request: &Request) -> Result<Before, AllocError>
+    ensures { IfOk result (λ before. before.net ≡ net_before_of session.now (plain request.now)) }
 {
     let Some(router) = session.router() else {
-        return Ok(None);
+        return Ok(Before { net: None });
     };
     if matches!(
         request,
         Request::Network { .. } | Request::Walk { .. } | Request::Ask(_)
     ) || !is_told(router)
     {
-        return Ok(None);
+        return Ok(Before { net: None });
     }
-    Ok(Some(router.net().copied(alloc)?))
+    let net = Some(router.net().copied(alloc)?);
+    Ok(Before { net })
 }
