@@ -15,7 +15,7 @@ use fr_route::Hop;
 use std::alloc::{AllocError, Global};
 use std::fmt::Write;
 
-/// Appends the links that are gone, the new ones, and the nodes that turned so often in the round.
+/// Appends the links that are gone, the new ones, and the nodes that turned, each with its count.
 pub fn push_changes(
     story: &mut String,
     alloc: Global,

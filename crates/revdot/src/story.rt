@@ -18,7 +18,7 @@ use fr_route::{Reason, Session, is_blank};
 use std::alloc::{AllocError, Global};
 use std::fmt::Write;
 
-/// After each of so many lines of the input, the story has the whole state.
+/// The story has the whole state after each line whose number is a multiple of this.
 const LINES_BETWEEN_STATES: u64 = 256;
 
 /// Appends the story of an input. It starts no thread.
