@@ -53,3 +53,14 @@ def functions(crate, file, text):
                 module = module if block[1] else home(crate, file, name)
                 owner = [name + (block[1] or "") + (block[2] or "")]
             yield Function("::".join([*module, *owner, found[3]]), at + 1, begin(at) + 1, bool(found[2]))
+
+
+def edited(crate, edit):
+    """The functions that an edit changes, each with its file."""
+    for file, old, _ in edit.changes():
+        text = (crate / file).read_text(encoding="utf-8")
+        there = [*functions(crate, file, text)]
+        for at in edit.places(text, old):
+            line = text.count("\n", 0, at + len(old)) + 1
+            held = [it for it in there if it.line <= line]
+            yield from ((file, it) for it in held[-1:])
