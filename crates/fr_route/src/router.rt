@@ -527,10 +527,12 @@ impl Router {
     /// Lists the nodes whose hop in `table` differs from the hop here, in push order: each one comes after those of
     /// them on its route. A caller that pushes the hops of these nodes into the table, one after the other, ends with
     /// the hops of this router. At no moment is there a loop that was not in the table at first
-    /// ([`push_law`](fr_tables::laws::push_law)). The table can have loops.
+    /// ([`push_law`](fr_tables::laws::push_law)), and no node that has a route in the table and here loses it
+    /// ([`hops_law`](crate::laws::hops_law)). The table can have loops.
     ///
-    /// Fails with `Length` if the table does not have one hop for each node, with `Range` and the node that the first
-    /// out-of-range hop names, and with `Memory` if an allocation is refused; never with `Loop`. O(n).
+    /// The faults are tested in this order. Fails with `Length` if the table does not have one hop for each node, with
+    /// `Range` and the node that the first out-of-range hop names, and with `Memory` if an allocation is refused; never
+    /// with `Loop`. O(n).
     pub fn pushes(&self, alloc: Global, table: &[Hop]) -> Result<Vec<u32>, TableFault>
         ensures pushes { IfOk result (λ nodes. ArePushes self.now table.now nodes.items) }
         ensures fault { IfErr result (IsPushesFault self.now table.now) }
