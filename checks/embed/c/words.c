@@ -13,7 +13,7 @@ static void expect(int holds, const char *what) {
 }
 
 static void look_at_texts(void) {
-    for (uint32_t at = 0; at <= REVROUTE_NO_TABLE; at++)
+    for (uint32_t at = 0; at <= REVROUTE_NULL_ARRAY; at++)
         for (uint32_t other = 0; other < at; other++)
             expect(strcmp(revroute_status_text((revroute_status)at), revroute_status_text((revroute_status)other)), "two statuses have one text");
     for (uint32_t at = 0; at <= REVROUTE_TOO_MANY; at++)
