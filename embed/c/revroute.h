@@ -104,7 +104,7 @@ typedef enum revroute_status {
     /* The node has no route: it is cut off from the destination, or there is no such node. *length is 0.
      * (revroute_reader_walk says what this means for a walk.) */
     REVROUTE_NO_ROUTE = 5,
-    /* The network, the edits or the destination is refused, and *refusal says why. */
+    /* The network, the edits, the destination or the tables are refused, and *refusal says why. */
     REVROUTE_REFUSED = 6,
     /* The links or the edits are not refused for a cycle: they are accepted, or refused for another reason.
      * *length is 0. */
@@ -129,7 +129,7 @@ static inline const char *revroute_status_text(revroute_status status_) {
     case REVROUTE_NO_MEMORY: return "no memory";
     case REVROUTE_NO_NETWORK: return "there is no network yet, or the reader is null";
     case REVROUTE_NO_ROUTE: return "the node has no route";
-    case REVROUTE_REFUSED: return "the network or the change is refused";
+    case REVROUTE_REFUSED: return "the network, the change or the tables are refused";
     case REVROUTE_NO_WALK: return "there is no cycle";
     case REVROUTE_BEGUN: return "no line has ended yet";
     case REVROUTE_TOO_LONG: return "the line is too long";
@@ -218,8 +218,8 @@ static inline const char *revroute_refusal_text(uint32_t number_) {
 }
 
 /* Why, and where. `number` is one of the reasons above, and `u` and `v` are the nodes that it names. `at` is the index
- * of the first refused edit, counted from 0. If there are too many edits, `at` is their number. For a network or a
- * destination it is 0. */
+ * of the first refused edit, counted from 0. If there are too many edits, `at` is their limit, 1,024. For a network or
+ * a destination it is 0. */
 typedef struct revroute_refusal {
     revroute_reason number;
     uint32_t u;
@@ -237,7 +237,9 @@ typedef struct revroute_refusal {
  * - REVROUTE_NO_NETWORK: there is no network to change. revroute_open never returns this.
  *
  * After the last three the session is unchanged, with its own bytes, and so is *round. Only REVROUTE_REFUSED writes
- * *refusal. A line that has begun (see revroute_take) is kept in every case. */
+ * *refusal. A line that has begun (see revroute_take) is kept in every case. If memory runs out, this is returned only
+ * if the call would not be refused for its numbers alone: too many nodes, links or edits, an edit of an unknown kind, a
+ * destination that is not a node. */
 
 /* Replaces the network, if there is one, by a new one. Its nodes are 0 to `nodes` - 1, `dest` is the destination, and
  * `links` are its `count` links. The call is refused if the links do not make a network: if they contain a cycle, if
@@ -329,6 +331,29 @@ revroute_status revroute_changed(revroute *session, uint32_t *nodes, size_t room
  * memory ran out. O(n). */
 revroute_status revroute_pushes(revroute *session, const uint32_t *table, size_t count, uint32_t *nodes, size_t room,
                                 size_t *length);
+
+/* Writes the nodes whose hop differs in two tables of your own, in push order: each node after those of them on its
+ * walk in the new table. Any method may have made the tables: this call needs no session and no network. A table has
+ * hops as revroute_hops writes them. If one table is shorter, the nodes past its end are cut off in it.
+ *
+ * Give the old table the new hops of these nodes, one after the other. At the end it is the new table, and at no moment
+ * does it contain a loop that it did not contain before. So the old table may contain loops, and the new one may not.
+ *
+ * - REVROUTE_ANSWERED: the order is at the front of `nodes`, and *length is its length.
+ * - REVROUTE_REFUSED: *refusal says why, and its `at` is 0. The first reason that holds is named:
+ *   - REVROUTE_TOO_MANY: a table has more than 4,096 hops.
+ *   - REVROUTE_RANGE: u is a number in a table that is no hop: neither a node, nor REVROUTE_HERE or REVROUTE_CUT_OFF.
+ *     It is the first one in the old table, or else in the new one. The nodes are those of the longer table.
+ *   - REVROUTE_CLOSED_WALK: the new table has a loop, and u sends on to v on it. The nodes of the loop are at the front
+ *     of `nodes`, with the first one again at the end, and *length is their number.
+ * - REVROUTE_TOO_SHORT: there is too little room for the order or for the loop.
+ * - REVROUTE_NO_MEMORY: memory ran out.
+ *
+ * In all other cases the array is unchanged, and *length is 0 if the call is refused. Only REVROUTE_REFUSED writes
+ * *refusal. O(n) for n nodes. */
+revroute_status revroute_push_order(const uint32_t *old_hops, size_t old_count, const uint32_t *new_hops,
+                                    size_t new_count, uint32_t *nodes, size_t room, size_t *length,
+                                    revroute_refusal *refusal);
 
 /* Writes how often each node turned in the last round, in the order of the nodes. O(n). */
 revroute_status revroute_counts(revroute *session, uint64_t *counts, size_t room, size_t *length);
@@ -512,6 +537,18 @@ static inline revroute_status revroute_pushes_(revroute *session_, const uint32_
                            REVROUTE_SOME(uint32_t, nodes_, length_), room_, length_);
 }
 #define revroute_pushes revroute_pushes_
+
+static inline revroute_status revroute_push_order_(const uint32_t *old_, size_t old_count_, const uint32_t *new_,
+                                                   size_t new_count_, uint32_t *nodes_, size_t room_,
+                                                   size_t *length_, revroute_refusal *refusal_) {
+    if (REVROUTE_IS_MISSING(old_, old_count_) || REVROUTE_IS_MISSING(new_, new_count_) ||
+        REVROUTE_IS_MISSING(nodes_, room_))
+        return REVROUTE_NULL_ARRAY;
+    return revroute_push_order(REVROUTE_SOME(const uint32_t, old_, length_), old_count_,
+                               REVROUTE_SOME(const uint32_t, new_, length_), new_count_,
+                               REVROUTE_SOME(uint32_t, nodes_, length_), room_, length_, refusal_);
+}
+#define revroute_push_order revroute_push_order_
 
 static inline revroute_status revroute_counts_(revroute *session_, uint64_t *counts_, size_t room_, size_t *length_) {
     if (REVROUTE_IS_MISSING(counts_, room_)) return REVROUTE_NULL_ARRAY;
