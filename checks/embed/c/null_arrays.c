@@ -53,6 +53,9 @@ static void pass_null(void) {
     LOOK(changed(&session, NULL, 8, &at->length));
     LOOK(pushes(&session, NULL, 3, at->nodes, 8, &at->length));
     LOOK(pushes(&session, table, 3, NULL, 8, &at->length));
+    LOOK(push_order(NULL, 3, table, 3, at->nodes, 8, &at->length, &at->why));
+    LOOK(push_order(table, 3, NULL, 3, at->nodes, 8, &at->length, &at->why));
+    LOOK(push_order(table, 3, table, 3, NULL, 8, &at->length, &at->why));
     LOOK(counts(&session, NULL, 8, &at->length));
     LOOK(walk(&session, 2, NULL, 10, &at->length));
     LOOK(links(&session, NULL, 8, &at->length));

@@ -44,6 +44,7 @@ static void pass_null(revroute *session, revroute_reader *reader) {
     expect(revroute_change(session, NULL, 0, &round, &why) == REVROUTE_ANSWERED && round.cut_off == 1, "no edits are no batch");
     expect(revroute_closed_walk(session, NULL, 0, NULL, 0, &length) == REVROUTE_NO_WALK, "there is a cycle of no edits");
     expect(revroute_pushes(session, NULL, 0, NULL, 0, &length) == REVROUTE_NO_TABLE, "null is a table");
+    expect(revroute_push_order(NULL, 0, NULL, 0, NULL, 0, &length, &why) == REVROUTE_ANSWERED && !length, "null tables have pushes");
     expect(revroute_hops(session, NULL, 0, &length) == REVROUTE_TOO_SHORT && length == 2, "hops fit into null");
     expect(revroute_counts(session, NULL, 0, &length) == REVROUTE_TOO_SHORT && length == 2, "counts fit into null");
     expect(revroute_walk(session, 1, NULL, 0, &length) == REVROUTE_TOO_SHORT && length == 1, "a route fits into null");
