@@ -65,3 +65,7 @@ front_inside p xs ys none = by (find p xs) (find p ys) (sym (find-append p xs ys
     by : (a b : Option ℕ) → option_or a b ≡ None → (a ≡ None) × (b ≡ None)
     by None b is = (refl, is)
     by (Some x) b is = absurd (none-some x (sym is))
+
+-- a table with a number for each node
+pub all_in_range : (n : ℕ) (numbers : List ℕ) → length numbers ≡ n → find (is_outside n) numbers ≡ None → IsInRange (map hop_of numbers)
+all_in_range n numbers is none = range_of (map hop_of numbers) n (sym is ∙ sym (length-map numbers hop_of)) (hops_below n numbers none)

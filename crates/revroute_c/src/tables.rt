@@ -75,6 +75,7 @@ pub(crate) fn pushes_in(
     match router.pushes(alloc, &hops) {
         Ok(pushes) => hand_out(&pushes, nodes, size),
         Err(TableFault::Memory) => NO_MEMORY,
-        Err(TableFault::Length | TableFault::Range(_) | TableFault::Loop(_)) => unreachable!(),
+        Err(TableFault::Length | TableFault::Loop(_)) => unreachable!(),
+        Err(TableFault::Range(_)) => unreachable!(),
     }
 }
