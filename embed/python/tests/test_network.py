@@ -258,6 +258,7 @@ class NetworkTests(unittest.TestCase):
                 (lambda: network.cut(number, 1), (number, 1), 0),
                 (lambda: network.cut(-7, number), (-7, number), 0),
                 (lambda: network.batch([("join", 2, 0), ("add", number, -7)]), (number,), 1),
+                (lambda: network.batch([("cut", 0, number)] * 1030), (), 1024),
                 (lambda: network.move_dest(number), (number,), 0),
                 (lambda: Network(3, number), (number,), 0),
                 (lambda: Network(3, -7, [(0, 1), (number, 2)]), (number,), 0),

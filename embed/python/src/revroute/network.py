@@ -34,19 +34,20 @@ _REASONS = {
 
 
 class Refused(ValueError):
-    """A network or a change is refused. Nothing has changed.
+    """A network, a change or a table is refused. Nothing has changed.
 
     `number` says why, as in the answer `refused` of a session, and `nodes` has the nodes that show it:
 
     - 4: there is no such node. `nodes` has its name or number.
     - 5: a link would connect a node with itself. `nodes` has this node.
     - 6: more than one link would connect two nodes. `nodes` has both.
-    - 7: the links would contain a cycle. `nodes` has its nodes, with the first one again at the end.
+    - 7: the links would contain a cycle, or a new table contains one. `nodes` has its nodes, with the first one again
+      at the end.
     - 8: no link connects two nodes. `nodes` has both. If one of them does not exist, the text names it.
     - 9: there would be more nodes, links or edits than the limits. `nodes` is empty.
 
     `at` is the index of the first refused edit in a batch, counted from 0. If there are too many edits, it is their
-    number.
+    limit, 1,024.
 
     >>> network = Network(3, 0, [(1, 0), (2, 1)])
     >>> try:
