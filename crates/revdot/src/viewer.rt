@@ -11,21 +11,21 @@ pub const FIRST_PART: &str = "\
 <title>revroute</title>
 <style>
 :root{--back:#fbfbf9;--panel:#fff;--ink:#1d2329;--soft:#5c6670;--edge:#d5d9dd;--link:#39434d;--hop:#1259b5;--turn:#b35c00;--gold:#ffd24d;
---grey:#b9bfc5;--route:#0b7a4b;--face:#eef3f9;--bad:#a8261c;--push:#c4dcfb}
+--grey:#828a92;--route:#0b7a4b;--face:#eef3f9;--bad:#a8261c;--push:#c4dcfb}
 @media (prefers-color-scheme:dark){:root{--back:#14181c;--panel:#1b2126;--ink:#e8ecef;--soft:#a0abb5;--edge:#343c44;--link:#d3dae0;--hop:#76b2ff;
---turn:#ffab4a;--gold:#7a5c00;--grey:#4f5962;--route:#4fd39a;--face:#26303a;--bad:#ff8a80;--push:#1b477d}}
+--turn:#ffab4a;--gold:#7a5c00;--grey:#707b85;--route:#4fd39a;--face:#26303a;--bad:#ff8a80;--push:#1b477d}}
 *{box-sizing:border-box}
-html{font:15px/1.45 system-ui,sans-serif}
+html{font:15px/1.45 system-ui,sans-serif;font-size:clamp(15px,min(1.05vw,1.86vh),60px)}
 body{margin:0;background:var(--back);color:var(--ink);height:100vh;height:100dvh;overflow:hidden;display:grid;
 grid-template:'head head' auto 'side net' minmax(0,1fr) 'side bar' auto 'foot foot' auto/22rem minmax(0,1fr)}
 header{grid-area:head;padding:.4rem 1rem;border-bottom:1px solid var(--edge);display:flex;gap:.1rem 1.4rem;
 align-items:center}
 h1{font-size:1.05rem;line-height:1.3;margin:0;flex:none}
-#say{margin:0;color:var(--soft);flex:1;min-width:0;line-height:1.3;height:2.8rem;overflow:auto;display:grid;
+#say{margin:0;color:var(--soft);flex:1;min-width:0;line-height:1.3;min-height:2.8rem;max-height:30vh;overflow:auto;display:grid;
 align-content:safe center}
 aside{grid-area:side;border-right:1px solid var(--edge);background:var(--panel);display:flex;flex-direction:column;
 min-height:0}
-#list{list-style:none;margin:0;padding:.3rem;overflow:auto;flex:1 1 40%;min-height:4rem}
+#list{list-style:none;margin:0;padding:.3rem;overflow:auto;flex:1 1 0;min-height:5rem}
 #list button{display:grid;grid-template-columns:2.2em minmax(0,1fr) minmax(0,1fr);gap:0 .5em;align-items:baseline;
 width:100%;text-align:left;border:0;border-radius:6px;background:none;color:inherit;padding:.2rem .5rem;font:inherit;
 white-space:nowrap;cursor:pointer}
@@ -37,10 +37,10 @@ white-space:nowrap;cursor:pointer}
 #list .no{color:var(--bad)}
 #list small{grid-column:2/4;white-space:normal;line-height:1.3}
 #list.long small{display:none}#list.long button{grid-template-columns:3.6em minmax(0,1fr) minmax(0,1fr)}
-#about{border-top:1px solid var(--edge);padding:.6rem .9rem;overflow:auto;flex:0 1 auto;max-height:55%}
+#about{border-top:1px solid var(--edge);padding:.6rem .9rem;overflow:auto;flex:0 1 auto}
 #about p{margin:0 0 .4rem;overflow-wrap:anywhere}
 #request,#answer{max-height:7rem;overflow:auto;font-family:ui-monospace,monospace;font-size:.9em}
-#chart{width:100%;height:70px;display:block}
+#chart{width:100%;aspect-ratio:4;max-height:6rem;display:block}
 #ring{display:block;margin:auto;max-width:100%}
 main{grid-area:net;position:relative;min-height:0;min-width:0;overflow:hidden}
 #net{display:block;width:100%;height:100%;touch-action:none;user-select:none;-webkit-user-select:none;cursor:grab}
@@ -49,14 +49,14 @@ main{grid-area:net;position:relative;min-height:0;min-width:0;overflow:hidden}
 #zoom{position:absolute;top:.5rem;right:.5rem;display:flex;flex-direction:column;gap:.3rem}
 button,select{font:inherit;line-height:1.3;color:inherit;background:var(--face);border:1px solid var(--edge);border-radius:6px;
 padding:.25rem .6rem;cursor:pointer}
-#zoom button{width:36px;padding:.2rem 0;text-align:center}
+#zoom button{width:2.4rem;padding:.2rem 0;text-align:center}
 #bar{grid-area:bar;display:flex;gap:.4rem .6rem;align-items:center;padding:.45rem 1rem;border-top:1px solid var(--edge);
 flex-wrap:wrap;background:var(--panel)}
 #bar button{min-width:2.6rem}
 #play{min-width:4.2rem}
 #slide{flex:1 1 5rem;min-width:5rem;accent-color:var(--hop)}
 #at{color:var(--soft);text-align:right;font-variant-numeric:tabular-nums;white-space:nowrap}
-footer{grid-area:foot;border-top:1px solid var(--edge);padding:.3rem 1rem;color:var(--soft);font-size:.85rem;
+footer{grid-area:foot;border-top:1px solid var(--edge);padding:.3rem 1rem;color:var(--soft);font-size:.87rem;
 position:relative}
 summary{cursor:pointer;width:max-content}
 #legend{list-style:none;margin:.2rem 0 .3rem;padding:0;display:flex;flex-wrap:wrap;gap:.1rem 1.1rem;color:var(--ink)}
@@ -75,9 +75,9 @@ summary{cursor:pointer;width:max-content}
 .link.now .tip{fill:var(--turn);stroke:none}
 .link.way path{stroke:var(--route);stroke-width:4.2}
 .link.way .tip{fill:var(--route);stroke:none}
-.link.closed path{stroke:var(--bad);stroke-width:3.2}
+.link.closed path{stroke:var(--bad);stroke-width:4.6;stroke-dasharray:14 3 3 3}
 .link.closed .tip{fill:var(--bad);stroke:none}
-.link.asked path{stroke-dasharray:7 4}
+.link.asked path{stroke-dasharray:7 5}
 .node{cursor:pointer;outline:none}
 .node .face{fill:var(--panel);stroke:var(--ink);stroke-width:1.5}
 .node text{text-anchor:middle;fill:var(--ink);font:600 13px system-ui,sans-serif}
@@ -100,15 +100,17 @@ summary{cursor:pointer;width:max-content}
 @media (max-height:800px),(max-width:760px){#below{position:absolute;left:0;right:0;bottom:100%;max-height:70vh;overflow:auto;
 padding:.6rem 1rem;background:var(--panel);border-top:1px solid var(--edge);z-index:1}}
 @media (max-height:500px),(max-width:1100px){#bar label span{display:none}}
-@media (max-height:500px){html{font-size:13px}body{grid-template-columns:17rem minmax(0,1fr)}header{padding:.1rem .8rem}
+@media (max-width:1100px){#say{min-height:4rem}}
+@media (max-height:500px),(max-width:760px) and (orientation:portrait){aside{overflow:auto}#about{flex:none;overflow:visible}}
+@media (max-height:500px){html{font-size:13px}#say{min-height:2.8rem}body{grid-template-columns:17rem minmax(0,1fr)}header{padding:.1rem .8rem}
 h1{max-width:11rem}#bar{padding:.2rem .8rem}#zoom{top:.3rem;right:.3rem}button,select{padding:.15rem .45rem}
-#list{min-height:3rem}footer{padding:.15rem .8rem}}
+footer{padding:.15rem .8rem}}
 @media (max-width:760px) and (orientation:portrait){html{font-size:14px}
-body{grid-template:'head' auto 'net' minmax(0,1fr) 'bar' auto 'side' 28vh 'foot' auto/minmax(0,1fr)}
+body{grid-template:'head' auto 'net' minmax(0,1fr) 'bar' auto 'side' 36vh 'foot' auto/minmax(0,1fr)}
 header{display:block;padding:.4rem .8rem}h1{white-space:nowrap;overflow:hidden;text-overflow:ellipsis}
 #say{align-content:start}aside{border:0;border-top:1px solid var(--edge)}
 #bar{padding:.4rem .8rem;gap:.35rem}#bar button{min-width:2.3rem;padding:.25rem .4rem}#bar #play{min-width:3.6rem}
-#bar select{padding:.25rem .1rem;max-width:8.6rem}#slide{order:1;flex-basis:60%}#at{order:1}}
+#bar select{padding:.25rem .1rem}#slide,#bar label:last-child{order:1}#slide{flex-basis:40%}#at{flex:1}}
 </style>
 <header><h1 id='title'>revroute</h1><p id='say' role='status' aria-live='polite'></p></header>
 <aside aria-label='Requests'>
@@ -133,7 +135,8 @@ header{display:block;padding:.4rem .8rem}h1{white-space:nowrap;overflow:hidden;t
 <label><span>Pushes </span><select id='order' aria-label='Pushes' title='The order of the pushes'>
 <option value='push' selected>in push order</option><option value='rising'>by rising number</option></select></label>
 </div>
-<footer><details id='fold'><summary>Legend, keys, and what is proved</summary><div id='below'>
+<footer><details id='fold'><summary>Legend, keys, and what is proved</summary>
+<div id='below' tabindex='0' role='group' aria-label='Legend, keys, and what is proved'>
 <ul id='legend' aria-label='What is drawn'>
 <li><svg width='26' height='26' aria-hidden='true'><g class='node home' transform='translate(13 13)'><circle r='12' class='ring'/><circle r='9.5' class='face'/></g></svg>the destination</li>
 <li><svg width='38' height='26' aria-hidden='true'><g class='link hop'><path d='M2 13H28'/><path class='tip' d='M36 13L27 8.4V17.6Z'/></g></svg>to the next hop</li>
@@ -154,7 +157,9 @@ header{display:block;padding:.4rem .8rem}h1{white-space:nowrap;overflow:hidden;t
 <b>Proved:</b> the data of this page: each request, answer, link, turn, count, next hop and push.
 <b>Not proved:</b> the drawing. A script in this page makes it, and is tested in a browser.
 <b>Keys:</b> left and right, a step; up and down, a line; space, play; n and p, a node;
-+ and -, the size; 0 or f, fit; Shift and an arrow, move the drawing.</div></details></footer>
++ and -, the size; 0 or f, fit; Shift and an arrow, move the drawing.
+<label><input id='letters' type='checkbox' checked>Keys that are letters, digits or signs; without them Tab goes to each node.</label>
+</div></details></footer>
 <script type='text/plain' id='story'>
 ";
 
@@ -163,7 +168,7 @@ pub const LAST_PART: &str = "\
 </script>
 <script>
 'use strict';
-const by = id => document.getElementById(id), SVG = 'http://www.w3.org/2000/svg', NL = String.fromCharCode(10);
+const by = id => document.getElementById(id), SVG = 'http://www.w3.org/2000/svg', NL = String.fromCharCode(10), ARROW = String.fromCharCode(160, 8594, 160);
 const faults = {1: 'the line is no JSON, or nests too deep', 2: 'the value is no request', 3: 'there is no network yet',
   4: 'the end of a link is no node', 5: 'a link joins a node with itself', 6: 'two links join the same nodes',
   7: 'the links contain a cycle', 8: 'there is no link between the two nodes',
@@ -251,6 +256,7 @@ function readStory(text, before) {
     } else if (!block) continue;
     else if (block.answer === null) block.answer = line;
     else if (name === 'asks') block.asks = line.slice(5);
+    else if (name === 'cycle') block.walk = listed(line, Number);
     else if (name === 'net') {
       before = block.round = new Round(listed(line, Number), before, block);
       block.own = true;
@@ -339,7 +345,7 @@ function closedWalk(block) {
   return null;
 }
 
-// The closed walk of a line, if it has one: found once.
+// The closed walk of a line, if it has one: found once. The lab puts the one that the engine names into the story.
 function walkOf(block) {
   if (block.walk === undefined) block.walk = block.answer === 'refused 7' && block.asks ? closedWalk(block) : null;
   return block.walk || [];
@@ -353,7 +359,7 @@ function layOut(from) {
     if (at < from) { view = Object.assign(round.view, {round, pairs: null}); continue; }
     const pairs = view && (view.pairs ??= new Set(byKey(view.round.links).keys())), share = pairs && sharedPairs(pairs, round);
     if (!view || view.nodes !== round.nodes || 2 * share.both < Math.min(share.before, share.pairs.size)) {
-      view = {nodes: round.nodes, all: new Set(share ? share.pairs : byKey(round.links).keys()), shapes: new Map(), group: null};
+      view = {nodes: round.nodes, first: at, all: new Set(share ? share.pairs : byKey(round.links).keys()), shapes: new Map(), group: null};
       view.pairs = new Set(view.all);
     } else {
       view.pairs = share.pairs;
@@ -480,6 +486,7 @@ function makeRoom(view) {
   const [left, top] = [0, 1].map(side => Math.min(...points.map(([at, rim]) => at[side] - rim)));
   view.size = [0, 1].map(side => Math.max(...points.map(([at, rim]) => at[side] + rim)) - (side ? top : left));
   view.place = view.place.map(([x, y]) => [x - left, y - top]);
+  view.corner = [left, top];
 }
 
 // The bend of a link's curve: none where it passes no other node, else the least that takes it round them.
@@ -538,7 +545,7 @@ function shapeOf(view, key) {
   const shape = {a, b, bend: bendOf(view, a, b), g, line: make(g, 'path', {}), tip: make(g, 'path', {class: 'tip'})};
   if (isLab) {
     shape.hit = make(g, 'path', {class: 'hit'});
-    mark(g, {role: 'button', tabindex: -1});
+    mark(g, {role: 'button'});
   }
   view.shapes.set(key, shape);
 }
@@ -555,21 +562,50 @@ function build(view) {
     make(g, 'text', {y: 0}).textContent = node;
     return {g, count: make(g, 'text', {y: 12, class: 'count'})};
   });
-  view.plain = placesOf(view);
+  const given = acts.places(view);
+  view.isGiven = given !== null;
+  view.plain = given ?? placesOf(view);
 }
 
 // Gives each node and link its place in the pane as it is. A link that came later gets its own.
 function arrange(view) {
   const {clientWidth, clientHeight} = pane;
   view.pane = clientWidth + ' ' + clientHeight;
-  view.place = stretched(view.plain, ...room());
+  view.place = view.isGiven ? view.plain.map(at => [...at]) : stretched(view.plain, ...room());
   view.shapes.clear();
   view.lines.replaceChildren();
   view.bends.clear();
   addShapes(view);
   makeRoom(view);
-  const placeOf = node => view.place[node].map(at => at.toFixed(1)).join(' ');
-  view.spots.forEach(({g}, node) => mark(g, {transform: 'translate(' + placeOf(node) + ')'}));
+  for (const node of view.spots.keys()) putSpot(view, node);
+}
+
+function putSpot(view, node) {
+  mark(view.spots[node].g, {transform: 'translate(' + view.place[node].map(at => at.toFixed(1)).join(' ') + ')'});
+}
+
+// Moves a node of the drawing, and its links with it.
+function moveNode(view, node, [across, down]) {
+  view.place[node] = [view.place[node][0] + across, view.place[node][1] + down];
+  putSpot(view, node);
+  view.bends.clear();
+  for (const shape of view.shapes.values()) {
+    if (shape.a === node || shape.b === node) Object.assign(shape, {bend: bendOf(view, shape.a, shape.b), tail: null});
+  }
+  show(now, true);
+}
+
+// After nodes were moved: the curves of all links go round them, and what is drawn stays where it is on the screen.
+function keepPlaces(view) {
+  const was = {...camera};
+  Object.assign(view, {plain: view.place, isGiven: true});
+  arrange(view);
+  lookAs(was, view);
+  show(now, true);
+}
+
+function lookAs({x, y, scale, isFitted}, view) {
+  look({x: x + view.corner[0] * scale, y: y + view.corner[1] * scale, scale, isFitted});
 }
 
 function setUp(view) {
@@ -587,9 +623,9 @@ function addShapes(view) {
 
 // What of the drawing the pane shows: where its corner is, and how large it is.
 const pane = document.querySelector('main'), camera = {x: 0, y: 0, scale: 1, isFitted: true};
-const MOST_SCALE = 2.4, LARGEST = 6, EDGE = 8, BUTTONS = 44, MOST_CURVES = 1500;
+const MOST_SCALE = 2.4, LARGEST = 6, EDGE = 8, MOST_CURVES = 1500;
 // The width and height that the drawing may take: beside it are the buttons for its size.
-const room = () => [pane.clientWidth - EDGE - BUTTONS, pane.clientHeight - 2 * EDGE].map(side => Math.max(64, side));
+const room = () => [by('zoom').offsetLeft - EDGE, pane.clientHeight - 2 * EDGE].map(side => Math.max(64, side));
 
 function fitted(view) {
   const [wide, high] = view.size, [width, height] = room(), scale = Math.min(MOST_SCALE, width / wide, height / high);
@@ -619,18 +655,23 @@ function zoom(factor, [x, y] = [pane.clientWidth / 2, pane.clientHeight / 2]) {
   look({scale, x: x - (x - camera.x) * grown, y: y - (y - camera.y) * grown});
 }
 
-// A drag moves the drawing, two fingers and the wheel size it. After a drag nothing is clicked.
+// A drag moves the drawing, two fingers and the wheel size it. A drag of a node moves the node, in the lab. After a drag
+// nothing is clicked.
 function listenToPointers() {
   const net = by('net'), fingers = new Map(), far = (a, b) => Math.hypot(a[0] - b[0], a[1] - b[1]);
   const inPane = ([x, y]) => { const frame = pane.getBoundingClientRect(); return [x - frame.left, y - frame.top]; };
-  let isDrag = false;
+  let isDrag = false, held = null;
   const lift = event => {
     fingers.delete(event.pointerId);
+    if (held !== null && isDrag && !fingers.size) acts.drop(held);
+    if (!fingers.size) held = null;
     if (!fingers.size) net.classList.remove('moved');
   };
   net.addEventListener('pointerdown', event => {
     fingers.set(event.pointerId, [event.clientX, event.clientY]);
     isDrag = fingers.size > 1;
+    const g = !isDrag && acts.drag && event.target.closest('.node');
+    held = g ? Number(g.dataset.node) : null;
   });
   addEventListener('pointermove', event => {
     const was = fingers.get(event.pointerId), at = [event.clientX, event.clientY];
@@ -640,10 +681,12 @@ function listenToPointers() {
     net.classList.add('moved');
     const other = [...fingers].find(([id]) => id !== event.pointerId);
     fingers.set(event.pointerId, at);
-    if (!other) return move(at[0] - was[0], at[1] - was[1]);
+    const way = [at[0] - was[0], at[1] - was[1]];
+    if (!other && held !== null) return acts.drag(held, way.map(side => side / camera.scale));
+    if (!other) return move(...way);
     const middle = [0, 1].map(side => (was[side] + other[1][side]) / 2);
     zoom(far(at, other[1]) / (far(was, other[1]) || 1), inPane(middle));
-    move((at[0] - was[0]) / 2, (at[1] - was[1]) / 2);
+    move(...way.map(side => side / 2));
   });
   for (const kind of ['pointerup', 'pointercancel']) addEventListener(kind, lift);
   net.addEventListener('click', event => { if (isDrag) { isDrag = false; event.stopPropagation(); } }, true);
@@ -780,7 +823,7 @@ function drawLinks(view, round, state, way, walk) {
     const kind = hop ? (old ? ' hop old' : ' hop') : head === state.sink ? ' now' : out ? ' out' : '';
     mark(shape.g, {class: 'link' + kind + marks(step), 'data-tail': tail, 'data-head': head, 'data-hop': hop ? 1 : null,
       visibility: null});
-    if (isLab) mark(shape.g, {'aria-label': 'link from ' + tail + ' to ' + head});
+    if (isLab) mark(shape.g, {'aria-label': 'link from ' + tail + ' to ' + head, tabindex: hasLetters() ? -1 : 0});
   }
   for (const [key, shape] of view.shapes) {
     if (!there.has(key)) mark(shape.g, {class: 'link', visibility: 'hidden', 'data-tail': null, 'data-head': null, 'data-hop': null});
@@ -838,7 +881,7 @@ function drawNodes(view, round, state, way, news) {
     mark(spot.g, {class: 'node' + kinds.filter(kind => kind[1]).map(kind => ' ' + kind[0]).join(''), 'aria-label': label,
       'aria-pressed': node === picked, 'data-node': node, 'data-count': count,
       'data-hop': hop, 'data-cut': isCut ? 1 : null,
-      'data-turns': node === state.sink ? 1 : null, tabindex: node === (picked ?? round.home) ? 0 : -1});
+      'data-turns': node === state.sink ? 1 : null, tabindex: node === (picked ?? round.home) || !hasLetters() ? 0 : -1});
   });
 }
 
@@ -889,7 +932,8 @@ function tellNode(block, round, state) {
 }
 
 const hopText = hop => hop === 'here' ? 'is the destination' : hop === 'cut' ? 'has no next hop' : 'sends to ' + hop;
-const hopName = hop => hop === 'here' ? 'the destination' : hop === 'cut' ? 'no next hop' : hop;
+const hopName = hop => hop === 'here' ? 'destination' : hop === 'cut' ? 'none' : hop;
+const changeText = (node, old, next) => node + ' (' + hopName(old) + ARROW + hopName(next) + ')';
 
 // A turn, the end of the turns, or a push, in words; and what is pushed next.
 function roundText(round, turn, state) {
@@ -912,7 +956,7 @@ function nextText(round, pushed) {
   const table = tableBefore(round), node = pushesOf(round)[pushed];
   if (!table) return ' The hops before it are not known, so no push is shown.';
   if (node === undefined) return '';
-  return ' Next push: node ' + node + ' (' + hopName(table[node]) + ' to ' + hopName(hopAfter(round, node)) + ').';
+  return ' Next push: node ' + changeText(node, table[node], hopAfter(round, node)) + '.';
 }
 
 function tellStep(block, turn, state, news) {
@@ -927,7 +971,7 @@ function tellStep(block, turn, state, news) {
   by('answer').textContent = block.answer;
   by('more').textContent = (refusal ? 'Refused: ' + refusal + '.' : '') + (walk.length ? ' The cycle: ' + walk.join(' ') + '.' : '');
   mark(by('more'), {'data-closed': walk.length ? walk.join(' ') : null});
-  const change = node => node + ' (' + hopName(round.before.hops[node]) + ' to ' + hopName(round.hops[node]) + ')';
+  const change = node => changeText(node, round.before.hops[node], round.hops[node]);
   by('changed').textContent =
     news.length ? 'Next hops that the round changed, in push order: ' + news.map(change).join(', ') + '.' : '';
   mark(by('changed'), {'data-changed': news.join(' ')});
@@ -944,9 +988,9 @@ function tellStep(block, turn, state, news) {
 function buttonOf(at) {
   const box = by('list');
   if (!box.classList.contains('long')) {
-    const button = box.children[at].firstChild;
-    button.scrollIntoView({block: 'nearest'});
-    return button;
+    const {firstChild, offsetTop, offsetHeight} = box.children[at], top = offsetTop - box.offsetTop - RIM;
+    box.scrollTop = Math.min(top, Math.max(top + offsetHeight + 2 * RIM - box.clientHeight, box.scrollTop));
+    return firstChild;
   }
   const top = at * rows.height, least = top + rows.height + 2 * RIM - box.clientHeight;
   box.scrollTop = Math.min(top, Math.max(least, box.scrollTop));
@@ -1072,8 +1116,11 @@ const keys = {ArrowRight: () => show(now + 1), ArrowLeft: () => show(now - 1), A
   '+': () => zoom(1.25), '=': () => zoom(1.25), '-': () => zoom(0.8), 0: fit, f: fit};
 const shifted = {ArrowRight: () => move(-60, 0), ArrowLeft: () => move(60, 0),
   ArrowDown: () => move(0, -60), ArrowUp: () => move(0, 60)};
-// What a click on a node or a link does. The lab has its own.
-const acts = {node: pick, link: () => {}, shown: () => {}, pace: wait => wait};
+// Keys with Ctrl, which only the lab has.
+const controlled = {};
+// What a click on a node, on a link or beside them does, and who says where nodes are. The lab has its own.
+const acts = {node: pick, link: () => {}, empty: () => {}, drag: null, drop: () => {}, places: () => null, shown: () => {},
+  pace: wait => wait};
 
 // The list of lines, from this one on.
 function list(from) {
@@ -1150,36 +1197,64 @@ function listenToList() {
   }).observe(box);
 }
 
+// What a key does: nothing where it is typed or scrolls a text, or where it is a letter and these are turned off.
+function actionOf({key, target, shiftKey, ctrlKey, metaKey, altKey}) {
+  if (metaKey || altKey || target.closest('dialog, select, textarea, input:not([type=range])')) return null;
+  if (ctrlKey) return controlled[key];
+  if (scrolling.has(key) && isScrolled(target) || isLetter(key) && !hasLetters()) return null;
+  if (key === ' ' && target.matches('button, summary')) return null;
+  const g = key === 'Enter' && target.closest('.node, .link');
+  return g ? () => act(g) : shiftKey && shifted[key] || keys[key];
+}
+
 function listenToKeys() {
   document.addEventListener('keydown', event => {
-    const target = event.target, tag = target.tagName;
-    const isTyped = target.closest('dialog, select, textarea, input:not([type=range])');
-    if (event.ctrlKey || event.metaKey || event.altKey || isTyped) return;
-    const action = (event.shiftKey && shifted[event.key]) || keys[event.key];
-    const g = event.key === 'Enter' && target.closest('.node, .link');
-    if (g) return act(g);
-    if (!action || event.key === ' ' && (tag === 'BUTTON' || tag === 'SUMMARY')) return;
+    const action = actionOf(event);
+    if (!action) return;
     event.preventDefault();
     if (event.key.startsWith('Arrow') && !event.shiftKey || event.key === 'Home' || event.key === 'End') play(false);
     action();
   });
 }
 
+// Keys that a text needs itself, where it does not fit its box.
+const scrolling = new Set(['ArrowUp', 'ArrowDown', 'ArrowLeft', 'ArrowRight', 'Home', 'End', ' ']);
+function isScrolled(target) {
+  if (target.matches('button, input, summary')) return false;
+  for (let it = target; it && it !== document.body; it = it.parentElement) {
+    if (it.scrollHeight > it.clientHeight && getComputedStyle(it).overflowY === 'auto') return true;
+  }
+  return false;
+}
+
+// Keys that are letters, digits or signs can be turned off, for people who speak to their computer.
+const isLetter = key => key.length === 1 && key !== ' ', hasLetters = () => by('letters').checked;
+
 function act(g) {
   if (g.classList.contains('node')) acts.node(Number(g.dataset.node));
   else acts.link(Number(g.dataset.tail), Number(g.dataset.head));
 }
 
-// Whether the legend is open is kept in the browser, if it can keep something.
+// What a reader has chosen is kept in the browser. Where nothing can be kept, the page goes on without it.
+function kept(name) {
+  try { return localStorage.getItem('revroute-' + name); } catch { return null; }
+}
+function keepWord(name, word) {
+  try { localStorage.setItem('revroute-' + name, word); } catch { return; }
+}
+
+// Whether the legend is open is kept.
 function listenToFold() {
   const fold = by('fold'), isRoomy = innerWidth > 760 && innerHeight > 800;
-  const kept = () => { try { return localStorage.getItem('revroute-legend'); } catch { return null; } };
-  const keep = () => {
-    // This comes before the change. Where nothing can be kept, the page goes on without it.
-    try { localStorage.setItem('revroute-legend', fold.open ? 'folded' : 'open'); } catch { return; }
-  };
-  fold.open = (kept() ?? (isRoomy ? 'open' : 'folded')) === 'open';
-  fold.firstElementChild.addEventListener('click', keep);
+  fold.open = (kept('legend') ?? (isRoomy ? 'open' : 'folded')) === 'open';
+  // This comes before the change.
+  fold.firstElementChild.addEventListener('click', () => keepWord('legend', fold.open ? 'folded' : 'open'));
+}
+
+function listenToLetters() {
+  const box = by('letters');
+  box.checked = kept('letters') !== 'off';
+  box.addEventListener('change', () => { keepWord('letters', box.checked ? 'on' : 'off'); show(now, true); });
 }
 
 function start() {
@@ -1189,7 +1264,7 @@ function start() {
   for (const id in clicks) by(id).addEventListener('click', clicks[id]);
   by('slide').addEventListener('input', () => go(Number(by('slide').value)));
   by('order').addEventListener('change', () => show(now));
-  by('net').addEventListener('click', event => { const g = event.target.closest('.node, .link'); if (g) act(g); });
+  by('net').addEventListener('click', event => { const g = event.target.closest('.node, .link'); if (g) act(g); else acts.empty(event); });
   by('list').addEventListener('click', event => { const it = event.target.closest('button'); if (it) go(starts[it.at]); });
   listenToKeys();
   listenToPointers();
@@ -1200,6 +1275,7 @@ function start() {
 }
 
 listenToFold();
+listenToLetters();
 load(0, by('story').textContent);
 if (blocks.length || isLab) start();
 else {
