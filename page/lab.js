@@ -77,13 +77,13 @@ async function sent(task, body) {
 }
 
 // Has these requests answered. The first of them, which are kept, have their answers already. Returns whether they are.
-async function run(next, kept, where = places) {
-  const there = Object.fromEntries(Object.entries(where).filter(([at]) => at < next.length));
-  const text = await sent('run?from=' + kept, textOf(next, there));
+async function run(next, kept, where) {
+  const there = () => Object.fromEntries(Object.entries(where ?? places).filter(([at]) => at < next.length));
+  const text = await sent('run?from=' + kept, textOf(next, there()));
   if (text === null) return false;
   const isMore = kept === lines.length && next.length > kept;
   lines = next;
-  places = there;
+  places = there();
   viewer.picked = note = null;
   play(false);
   load(kept, text);
@@ -320,7 +320,12 @@ const net = (nodes, home, links) => [JSON.stringify(['net', nodes, home, links])
 const samples = {
   chain: () => net(8, 0, upTo(7, node => [node, node + 1])),
   grid: () => net(16, 0, gridLinks(4, 4)),
-  ring: () => net(12, 0, [...upTo(11, node => [node + 1, node]), [11, 0], [4, 1], [7, 2], [9, 3], [10, 6]]),
+  ring: () =>
+      net(12, 0,
+          [
+            ...upTo(6, node => [node + 1, node]), [6, 7], ...upTo(4, at => [7 + at, 8 + at]), [11, 0], [4, 10], [8, 2],
+            [5, 11], [7, 1]
+          ]),
   tree: () => net(20, 12, treeLinks()),
   tour: () =>
       ['["net",5,0,[[1,0],[2,0],[3,1],[3,2],[4,3]]]', '["walk",4]', '["cut",1,0]', '["links"]', '["walk",1]',
@@ -368,7 +373,7 @@ function openText() {
 
 const openSamples = () => openDialog(by('samples'));
 document.querySelector('aside').prepend(by('lab'));
-by('below').append(...by('labkeys').childNodes);
+by('letters').parentNode.before(...by('labkeys').childNodes);
 by('labkeys').remove();
 Object.assign(keys, {
   n: () => focusNode(1),

@@ -109,7 +109,8 @@ function tellNode(round, state) {
   const known = state && picked !== null && picked < round.nodes;
   by('picked').textContent = known ? 'Node ' + picked + (picked === round.home ? ', the destination' : '') +
           ': turned ' + state.counts[picked] + ' in this round.' :
-                                     'Choose a node to see its route and its count over time.';
+      isLab ? '' :
+              'Choose a node to see its route and its count over time.';
   const route = known && state.hops ? routeOf(state.hops, picked) : null;
   const text = !known ? '' :
       !route          ? 'It has a route once the round has ended.' :

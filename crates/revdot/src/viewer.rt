@@ -39,6 +39,8 @@ white-space:nowrap;cursor:pointer}
 #list.long small{display:none}#list.long button{grid-template-columns:3.6em minmax(0,1fr) minmax(0,1fr)}
 #about{border-top:1px solid var(--edge);padding:.6rem .9rem;overflow:auto;flex:0 1 auto}
 #about p{margin:0 0 .4rem;overflow-wrap:anywhere}
+#about p:empty{margin:0}
+#below label{display:block}
 #request,#answer{max-height:7rem;overflow:auto;font-family:ui-monospace,monospace;font-size:.9em}
 #chart{width:100%;aspect-ratio:4;max-height:6rem;display:block}
 #ring{display:block;margin:auto;max-width:100%}
@@ -158,7 +160,7 @@ header{display:block;padding:.4rem .8rem}h1{white-space:nowrap;overflow:hidden;t
 <b>Not proved:</b> the drawing. A script in this page makes it, and is tested in a browser.
 <b>Keys:</b> left and right, a step; up and down, a line; space, play; n and p, a node;
 + and -, the size; 0 or f, fit; Shift and an arrow, move the drawing.
-<label><input id='letters' type='checkbox' checked>Keys that are letters, digits or signs; without them Tab goes to each node.</label>
+<label><input id='letters' type='checkbox' checked>Keys that are letters, digits or signs; without them, Tab goes to each node</label>
 </div></details></footer>
 <script type='text/plain' id='story'>
 ";
@@ -1141,7 +1143,8 @@ function tellNode(round, state) {
   const known = state && picked !== null && picked < round.nodes;
   by('picked').textContent = known ? 'Node ' + picked + (picked === round.home ? ', the destination' : '') +
           ': turned ' + state.counts[picked] + ' in this round.' :
-                                     'Choose a node to see its route and its count over time.';
+      isLab ? '' :
+              'Choose a node to see its route and its count over time.';
   const route = known && state.hops ? routeOf(state.hops, picked) : null;
   const text = !known ? '' :
       !route          ? 'It has a route once the round has ended.' :
