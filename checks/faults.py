@@ -2,7 +2,7 @@
 
 The faults of a check are the files NAME.edit in its folder faults/. They have the form of the wrong bodies in wrong/:
 
-    file: page/viewer/tail.html           the file to change, from the top of the repository
+    file: page/viewer/steps.js            the file to change, from the top of the repository
     old: push ? loopIn(hops) : []         a text that occurs once in that file
     new: []                               the text that replaces it
     # body: no look for loops             what is wrong then
