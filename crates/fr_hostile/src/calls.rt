@@ -9,7 +9,7 @@ use fr_crew::{
     settled_counts_alone,
 };
 use fr_net::{
-    Edit, LineFault, LineReader, Net, NetFault, NotEdited, Question, Request, Turns, read_line,
+    Edit, LineFault, Net, NetFault, NotEdited, Question, Request, Turns, read_line,
 };
 use fr_round::Round;
 use fr_route::{Change, Report, Router, Session, counts_line, fault_number, links_line};
@@ -70,7 +70,7 @@ pub enum Call {
     RoutedAlone,
     AnsweredAlone,
     JoinedNetwork,
-    LinesRead,
+    EscapedLine,
     EditedInPlace,
     Counted,
     CountedAlone,
@@ -99,7 +99,7 @@ pub const CALLS: [Call; 25] = [
     Call::RoutedAlone,
     Call::AnsweredAlone,
     Call::JoinedNetwork,
-    Call::LinesRead,
+    Call::EscapedLine,
     Call::EditedInPlace,
     Call::Counted,
     Call::CountedAlone,
@@ -120,7 +120,7 @@ pub fn make<R: Threads + Wait + Sync + Alloc<A = Global> + Print + Eprint>(
         Call::SettledWithGrowth => settled_with_growth(rt, answer),
         Call::WalkedLive => walked_live(rt, answer),
         Call::AnsweredAlone => answered_alone(rt, answer),
-        Call::LinesRead => lines_read(rt, answer),
+        Call::EscapedLine => escaped_line(rt, answer),
         Call::Pushed => pushed(rt, answer),
         Call::Shared => shared(rt, answer),
         _ => {
@@ -282,12 +282,9 @@ fn request<R: Alloc<A = Global> + Eprint>(rt: &R, answer: &mut Answer) {
     put_read_line(rt, answer, read_line(rt.alloc(), NETWORK_LINE));
 }
 
-/// Two lines by one reader, which already has its table when it reads the second one. The first one cannot be read by
-/// its bytes.
-fn lines_read<R: Alloc<A = Global> + Eprint>(rt: &R, answer: &mut Answer) {
-    let mut reader = LineReader::new();
-    put_read_line(rt, answer, reader.read(rt.alloc(), br#"["w\u0061lk", 3]"#));
-    put_read_line(rt, answer, reader.read(rt.alloc(), NETWORK_LINE));
+/// A line that cannot be read by its bytes.
+fn escaped_line<R: Alloc<A = Global> + Eprint>(rt: &R, answer: &mut Answer) {
+    put_read_line(rt, answer, read_line(rt.alloc(), br#"["w\u0061lk", 3]"#));
 }
 
 /// Appends the links of a request to the answer.
