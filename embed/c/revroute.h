@@ -344,8 +344,8 @@ revroute_status revroute_pushes(revroute *session, const uint32_t *table, size_t
  *   - REVROUTE_TOO_MANY: a table has more than 4,096 hops.
  *   - REVROUTE_RANGE: u is a number in a table that is no hop: neither a node, nor REVROUTE_HERE or REVROUTE_CUT_OFF.
  *     It is the first one in the old table, or else in the new one. The nodes are those of the longer table.
- *   - REVROUTE_CLOSED_WALK: the new table has a loop, and u sends on to v on it. The nodes of the loop are at the front
- *     of `nodes`, with the first one again at the end, and *length is their number.
+ *   - REVROUTE_CLOSED_WALK: the new table has a loop, and u sends on to v on it. The loop of the lowest such node is at
+ *     the front of `nodes`: it begins at this node, u, and has it again at the end. *length is the number of its nodes.
  * - REVROUTE_TOO_SHORT: there is too little room for the order or for the loop.
  * - REVROUTE_NO_MEMORY: memory ran out.
  *

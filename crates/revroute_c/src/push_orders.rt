@@ -1,8 +1,9 @@
 //! The push order between two tables of the caller.
 
-ghost use Rattle.std.specs.Prelude.{◌≡◌, ◌<◌, ◌≤◌, ◌++◌, [], ◌∷◌, find, length, slice_index, IfErr, IfNone, IfOk, IfSome};
+ghost use Rattle.std.specs.Prelude.{◌≡◌, ◌≢◌, ◌<◌, ◌≤◌, ◌++◌, [], ◌∷◌, find, length, slice_index, IfErr, IfNone, IfOk, IfSome};
 ghost use Rattle.fr_graph.specs.Limits.{most_nodes};
 ghost use Rattle.fr_tables.specs.Faults.{IsFaultOf, IsOrdered};
+ghost use Rattle.fr_tables.specs.declared.fault.TableFault.TheVariants.{Memory};
 ghost use Rattle.revroute_c.specs.PushOrders.{hops_of, nodes_of, AreInRange, AreNoTables, OrdersPushes};
 ghost use Rattle.revroute_c.specs.PushOrders.{TellsCycle};
 ghost use Rattle.revroute_c.specs.Replies.{outcome};
@@ -60,8 +61,9 @@ impl<'a> Tables<'a> {
         requires { AreInRange self.now.old.now self.now.new.now }
         ensures order { IfOk result (λ order. IsOrdered (hops_of (nodes_of self.now.old.now self.now.new.now) self.now.old.now)
             (hops_of (nodes_of self.now.old.now self.now.new.now) self.now.new.now) order.items) }
-        ensures fault { IfErr result (IsFaultOf (hops_of (nodes_of self.now.old.now self.now.new.now) self.now.old.now)
-            (hops_of (nodes_of self.now.old.now self.now.new.now) self.now.new.now)) }
+        ensures fault { IfErr result (λ fault. fault ≢ Memory
+            → IsFaultOf (hops_of (nodes_of self.now.old.now self.now.new.now) self.now.old.now)
+            (hops_of (nodes_of self.now.old.now self.now.new.now) self.now.new.now) fault) }
     {
         let nodes = self.nodes();
         let old = hops(alloc, self.old, nodes)?;
