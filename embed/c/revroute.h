@@ -218,7 +218,7 @@ static inline const char *revroute_refusal_text(uint32_t number_) {
 }
 
 /* Why, and where. `number` is one of the reasons above, and `u` and `v` are the nodes that it names. `at` is the index
- * of the first refused edit, counted from 0. If there are too many edits, `at` is their limit, 1,024. For a network or
+ * of the first refused edit, counted from 0. If there are too many, `at` is the limit, 1,024 edits. For a network or
  * a destination it is 0. */
 typedef struct revroute_refusal {
     revroute_reason number;
