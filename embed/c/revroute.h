@@ -446,9 +446,9 @@ void revroute_reader_close(revroute_reader *reader);
 
 /* The version of this header. A program can compare it with the version of the library that it runs with. */
 #define REVROUTE_VERSION_MAJOR 0
-#define REVROUTE_VERSION_MINOR 2
+#define REVROUTE_VERSION_MINOR 3
 #define REVROUTE_VERSION_PATCH 0
-#define REVROUTE_VERSION "0.2.0"
+#define REVROUTE_VERSION "0.3.0"
 
 /* Writes the version of the library, in the form of REVROUTE_VERSION, to the front of the buffer `text`, which has
  * `room` bytes. REVROUTE_ANSWERED or REVROUTE_TOO_SHORT. In both cases *length is the length of the version. O(1). */
