@@ -415,8 +415,9 @@ pub extern "C" fn revroute_pushes(
 }
 
 /// Writes the nodes at which two tables of the caller's own differ, in push order, to the front of `nodes`, and their
-/// number to `size`. The tables have hops as [`revroute_hops`] writes them, whatever method made them. A number past the
-/// end of the shorter table is cut off there. Only `old` may have loops. It needs no session. Returns `ANSWERED`, or:
+/// number to `size`. The tables have hops as [`revroute_hops`] writes them, whatever method made them. A number past
+/// the end of the shorter table is cut off there. Only `old` may have loops. It needs no session. Returns `ANSWERED`,
+/// or:
 ///
 /// - `REFUSED`: a table has more than 4,096 hops; or a number in `old`, or otherwise in `new`, does not name a hop; or
 ///   `new` has a loop. `refusal` gets the number that lines use for the reason and its nodes. For a loop, the loop of

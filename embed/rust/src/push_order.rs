@@ -3,12 +3,12 @@
 use crate::engine::filled_with;
 use crate::{Hop, NoMemory, Refused, listed, sys};
 
-/// The nodes whose hop differs in two tables of your own, each with its hop in the new one. They are in push order: each
-/// node after those of them on its walk in the new table. `O(n)` for n nodes.
+/// The nodes whose hop differs in two tables of your own, each with its hop in the new one. They are in push order:
+/// each node after those of them on its walk in the new table. `O(n)` for n nodes.
 ///
-/// Any method may have made the tables: this needs no network. Give the old table these hops one after the other. At the
-/// end it is the new table, and at no moment does it have a loop that it did not have before. So the old table may have
-/// loops, and the new one may not. If one table is shorter, the nodes past its end are cut off in it.
+/// Any method may have made the tables: this needs no network. Give the old table these hops one after the other. At
+/// the end it is the new table, and at no moment does it have a loop that it did not have before. So the old table may
+/// have loops, and the new one may not. If one table is shorter, the nodes past its end are cut off in it.
 ///
 /// ```
 /// use revroute::Hop::{CutOff, Here, To};
