@@ -218,7 +218,7 @@ static inline const char *revroute_refusal_text(uint32_t number_) {
 }
 
 /* Why, and where. `number` is one of the reasons above, and `u` and `v` are the nodes that it names. `at` is the index
- * of the first refused edit, counted from 0. If there are too many edits, `at` is their limit, 1,024. For a network or
+ * of the first refused edit, counted from 0. If there are too many, `at` is the limit, 1,024 edits. For a network or
  * a destination it is 0. */
 typedef struct revroute_refusal {
     revroute_reason number;
@@ -448,9 +448,9 @@ void revroute_reader_close(revroute_reader *reader);
 
 /* The version of this header. A program can compare it with the version of the library that it runs with. */
 #define REVROUTE_VERSION_MAJOR 0
-#define REVROUTE_VERSION_MINOR 2
+#define REVROUTE_VERSION_MINOR 3
 #define REVROUTE_VERSION_PATCH 0
-#define REVROUTE_VERSION "0.2.0"
+#define REVROUTE_VERSION "0.3.0"
 
 /* Writes the version of the library, in the form of REVROUTE_VERSION, to the front of the buffer `text`, which has
  * `room` bytes. REVROUTE_ANSWERED or REVROUTE_TOO_SHORT. In both cases *length is the length of the version. O(1). */
