@@ -342,6 +342,7 @@ impl Session {
 
     /// Puts a router in place once its answer is made, and lists the nodes whose hop has changed if the caller asks for
     /// them.
+    #[inline(never)]
     fn put(
         &mut self,
         alloc: Global,
@@ -576,6 +577,7 @@ impl<'a, F: Fn(&Net, u32, Option<&[u32]>, Turns) -> Result<Turns, CrewFault>> As
     }
 
     /// The router of a network of these links.
+    #[inline(never)]
     fn open_network(
         &self,
         nodes: u32,
@@ -618,6 +620,7 @@ impl<'a, F: Fn(&Net, u32, Option<&[u32]>, Turns) -> Result<Turns, CrewFault>> As
     }
 
     /// The answer to a batch of edits.
+    #[inline(never)]
     fn reply_batch(
         &self,
         session: &mut Session,
@@ -650,6 +653,7 @@ impl<'a, F: Fn(&Net, u32, Option<&[u32]>, Turns) -> Result<Turns, CrewFault>> As
     }
 
     /// The answer to a request to move the destination.
+    #[inline(never)]
     fn reply_move(
         &self,
         session: &mut Session,
