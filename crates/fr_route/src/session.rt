@@ -342,7 +342,6 @@ impl Session {
 
     /// Puts a router in place once its answer is made, and lists the nodes whose hop has changed if the caller asks for
     /// them.
-    #[inline(never)]
     fn put(
         &mut self,
         alloc: Global,
@@ -406,6 +405,14 @@ impl Session {
     {
         Ok(self.question(alloc, AS_TEXT, question)?.text)
     }
+}
+
+/// The parts of a request for a network.
+#[derive(Clone, Copy)]
+struct Parts<'a> {
+    nodes: u32,
+    dest: u32,
+    links: &'a [(u32, u32)],
 }
 
 /// The nodes that a new router reroutes when it replaces the one before it, if there was one, and if the caller asks for
@@ -553,12 +560,12 @@ impl<'a, F: Fn(&Net, u32, Option<&[u32]>, Turns) -> Result<Turns, CrewFault>> As
     {
         match request {
             Request::Network { nodes, dest, links } => {
-                match self.open_network(*nodes, *dest, links) {
-                    Ok(router) => {
-                        Ok(accepted(session.put(self.alloc, manner.form, router, told)?))
-                    }
-                    Err(fault) => refuse_for(self.alloc, manner, fault, &[*dest], None),
-                }
+                let parts = Parts {
+                    nodes: *nodes,
+                    dest: *dest,
+                    links,
+                };
+                self.reply_network(session, manner, parts, told)
             }
             Request::Cut { u, v } => {
                 self.reply_edit(session, manner, Edit::Cut { u: *u, v: *v }, told)
@@ -576,8 +583,30 @@ impl<'a, F: Fn(&Net, u32, Option<&[u32]>, Turns) -> Result<Turns, CrewFault>> As
         }
     }
 
-    /// The router of a network of these links.
+    /// The answer to a request for a network. It is not inlined, so that other requests do not pay for the router that
+    /// is a local variable here.
     #[inline(never)]
+    fn reply_network(
+        &self,
+        session: &mut Session,
+        manner: Manner,
+        parts: Parts<'_>,
+        told: &mut Told,
+    ) -> Result<Answer, AnswerFault>
+        requires settles { Settles F.pre F.post self.now.settle.now }
+        requires lists { HasList manner.form told.old }
+        ensures { IsReplied (NeverStarts F.post self.now.settle.now) manner session.old
+            (Ok (new_network parts.entry.nodes parts.entry.dest parts.entry.links.now)) told.old result session.new
+            told.new }
+    {
+        let Parts { nodes, dest, links } = parts;
+        match self.open_network(nodes, dest, links) {
+            Ok(router) => Ok(accepted(session.put(self.alloc, manner.form, router, told)?)),
+            Err(fault) => refuse_for(self.alloc, manner, fault, &[dest], None),
+        }
+    }
+
+    /// The router of a network of these links.
     fn open_network(
         &self,
         nodes: u32,
