@@ -1,5 +1,5 @@
 -- A line that is read by its bytes: from its lexemes to its request.
-use Rattle.std.proofs.Common.{Err, IsUtf8, List, Ok, Option, Some, [], ap, append_assoc, arith, codes, decimal, lt-ltb, map, ok_or, refl, sym, true}
+use Rattle.std.proofs.Common.{Err, IsUtf8, List, Ok, Option, Some, [], ap, append_assoc, arith, codes, decimal, lt-ltb, map, ok_or, option_and_then, refl, sym, true}
 use Rattle.std.proofs.Common.{ℕ, ◌++◌, ◌≤◌, ◌∙◌, ◌∷◌, ◌≡◌}
 use Rattle.std.proofs.lemmas.Bool.{false≢true}
 use Rattle.std.proofs.lemmas.List.{append-nil}
@@ -14,7 +14,6 @@ use Rattle.serde_json.proofs.Numbers.{number_of-decimal}
 use Rattle.serde_json.specs.Data.{Data, Items, array, item, no_items, no_members, number, object, string, unsigned}
 use Rattle.serde_json.specs.Read.{number_of, of_items, of_json}
 use Rattle.serde_json.specs.View.{items_of}
-use Rattle.fr_lines.specs.LineTokens.{value_alone}
 use Rattle.fr_lines.specs.LineLexemes.{AreNumbers, AreSmall, Begins, Each, HasSmallEnds, IsNumber, IsReadAs, IsSmall, edit_ends, edit_lexemes}
 use Rattle.fr_lines.specs.LineLexemes.{letters, link_lexemes, list_lexemes, number_lexeme, number_lexemes, opening, plain_edit, word_of}
 use Rattle.fr_lines.specs.Requests.{ask, edit_in, edit_of_word, edits_in, item_list, link_in, links_in, make_edits, move_dest, new_network, number_in}
@@ -187,7 +186,7 @@ reads_as : (line : List ℕ) (j : Json) (d : Data) → tokens line ≡ json_toke
     → reading line ≡ ok_or (request_of d) NotRequest
 reads_as line j d told utf8 shallow is =
     let whole : value 127 (tokens line) ≡ Some (j, []) = ap (value 127) (told ∙ sym (append-nil (json_tokens j))) ∙ value-json_tokens j 127 [] shallow in
-    ap reading_of_value (value_of_text line utf8) ∙ ap (λ found. reading_of_value (value_alone found)) whole ∙ ap reading_of_value is
+    ap reading_of_value (value_of_text line utf8) ∙ ap (λ found. reading_of_value (option_and_then of_json (option_and_then (λ p. json.if_last p.0 p.1) found))) whole ∙ ap reading_of_value is
 
 -- the same if the value is an array that begins with a word
 word_reads_as : (line word : List ℕ) (js : json.Items) (ds : Items)

@@ -7,7 +7,7 @@ use Rattle.serde_json.specs.Data.{Data}
 use Rattle.serde_json.specs.Find.{as_array, as_str}
 use Rattle.serde_json.specs.View.{items_of, items_view, view}
 use Rattle.serde_json.specs.declared.value.Value.{Value}
-use Rattle.fr_lines.specs.LineTokens.{IsReadNext}
+use Rattle.fr_lines.specs.Returned.{IsReadNext}
 use Rattle.fr_lines.specs.Requests.{item_list, items_in, read_all, read_by_word}
 
 pub list_again : (ds : List Data) → item_list (items_of ds) ≡ ds

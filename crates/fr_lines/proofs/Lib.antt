@@ -2,10 +2,6 @@
 pub mod Items
 -- the value of a line, from what serde_json promises
 pub mod LineValues
--- values of JSON from tokens
-pub mod TokenItems
--- the request of tokens
-pub mod WordLines
 -- bytes as a pattern finds them
 pub mod FoundBytes
 -- the front of a text as a lexeme

@@ -1,3 +1,3 @@
 pub mod Requests
-pub mod LineTokens
+pub mod Returned
 pub mod LineLexemes

@@ -5,15 +5,13 @@
 #![tactic(auto)]
 
 mod fronts;
-mod line_reader;
+mod lines;
 mod lists;
 mod no_requests;
 mod read;
 mod requests;
-mod values;
 mod word_lines;
 mod words;
 
-pub use line_reader::LineReader;
-pub use read::read_line;
+pub use lines::read_line;
 pub use requests::{LineFault, Question, Request};

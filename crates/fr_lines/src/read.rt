@@ -1,10 +1,11 @@
-//! Reading a line as a request. `specs/Requests.antt` defines which line is which request.
+//! The request of a line by `serde_json`, which reads every line. `specs/Requests.antt` defines which line is which
+//! request.
 
 ghost use Rattle.std.specs.Prelude.{◌≡◌, ◌≢◌, Ok, Err, Some, None, IfOk, IfErr};
 ghost use Rattle.std.specs.Prelude.{OnOk, map, ok_or, option_and_then, option_map};
 ghost use Rattle.serde_json.specs.View.{view};
 ghost use Rattle.fr_lines.specs.declared.requests.LineFault.TheVariants.{NotRequest, Memory};
-ghost use Rattle.fr_lines.specs.LineTokens.{IsReadNext, Tells};
+ghost use Rattle.fr_lines.specs.Returned.{IsReadNext, Tells};
 ghost use Rattle.fr_lines.specs.Requests.{plain, reading, request_of, request_of_word, cut_link, add_link};
 ghost use Rattle.fr_lines.specs.Requests.{join_nodes, move_dest, walk_from, network_request, pair_request};
 ghost use Rattle.fr_lines.specs.Requests.{batch_request, node_request, ask_request, items_in, link_in, edit_in};
@@ -16,12 +17,11 @@ use fr_graph::Edit;
 use serde_json::Value;
 use std::alloc::Global;
 
-/// Returns the request of a line. White space is allowed wherever JSON allows it. Fails with `NotJson` or `NotRequest`
-/// if the line is not a request, as [`LineFault`] says, and with `Memory` if an allocation is refused. The line alone
-/// determines every fault except `Memory`. O(b) for a line of b bytes without objects.
-pub fn read_line(alloc: Global, line: &[u8]) -> Result<Request, LineFault>
-    ensures ok { IfOk result (λ request. reading line.now ≡ Ok (plain request)) }
-    ensures refused { IfErr result (λ fault. fault ≢ Memory → reading line.now ≡ Err fault) }
+/// The request of a line. It is not inlined, so that lines that are read by their bytes do not pay for its local
+/// variables.
+#[inline(never)]
+pub(crate) fn read_value(alloc: Global, line: &[u8]) -> Result<Request, LineFault>
+    ensures { Tells (reading line.now) result }
 {
     match Value::from_slice(alloc, line) {
         Ok(value) => request_in(alloc, &value),
@@ -31,7 +31,7 @@ pub fn read_line(alloc: Global, line: &[u8]) -> Result<Request, LineFault>
 }
 
 /// The request of a value of JSON.
-pub(crate) fn request_in(alloc: Global, value: &Value) -> Result<Request, LineFault>
+fn request_in(alloc: Global, value: &Value) -> Result<Request, LineFault>
     ensures { Tells (ok_or (request_of (view value.now)) NotRequest) result }
 {
     let Some([first, rest @ ..]) = items_of(value) else {
@@ -45,7 +45,7 @@ pub(crate) fn request_in(alloc: Global, value: &Value) -> Result<Request, LineFa
 
 /// The request of a word and the items after it, with an arm for each word.
 #[tactic(auto, unfolding(crate::specs::Requests::request_of_word))]
-pub(crate) fn request_by_word(
+fn request_by_word(
     alloc: Global,
     word: &str,
     rest: &[Value],

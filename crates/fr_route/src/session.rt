@@ -36,26 +36,24 @@ use crate::settling::Asking;
 use crate::told::Told;
 use fr_crew::{Crew, CrewFault, Gate, Plan, settled_counts, settled_counts_alone};
 use fr_graph::{Edit, Net, Turns};
-use fr_lines::{LineFault, LineReader, Question, Request};
+use fr_lines::{LineFault, Question, Request, read_line};
 use std::alloc::Global;
 use std::marker::Model;
 use std::sync::Wait;
 use std::thread::Threads;
 
-/// A session: the router of the last accepted network, if there is one, and the reader of lines. The value in contracts
-/// is the state of the router.
+/// A session: the router of the last accepted network, if there is one. The value in contracts is the state of the
+/// router.
 #[derive(Debug)]
 pub struct Session {
     router: Option<Router>,
-    reader: LineReader,
 }
 
 // Written by hand: code that drops a session proves this one call. With a derived Drop it proves how each part is dropped.
 impl Drop for Session {
     fn drop(self) {
-        let Session { router, reader } = self;
+        let Session { router } = self;
         drop(router);
-        drop(reader);
     }
 }
 
@@ -76,10 +74,7 @@ impl Session {
     pub fn new() -> Session
         ensures { result ≡ None }
     {
-        Session {
-            router: None,
-            reader: LineReader::new(),
-        }
+        Session { router: None }
     }
 
     /// The router of the last accepted network, or `None` if there is none yet. O(1).
@@ -115,7 +110,7 @@ impl Session {
     /// session is unchanged. It fails with `Start` only if a network or a change is accepted and a node can turn, and
     /// never if the budget is 0 or there is one worker.
     ///
-    /// O(b) for b bytes of answer, the cost of [`LineReader::read`], and for the request the cost of [`Net::new`] and
+    /// O(b) for b bytes of answer, the cost of [`read_line`], and for the request the cost of [`Net::new`] and
     /// of the router's calls.
     pub fn answer_line<R: Threads + Wait + Sync, G: Gate + Sync>(
         &mut self,
@@ -529,7 +524,7 @@ impl<'a, F: Fn(&Net, u32, Option<&[u32]>, Turns) -> Result<Turns, CrewFault>> As
         ensures { IsReplied (NeverStarts F.post self.now.settle.now) manner session.old
             (reading line.now) told.old result session.new told.new }
     {
-        match session.reader.read(self.alloc, line) {
+        match read_line(self.alloc, line) {
             Ok(request) => self.reply(session, manner, &request, told),
             Err(LineFault::NotJson) => refuse(self.alloc, manner, Reason::NotJson, &[], None),
             Err(LineFault::NotRequest) => refuse(self.alloc, manner, Reason::NotRequest, &[], None),

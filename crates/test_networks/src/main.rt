@@ -19,34 +19,28 @@ mod tables;
 
 use answers::Answer;
 use cases::{items, word};
-use fr_net::{LineReader, Net};
+use fr_net::Net;
 use networks::{network, tell_fault};
 use serde_json::Value;
 use std::alloc::Global;
 use std::io;
 
 fn main(rt: HostRuntime) -> io::Result<()> {
-    // This reader reads all lines of cases, one after the other.
-    let mut reader = LineReader::new();
     for line in rt.lines(rt.alloc()) {
         let line = line?;
         rt.println(line.as_str())?;
         if !line.starts_with('#') {
-            tell(&rt, &mut reader, line.as_str())?;
+            tell(&rt, line.as_str())?;
         }
     }
     Ok(())
 }
 
 /// Writes the answer to a case.
-fn tell<R: Alloc<A = Global> + Print>(
-    rt: &R,
-    reader: &mut LineReader,
-    line: &str,
-) -> io::Result<()> {
+fn tell<R: Alloc<A = Global> + Print>(rt: &R, line: &str) -> io::Result<()> {
     let mut answer = Answer::new(rt.alloc());
     match Value::from_str(rt.alloc(), line) {
-        Ok(case) => answer_case(&mut answer, reader, &case),
+        Ok(case) => answer_case(&mut answer, &case),
         Err(_) => answer.refuse(),
     }
     rt.print("  ")?;
@@ -54,11 +48,11 @@ fn tell<R: Alloc<A = Global> + Print>(
 }
 
 /// Answers a case.
-fn answer_case(answer: &mut Answer, reader: &mut LineReader, case: &Value) {
+fn answer_case(answer: &mut Answer, case: &Value) {
     match items(answer, case) {
         [asked, given @ ..] => {
             let asked = word(answer, asked);
-            answer_word(answer, reader, asked, given);
+            answer_word(answer, asked, given);
         }
         [] => answer.refuse(),
     }
@@ -66,12 +60,12 @@ fn answer_case(answer: &mut Answer, reader: &mut LineReader, case: &Value) {
 
 /// Answers the question of a word about the items after it. Each subject has words of its own. Most questions are about
 /// a network, which comes first.
-fn answer_word(answer: &mut Answer, reader: &mut LineReader, asked: &str, given: &[Value]) {
+fn answer_word(answer: &mut Answer, asked: &str, given: &[Value]) {
     let is_known = networks::answer(answer, asked, given)
         || tables::answer(answer, asked, given)
         || push_orders::answer(answer, asked, given)
         || finishing::answer(answer, asked, given)
-        || request_lines::answer(answer, reader, asked, given)
+        || request_lines::answer(answer, asked, given)
         || faults::answer(answer, asked, given);
     match given {
         _ if is_known => {}

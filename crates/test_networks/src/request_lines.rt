@@ -1,33 +1,31 @@
-//! Lines and their requests. Each line is read alone, and by a reader of many lines.
+//! Lines and their requests.
 
 use crate::answers::Answer;
 use crate::cases::{count, items, length, word};
-use fr_net::{LineReader, read_line};
+use fr_net::read_line;
 use serde_json::Value;
 
 /// Answers a question about lines. Returns whether it is such a question.
-pub fn answer(answer: &mut Answer, reader: &mut LineReader, asked: &str, given: &[Value]) -> bool {
-    let mut kept = Answer::new(answer.alloc);
+pub fn answer(answer: &mut Answer, asked: &str, given: &[Value]) -> bool {
     match (asked, given) {
         ("line", [line]) => {
             let line = word(answer, line).as_bytes();
-            tell(answer, &mut kept, reader, line);
+            tell(answer, line);
         }
         ("bytes", [given]) => {
             let line = bytes(answer, given);
-            tell(answer, &mut kept, reader, &line);
+            tell(answer, &line);
         }
         ("fronts", [line]) => {
             let line = word(answer, line).as_bytes();
-            tell_fronts(answer, &mut kept, reader, line);
+            tell_fronts(answer, line);
         }
         ("nested", [opening, closing, depth]) => {
             let line = nested(answer, opening, closing, depth);
-            tell(answer, &mut kept, reader, line.text().as_bytes());
+            tell(answer, line.text().as_bytes());
         }
         _ => return false,
     }
-    tell_same(answer, &kept);
     true
 }
 
@@ -49,37 +47,20 @@ fn byte(answer: &mut Answer, value: &Value) -> u8 {
     0
 }
 
-/// Writes the request of a line that is read alone to `alone`, and the request that the reader returns to `kept`.
-fn tell(alone: &mut Answer, kept: &mut Answer, reader: &mut LineReader, line: &[u8]) {
-    alone.comma();
-    match read_line(alone.alloc, line) {
-        Ok(request) => alone.put(&request),
-        Err(fault) => alone.put(&fault),
-    }
-    tell_kept(kept, reader, line);
-}
-
-/// Writes the request that the reader of many lines returns.
-fn tell_kept(kept: &mut Answer, reader: &mut LineReader, line: &[u8]) {
-    kept.comma();
-    match reader.read(kept.alloc, line) {
-        Ok(request) => kept.put(&request),
-        Err(fault) => kept.put(&fault),
+/// Writes the request of a line.
+fn tell(answer: &mut Answer, line: &[u8]) {
+    answer.comma();
+    match read_line(answer.alloc, line) {
+        Ok(request) => answer.put(&request),
+        Err(fault) => answer.put(&fault),
     }
 }
 
 /// Writes the request of each beginning of a line, from one byte to all but one.
-fn tell_fronts(alone: &mut Answer, kept: &mut Answer, reader: &mut LineReader, line: &[u8]) {
+fn tell_fronts(answer: &mut Answer, line: &[u8]) {
     for end in 1..line.len() {
-        tell(alone, kept, reader, &line[..end]);
+        tell(answer, &line[..end]);
     }
-}
-
-/// Writes what the reader returns, if it is something else.
-fn tell_same(answer: &mut Answer, kept: &Answer) {
-    let same = answer.text() == kept.text();
-    answer.say(", by the reader ");
-    answer.say(if same { "the same" } else { kept.text() });
 }
 
 /// A line with so many opening brackets, a 0, and as many closing brackets.

@@ -1,6 +1,6 @@
 use Rattle.std.proofs.Common.{None, ap, get_or, option_and_then, option_map, refl, sym, ◌++◌, ◌∙◌, ◌≡◌}
 use Rattle.serde_json.specs.View.{view}
-use Rattle.fr_lines.specs.LineTokens.{IsReadNext}
+use Rattle.fr_lines.specs.Returned.{IsReadNext}
 use Rattle.fr_lines.specs.Requests.{read_all}
 use Rattle.fr_lines.proofs.HandedOn.{handed_on}
 use Rattle.fr_lines.proofs.Items.{reading_begins, reading_ends, reading_goes_on, reading_stops}

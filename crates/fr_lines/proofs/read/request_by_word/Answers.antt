@@ -1,6 +1,6 @@
 use Rattle.std.proofs.Common.{Err, Ok, Option, Result, Some, ap, ok_or, ◌≡◌}
 use Rattle.std.specs.Result.{IfErr, IfOk}
-use Rattle.fr_lines.specs.LineTokens.{Tells}
+use Rattle.fr_lines.specs.Returned.{Tells}
 use Rattle.fr_lines.specs.Requests.{PlainRequest, plain, request_of_word}
 use Rattle.fr_lines.specs.declared.requests.LineFault.{LineFault}
 use Rattle.fr_lines.specs.declared.requests.LineFault.TheVariants.{NotRequest}
