@@ -29,7 +29,7 @@ pub record AreOrdered (old new nodes : List ℕ) : Type 0 where
   pub in_range : AreInRange old new
   pub order : IsOrdered (hops_of (nodes_of old new) old) (hops_of (nodes_of old new) new) nodes
 
--- the loop of the lowest node that is on a loop of the new table, from this node, and then the first node again
+-- the loop of the lowest node on a loop of the new table, from this node on, and then this node again
 pub record IsLoopOfNew (old new nodes : List ℕ) : Type 0 where
   pub in_range : AreInRange old new
   pub first : ℕ

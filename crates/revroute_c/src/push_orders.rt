@@ -1,10 +1,9 @@
 //! The push order between two tables of the caller.
 
-ghost use Rattle.std.specs.Prelude.{◌≡◌, ◌≢◌, ◌<◌, ◌≤◌, ◌++◌, [], ◌∷◌, find, length, slice_index};
+ghost use Rattle.std.specs.Prelude.{◌≡◌, ◌<◌, ◌≤◌, ◌++◌, [], ◌∷◌, find, length, slice_index};
 ghost use Rattle.std.specs.Prelude.{IfErr, IfNone, IfOk, IfSome};
 ghost use Rattle.fr_graph.specs.Limits.{most_nodes};
 ghost use Rattle.fr_tables.specs.Faults.{IsFaultOf, IsOrdered};
-ghost use Rattle.fr_tables.specs.declared.fault.TableFault.TheVariants.{Memory};
 ghost use Rattle.revroute_c.specs.PushOrders.{hops_of, nodes_of, AreInRange, AreNoTables, OrdersPushes};
 ghost use Rattle.revroute_c.specs.PushOrders.{TellsCycle};
 ghost use Rattle.revroute_c.specs.Replies.{outcome};
@@ -58,14 +57,14 @@ impl<'a> Tables<'a> {
     }
 
     /// The push order.
+    #[tactic(auto, using(crate::proofs::InRange::are_tables))]
     fn order(&self, alloc: Global) -> Result<Vec<u32>, TableFault>
         requires { AreInRange self.now.old.now self.now.new.now }
         ensures order { IfOk result (λ order.
             IsOrdered (hops_of (nodes_of self.now.old.now self.now.new.now) self.now.old.now)
             (hops_of (nodes_of self.now.old.now self.now.new.now) self.now.new.now) order.items) }
-        ensures fault { IfErr result (λ fault. fault ≢ Memory
-            → IsFaultOf (hops_of (nodes_of self.now.old.now self.now.new.now) self.now.old.now)
-            (hops_of (nodes_of self.now.old.now self.now.new.now) self.now.new.now) fault) }
+        ensures fault { IfErr result (IsFaultOf (hops_of (nodes_of self.now.old.now self.now.new.now) self.now.old.now)
+            (hops_of (nodes_of self.now.old.now self.now.new.now) self.now.new.now)) }
     {
         let nodes = self.nodes();
         let old = hops(alloc, self.old, nodes)?;

@@ -11,19 +11,19 @@ HERE, CUT_OFF = NoHop.HERE, NoHop.CUT_OFF
 
 
 def group(old, new, node):
-    """Whether the walk of a node in the new table does not end at the destination, and how many nodes on this walk have
-    another hop in the old table, itself included."""
+    """Whether the walk of a node in the new table misses the destination, and how many nodes on it have another hop in the
+    old table, the node itself included."""
     count = 0
     while not isinstance(node, NoHop):
         count += old[node] != new[node]
         node = new[node]
-    return node != HERE, count
+    return node is not HERE, count
 
 
 def order_of(old, new):
-    """The definition: the nodes whose hop differs. Those with a route come first, by wave and then by number, and the
-    others come last, likewise."""
-    return sorted((x for x in range(len(new)) if old[x] != new[x]), key=lambda x: (*group(old, new, x), x))
+    """The definition: the nodes whose hop differs. Those with a route in the new table come first. Both parts are by wave,
+    and within a wave by number."""
+    return sorted((x for x in range(len(new)) if old[x] != new[x]), key=lambda x: (group(old, new, x), x))
 
 
 def has_loop(table):
