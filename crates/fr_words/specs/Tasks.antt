@@ -9,7 +9,7 @@ use Rattle.clap.specs.declared.error.kind.ErrorKind.TheVariants.{DisplayHelp, Di
 use Rattle.fr_core.specs.Limits.{most_workers}
 use Rattle.fr_crew.specs.declared.plan.Plan.{Plan}
 use Rattle.fr_words.specs.Draws.{most_steps}
-use Rattle.fr_words.specs.Commands.{command, most_budget, number_of, IsGiven}
+use Rattle.fr_words.specs.Commands.{command, most_budget, most_seed, number_of, HasNumber, IsGiven}
 use Rattle.fr_words.specs.declared.draws.Draw.{Draw}
 use Rattle.fr_words.specs.declared.task.CommandLine.{CommandLine}
 use Rattle.fr_words.specs.declared.task.Task.{Task}
@@ -35,6 +35,29 @@ IsDrawIn rows draw =
     (number_of (codes "workers") rows ≡ Some draw.workers) × (1 ≤ draw.workers) × (draw.workers ≤ most_workers)
     × (number_of (codes "seed") rows ≡ Some draw.seed)
     × (number_of (codes "steps") rows ≡ Some draw.steps) × (draw.steps ≤ most_steps)
+
+-- the number of workers is not 0
+abbrev pub HasWorkers : List Row → Type 0
+HasWorkers rows =
+    HasNumber most_workers (codes "workers") rows × (number_of (codes "workers") rows ≢ Some 0)
+
+-- these options give a budget
+abbrev pub HasBudget : List Row → Type 0
+HasBudget rows = IsGiven (codes "alone") rows ⊎ HasNumber most_budget (codes "budget") rows
+
+-- these options give a plan: each number is in its range
+abbrev pub HasPlan : List Row → Type 0
+HasPlan rows = HasWorkers rows × HasNumber most_seed (codes "seed") rows × HasBudget rows
+
+-- these options give a draw: each number is in its range
+abbrev pub HasDraw : List Row → Type 0
+HasDraw rows =
+    HasWorkers rows × HasNumber most_seed (codes "seed") rows × HasNumber most_steps (codes "steps") rows
+
+-- the subcommand with this name and these options has a task
+abbrev pub HasTask : Text → List Row → Type 0
+HasTask name rows =
+    (((name ≡ codes "run") ⊎ (name ≡ codes "serve")) × HasPlan rows) ⊎ ((name ≡ codes "play") × HasDraw rows)
 
 -- the task of the subcommand with this name, with the numbers of its options
 abbrev pub IsTaskOf : Text → List Row → Task → Type 0
