@@ -1,5 +1,5 @@
 -- What a stream has read, written and flushed, and in which order. This project's own.
-use Rattle.std.specs.Prelude.{◌≡◌, ℕ, List, [], ◌∷◌, ◌++◌, Option, option_map}
+use Rattle.std.specs.Prelude.{◌≡◌, ℕ, List, [], ◌∷◌, ◌++◌, Option, None, option_map}
 use Rattle.std.specs.Io.KnownBytes.{Appends, Consumes, Keeps}
 
 -- the bytes that were read and written up to a moment, and those that were written when the stream was last flushed
@@ -22,6 +22,10 @@ pub record Traffic : Type 0 where
   pub left : Option (List ℕ)
   pub written : Option (List ℕ)
   pub log : Option Log
+
+-- the traffic of a reader and a writer, of which no log is known
+abbrev pub traffic_of : (left written : Option (List ℕ)) → Traffic
+traffic_of left written = record { left = left; written = written; log = None }
 
 -- one more read, which gave these bytes
 abbrev pub after_read : List ℕ → Log → Log

@@ -47,9 +47,9 @@ pub struct Joined<R, W> {
 }
 
 impl<R: Read, W: Write> Stream for Joined<R, W> {
-    ghost use Rattle.std.specs.Prelude.{None};
+    ghost use Rattle.fr_bytes.specs.Streams.{traffic_of};
 
-    ghost traffic = { λ it. record { left = R.remaining it.reader; written = W.contents it.writer; log = None } };
+    ghost traffic = { λ it. traffic_of (R.remaining it.reader) (W.contents it.writer) };
 
     fn read(&mut self, piece: &mut [u8]) -> Result<usize, RunFault> {
         match self.reader.read(piece) {

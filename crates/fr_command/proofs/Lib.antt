@@ -2,6 +2,8 @@
 pub mod Taking
 -- a service answers pieces
 pub mod Served
+-- a service answers in time
+pub mod InTime
 -- lines have one answer each
 pub mod AnswersIn
 -- an input has one output

@@ -90,13 +90,14 @@ module _ (form : Form) (whole line : List ℕ) (left : List (List ℕ)) (now : P
       }
 
   -- the line failed
-  stops_at_line : (new : Option (List ℕ)) → is_blank line ≡ false → Keeps mid new → StopsAtLine form whole old new
+  stops_at_line : (new : Option (List ℕ)) → is_blank line ≡ false → Keeps mid new
+      → (stop : StopsAtLine form whole old new) × (stop.last ≡ now) × (stop.line ≡ line)
   stops_at_line new asks kept =
       let done = h.done in
       let front : take (length done) (lines_of whole) ≡ done = rw h.cut (take-append_seam done (line ∷ left)) in
       let answers : AreAnswersIn form first_point (take (length done) (lines_of whole)) h.out now =
       subst (λ (ls : List (List ℕ)). AreAnswersIn form first_point ls h.out now) (sym front) h.are_answers in
-      record {
+      let stop : StopsAtLine form whole old new = record {
         place = length done;
         line = line;
         out = h.out;
@@ -106,7 +107,8 @@ module _ (form : Form) (whole line : List ℕ) (left : List (List ℕ)) (now : P
         are_answers = answers;
         begins = λ all is. output_begins_with form whole h.out all (length done) now answers is;
         writes = Appends-kept old mid new h.out h.writes kept;
-      }
+      } in
+      (stop, refl, refl)
 
   -- the line was not answered
   pub line_failed : (new : Option (List ℕ)) (fault : RunFault) → IsLineFault form now line mid new fault
@@ -114,8 +116,10 @@ module _ (form : Form) (whole line : List ℕ) (left : List (List ℕ)) (now : P
   line_failed new Read why = why
   line_failed new Write why = stops_writing new why
   line_failed new TooLong why = why
-  line_failed new Start why = stops_at_line new why.0 why.1
-  line_failed new Memory why = stops_at_line new why.0 why.1
+  line_failed new Start why =
+      let stop = stops_at_line new why.0.0 why.1 in
+      (stop.0, rw (stop.1, stop.2) why.0)
+  line_failed new Memory why = (stops_at_line new why.0 why.1).0
 
 -- no line is left
 pub all_answered : (form : Form) (whole : List ℕ) (now : Point) (old new : Option (List ℕ)) (tally : Tally)

@@ -1,8 +1,10 @@
 pub mod Points
 pub mod Outputs
 pub mod Conversations
+pub mod Services
 pub mod Faults
 pub mod InLines
 pub mod InPieces
 pub mod Laws
 pub mod Plays
+pub mod Programs

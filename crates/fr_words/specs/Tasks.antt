@@ -1,5 +1,5 @@
 -- What a command line asks for. This project's own.
-use Rattle.std.specs.Prelude.{ℕ, ◌⊎◌, ◌≡◌, ◌≢◌, ◌≤◌, ◌↔◌, ⊤, IsTrue, List, [], Some, codes}
+use Rattle.std.specs.Prelude.{ℕ, ◌⊎◌, ◌≡◌, ◌≢◌, ◌≤◌, ◌↔◌, ⊤, IsTrue, List, [], Some, codes, if◌then◌else◌, string_bytes}
 use Rattle.clap.specs.Walk.{Row, Text}
 use Rattle.clap.specs.Simple.{subcommand_of}
 use Rattle.clap.specs.Faults.{fault_of}
@@ -99,3 +99,10 @@ IsFaultOf words (Usage text asked) = (kind : ErrorKind) × IsAmong kind (fault_o
     × (kind ≢ DisplayVersion) × (IsTrue asked ↔ (kind ≡ DisplayHelp))
 IsFaultOf words (Version text) = IsAmong DisplayVersion (fault_of command words)
 IsFaultOf words Memory = ⊤
+
+-- how the program ends with a fault: the status 0 and the text if the words ask for it, 2 and the text if they are
+-- wrong, and 1 if memory is missing
+abbrev pub IsEndOf : TaskFault → (status : ℕ) → (text : List ℕ) → Type 0
+IsEndOf (Usage text asked) status shown = (status ≡ (if asked then 0 else 2)) × (shown ≡ string_bytes text)
+IsEndOf (Version text) status shown = (status ≡ 0) × (shown ≡ string_bytes text)
+IsEndOf Memory status shown = status ≡ 1

@@ -6,7 +6,7 @@ ghost use Rattle.clap.specs.Words.{found_of, rows_of};
 ghost use Rattle.fr_words.specs.Commands.{number_of, HasNumber, IsGiven, most_budget, most_seed};
 ghost use Rattle.fr_words.specs.Tasks.{IsBudgetIn, IsPlanIn, IsDrawIn, IsTaskIn, IsTaskOf};
 ghost use Rattle.fr_words.specs.Tasks.{HasBudget, HasDraw, HasPlan, HasTask};
-ghost use Rattle.fr_words.specs.Tasks.{IsCommandLineIn, IsCommandLineOf, IsUsageOf, IsFaultOf};
+ghost use Rattle.fr_words.specs.Tasks.{IsCommandLineIn, IsCommandLineOf, IsEndOf, IsUsageOf, IsFaultOf};
 
 use crate::command::{MAX_BUDGET, matches_of};
 use crate::draws::{Draw, MAX_STEPS};
@@ -212,8 +212,10 @@ fn text_of(alloc: Global, error: &Error) -> Result<String, AllocError> {
 }
 
 /// The exit status for a fault, and its text, which is for standard output if the status is 0 and otherwise for
-/// standard error. No clause says what they are; they are only tested. O(1).
-pub fn task_end(fault: &TaskFault) -> (u8, &str) {
+/// standard error. O(1).
+pub fn task_end(fault: &TaskFault) -> (u8, &str)
+    ensures { IsEndOf fault.now result.0 result.1.now }
+{
     match fault {
         TaskFault::Usage { text, asked: true } | TaskFault::Version { text } => (0, text.as_str()),
         TaskFault::Usage { text, asked: false } => (2, text.as_str()),
