@@ -44,17 +44,21 @@ IsRunFault before after old new fault = IsRunFaultIn Text before after old new f
 -- missing for a line that may need one, or memory for a line, the lines before it were answered.
 abbrev pub IsServeFaultIn : (form : Form) (old new : Traffic) → RunFault → Type 0
 IsServeFaultIn form old new Read =
-    (bytes : List ℕ) × (talk : Talk) × Consumes old.left new.left bytes × Says (silence_in form) bytes talk old.written new.written
+    (bytes : List ℕ) × (talk : Talk) × Consumes old.left new.left bytes
+    × Says (silence_in form) bytes talk old.written new.written
 IsServeFaultIn form old new Write =
     (bytes : List ℕ) × Consumes old.left new.left bytes × WritesBeginning form bytes old.written new.written
 IsServeFaultIn form old new TooLong =
-    (bytes : List ℕ) × (talk : Talk) × Consumes old.left new.left bytes × Says (silence_in form) bytes talk old.written new.written
+    (bytes : List ℕ) × (talk : Talk) × Consumes old.left new.left bytes
+    × Says (silence_in form) bytes talk old.written new.written
     × (length talk.begun ≡ most_bytes + 1)
 IsServeFaultIn form old new Start =
-    (bytes : List ℕ) × (line : List ℕ) × Consumes old.left new.left bytes × (stop : AnswersBefore form bytes line old.written new.written)
+    (bytes : List ℕ) × (line : List ℕ) × Consumes old.left new.left bytes
+    × (stop : AnswersBefore form bytes line old.written new.written)
     × MayStartAt stop.last line
 IsServeFaultIn form old new Memory =
-    (bytes : List ℕ) × (line : List ℕ) × Consumes old.left new.left bytes × (stop : AnswersBefore form bytes line old.written new.written)
+    (bytes : List ℕ) × (line : List ℕ) × Consumes old.left new.left bytes
+    × (stop : AnswersBefore form bytes line old.written new.written)
     × (line ≢ []) × (is_blank line ≡ true → stop.behind ≡ [])
 
 -- why a service that answers as text fails
