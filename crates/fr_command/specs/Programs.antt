@@ -1,7 +1,6 @@
 -- What the program does and with which status it ends, defined by docs/LINES.md. This project's own.
 use Rattle.std.specs.Prelude.{◌≡◌, ◌≢◌, ◌⊎◌, ℕ, List, Option, IsTrue, false, if◌then◌else◌, string_bytes}
 use Rattle.std.specs.Io.KnownBytes.{Appends, Keeps}
-use Rattle.clap.specs.Walk.{Text as Word}
 use Rattle.fr_route.specs.declared.form.Form.{Form}
 use Rattle.fr_route.specs.declared.form.Form.TheVariants.{Text, Json}
 use Rattle.fr_bytes.specs.Bytes.{IsBeginning, ReadsInput}
@@ -18,8 +17,8 @@ use Rattle.fr_command.specs.Faults.{IsRunFaultIn, IsServeFaultIn, IsDrawnPlayFau
 use Rattle.fr_command.specs.Outputs.{WritesOutputIn}
 use Rattle.fr_command.specs.Plays.{WritesPlay}
 use Rattle.fr_command.specs.Services.{Serves}
-use Rattle.fr_command.specs.declared.program.Failure.{Failure}
-use Rattle.fr_command.specs.declared.program.Failure.TheVariants.{Usage, Stopped, StoppedServing}
+use Rattle.fr_command.specs.declared.programs.Failure.{Failure}
+use Rattle.fr_command.specs.declared.programs.Failure.TheVariants.{Usage, Stopped, StoppedServing}
 use Rattle.fr_command.specs.declared.responder.Tally.{Tally}
 
 -- the form of the answers
@@ -72,14 +71,14 @@ IsUntold fault old new (Stopped Memory) = (fault ≡ NoMemory) × Keeps old new
 IsUntold fault old new failure = ⊥
 
 -- the program does what the words ask for, and ends with this status
-abbrev pub IsDone : List Word → (old new : Traffic) → ℕ → Type 0
+abbrev pub IsDone : List (List ℕ) → (old new : Traffic) → ℕ → Type 0
 IsDone words old new status =
     ((line : CommandLine) × IsCommandLineIn words line × DoesTask line.task line old new status)
     ⊎ ((fault : TaskFault) × IsFaultOf words fault × (new.left ≡ old.left)
     × PrintsAsked fault old.written new.written × (status ≡ 0))
 
 -- why it does not
-abbrev pub IsFailure : List Word → (old new : Traffic) → Failure → Type 0
+abbrev pub IsFailure : List (List ℕ) → (old new : Traffic) → Failure → Type 0
 IsFailure words old new failure =
     ((line : CommandLine) × IsCommandLineIn words line × FailsTask line.task (form_of line) old new failure)
     ⊎ ((fault : TaskFault) × IsFaultOf words fault × (new.left ≡ old.left)

@@ -18,7 +18,7 @@ mod entries;
 mod fault;
 pub mod laws;
 mod play;
-mod program;
+mod programs;
 mod responder;
 mod runs;
 mod serving;
@@ -30,7 +30,7 @@ pub use fr_bytes::{Joined, Lines, MAX_BYTES, RunFault, Stream, first_line, read_
 pub use fr_route::Form;
 pub use fr_words::{CommandLine, Draw, MAX_STEPS, Task, TaskFault, task_end};
 pub use play::play_drawn;
-pub use program::{Failure, program};
+pub use programs::{Failure, program};
 pub use responder::Tally;
 pub use runs::{run, run_in};
 pub use serving::{serve, serve_in};

@@ -1,5 +1,5 @@
 use Rattle.std.proofs.Common.{◌++◌, ◌∷◌, [], List, ℕ, take}
-use Rattle.std.proofs.lemmas.Result.{on_err_weaker}
+use Rattle.std.proofs.lemmas.Result.{on_err_weaker, on_ok_weaker}
 use Rattle.fr_bytes.specs.Streams.{Writes}
 use Rattle.fr_bytes.proofs.Results.{on_err}
 use Rattle.fr_bytes.proofs.Traffics.{writes_on}
@@ -27,4 +27,11 @@ returns-clause-err g c =
     c.send_whole-2.ensures.err
 
 pub returns-clause-ok : goal.returns-clause-ok
-returns-clause-ok g c = ?
+returns-clause-ok g c =
+    let old = g.S.Stream.traffic c.args.stream.now in
+    let mid = g.S.Stream.traffic c.send_whole.new.stream in
+    let new = g.S.Stream.traffic c.send_whole-2.new.stream in
+    on_ok_weaker c.send_whole-2.result
+    (λ (end : Writes mid new (10 ∷ [])).
+    writes_on old mid new c.args.line.now (10 ∷ []) c.in_ok-send_whole.ensures.ok end)
+    c.send_whole-2.ensures.ok
