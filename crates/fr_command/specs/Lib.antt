@@ -7,4 +7,3 @@ pub mod InLines
 pub mod InPieces
 pub mod Laws
 pub mod Plays
-pub mod Programs
