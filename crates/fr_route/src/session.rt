@@ -35,7 +35,7 @@ use crate::router::Router;
 use crate::settling::Asking;
 use crate::told::Told;
 use fr_crew::{Crew, CrewFault, Gate, Plan, settled_counts, settled_counts_alone};
-use fr_graph::{Edit, Net, Turns};
+use fr_graph::{Edit, MAX_EDITS, Net, NetFault, Turns};
 use fr_lines::{LineFault, Question, Request, read_line};
 use std::alloc::Global;
 use std::marker::Model;
@@ -402,6 +402,14 @@ impl Session {
     }
 }
 
+/// The parts of a request for a network.
+#[derive(Clone, Copy)]
+struct Parts<'a> {
+    nodes: u32,
+    dest: u32,
+    links: &'a [(u32, u32)],
+}
+
 /// The nodes that a new router reroutes when it replaces the one before it, if there was one, and if the caller asks for
 /// them.
 fn told_replaced(
@@ -547,12 +555,12 @@ impl<'a, F: Fn(&Net, u32, Option<&[u32]>, Turns) -> Result<Turns, CrewFault>> As
     {
         match request {
             Request::Network { nodes, dest, links } => {
-                match self.open_network(*nodes, *dest, links) {
-                    Ok(router) => {
-                        Ok(accepted(session.put(self.alloc, manner.form, router, told)?))
-                    }
-                    Err(fault) => refuse_for(self.alloc, manner, fault, &[*dest], None),
-                }
+                let parts = Parts {
+                    nodes: *nodes,
+                    dest: *dest,
+                    links,
+                };
+                self.reply_network(session, manner, parts, told)
             }
             Request::Cut { u, v } => {
                 self.reply_edit(session, manner, Edit::Cut { u: *u, v: *v }, told)
@@ -567,6 +575,29 @@ impl<'a, F: Fn(&Net, u32, Option<&[u32]>, Turns) -> Result<Turns, CrewFault>> As
             Request::Destination { dest } => self.reply_move(session, manner, *dest, told),
             Request::Walk { x } => session.walk(self.alloc, manner, *x),
             Request::Ask(question) => session.question(self.alloc, manner, *question),
+        }
+    }
+
+    /// The answer to a request for a network. It is not inlined, so that other requests do not pay for the router that
+    /// is a local variable here.
+    #[inline(never)]
+    fn reply_network(
+        &self,
+        session: &mut Session,
+        manner: Manner,
+        parts: Parts<'_>,
+        told: &mut Told,
+    ) -> Result<Answer, AnswerFault>
+        requires settles { Settles F.pre F.post self.now.settle.now }
+        requires lists { HasList manner.form told.old }
+        ensures { IsReplied (NeverStarts F.post self.now.settle.now) manner session.old
+            (Ok (new_network parts.entry.nodes parts.entry.dest parts.entry.links.now)) told.old result session.new
+            told.new }
+    {
+        let Parts { nodes, dest, links } = parts;
+        match self.open_network(nodes, dest, links) {
+            Ok(router) => Ok(accepted(session.put(self.alloc, manner.form, router, told)?)),
+            Err(fault) => refuse_for(self.alloc, manner, fault, &[dest], None),
         }
     }
 
@@ -613,6 +644,7 @@ impl<'a, F: Fn(&Net, u32, Option<&[u32]>, Turns) -> Result<Turns, CrewFault>> As
     }
 
     /// The answer to a batch of edits.
+    #[inline(never)]
     fn reply_batch(
         &self,
         session: &mut Session,
@@ -645,6 +677,7 @@ impl<'a, F: Fn(&Net, u32, Option<&[u32]>, Turns) -> Result<Turns, CrewFault>> As
     }
 
     /// The answer to a request to move the destination.
+    #[inline(never)]
     fn reply_move(
         &self,
         session: &mut Session,
@@ -670,7 +703,8 @@ impl<'a, F: Fn(&Net, u32, Option<&[u32]>, Turns) -> Result<Turns, CrewFault>> As
         }
     }
 
-    /// Makes these edits, and returns the report of the round. Room for the report is taken before anything is changed.
+    /// Makes these edits, and returns the report of the round. Room for the report is taken before anything is changed,
+    /// but only for edits within the limit.
     fn revise(
         &self,
         router: &mut Router,
@@ -683,6 +717,12 @@ impl<'a, F: Fn(&Net, u32, Option<&[u32]>, Turns) -> Result<Turns, CrewFault>> As
         requires node { revision.now.dest < router.old.nodes }
         ensures { IsRevised (NeverStarts F.post self.now.settle.now) form router.old revision.now told.old result router.new told.new }
     {
+        if revision.edits.len() > MAX_EDITS {
+            return Err(NotMade {
+                at: MAX_EDITS,
+                fault: RouteFault::Net(NetFault::TooMany),
+            });
+        }
         let mut text = report_begun(self.alloc, form, router.net().nodes())?;
         let report = self.edit(router, revision, &|report| Ok(report), told)?;
         router.state_law();
