@@ -25,7 +25,9 @@ mod words;
 
 pub use conversation::{Conversation, Taken};
 pub use fault::run_end;
-pub use fr_bytes::{Joined, Lines, MAX_BYTES, RunFault, Stream, first_line, read_input, write_whole};
+pub use fr_bytes::{
+    Joined, Lines, MAX_BYTES, RunFault, Stream, first_line, read_input, write_whole,
+};
 pub use fr_route::Form;
 pub use fr_words::{CommandLine, Draw, MAX_STEPS, Task, TaskFault, task_end};
 pub use play::play_drawn;

@@ -51,9 +51,7 @@ impl Drop for Responder {
 }
 
 impl Model for Responder {
-    ghost use Rattle.fr_command.specs.Faults.{StartsNone};
-ghost use Rattle.fr_command.specs.InLines.{IsUnanswered};
-ghost use Rattle.fr_command.specs.Points.{Point};
+    ghost use Rattle.fr_command.specs.Points.{Point};
 
     ghost Value = { Point };
 

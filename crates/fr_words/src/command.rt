@@ -71,7 +71,8 @@ const PLAY_SEED: &str = "The seed of the schedule, 0 to 18446744073709551615";
 const BUDGET: &str =
     "The most calls that each worker makes in a round, 0 to 1000000000; 0 starts no thread, and is fastest";
 
-const ALONE: &str = "One thread makes all turns: the budget is 0, whatever --budget says; fastest, and the way to serve";
+const ALONE: &str =
+    "One thread makes all turns: the budget is 0, whatever --budget says; fastest, and the way to serve";
 
 const JSON: &str = "Answers are JSON, one object on a line";
 

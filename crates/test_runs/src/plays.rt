@@ -59,7 +59,9 @@ fn links_at(alloc: Global, net: &Net, counts: &[u64]) -> Option<Vec<(u32, u32)>>
     let mut links = Vec::new(alloc);
     for (tail, head) in net.links() {
         let same = counts.get(tail as usize)? == counts.get(head as usize)?;
-        links.push(if same { (tail, head) } else { (head, tail) }).ok()?;
+        links
+            .push(if same { (tail, head) } else { (head, tail) })
+            .ok()?;
     }
     links.sort().ok()?;
     Some(links)

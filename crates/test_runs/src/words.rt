@@ -2,7 +2,9 @@
 
 use crate::cases::Case;
 use crate::telling::{tell, tell_lines, tell_value};
-use fr_command::{CommandLine, RunFault, Task, TaskFault, command_line, run_end, task_end, task_of};
+use fr_command::{
+    CommandLine, RunFault, Task, TaskFault, command_line, run_end, task_end, task_of,
+};
 use fr_route::{AnswerFault, RouteFault};
 use serde_json::Value;
 use std::alloc::Global;
