@@ -41,8 +41,8 @@ pub record IsLoopOfNew (old new nodes : List ℕ) : Type 0 where
 abbrev pub refusal_with : ℕ → ℕ × ℕ → Refusal
 refusal_with number nodes = record { number = number; u = nodes.0; v = nodes.1; at = 0 }
 
--- the tables are refused, whatever hops the new one has: they have more nodes than a network may have, or x is the first
--- of their numbers that names no hop
+-- the tables are refused, whatever hops the new one has: they have more nodes than a network may have, or x is the
+-- first of their numbers that names no hop
 abbrev pub AreNoTables : List ℕ → List ℕ → Refusal → Type 0
 AreNoTables old new r =
     ((most_nodes < nodes_of old new) × (r ≡ refusal_with 9 (0, 0)))

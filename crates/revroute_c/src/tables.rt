@@ -66,7 +66,10 @@ pub(crate) fn pushes_in(
         return NO_NETWORK;
     };
     let count = router.net().nodes();
-    if table.len() != count as usize || first_outside(count, table).is_some() {
+    if table.len() != count as usize {
+        return NO_TABLE;
+    }
+    if let Some(_number) = first_outside(count, table) {
         return NO_TABLE;
     }
     let Ok(hops) = table_of(alloc, table) else {
