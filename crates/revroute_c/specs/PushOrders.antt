@@ -47,7 +47,7 @@ abbrev pub AreNoTables : List ℕ → List ℕ → Refusal → Type 0
 AreNoTables old new r =
     ((most_nodes < nodes_of old new) × (r ≡ refusal_with 9 (0, 0)))
     ⊎ ((nodes_of old new ≤ most_nodes)
-        × ((x : ℕ) × (find (is_outside (nodes_of old new)) (old ++ new) ≡ Some x) × (r ≡ refusal_with 4 (x, x))))
+    × ((x : ℕ) × (find (is_outside (nodes_of old new)) (old ++ new) ≡ Some x) × (r ≡ refusal_with 4 (x, x))))
 
 -- a cycle is at the front of the place, and the refusal has its first step
 pub record IsCycleTold (cycle : List ℕ) (o : Outcome ℕ) (r : Refusal) : Type 0 where

@@ -57,9 +57,7 @@ use reader_opening::{reader_anew, reader_in};
 use readers::{copied, hop_read, walk_read};
 use records::{Link, LinkEdit, Refusal, Round, first_unknown, unknown_at};
 use replies::{LEAST_ROOM, hand_out, reply, reply_anew};
-use rounds::{
-    NewNetwork, change_in, is_too_large, move_dest_in, open_anew, open_in, refuse_size,
-};
+use rounds::{NewNetwork, change_in, is_too_large, move_dest_in, open_anew, open_in, refuse_size};
 use statuses::{ANSWERED, BLANK, NO_MEMORY, NO_NETWORK, REFUSED, TOO_SHORT};
 use std::alloc::Global;
 use tables::pushes_in;

@@ -33,7 +33,10 @@ fn is_outside(count: u32, number: u32) -> bool
 pub(crate) fn first_outside(count: u32, numbers: &[u32]) -> Option<u32>
     ensures { result ≡ find (is_outside_of count) numbers.now }
 {
-    numbers.iter().copied().find(|number| is_outside(count, *number))
+    numbers
+        .iter()
+        .copied()
+        .find(|number| is_outside(count, *number))
 }
 
 /// The table of these numbers.
