@@ -94,7 +94,7 @@ fn perform<T: Threads + Wait + Sync, R: Read, W: Write>(
         (traffic_of (R.remaining stream.old.reader) (W.contents stream.old.writer))
         (traffic_of (R.remaining stream.new.reader) (W.contents stream.new.writer))) }
 {
-    let form = if line.json { Form::Json } else { Form::Text };
+    let form = form_for(line);
     match line.task {
         Task::Run(plan) => {
             let crew = crew_of(rt, alloc, &plan);
@@ -114,6 +114,13 @@ fn perform<T: Threads + Wait + Sync, R: Read, W: Write>(
             }
         }
     }
+}
+
+/// The form of the answers.
+fn form_for(line: &CommandLine) -> Form
+    ensures { result ≡ form_of line.now }
+{
+    if line.json { Form::Json } else { Form::Text }
 }
 
 /// The exit status for a task that was done.

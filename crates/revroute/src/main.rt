@@ -29,7 +29,9 @@ fn main(rt: HostRuntime) -> ExitCode {
 /// The words of the command line, with the program's name first. A word that is not UTF-8 is a usage error.
 fn words_of<R: Env + Alloc<A = Global>>(rt: &R) -> Result<Vec<String>, Failure> {
     match env::args(rt) {
-        Ok(words) => words.collect(rt.alloc()).map_err(|_| Failure::Stopped(RunFault::Memory)),
+        Ok(words) => words
+            .collect(rt.alloc())
+            .map_err(|_| Failure::Stopped(RunFault::Memory)),
         Err(error) if error.kind() == ErrorKind::InvalidData => {
             match String::from_str(rt.alloc(), "error: a word is not UTF-8") {
                 Ok(text) => Err(Failure::Usage { text }),
