@@ -7,3 +7,4 @@ pub mod InLines
 pub mod InPieces
 pub mod Laws
 pub mod Plays
+pub mod Programs

@@ -3,7 +3,7 @@
 //! [`run`] answers the lines of an input as text, and [`play_drawn`] plays the schedule of a [`Draw`] on its network.
 //! [`serve`] answers each line of a [`Stream`] as soon as it has ended. It uses a [`Conversation`], to which a caller can
 //! pass bytes from any source. [`run_in`] and [`serve_in`] answer in either [`Form`], as text or as JSON, and return a
-//! [`Tally`] of the answered and the refused lines.
+//! [`Tally`] of the answered and the refused lines. [`program`] does what the words of a command line ask for.
 //!
 //! Parts of [`run`] are public, for programs that read an input and write another text: [`read_input`], [`Lines`],
 //! [`first_line`] and [`write_whole`]. [`command_line`] and [`task_of`] read the words of a command line, and
@@ -18,6 +18,7 @@ mod entries;
 mod fault;
 pub mod laws;
 mod play;
+mod programs;
 mod responder;
 mod runs;
 mod serving;
@@ -31,6 +32,7 @@ pub use fr_bytes::{
 pub use fr_route::Form;
 pub use fr_words::{CommandLine, Draw, MAX_STEPS, Task, TaskFault, task_end};
 pub use play::play_drawn;
+pub use programs::{Failure, program};
 pub use responder::Tally;
 pub use runs::{run, run_in};
 pub use serving::{serve, serve_in};
