@@ -2,18 +2,20 @@
 
 The faults of a check are the files NAME.edit in its folder faults/. They have the form of the wrong bodies in wrong/:
 
-    file: page/viewer/tail.html           the file to change, from the top of the repository
+    file: page/viewer/steps.js            the file to change, from the top of the repository
     old: push ? loopIn(hops) : []         a text that occurs once in that file
     new: []                               the text that replaces it
     # body: no look for loops             what is wrong then
     # says: the loop of a planted order:  what the check must print
 
 'old:' and 'new:' can be repeated, and so can 'file:'. With the line '# everywhere' a text may occur more than once, and each occurrence is replaced.
+With a line '# in: answer_alone' it has to occur once in the function of this name.
 The command can-fail of a check makes the edit in a copy of the repository and runs the check there, or the command that a line '# by:' has, such as
 'package/version --check'. It must fail, and print what '# says:' has.
 """
 
 import argparse
+import re
 import shutil
 import subprocess
 import sys
@@ -49,15 +51,26 @@ class Edit:
             elif word == "new":
                 yield file, old, text
 
+    def places(self, text, old):
+        """Where a text occurs that an edit replaces, in the function that it names if it names one."""
+        begin, end = 0, len(text)
+        for name in self.said("# in"):
+            found = re.search(rf"^( *)(?:pub )?(?:extern \"C\" )?fn {name}\b", text, re.M)
+            begin = found.start() if found else end
+            end = text.find(f"\n{found[1]}}}", begin) if found else end
+        return [begin + it.start() for it in re.finditer(re.escape(old), text[begin:end])]
+
     def make_in(self, folder):
         """Makes the edit in a folder that has copies of the files."""
         for name, old, new in self.changes():
             file = Path(folder, name)
             text = file.read_text(encoding="utf-8")
-            count = text.count(old)
-            if count != 1 and not (count and "# everywhere" in self.lines):
-                raise BadEdit(f"{old.strip()[:60]!r} occurs {count} times in {name}")
-            file.write_text(text.replace(old, new), encoding="utf-8")
+            places = self.places(text, old)
+            if len(places) != 1 and not (places and "# everywhere" in self.lines):
+                raise BadEdit(f"{old.strip()[:60]!r} occurs {len(places)} times in {name}")
+            for at in reversed(places):
+                text = text[:at] + new + text[at + len(old) :]
+            file.write_text(text, encoding="utf-8")
 
 
 def edits(check, names):

@@ -20,6 +20,7 @@ net      | revroute_open | Network::new | Network
 pushes   | revroute_pushes | Network::pushes Session::pushes | Network.pushes Session.pushes
 next_hop | revroute_next_hop revroute_reader_next_hop | Network::next_hop Network::try_next_hop Session::next_hop Reader::next_hop Reader::try_next_hop | Network.next_hop Session.next_hop Reader.next_hop
 changed  | revroute_changed | Network::changed Session::changed | Network.changed Session.changed
+push_order | revroute_push_order | push_order | push_order
 report   | revroute_report | Network::report Session::report | Network.report Session.report
 size     | revroute_size | Network::size Session::size | Network.size Session.size
 reader   | revroute_reader_open | Network::reader Session::reader | Network.reader Session.reader
@@ -72,7 +73,8 @@ def names_of_rust():
                 found.add(f"{owner}::{call[1]}")
             if (variant := re.match(r"    (Cut|Add|Join|ClosedWalk)\(", line)) and owner in ("Edit", "Refused"):
                 found.add(f"{owner}::{variant[1]}")
-    return found | {*re.findall(r"^pub fn (\w+)", (TOP / "embed" / "rust" / "src" / "lib.rs").read_text(), re.M)}
+    functions = ((TOP / "embed" / "rust" / "src" / f"{name}.rs").read_text() for name in ("lib", "push_order"))
+    return found | {it for text in functions for it in re.findall(r"^pub fn (\w+)", text, re.M)}
 
 
 def classes_of_python():
@@ -90,7 +92,8 @@ def classes_of_python():
 
 def names_of_python():
     methods = {f"{owner}.{name}" for owner, name in classes_of_python()}
-    functions = re.findall(r"^def ([a-z]\w*)\(", (TOP / "embed" / "python" / "src" / "revroute" / "session.py").read_text(), re.M)
+    texts = ((TOP / "embed" / "python" / "src" / "revroute" / f"{name}.py").read_text() for name in ("session", "tables"))
+    functions = {it for text in texts for it in re.findall(r"^def ([a-z]\w*)\(", text, re.M)}
     return methods | {*functions, "Network", "Session"}
 
 

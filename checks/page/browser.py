@@ -8,6 +8,9 @@ import tempfile
 import time
 
 
+CODES = {'Tab': 9, 'Enter': 13, 'Escape': 27, ' ': 32, 'End': 35, 'Home': 36, 'ArrowLeft': 37, 'ArrowUp': 38, 'ArrowRight': 39, 'ArrowDown': 40}
+
+
 def found():
     return next(filter(None, map(shutil.which, ('chromium', 'chromium-browser', 'google-chrome'))), None)
 
@@ -22,8 +25,8 @@ class Browser:
         words = [program, '--headless', '--no-sandbox', '--disable-gpu', '--hide-scrollbars', '--no-first-run', '--disable-extensions',
                  '--disable-background-networking', '--disable-dev-shm-usage', f'--user-data-dir={self.profile.name}',
                  '--remote-debugging-pipe', 'about:blank']
-        # The browser reads commands from descriptor 3 and writes replies to 4.
-        self.process = subprocess.Popen(['sh', '-c', f'exec 3<&{to_read} 4>&{from_write} "$@"', 'sh', *words],
+        # The browser reads commands from descriptor 3 and writes replies to 4. Not every sh can copy a descriptor above 9.
+        self.process = subprocess.Popen(['bash', '-c', f'exec 3<&{to_read} 4>&{from_write} "$@"', 'bash', *words],
                                         pass_fds=(to_read, from_write), stdout=subprocess.DEVNULL, stderr=subprocess.DEVNULL)
         os.close(to_read)
         os.close(from_write)
@@ -102,11 +105,11 @@ class Browser:
             raise RuntimeError(details.get('exception', {}).get('description', details['text']))
         return result['result'].get('value')
 
-    def press(self, key, shift=False):
-        # Enter clicks a button only if it comes with its text, and Tab and Escape act only by their codes.
-        code, text = {'Tab': 9, 'Enter': 13, 'Escape': 27}.get(key, 0), {'text': chr(13)} if key == 'Enter' else {}
+    def press(self, key, shift=False, ctrl=False):
+        # Enter and the space act on a button only if they come with their text, and what the browser does by itself needs codes.
+        code, text = CODES.get(key, 0), {'text': chr(CODES[key])} if key in ('Enter', ' ') else {}
         for kind, more in (('keyDown', text), ('keyUp', {})):
-            self.call('Input.dispatchKeyEvent', type=kind, key=key, modifiers=8 if shift else 0, windowsVirtualKeyCode=code, **more)
+            self.call('Input.dispatchKeyEvent', type=kind, key=key, modifiers=8 * shift + 2 * ctrl, windowsVirtualKeyCode=code, **more)
 
     def type(self, text):
         self.call('Input.insertText', text=text)
@@ -131,6 +134,9 @@ class Browser:
             self.call('Input.dispatchTouchEvent', type=kind, touchPoints=[{'x': x, 'y': y, 'id': number} for number, (x, y) in enumerate(fingers)])
         self.call('Input.dispatchTouchEvent', type='touchEnd', touchPoints=[])
         self.call('Emulation.setTouchEmulationEnabled', enabled=False)
+
+    def tap(self, x, y):
+        self.touch([(x, y)])
 
     def screen(self, width, height, dark, zoom=1):
         self.call('Emulation.setDeviceMetricsOverride', width=width, height=height, deviceScaleFactor=zoom, mobile=min(width, height) < 600)

@@ -29,10 +29,11 @@
  * The caller must ensure the following. No call tests it.
  *
  * - Pointers. A pointer to bytes or to an array covers as many elements as the length beside it says; no length means
- *   'unbounded'. If that length is 0, the pointer may be null. No other pointer is null. (The `at` of a session or a
- *   reader may be.) Lines and buffers can have any address. Everything else has the alignment of its type. The
- *   exported symbols themselves take no null pointer; this header passes them another address. So a program that
- *   calls the symbols without this header passes any address that is not null.
+ *   'unbounded'. If that length is 0, the pointer may be null. If a pointer to bytes or to an array is null although
+ *   its length is not 0, for example after a malloc that failed, the call returns REVROUTE_NULL_ARRAY. No other
+ *   pointer is null. (The `at` of a session or a reader may be.) Lines and buffers can have any address. Everything
+ *   else has the alignment of its type. This header tests the arrays, and the exported symbols do not: a program that
+ *   calls the symbols without this header passes no null pointer, also if the length is 0.
  * - Arguments. The memory that the arguments point to does not overlap. Until the call returns, nobody else uses it.
  *   Others may read what is const.
  * - One call at a time on a session. Each call has the session for itself, also a question. (So questions do not take
@@ -103,7 +104,7 @@ typedef enum revroute_status {
     /* The node has no route: it is cut off from the destination, or there is no such node. *length is 0.
      * (revroute_reader_walk says what this means for a walk.) */
     REVROUTE_NO_ROUTE = 5,
-    /* The network, the edits or the destination is refused, and *refusal says why. */
+    /* The network, the edits, the destination or the tables are refused, and *refusal says why. */
     REVROUTE_REFUSED = 6,
     /* The links or the edits are not refused for a cycle: they are accepted, or refused for another reason.
      * *length is 0. */
@@ -113,7 +114,10 @@ typedef enum revroute_status {
     /* The line has more than 16,777,216 bytes. Nothing was taken. *length is 0. */
     REVROUTE_TOO_LONG = 9,
     /* The table does not have one hop for each node, or one of its hops names no node. *length is 0. */
-    REVROUTE_NO_TABLE = 10
+    REVROUTE_NO_TABLE = 10,
+    /* A pointer to bytes or to an array is null although its length is not 0. Each call tests this before everything
+     * else, and writes nothing then: *length keeps its value. */
+    REVROUTE_NULL_ARRAY = 11
 } revroute_status;
 
 /* Returns what a status means, as a constant text in English. */
@@ -125,11 +129,12 @@ static inline const char *revroute_status_text(revroute_status status_) {
     case REVROUTE_NO_MEMORY: return "no memory";
     case REVROUTE_NO_NETWORK: return "there is no network yet, or the reader is null";
     case REVROUTE_NO_ROUTE: return "the node has no route";
-    case REVROUTE_REFUSED: return "the network or the change is refused";
+    case REVROUTE_REFUSED: return "the network, the change or the tables are refused";
     case REVROUTE_NO_WALK: return "there is no cycle";
     case REVROUTE_BEGUN: return "no line has ended yet";
     case REVROUTE_TOO_LONG: return "the line is too long";
     case REVROUTE_NO_TABLE: return "the table does not have one hop for each node";
+    case REVROUTE_NULL_ARRAY: return "an array is null although its length is not 0";
     }
     return "an unknown status";
 }
@@ -213,8 +218,8 @@ static inline const char *revroute_refusal_text(uint32_t number_) {
 }
 
 /* Why, and where. `number` is one of the reasons above, and `u` and `v` are the nodes that it names. `at` is the index
- * of the first refused edit, counted from 0. If there are too many edits, `at` is their number. For a network or a
- * destination it is 0. */
+ * of the first refused edit, counted from 0. If there are too many edits, `at` is their limit, 1,024. For a network or
+ * a destination it is 0. */
 typedef struct revroute_refusal {
     revroute_reason number;
     uint32_t u;
@@ -232,7 +237,9 @@ typedef struct revroute_refusal {
  * - REVROUTE_NO_NETWORK: there is no network to change. revroute_open never returns this.
  *
  * After the last three the session is unchanged, with its own bytes, and so is *round. Only REVROUTE_REFUSED writes
- * *refusal. A line that has begun (see revroute_take) is kept in every case. */
+ * *refusal. A line that has begun (see revroute_take) is kept in every case. If memory runs out, this is returned only
+ * if the call would not be refused for its numbers alone: too many nodes, links or edits, an edit of an unknown kind, a
+ * destination that is not a node. */
 
 /* Replaces the network, if there is one, by a new one. Its nodes are 0 to `nodes` - 1, `dest` is the destination, and
  * `links` are its `count` links. The call is refused if the links do not make a network: if they contain a cycle, if
@@ -324,6 +331,29 @@ revroute_status revroute_changed(revroute *session, uint32_t *nodes, size_t room
  * memory ran out. O(n). */
 revroute_status revroute_pushes(revroute *session, const uint32_t *table, size_t count, uint32_t *nodes, size_t room,
                                 size_t *length);
+
+/* Writes the nodes whose hop differs in two tables of your own, in push order: each node after those of them on its
+ * walk in the new table. Any method may have made the tables: this call needs no session and no network. A table has
+ * hops as revroute_hops writes them. If one table is shorter, the nodes past its end are cut off in it.
+ *
+ * Give the old table the new hops of these nodes, one after the other. At the end it is the new table, and at no moment
+ * does it contain a loop that it did not contain before. So the old table may contain loops, and the new one may not.
+ *
+ * - REVROUTE_ANSWERED: the order is at the front of `nodes`, and *length is its length.
+ * - REVROUTE_REFUSED: *refusal says why, and its `at` is 0. The first reason that holds is named:
+ *   - REVROUTE_TOO_MANY: a table has more than 4,096 hops.
+ *   - REVROUTE_RANGE: u is a number in a table that is no hop: neither a node, nor REVROUTE_HERE or REVROUTE_CUT_OFF.
+ *     It is the first one in the old table, or else in the new one. The nodes are those of the longer table.
+ *   - REVROUTE_CLOSED_WALK: the new table has a loop, and u sends on to v on it. The nodes of the loop are at the front
+ *     of `nodes`, with the first one again at the end, and *length is their number.
+ * - REVROUTE_TOO_SHORT: there is too little room for the order or for the loop.
+ * - REVROUTE_NO_MEMORY: memory ran out.
+ *
+ * In all other cases the array is unchanged, and *length is 0 if the call is refused. Only REVROUTE_REFUSED writes
+ * *refusal. O(n) for n nodes. */
+revroute_status revroute_push_order(const uint32_t *old_hops, size_t old_count, const uint32_t *new_hops,
+                                    size_t new_count, uint32_t *nodes, size_t room, size_t *length,
+                                    revroute_refusal *refusal);
 
 /* Writes how often each node turned in the last round, in the order of the nodes. O(n). */
 revroute_status revroute_counts(revroute *session, uint64_t *counts, size_t room, size_t *length);
@@ -427,14 +457,16 @@ revroute_status revroute_version(uint8_t *text, size_t room, size_t *length);
 /* The rest of this file is not for reading: it has no new call.
  *
  * The library takes no null pointer, not even to an array without elements. So here each call that takes an array
- * passes another address instead of null. Nothing is read or written there. A file that defines REVROUTE_SYMBOLS before
- * it includes this header gets the library's own calls. */
+ * refuses a null pointer if the length is not 0. If the length is 0, it passes another address, where nothing is read
+ * or written. A file that defines REVROUTE_SYMBOLS before it includes this header gets the library's own calls. */
 #ifndef REVROUTE_SYMBOLS
+#define REVROUTE_IS_MISSING(at, length) (!(at) && (length))
 #define REVROUTE_SOME(type, at, other) ((at) ? (at) : (type *)(void *)(other))
 
 static inline revroute_status revroute_open_(revroute *session_, uint32_t nodes_, uint32_t dest_,
                                              const revroute_link *links_, size_t count_, revroute_round *round_,
                                              revroute_refusal *refusal_) {
+    if (REVROUTE_IS_MISSING(links_, count_)) return REVROUTE_NULL_ARRAY;
     return revroute_open(session_, nodes_, dest_, REVROUTE_SOME(const revroute_link, links_, session_), count_, round_,
                          refusal_);
 }
@@ -442,12 +474,14 @@ static inline revroute_status revroute_open_(revroute *session_, uint32_t nodes_
 
 static inline revroute_status revroute_change_(revroute *session_, const revroute_edit *edits_, size_t count_,
                                                revroute_round *round_, revroute_refusal *refusal_) {
+    if (REVROUTE_IS_MISSING(edits_, count_)) return REVROUTE_NULL_ARRAY;
     return revroute_change(session_, REVROUTE_SOME(const revroute_edit, edits_, session_), count_, round_, refusal_);
 }
 #define revroute_change revroute_change_
 
 static inline revroute_status revroute_closed_walk_(revroute *session_, const revroute_edit *edits_, size_t count_,
                                                     uint32_t *nodes_, size_t room_, size_t *length_) {
+    if (REVROUTE_IS_MISSING(edits_, count_) || REVROUTE_IS_MISSING(nodes_, room_)) return REVROUTE_NULL_ARRAY;
     return revroute_closed_walk(session_, REVROUTE_SOME(const revroute_edit, edits_, session_), count_,
                                 REVROUTE_SOME(uint32_t, nodes_, length_), room_, length_);
 }
@@ -455,6 +489,7 @@ static inline revroute_status revroute_closed_walk_(revroute *session_, const re
 
 static inline revroute_status revroute_closed_walk_of_(uint32_t nodes_, const revroute_link *links_, size_t count_,
                                                        uint32_t *walk_, size_t room_, size_t *length_) {
+    if (REVROUTE_IS_MISSING(links_, count_) || REVROUTE_IS_MISSING(walk_, room_)) return REVROUTE_NULL_ARRAY;
     const revroute_link none_ = {0, 0};
     return revroute_closed_walk_of(nodes_, links_ ? links_ : &none_, count_, REVROUTE_SOME(uint32_t, walk_, length_),
                                    room_, length_);
@@ -463,6 +498,7 @@ static inline revroute_status revroute_closed_walk_of_(uint32_t nodes_, const re
 
 static inline revroute_status revroute_answer_(revroute *session_, const uint8_t *line_, size_t line_length_,
                                                uint8_t *answer_, size_t room_, size_t *length_) {
+    if (REVROUTE_IS_MISSING(line_, line_length_) || REVROUTE_IS_MISSING(answer_, room_)) return REVROUTE_NULL_ARRAY;
     return revroute_answer(session_, REVROUTE_SOME(const uint8_t, line_, session_), line_length_,
                            REVROUTE_SOME(uint8_t, answer_, length_), room_, length_);
 }
@@ -470,62 +506,85 @@ static inline revroute_status revroute_answer_(revroute *session_, const uint8_t
 
 static inline revroute_status revroute_take_(revroute *session_, const uint8_t *piece_, size_t piece_length_,
                                              uint8_t *answer_, size_t room_, size_t *length_, size_t *taken_) {
+    if (REVROUTE_IS_MISSING(piece_, piece_length_) || REVROUTE_IS_MISSING(answer_, room_)) return REVROUTE_NULL_ARRAY;
     return revroute_take(session_, REVROUTE_SOME(const uint8_t, piece_, session_), piece_length_,
                          REVROUTE_SOME(uint8_t, answer_, length_), room_, length_, taken_);
 }
 #define revroute_take revroute_take_
 
 static inline revroute_status revroute_finish_(revroute *session_, uint8_t *answer_, size_t room_, size_t *length_) {
+    if (REVROUTE_IS_MISSING(answer_, room_)) return REVROUTE_NULL_ARRAY;
     return revroute_finish(session_, REVROUTE_SOME(uint8_t, answer_, length_), room_, length_);
 }
 #define revroute_finish revroute_finish_
 
 static inline revroute_status revroute_hops_(revroute *session_, uint32_t *hops_, size_t room_, size_t *length_) {
+    if (REVROUTE_IS_MISSING(hops_, room_)) return REVROUTE_NULL_ARRAY;
     return revroute_hops(session_, REVROUTE_SOME(uint32_t, hops_, length_), room_, length_);
 }
 #define revroute_hops revroute_hops_
 
 static inline revroute_status revroute_changed_(revroute *session_, uint32_t *nodes_, size_t room_, size_t *length_) {
+    if (REVROUTE_IS_MISSING(nodes_, room_)) return REVROUTE_NULL_ARRAY;
     return revroute_changed(session_, REVROUTE_SOME(uint32_t, nodes_, length_), room_, length_);
 }
 #define revroute_changed revroute_changed_
 
 static inline revroute_status revroute_pushes_(revroute *session_, const uint32_t *table_, size_t count_,
                                                uint32_t *nodes_, size_t room_, size_t *length_) {
+    if (REVROUTE_IS_MISSING(table_, count_) || REVROUTE_IS_MISSING(nodes_, room_)) return REVROUTE_NULL_ARRAY;
     return revroute_pushes(session_, REVROUTE_SOME(const uint32_t, table_, session_), count_,
                            REVROUTE_SOME(uint32_t, nodes_, length_), room_, length_);
 }
 #define revroute_pushes revroute_pushes_
 
+static inline revroute_status revroute_push_order_(const uint32_t *old_, size_t old_count_, const uint32_t *new_,
+                                                   size_t new_count_, uint32_t *nodes_, size_t room_,
+                                                   size_t *length_, revroute_refusal *refusal_) {
+    if (REVROUTE_IS_MISSING(old_, old_count_) || REVROUTE_IS_MISSING(new_, new_count_) ||
+        REVROUTE_IS_MISSING(nodes_, room_))
+        return REVROUTE_NULL_ARRAY;
+    return revroute_push_order(REVROUTE_SOME(const uint32_t, old_, length_), old_count_,
+                               REVROUTE_SOME(const uint32_t, new_, length_), new_count_,
+                               REVROUTE_SOME(uint32_t, nodes_, length_), room_, length_, refusal_);
+}
+#define revroute_push_order revroute_push_order_
+
 static inline revroute_status revroute_counts_(revroute *session_, uint64_t *counts_, size_t room_, size_t *length_) {
+    if (REVROUTE_IS_MISSING(counts_, room_)) return REVROUTE_NULL_ARRAY;
     return revroute_counts(session_, REVROUTE_SOME(uint64_t, counts_, length_), room_, length_);
 }
 #define revroute_counts revroute_counts_
 
 static inline revroute_status revroute_walk_(revroute *session_, uint32_t node_, uint32_t *nodes_, size_t room_,
                                              size_t *length_) {
+    if (REVROUTE_IS_MISSING(nodes_, room_)) return REVROUTE_NULL_ARRAY;
     return revroute_walk(session_, node_, REVROUTE_SOME(uint32_t, nodes_, length_), room_, length_);
 }
 #define revroute_walk revroute_walk_
 
 static inline revroute_status revroute_links_(revroute *session_, revroute_link *links_, size_t room_,
                                               size_t *length_) {
+    if (REVROUTE_IS_MISSING(links_, room_)) return REVROUTE_NULL_ARRAY;
     return revroute_links(session_, REVROUTE_SOME(revroute_link, links_, length_), room_, length_);
 }
 #define revroute_links revroute_links_
 
 static inline revroute_status revroute_reader_walk_(revroute_reader *reader_, uint32_t node_, uint32_t *nodes_,
                                                     size_t room_, size_t *length_) {
+    if (REVROUTE_IS_MISSING(nodes_, room_)) return REVROUTE_NULL_ARRAY;
     return revroute_reader_walk(reader_, node_, REVROUTE_SOME(uint32_t, nodes_, length_), room_, length_);
 }
 #define revroute_reader_walk revroute_reader_walk_
 
 static inline revroute_status revroute_version_(uint8_t *text_, size_t room_, size_t *length_) {
+    if (REVROUTE_IS_MISSING(text_, room_)) return REVROUTE_NULL_ARRAY;
     return revroute_version(REVROUTE_SOME(uint8_t, text_, length_), room_, length_);
 }
 #define revroute_version revroute_version_
 
 #undef REVROUTE_SOME
+#undef REVROUTE_IS_MISSING
 #endif
 
 /* The names of version 0.1, for one version more. */
@@ -564,7 +623,7 @@ revroute_reader_route(revroute_reader *reader_, uint32_t node_, uint32_t *nodes_
 REVROUTE_OLD("revroute_links") revroute_status
 revroute_links_numbers(revroute *session_, uint32_t *ends_, size_t room_, size_t *length_) {
     revroute_status status_ = revroute_links(session_, (revroute_link *)(void *)ends_, room_ / 2, length_);
-    *length_ *= 2;
+    if (status_ != REVROUTE_NULL_ARRAY) *length_ *= 2;
     return status_;
 }
 

@@ -238,6 +238,7 @@ static void look_at_change(revroute *session, const step *it, const state *befor
         number = REVROUTE_UNKNOWN_EDIT;
     } else if (it->count > MOST_EDITS) {
         number = REVROUTE_TOO_MANY;
+        at = MOST_EDITS;
     } else {
         for (at = 0; at < it->count && !(number = make(&net, it->edits[at]));) at++;
     }

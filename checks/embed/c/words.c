@@ -13,7 +13,7 @@ static void expect(int holds, const char *what) {
 }
 
 static void look_at_texts(void) {
-    for (uint32_t at = 0; at <= REVROUTE_NO_TABLE; at++)
+    for (uint32_t at = 0; at <= REVROUTE_NULL_ARRAY; at++)
         for (uint32_t other = 0; other < at; other++)
             expect(strcmp(revroute_status_text((revroute_status)at), revroute_status_text((revroute_status)other)), "two statuses have one text");
     for (uint32_t at = 0; at <= REVROUTE_TOO_MANY; at++)
@@ -44,6 +44,7 @@ static void pass_null(revroute *session, revroute_reader *reader) {
     expect(revroute_change(session, NULL, 0, &round, &why) == REVROUTE_ANSWERED && round.cut_off == 1, "no edits are no batch");
     expect(revroute_closed_walk(session, NULL, 0, NULL, 0, &length) == REVROUTE_NO_WALK, "there is a cycle of no edits");
     expect(revroute_pushes(session, NULL, 0, NULL, 0, &length) == REVROUTE_NO_TABLE, "null is a table");
+    expect(revroute_push_order(NULL, 0, NULL, 0, NULL, 0, &length, &why) == REVROUTE_ANSWERED && !length, "null tables have pushes");
     expect(revroute_hops(session, NULL, 0, &length) == REVROUTE_TOO_SHORT && length == 2, "hops fit into null");
     expect(revroute_counts(session, NULL, 0, &length) == REVROUTE_TOO_SHORT && length == 2, "counts fit into null");
     expect(revroute_walk(session, 1, NULL, 0, &length) == REVROUTE_TOO_SHORT && length == 1, "a route fits into null");

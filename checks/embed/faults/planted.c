@@ -2,6 +2,7 @@
  * with engine_ there. */
 #define REVROUTE_SYMBOLS
 #include <revroute.h>
+#include <stdbool.h>
 #include <stdlib.h>
 #include <string.h>
 
@@ -15,6 +16,7 @@ revroute_status engine_finish(revroute *, uint8_t *, size_t, size_t *);
 revroute_status engine_links(revroute *, revroute_link *, size_t, size_t *);
 revroute_status engine_move_dest(revroute *, uint32_t, revroute_round *, revroute_refusal *);
 revroute_status engine_open(revroute *, uint32_t, uint32_t, const revroute_link *, size_t, revroute_round *, revroute_refusal *);
+revroute_status engine_push_order(const uint32_t *, size_t, const uint32_t *, size_t, uint32_t *, size_t, size_t *, revroute_refusal *);
 revroute_status engine_pushes(revroute *, const uint32_t *, size_t, uint32_t *, size_t, size_t *);
 void engine_reader_close(revroute_reader *);
 revroute_status engine_reader_copy(revroute_reader *, revroute_reader *);
@@ -83,6 +85,11 @@ enum {
     a_longer_table_taken,
     a_shorter_table_taken,
     a_hop_of_no_node_taken,
+    an_order_backwards,
+    an_order_where_it_has_no_room,
+    a_loop_that_does_not_come_back,
+    a_new_table_tested_first,
+    no_memory_told_as_no_order,
     the_table_read_too_far,
     a_reader_replaced_and_not_closed,
     a_reader_closed_that_keeps_its_memory,
@@ -324,6 +331,25 @@ revroute_status revroute_pushes(revroute *session, const uint32_t *table, size_t
     if (FAULT == pushes_of_the_last_change_alone) return engine_changed(session, nodes, room, length);
     if (FAULT == pushes_by_number) qsort(nodes, *length, sizeof *nodes, compare_numbers);
     if (FAULT == a_push_left_out && *length) --*length;
+    return status;
+}
+
+revroute_status revroute_push_order(const uint32_t *old, size_t old_count, const uint32_t *new, size_t new_count,
+                                    uint32_t *nodes, size_t room, size_t *length, revroute_refusal *refusal) {
+    bool is_swapped = FAULT == a_new_table_tested_first && old_count == new_count;
+    uint32_t status = engine_push_order(old, old_count, new, new_count, nodes, room, length, refusal);
+    if (is_swapped && status == REVROUTE_REFUSED && refusal->number == REVROUTE_RANGE)
+        for (size_t at = 0; at < new_count; at++)
+            if (new[at] >= new_count && new[at] < REVROUTE_CUT_OFF) refusal->u = refusal->v = new[at];
+    if (FAULT == no_memory_told_as_no_order && status == REVROUTE_NO_MEMORY) return REVROUTE_ANSWERED;
+    if (FAULT == an_order_where_it_has_no_room && status == REVROUTE_TOO_SHORT && room) nodes[room - 1] = 0;
+    if (FAULT == an_order_backwards && status == REVROUTE_ANSWERED)
+        for (size_t at = 0; at < *length / 2; at++) {
+            uint32_t node = nodes[at];
+            nodes[at] = nodes[*length - 1 - at];
+            nodes[*length - 1 - at] = node;
+        }
+    if (FAULT == a_loop_that_does_not_come_back && status == REVROUTE_REFUSED && *length) --*length;
     return status;
 }
 

@@ -33,6 +33,12 @@ IsFirstFault n links (Cycle walk) = IsWithinLimits n links × IsInRange n links 
 IsFirstFault n links NoLink = ⊥
 IsFirstFault n links Memory = ⊥
 
+-- the links have no fault that is tested without memory
+pub record PassFirstTests (n : ℕ) (links : List (ℕ × ℕ)) : Type 0 where
+  pub limits : IsWithinLimits n links
+  pub range : IsInRange n links
+  pub clear : HasNoSelfLink links
+
 -- the place of a fault in the order of the tests
 abbrev pub fault_place : NetFault → ℕ
 fault_place TooMany = 0

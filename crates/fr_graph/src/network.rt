@@ -15,7 +15,7 @@ ghost use Rattle.fr_graph.specs.Order.{AreRising};
 ghost use Rattle.fr_graph.specs.Counts.{IsKept, links_at};
 ghost use Rattle.fr_graph.specs.Rows.{alone_count, row};
 ghost use Rattle.fr_graph.specs.declared.fault.NetFault.TheVariants.{Memory, TooMany};
-ghost use Rattle.fr_graph.specs.Faults.{IsFaultless, IsFirstFault, IsInRange, IsNetworkOf};
+ghost use Rattle.fr_graph.specs.Faults.{IsFaultless, IsFirstFault, IsInRange, IsNetworkOf, PassFirstTests};
 ghost use Rattle.fr_graph.specs.Edits.{IsCutFault, IsJoined, IsJoinFault, without};
 ghost use Rattle.fr_graph.specs.Evidence.{NamesFirst, NamesIfRefused, NamesInBatch, NamesOfEdit};
 ghost use Rattle.fr_graph.specs.Batches.{AreMade, IsBatchFault, IsEditFault, IsMade, IsNotEdited};
@@ -132,13 +132,14 @@ impl Net {
     /// can be listed in any order.
     ///
     /// Fails with the first fault, with its evidence. Each fault is tested over the whole list before the next one, in
-    /// the order of [`NetFault`]: `TooMany`, `Range`, `SelfLink`, `Twice`, `Cycle`. Fails with `Memory` if an
-    /// allocation is refused.
+    /// the order of [`NetFault`]: `TooMany`, `Range`, `SelfLink`, `Twice`, `Cycle`. The first three tests need no memory.
+    /// Fails with `Memory` only after them, if an allocation is refused.
     ///
     /// O(n + m) time and memory.
     pub fn new(alloc: Global, nodes: u32, links: &[(u32, u32)]) -> Result<Net, NetFault>
         ensures ok { IfOk result (IsNetworkOf nodes links.now) }
         ensures refused { IfErr result (λ fault. fault ≢ Memory → IsFirstFault nodes links.now fault) }
+        ensures memory { IfErr result (λ fault. fault ≡ Memory → PassFirstTests nodes links.now) }
         ensures names { IfErr result (NamesFirst nodes links.now) }
     {
         test_ends(nodes, links)?;
@@ -288,12 +289,13 @@ impl Net {
 
     /// The network after these edits, made in order. If one is refused, this fails with the first refused edit and the
     /// fault that `with_cut`, `with_link` or `with_join` has. More than [`MAX_EDITS`] edits fail with `TooMany` at
-    /// `MAX_EDITS`, and none is tried. Fails with `Memory` if an allocation is refused. O(n + m) for one copy, and the
-    /// cost of [`edit_if`](Net::edit_if).
+    /// `MAX_EDITS`: none is tried, and no memory is needed. Fails with `Memory` if an allocation is refused. O(n + m) for
+    /// one copy, and the cost of [`edit_if`](Net::edit_if).
     pub fn with_edits(&self, alloc: Global, edits: &[Edit]) -> Result<Net, EditFault>
         ensures few { OnOk result (length edits.now ≤ most_edits) }
         ensures ok { IfOk result (AreMade self.now edits.now) }
         ensures refused { IfErr result (λ refused. refused.fault ≢ Memory → IsBatchFault self.now edits.now refused) }
+        ensures memory { IfErr result (λ refused. refused.fault ≡ Memory → length edits.now ≤ most_edits) }
         ensures names { IfErr result (NamesInBatch self.now edits.now) }
     {
         test_few(edits)?;

@@ -2,7 +2,9 @@
 
 ghost use Rattle.std.specs.Prelude.{◌≡◌, IfSome, replicate};
 
-use crate::telling::Answer;
+use crate::logs::{logged, recorded};
+use crate::published::published;
+use crate::telling::{Answer, say};
 use fr_core::{Entry, Machine, Target, check_run, play};
 use fr_crew::{
     Crew, OpenGate, Plan, Settled, live_walk, settle, settle_alone, settled_counts,
@@ -21,10 +23,10 @@ use std::sync::Wait;
 use std::thread::Threads;
 
 /// A chain that points away from the destination, node 0.
-const CHAIN: [(u32, u32); 3] = [(0, 1), (1, 2), (2, 3)];
+pub const CHAIN: [(u32, u32); 3] = [(0, 1), (1, 2), (2, 3)];
 
 /// The line of the chain.
-const NETWORK_LINE: &[u8] = br#"["net",4,0,[[0,1],[1,2],[2,3]]]"#;
+pub const NETWORK_LINE: &[u8] = br#"["net",4,0,[[0,1],[1,2],[2,3]]]"#;
 
 /// The edits that move a link of the chain to another place.
 const MOVED_LINK: [Edit; 2] = [Edit::Cut { u: 1, v: 2 }, Edit::Add { u: 0, v: 3 }];
@@ -77,10 +79,14 @@ pub enum Call {
     Rerouted,
     Pushed,
     Shared,
+    Logged,
+    Recorded,
+    Published,
+    PushedTo,
 }
 
 /// The calls in the order in which they are made.
-pub const CALLS: [Call; 25] = [
+pub const CALLS: [Call; 29] = [
     Call::Network,
     Call::CutNetwork,
     Call::LinkedNetwork,
@@ -106,6 +112,10 @@ pub const CALLS: [Call; 25] = [
     Call::Rerouted,
     Call::Pushed,
     Call::Shared,
+    Call::Logged,
+    Call::Recorded,
+    Call::Published,
+    Call::PushedTo,
 ];
 
 /// Makes a call, and appends its result to the answer.
@@ -123,6 +133,7 @@ pub fn make<R: Threads + Wait + Sync + Alloc<A = Global> + Print + Eprint>(
         Call::EscapedLine => escaped_line(rt, answer),
         Call::Pushed => pushed(rt, answer),
         Call::Shared => shared(rt, answer),
+        Call::Published => published(rt, answer),
         _ => {
             if let Some(net) = answer.told(rt, Net::new(rt.alloc(), 4, &CHAIN)) {
                 make_on(rt, answer, net, call);
@@ -146,6 +157,9 @@ fn make_on<R: Threads + Wait + Sync + Alloc<A = Global> + Print + Eprint>(
         Call::RoutedAlone => routed_alone(rt, answer, net),
         Call::EditedInPlace => edited_in_place(rt, answer, net),
         Call::Rerouted => rerouted(rt, answer, net),
+        Call::Logged => logged(rt, answer, net),
+        Call::Recorded => recorded(rt, answer, net),
+        Call::PushedTo => pushed_to(rt, answer, net),
         _ => make_beside(rt, answer, &net, call),
     }
 }
@@ -203,11 +217,6 @@ fn put_made<R: Alloc<A = Global> + Eprint>(
 /// Whether these are the links of a network.
 fn has_links(net: &Net, links: &[(u32, u32)]) -> bool {
     net.links().len() == links.len() && net.links().zip(links).all(|(shown, link)| shown == *link)
-}
-
-/// Writes to standard output what must not happen.
-fn say<R: Print>(rt: &R, text: &str) {
-    let _ = rt.println(text);
 }
 
 /// The numbers of faults of links.
@@ -605,6 +614,16 @@ fn pushed<R: Alloc<A = Global> + Eprint>(rt: &R, answer: &mut Answer) {
     let between = [Hop::Here, Hop::To(2), Hop::To(1), Hop::To(0)];
     if let Some(found) = answer.told(rt, find_loop(rt.alloc(), &between)) {
         answer.put(&found);
+    }
+}
+
+/// The nodes of a settled chain that are pushed into a table in which all are cut off.
+fn pushed_to<R: Alloc<A = Global> + Eprint>(rt: &R, answer: &mut Answer, net: Net) {
+    if let Some(router) = answer.told(rt, Router::open_alone(rt.alloc(), net, 0)) {
+        let pushes = router.pushes(rt.alloc(), &[Hop::CutOff; 4]);
+        if let Some(nodes) = answer.told(rt, pushes) {
+            answer.put(&nodes);
+        }
     }
 }
 

@@ -5,6 +5,8 @@
 #![tactic(auto)]
 
 mod calls;
+mod logs;
+mod published;
 mod sessions;
 mod telling;
 

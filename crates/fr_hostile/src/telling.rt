@@ -18,6 +18,11 @@ pub fn told<T: Drop, E: Display + Drop, R: Eprint>(rt: &R, outcome: Result<T, E>
     }
 }
 
+/// Writes to standard output what must not happen.
+pub fn say<R: Print>(rt: &R, text: &str) {
+    let _ = rt.println(text);
+}
+
 /// Reports a fault.
 pub fn tell<E: Display + Drop, R: Eprint>(rt: &R, fault: E) {
     let _ = rt.eprintln(fault);

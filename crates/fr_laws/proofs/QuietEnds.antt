@@ -256,7 +256,7 @@ quiet_round_is_settled b s history h quiet below rule behind (rest, is) q =
     ap (λ (g : List Entry). (after_all start g).counts) (sym is) ∙ ap (λ (m : Moment). m.counts) behind.run.ends in
     subst (AreSettled b.nodes b.dest b.links) words lasts.1
 
-each_at : {X : Type 0} (P : X → Type 0) (xs : List X) (x : X) → Each P xs → Contains xs x → P x
+pub each_at : {X : Type 0} (P : X → Type 0) (xs : List X) (x : X) → Each P xs → Contains xs x → P x
 each_at P [] x each found = absurd (Contains-none x found)
 each_at P (y ∷ xs) x each found = ⊎_elim
     (λ same. subst P same each.0)

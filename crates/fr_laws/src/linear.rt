@@ -4,9 +4,12 @@ ghost use Rattle.fr_laws.specs.Linear.{CallsAreLinearizable, KnowledgeIsKept, La
 ghost use Rattle.fr_laws.specs.Linear.{HeldAfterATurn, NoneHoldsTheDestination};
 
 /// The order of calls in time. Calls of a round are *linearizable* (M. Herlihy and J. Wing, 1990): at each time all calls
-/// so far form one list, in which each reply is the right one, and a call that ended before another one began comes
-/// first. An execution is a sequence of states, of which each step leaves the list as it was or adds one entry at its end;
-/// all steps of seats are such steps, by the clause `grows` of [`round_law`](fr_round::round_law).
+/// so far form one list, in which each reply is the right one. Each call enters the list by one step between its beginning
+/// and its end, so a call that ended before another one began comes first.
+///
+/// An execution starts as a round is opened, and each of its steps is one that [`round_law`](fr_round::round_law) lists.
+/// That the list only grows, and where a call enters it, follows from the clause `grows` of that law. A call is known by
+/// its worker: of its own calls the worker knows one more at the end than at the beginning.
 ///
 /// Callers see what their workers know. Suppose that a worker knew an earlier call when it made its own: the earlier call
 /// was its own, or another worker handed it on. Then the earlier call comes first, and the later reply is right after it:

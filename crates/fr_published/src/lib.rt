@@ -12,5 +12,5 @@ mod session;
 #[cfg(test)]
 mod tests;
 
-pub use fr_shared::Reader;
+pub use fr_shared::{Past, Reader};
 pub use session::PublishedSession;

@@ -3,10 +3,12 @@
 ghost use Rattle.std.specs.Prelude.{◌≡◌, [], None, Some, IfOk, IfSome, OnErr};
 ghost use Rattle.fr_published.specs.Answers.{AnswersLine, MakesChange, PutsRouter};
 ghost use Rattle.fr_published.specs.Published.{HasHopsOf, published};
+ghost use Rattle.core.specs.Option.{option_map};
+ghost use Rattle.fr_shared.specs.Knowledge.{past_of};
 
 use crate::publishing::{opened, publish, replaced, session_law};
 use fr_route::{AnswerFault, Change, Report, RouteFault, Router, Session};
-use fr_shared::{Publisher, Reader};
+use fr_shared::{Past, Publisher, Reader};
 use std::alloc::{AllocError, Global};
 use std::marker::Model;
 
@@ -85,6 +87,20 @@ impl PublishedSession {
         let reader = publisher.reader()?;
         self.publisher = Some(publisher);
         Ok(reader)
+    }
+
+    /// What readers can learn: all pushes so far, with those of the last change. `None` if there is no reader yet.
+    ///
+    /// Hand it to the thread of a reader after a change. Once the reader has learned it, by [`Reader::learn`], the reader
+    /// answers from the hops that the session has now, or from later ones.
+    ///
+    /// It makes one load, and does not allocate or wait. O(1).
+    pub fn past(&mut self) -> Option<Past>
+        ensures kept { self.new ≡ self.old }
+        ensures past { result ≡ option_map past_of self.old.table }
+    {
+        let publisher = self.publisher.as_mut()?;
+        Some(publisher.past())
     }
 
     /// Answers a line, and lists and publishes the nodes that it reroutes. The answer, the faults and the cost are

@@ -13,7 +13,8 @@ pub record KnowsNothing (b : Setup) (k : Knowledge) : Type 0 where
   pub calls : k.known ≡ []
   pub seen : k.seen ≡ replicate b.nodes 0
 
--- nothing has happened yet
+-- nothing has happened yet: there is a state of the round without calls, which the rule allows. That the words in memory
+-- are those of this state follows from what the making of the table requires, and from `NoOtherStateIsFirst`
 pub record HasNotBegun (r : OpenRound) (workers : List Knowledge) : Type 0 where
   -- the round is in the first state of its law, which the rule allows
   pub state : State (Unit {0}) View

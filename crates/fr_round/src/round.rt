@@ -49,6 +49,10 @@ impl Round {
     /// Opens a round on a network, and returns it with its workers, whose numbers are 0, 1 and so on. The list of calls
     /// is empty, all counts are 0, and no worker knows a call or has seen a turn.
     ///
+    /// The clause `not_begun` describes the state that the rule allows before the first call. It does not read the words
+    /// in memory, because the call that makes the table of words has no clause for them. That call requires that the
+    /// rule allows its words, and by `only` of [`round_law`](crate::round_law) the rule allows none but 0.
+    ///
     /// Fails with `Range` if the destination is not a node of the network, or if `workers` is not 1 to [`MAX_WORKERS`];
     /// and with `Memory` if an allocation is refused. The fault gives the network back. The round allocates all its
     /// memory here. O(m + k n) for k workers.

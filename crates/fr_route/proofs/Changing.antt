@@ -41,21 +41,22 @@ made_nodes net (e ∷ es) after made = made_nodes made.0 es after made.1.1 ∙ e
 
 -- the edits are not made because one is refused
 refused_for : (s : State) (edits : List Edit) (d at : ℕ) (fault : NetFault)
+    → length edits ≤ most_edits
     → (fault ≢ net.Memory → IsBatchFault (net_at s) edits (record { at = at; fault = fault }))
     → NamesInBatch (net_at s) edits (record { at = at; fault = fault })
     → IsPlacedFault s edits d at (of_net_fault fault)
-refused_for s edits d at net.TooMany why names = (why (λ e. absurd cc), names)
-refused_for s edits d at (net.Range x) why names = (why (λ e. absurd cc), names)
-refused_for s edits d at (net.SelfLink x) why names = (why (λ e. absurd cc), names)
-refused_for s edits d at (net.Twice x y) why names = (why (λ e. absurd cc), names)
-refused_for s edits d at (net.Cycle walk) why names = (why (λ e. absurd cc), names)
-refused_for s edits d at net.NoLink why names = (why (λ e. absurd cc), names)
-refused_for s edits d at net.Memory why names = tt
+refused_for s edits d at net.TooMany few why names = (why (λ e. absurd cc), names)
+refused_for s edits d at (net.Range x) few why names = (why (λ e. absurd cc), names)
+refused_for s edits d at (net.SelfLink x) few why names = (why (λ e. absurd cc), names)
+refused_for s edits d at (net.Twice x y) few why names = (why (λ e. absurd cc), names)
+refused_for s edits d at (net.Cycle walk) few why names = (why (λ e. absurd cc), names)
+refused_for s edits d at net.NoLink few why names = (why (λ e. absurd cc), names)
+refused_for s edits d at net.Memory few why names = few
 
-pub refused_fault : (s : State) (edits : List Edit) (d : ℕ) (refused : EditFault)
+pub refused_fault : (s : State) (edits : List Edit) (d : ℕ) (refused : EditFault) → length edits ≤ most_edits
     → (refused.fault ≢ net.Memory → IsBatchFault (net_at s) edits refused) → NamesInBatch (net_at s) edits refused
     → IsPlacedFault s edits d refused.at (of_net_fault refused.fault)
-refused_fault s edits d refused why names = refused_for s edits d refused.at refused.fault why names
+refused_fault s edits d refused few why names = refused_for s edits d refused.at refused.fault few why names
 
 -- too many edits name no node
 pub too_many_named : (made : Network) (e : Edit) → NamesOfEdit made e net.TooMany
@@ -70,7 +71,7 @@ pub round_fault : (s : State) (edits : List Edit) (net : Network) (d at : ℕ) (
 round_fault s edits net d at (Net fault) below few made why moves = absurd why
 round_fault s edits net d at Range below few made why moves = omega (arith, below, why, made_nodes (net_at s) edits net made)
 round_fault s edits net d at Start below few made why moves = (few, below, (net, (made, λ still. moves still refl)))
-round_fault s edits net d at Memory below few made why moves = tt
+round_fault s edits net d at Memory below few made why moves = few
 
 -- the change makes exactly this edit
 pub record IsBy (s : State) (change : Change) (e : Edit) : Type 0 where

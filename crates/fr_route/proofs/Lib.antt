@@ -19,6 +19,7 @@ pub mod Written
 pub mod Renewing
 pub mod Noting
 pub mod SettledHops
+pub mod KeptRoutes
 pub mod PushLengths
 pub mod Inside
 pub mod Glued

@@ -1,20 +1,32 @@
 -- Walks of a table from a node back to itself: which is the first, how long it is, and whether there is one.
-use Rattle.std.proofs.Common.{Contains, List, [], ap, arith, drop, eqb, get_or, inl, inr, length, length-drop, ne_eqb, refl, subst, suc, sym, zero, ℕ}
+use Rattle.std.proofs.Common.{Contains, List, [], ap, arith, drop, eqb, false, get_or, inl, inr, length, length-drop, ne_eqb, refl, subst, suc, sym, zero, ℕ}
 use Rattle.std.proofs.Common.{⊎_elim, ◌++◌, ◌+◌, ◌<◌, ◌∙◌, ◌∷◌, ◌≡◌, ◌≤◌, ◌⊎◌}
-use Rattle.std.proofs.lemmas.Bool.{cases_eq, cases_lt}
+use Rattle.std.proofs.lemmas.Bool.{cases_eq, false≢true}
 use Rattle.std.proofs.lemmas.List.{get_or-drop, length_push}
 use Rattle.std.proofs.lemmas.List.Elements.{Contains-append_left, Contains-push, Contains-push_cases}
-use Rattle.std.proofs.lemmas.Option.{get_or_from_slice_get}
-use Rattle.std.proofs.lemmas.Map.Keys.{IsDistinct-from_apart}
+use Rattle.std.proofs.lemmas.Map.Keys.{IsDistinct-from_apart, apart_from_distinct}
+use Rattle.std.specs.Cmp.{nat_eq_equiv}
 use Rattle.std.specs.List.{IsDistinct}
 use Rattle.fr_core.proofs.Pigeons.{IsDistinct-more, distinct_length}
 use Rattle.fr_core.proofs.Searching.{cases_below}
-use Rattle.fr_route.specs.Pushing.{IsLowestLoop, IsRoundFrom}
+use Rattle.fr_tables.specs.Faults.{IsLowestLoop}
 use Rattle.fr_tables.specs.Tables.{IsInRange, IsLoop, IsLoopFree, IsWalk, SendsOn, end_of}
 use Rattle.fr_tables.specs.declared.hop.Hop.{Hop}
-use Rattle.fr_tables.specs.declared.hop.Hop.TheVariants.{Here, To}
 use Rattle.fr_tables.proofs.Members.{Contains-cases, Contains-head, Contains-none, Contains-tail}
-use Rattle.fr_tables.proofs.Walks.{cases_sends, sends_one, sends_read, walk_append, walk_below, whole_no_loop}
+use Rattle.fr_tables.proofs.Walks.{cases_sends, sends_one, walk_append, walk_below, whole_no_loop}
+
+-- a walk from x that comes back to x, and not before
+abbrev IsRoundFrom : List Hop → ℕ → Type 0
+IsRoundFrom table x = (rest : List ℕ) × IsWalk table x (rest ++ x ∷ []) × ¬ Contains rest x
+
+once_with : (x : ℕ) (rest : List ℕ) → ¬ Contains rest x → IsDistinct eqb rest → IsDistinct eqb (x ∷ rest)
+once_with x rest out once = IsDistinct-more x rest (λ y c e. out (subst (λ (q : ℕ). Contains rest q) (sym e) c)) once
+
+not_again : (x : ℕ) (rest : List ℕ) → IsDistinct eqb (x ∷ rest) → ¬ Contains rest x
+not_again x rest once (i, low, is) =
+    let apart : eqb x (get_or rest i x) ≡ false = apart_from_distinct eqb (x ∷ rest) 0 (suc i) x once (omega arith) (omega (arith, low)) in
+    let same : eqb x x ≡ false = rw is at apart in
+    false≢true (sym same ∙ nat_eq_equiv.refl x)
 
 module _ (table : List Hop) (x : ℕ) where
   -- the first walk to x is the only one
@@ -70,7 +82,7 @@ module _ (table : List Hop) (x : ℕ) where
         | inl e ↦ subst (λ (w : ℕ). w < length table) e (walk_below table x (rest ++ x ∷ []) x range goes (Contains-push rest x))
         | inr later ↦ walk_below table x (rest ++ x ∷ []) q range goes (Contains-left rest q later)
       ] in
-      let few : length (x ∷ rest) ≤ length table = distinct_length (length table) (x ∷ rest) (IsDistinct-more x rest (λ y c e. out (subst (λ (q : ℕ). Contains rest q) (sym e) c)) (return_distinct x rest goes out)) low in
+      let few : length (x ∷ rest) ≤ length table = distinct_length (length table) (x ∷ rest) (once_with x rest out (return_distinct x rest goes out)) low in
       omega (arith, few)
     where
       Contains-left : (rest : List ℕ) (q : ℕ) → Contains rest q → Contains (rest ++ x ∷ []) q
@@ -86,22 +98,8 @@ module _ (table : List Hop) (x : ℕ) where
         (y ∷ rest, (goes.0, to), λ c. ⊎_elim apart out (Contains-cases x y rest c))
   ]
 
-  -- a walk goes on to the next hop of its last node
-  pub goes_on : (done : List ℕ) (at next : ℕ) → IsWalk table x done → end_of x done ≡ at → get_or table at Here ≡ To next
-      → IsWalk table x (done ++ next ∷ [])
-  goes_on done at next goes end is =
-      walk_append table x done (next ∷ []) goes (subst (λ (q : ℕ). SendsOn table q next) (sym end) (sends_read table at next is), tt)
-
-  -- a walk that goes no further does not come back
-  pub end_no_loop : (done : List ℕ) (at : ℕ) → IsWalk table x done → end_of x done ≡ at → ((next : ℕ) → ¬ (get_or table at Here ≡ To next))
-      → (xs : List ℕ) → ¬ IsLoop table (x ∷ xs)
-  end_no_loop done at goes end none xs = whole_no_loop table x xs done (record {
-    goes = goes;
-    ends = λ y sends. none y (get_or_from_slice_get table at (To y) Here (subst (λ (q : ℕ). SendsOn table q y) end sends));
-  })
-
   -- a walk as long as the table that has not come back to x never does
-  pub long_no_loop : (done : List ℕ) → IsInRange table → IsWalk table x done → ¬ Contains done x → length table ≤ length done
+  long_no_loop : (done : List ℕ) → IsInRange table → IsWalk table x done → ¬ Contains done x → length table ≤ length done
       → (xs : List ℕ) → ¬ IsLoop table (x ∷ xs)
   long_no_loop done range goes out long xs loop =
       let (rest, to, not) = first_return x xs loop in
@@ -109,47 +107,52 @@ module _ (table : List Hop) (x : ℕ) where
       let few = return_short rest range to not in
       omega (arith, less, few, long)
 
-  pub round_of_loop : (xs : List ℕ) → IsLoop table (x ∷ xs) → (nodes : List ℕ) × IsRoundFrom table x nodes
-  round_of_loop xs loop = let (rest, to, out) = first_return x xs loop in (x ∷ (rest ++ x ∷ []), (rest, to, out, refl))
+  round_of_loop : (xs : List ℕ) → IsLoop table (x ∷ xs) → IsRoundFrom table x
+  round_of_loop xs loop = first_return x xs loop
 
-  round_or_not : IsInRange table → ((nodes : List ℕ) × IsRoundFrom table x nodes) ⊎ ¬ ((nodes : List ℕ) × IsRoundFrom table x nodes)
+  -- the loop of a node on a loop
+  loop_of_round : (round : IsRoundFrom table x) → IsLoop table (x ∷ round.0) × IsDistinct eqb (x ∷ round.0)
+  loop_of_round (rest, goes, out) = (goes, once_with x rest out (return_distinct x rest goes out))
+
+  round_or_not : IsInRange table → IsRoundFrom table x ⊎ ¬ IsRoundFrom table x
   round_or_not range = go (length table) [] tt (Contains-none x) (omega arith)
     where
-      no_round : ((xs : List ℕ) → ¬ IsLoop table (x ∷ xs)) → ¬ ((nodes : List ℕ) × IsRoundFrom table x nodes)
-      no_round none (nodes, (rest, goes, out, is)) = none rest goes
+      no_round : ((xs : List ℕ) → ¬ IsLoop table (x ∷ xs)) → ¬ IsRoundFrom table x
+      no_round none (rest, goes, out) = none rest goes
 
       go : (fuel : ℕ) (done : List ℕ) → IsWalk table x done → ¬ Contains done x → length table ≤ length done + fuel
-          → ((nodes : List ℕ) × IsRoundFrom table x nodes) ⊎ ¬ ((nodes : List ℕ) × IsRoundFrom table x nodes)
+          → IsRoundFrom table x ⊎ ¬ IsRoundFrom table x
       go zero done goes out long = inr (no_round (long_no_loop done range goes out (omega (arith, long))))
       go (suc fuel) done goes out long = elim (cases_sends table (end_of x done)) [
         | inr none ↦ inr (no_round (λ xs. whole_no_loop table x xs done (record { goes = goes; ends = none })))
         | inl sent ↦ elim (cases_eq sent.0 x) [
-          | inl e ↦ inl (
-            x ∷ (done ++ x ∷ []),
-            (done, walk_append table x done (x ∷ []) goes (subst (SendsOn table (end_of x done)) e sent.1, tt), out, refl),
-          )
+          | inl e ↦ inl (done, walk_append table x done (x ∷ []) goes (subst (SendsOn table (end_of x done)) e sent.1, tt), out)
           | inr apart ↦ go fuel (done ++ sent.0 ∷ []) (walk_append table x done (sent.0 ∷ []) goes (sent.1, tt))
               (λ c. ⊎_elim out apart (Contains-push_cases done sent.0 x c)) (omega (arith, length_push done sent.0, long))
         ]
       ]
 
 -- a table in range has a lowest loop, or none
-pub loop_or_free : (table : List Hop) → IsInRange table → ((nodes : List ℕ) × IsLowestLoop table nodes) ⊎ IsLoopFree table
-loop_or_free table range =
-    let P : ℕ → Type 0 = λ x. (nodes : List ℕ) × IsRoundFrom table x nodes in
-    elim (cases_below P (λ x. round_or_not table x range) (length table)) [
-      | inl found ↦ inl (found.2.0, (found.0, found.2.1, λ y ys loop. found.3 y (round_of_loop table y ys loop)))
-      | inr none ↦ inr (λ nodes. free none nodes)
-    ]
+pub loop_or_free : (table : List Hop) → IsInRange table → ((loop : List ℕ) × IsLowestLoop table loop) ⊎ IsLoopFree table
+loop_or_free table range = elim (cases_below (IsRoundFrom table) (λ x. round_or_not table x range) (length table)) [
+  | inl found ↦
+      let (x, low, round, least) = found in
+      let is = loop_of_round table x round in
+      inl (x ∷ round.0, record { is_loop = is.0; once = is.1; lowest = λ y on. least y (round_of_loop table y on.0 on.1) })
+  | inr none ↦ inr (λ nodes. free none nodes)
+]
   where
-    free : ((x : ℕ) → x < length table → ¬ ((nodes : List ℕ) × IsRoundFrom table x nodes)) → (nodes : List ℕ) → ¬ IsLoop table nodes
+    free : ((x : ℕ) → x < length table → ¬ IsRoundFrom table x) → (nodes : List ℕ) → ¬ IsLoop table nodes
     free none [] loop = loop
     free none (y ∷ ys) loop =
         none y (walk_below table y (ys ++ y ∷ []) y range loop (Contains-push ys y)) (round_of_loop table y ys loop)
 
 pub lowest_unique : (table : List Hop) (a b : List ℕ) → IsLowestLoop table a → IsLowestLoop table b → a ≡ b
-lowest_unique table a b (x, (rest, goes, out, is), least) (y, (more, to, not, too), lower) =
-    let same : x ≡ y = omega (arith, least y more to, lower x rest goes) in
-    let from : IsWalk table y (rest ++ y ∷ []) = subst (λ (q : ℕ). IsWalk table q (rest ++ q ∷ [])) same goes in
-    let one : rest ≡ more = return_unique table y y rest more from (subst (λ (q : ℕ). ¬ Contains rest q) same out) to not in
-    is ∙ ((λ i. same i ∷ (one i ++ same i ∷ [])) ∙ sym too)
+lowest_unique table [] b h k = absurd h.is_loop
+lowest_unique table (x ∷ rest) [] h k = absurd k.is_loop
+lowest_unique table (x ∷ rest) (y ∷ more) h k =
+    let same : x ≡ y = omega (arith, h.lowest y (more, k.is_loop), k.lowest x (rest, h.is_loop)) in
+    let from : IsWalk table y (rest ++ y ∷ []) = subst (λ (q : ℕ). IsWalk table q (rest ++ q ∷ [])) same h.is_loop in
+    let one : rest ≡ more = return_unique table y y rest more from
+    (subst (λ (q : ℕ). ¬ Contains rest q) same (not_again x rest h.once)) k.is_loop (not_again y more k.once) in
+    (λ i. same i ∷ one i)

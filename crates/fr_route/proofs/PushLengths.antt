@@ -1,5 +1,5 @@
 -- A push order has as many nodes as the list that is put in order.
-use Rattle.std.proofs.Common.{Contains, List, arith, eqb, get_or, length, subst, sym, ℕ, ⊎_elim, ◌∙◌, ◌≡◌, ◌≤◌}
+use Rattle.std.proofs.Common.{Contains, List, arith, eqb, get_or, length, subst, sym, ℕ, ⊎_elim, ◌∙◌, ◌≡◌, ◌≤◌, ◌↔◌}
 use Rattle.std.specs.Cmp.{nat_eq_equiv}
 use Rattle.std.specs.List.{IsDistinct}
 use Rattle.std.proofs.lemmas.Bool.{cases_Bool, eqb-true}
@@ -8,7 +8,8 @@ use Rattle.std.proofs.lemmas.Map.Keys.{IsDistinct-from_apart}
 use Rattle.std.proofs.lemmas.Map.Made.{length-le_from_is_member}
 use Rattle.std.proofs.lemmas.Map.Views.{Contains-from_any, list_any-from_Contains}
 use Rattle.fr_route.specs.Outcomes.{AreOthers}
-use Rattle.fr_tables.specs.Pushes.{IsBefore, IsPushOrder, IsWave}
+use Rattle.fr_tables.specs.Pushes.{AreAlike, IsBefore, IsPushOrder, IsWave}
+use Rattle.fr_tables.specs.Tables.{Arrives}
 use Rattle.fr_tables.specs.declared.hop.Hop.{Hop}
 use Rattle.fr_core.proofs.Pigeons.{distinct_length}
 use Rattle.fr_tables.proofs.Answering.{differs_inside}
@@ -17,7 +18,8 @@ use Rattle.fr_tables.proofs.Counts.{wave_unique}
 before_apart : (old new : List Hop) (x y : ℕ) → IsBefore old new x y → ¬ (x ≡ y)
 before_apart old new x y before same =
     let one = wave_unique old new y before.wave_x before.wave_y (subst (λ (z : ℕ). IsWave old new z before.wave_x) same before.of_x) before.of_y in
-    omega (arith, before.lower one, same)
+    let alike : AreAlike new x y = subst (λ (z : ℕ). Arrives new x ↔ Arrives new z) same (λ r. r, λ r. r) in
+    omega (arith, before.lower alike one, same)
 
 order_once : (old new : List Hop) (order : List ℕ) → IsPushOrder old new order → IsDistinct eqb order
 order_once old new order is = IsDistinct-from_apart eqb order (λ i j d lt low.

@@ -1,5 +1,5 @@
 -- The pushes between two tables: there are some or a fault, never both, and the tables determine them.
-use Rattle.std.proofs.Common.{List, None, Option, Some, [], arith, inl, inr, length, length-append, max, refl, replicate, subst, sym, ℕ, ◌++◌, ◌-◌, ◌<◌}
+use Rattle.std.proofs.Common.{List, None, Option, Some, [], arith, get_or, inl, inr, length, length-append, max, refl, replicate, subst, sym, ℕ, ◌++◌, ◌-◌, ◌<◌}
 use Rattle.std.proofs.Common.{◌∙◌, ◌∷◌, ◌≡◌, ◌≤◌, ◌⊎◌}
 use Rattle.std.proofs.lemmas.Bool.{cases_lt}
 use Rattle.std.proofs.lemmas.List.{length-replicate}
@@ -7,7 +7,7 @@ use Rattle.std.proofs.lemmas.Option.{slice_get_within}
 use Rattle.fr_core.proofs.Searching.{cases_below}
 use Rattle.fr_graph.specs.Limits.{most_nodes}
 use Rattle.fr_lines.specs.Requests.{PlainRequest, add_link, ask, cut_link, join_nodes, make_edits, move_dest, new_network, order_pushes, walk_from}
-use Rattle.fr_route.specs.Pushing.{AreAsked, AreTablePushes, IsFaultFrom, IsLowestLoop, IsPushesRefused, IsTablesFault, LeadFrom, LeadTo, changes_of, padded}
+use Rattle.fr_route.specs.Pushing.{AreAsked, AreTablePushes, IsFaultFrom, IsPushesRefused, IsTablesFault, LeadFrom, LeadTo, changes_of, padded}
 use Rattle.fr_route.specs.Routes.{AreHops}
 use Rattle.fr_route.specs.States.{State}
 use Rattle.fr_route.proofs.LoopWalks.{loop_or_free, lowest_unique}
@@ -83,7 +83,8 @@ tables_unique old new j k a b (inl h) (inl g) =
     let same = some_outside_unique old new h.0 g.0 h.1 g.1 in (h.2 ∙ sym g.2, h.3 ∙ ((λ i. same i ∷ []) ∙ sym g.3))
 tables_unique old new j k a b (inl h) (inr g) = absurd (some_outside old new h.0 h.1 g.0 g.1)
 tables_unique old new j k a b (inr h) (inl g) = absurd (some_outside old new g.0 g.1 h.0 h.1)
-tables_unique old new j k a b (inr h) (inr g) = (h.3 ∙ sym g.3, lowest_unique new a b h.2 g.2)
+tables_unique old new j k a b (inr (r, s, (loop, low, is), e)) (inr (t, u, (other, lower, too), f)) =
+    let same = lowest_unique new loop other low lower in (e ∙ sym f, is ∙ ((λ i. same i ++ get_or (same i) 0 0 ∷ []) ∙ sym too))
 
 lead_unique : (old new : List Hop) (a b : List (ℕ × Hop)) → LeadTo old new a → LeadTo old new b → a ≡ b
 lead_unique old new a b h g =
@@ -91,7 +92,7 @@ lead_unique old new a b h g =
 
 lead_no_fault : (old new : List Hop) (a : List (ℕ × Hop)) (k : ℕ) (b : List ℕ) → LeadTo old new a → ¬ IsTablesFault old new k b
 lead_no_fault old new a k b h (inl g) = some_outside old new g.0 g.1 h.1.tables.old_range h.1.tables.new_range
-lead_no_fault old new a k b h (inr g) = h.1.loop_free (g.2.0 ∷ g.2.1.0) g.2.1.1
+lead_no_fault old new a k b h (inr g) = h.1.loop_free g.2.0 g.2.1.is_loop
 
 lead_or_fault : (old new : List Hop) → length old ≡ length new → length new ≤ most_nodes
     → ((a : List (ℕ × Hop)) × LeadTo old new a) ⊎ ((k : ℕ) × (b : List ℕ) × IsTablesFault old new k b)
@@ -100,7 +101,7 @@ lead_or_fault old new same few = elim (range_or_outside old) [
   | inr old_range ↦ elim (range_or_outside new) [
     | inl out ↦ inr (4, out.0 ∷ [], inl (out.0, inr (old_range, out.1), refl, refl))
     | inr new_range ↦ elim (loop_or_free new new_range) [
-      | inl loop ↦ inr (7, loop.0, inr (old_range, new_range, loop.1, refl))
+      | inl loop ↦ inr (7, loop.0 ++ get_or loop.0 0 0 ∷ [], inr (old_range, new_range, (loop.0, loop.1, refl), refl))
       | inr free ↦
           let order = order_exists old new same new_range free in
           inl (

@@ -84,12 +84,20 @@ MayStart s (Join u v) = CanTurnAfter s (edit.Join u v ∷ []) s.dest
 MayStart s (Batch edits) = CanTurnAfter s edits.items s.dest
 MayStart s (Destination d) = CanTurnAfter s [] d
 
+-- the change has no fault that is tested without memory: a batch is not too long, and a destination is a node
+abbrev pub MayLackMemory : State → Change → Type 0
+MayLackMemory s (Cut u v) = Unit {0}
+MayLackMemory s (Add u v) = Unit {0}
+MayLackMemory s (Join u v) = Unit {0}
+MayLackMemory s (Batch edits) = length edits.items ≤ most_edits
+MayLackMemory s (Destination d) = d < s.nodes
+
 -- why a change fails: it is refused, or a thread or memory is missing
 abbrev pub IsRouteFault : State → Change → RouteFault → Type 0
 IsRouteFault s change (Net fault) = IsChangeFault s change fault
 IsRouteFault s change Range = NamesNoNode s change
 IsRouteFault s change Start = MayStart s change
-IsRouteFault s change Memory = Unit {0}
+IsRouteFault s change Memory = MayLackMemory s change
 
 -- why no router is opened: the destination is not a node, or a thread or memory is missing
 abbrev pub IsOpenFault : ℕ → ℕ → RouteFault → Type 0

@@ -1,18 +1,19 @@
 -- The laws of routes and of answers. Each one is a clause of a function of src/laws.rt. This project's own. For rounds
 -- see Gafni and Bertsekas (1981), and Busch and Tirthapura (2005) on the number of turns.
-use Rattle.std.specs.Prelude.{◌≡◌, ℕ, ◌<◌, ◌↔◌, List, ◌∷◌, Contains, Option, Result, nat_eq}
+use Rattle.std.specs.Prelude.{◌≡◌, ℕ, ◌<◌, ◌↔◌, ◌++◌, List, ◌∷◌, Some, Contains, Option, Result, nat_eq}
 use Rattle.std.specs.List.{IsDistinct}
 use Rattle.fr_graph.specs.Links.{IsAcyclic, IsNet, IsPath, end_of}
 use Rattle.fr_lines.specs.Requests.{PlainRequest}
 use Rattle.fr_lines.specs.declared.requests.LineFault.{LineFault}
 use Rattle.fr_core.specs.Walks.{IsConnected}
 use Rattle.fr_route.specs.States.{State, IsAfterRound, IsRound, IsReport}
-use Rattle.fr_route.specs.Reroutes.{AreRerouted, IsRerouted}
+use Rattle.fr_route.specs.Reroutes.{ArePushes, AreReplaced, AreRerouted, IsRerouted}
 use Rattle.fr_route.specs.Routes.{AreHops, IsRoute, IsHop}
 use Rattle.fr_route.specs.Answers.{IsAnswer, IsLineAnswer}
 use Rattle.fr_route.specs.Forms.{IsAnswerIn}
 use Rattle.fr_route.specs.declared.form.Form.{Form}
-use Rattle.fr_tables.specs.Tables.{IsInRange, IsLoopFree}
+use Rattle.fr_tables.specs.Pushes.{IsPushed}
+use Rattle.fr_tables.specs.Tables.{Arrives, IsInRange, IsLoopFree}
 use Rattle.fr_tables.specs.declared.hop.Hop.{Hop}
 
 -- Rounds
@@ -68,6 +69,29 @@ HopsHaveNoLoop = (s : State) (hops : List Hop) → IsAfterRound s → AreHops s 
 abbrev pub ReroutedAreTold : Type 0
 ReroutedAreTold = (old new : State) (nodes : List ℕ) (x : ℕ) → old.nodes ≡ new.nodes → AreRerouted old new nodes
     → Contains nodes x ↔ ((x < new.nodes) × IsRerouted old new x)
+
+-- x has a route in this state
+abbrev pub HasRoute : State → ℕ → Type 0
+HasRoute s x = (rest : List ℕ) × IsRoute s.links s.dest x rest
+
+-- While the rerouted nodes of a change are pushed, a node that has a route before and after the change has one at each
+-- moment.
+abbrev pub ChangeKeepsRoutes : Type 0
+ChangeKeepsRoutes = (old new : State) (done left : List ℕ) (r : AreRerouted old new (done ++ left)) (table : List Hop)
+    (x : ℕ) → IsAfterRound old → IsAfterRound new → IsPushed r.before r.after done table
+    → HasRoute old x → HasRoute new x → Arrives table x
+
+-- The same while a new network replaces an old one.
+abbrev pub ReplacingKeepsRoutes : Type 0
+ReplacingKeepsRoutes = (old new : State) (done left : List ℕ) (r : AreReplaced (Some old) new (done ++ left))
+    (table : List Hop) (x : ℕ) → IsAfterRound old → IsAfterRound new → IsPushed r.before r.after done table
+    → HasRoute old x → HasRoute new x → Arrives table x
+
+-- The same while any table gets the hops of a state.
+abbrev pub PushesKeepRoutes : Type 0
+PushesKeepRoutes = (s : State) (old : List Hop) (done left : List ℕ) (r : ArePushes s old (done ++ left))
+    (table : List Hop) (x : ℕ) → IsAfterRound s → IsPushed old r.hops done table
+    → Arrives old x → HasRoute s x → Arrives table x
 
 -- Answers
 

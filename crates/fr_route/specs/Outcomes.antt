@@ -125,12 +125,12 @@ abbrev pub IsEdited : State → List Edit → ℕ → State → Type 0
 IsEdited s edits d new =
     (length edits ≤ most_edits) × ((net : Network) × (AreMade (net_at s) edits net × IsRound net.nodes d net.links new))
 
--- why this fails: the edits are refused at this place, or a thread or memory is missing
+-- why this fails: the edits are refused at this place, or a thread is missing, or memory for edits within the limit
 abbrev pub IsPlacedFault : State → List Edit → ℕ → ℕ → RouteFault → Type 0
 IsPlacedFault s edits d at (Net fault) = AreRefused (net_at s) edits at fault
 IsPlacedFault s edits d at Range = ⊥
 IsPlacedFault s edits d at Start = CanTurnAfter s edits d
-IsPlacedFault s edits d at Memory = Unit {0}
+IsPlacedFault s edits d at Memory = length edits ≤ most_edits
 
 -- the same at any place
 abbrev pub IsEditingFault : State → List Edit → ℕ → RouteFault → Type 0

@@ -1,13 +1,13 @@
 -- The pushes from a table of the caller to another, and why a request for them is refused: the definition of
 -- docs/LINES.md. This project's own.
-use Rattle.std.specs.Prelude.{◌≡◌, ℕ, ◌<◌, ◌≤◌, ◌-◌, ◌⊎◌, List, [], ◌∷◌, ◌++◌, Contains, length, map, max, replicate}
-use Rattle.std.specs.Prelude.{slice_get, Option, Some, None}
+use Rattle.std.specs.Prelude.{◌≡◌, ℕ, ◌<◌, ◌≤◌, ◌-◌, ◌⊎◌, List, [], ◌∷◌, ◌++◌, length, map, max, replicate}
+use Rattle.std.specs.Prelude.{slice_get, slice_index, Option, Some, None}
 use Rattle.fr_graph.specs.Limits.{most_nodes}
 use Rattle.fr_lines.specs.Requests.{PlainRequest, order_pushes}
 use Rattle.fr_route.specs.Routes.{AreHops}
 use Rattle.fr_route.specs.States.{State}
-use Rattle.fr_tables.specs.Faults.{IsOrdered}
-use Rattle.fr_tables.specs.Tables.{IsFirstOutside, IsInRange, IsLoop, IsWalk}
+use Rattle.fr_tables.specs.Faults.{IsLowestLoop, IsOrdered}
+use Rattle.fr_tables.specs.Tables.{IsFirstOutside, IsInRange}
 use Rattle.fr_tables.specs.declared.hop.Hop.{Hop}
 use Rattle.fr_tables.specs.declared.hop.Hop.TheVariants.{CutOff}
 
@@ -24,14 +24,9 @@ hop_in (Some hop) = hop
 abbrev pub changes_of : List Hop → List ℕ → List (ℕ × Hop)
 changes_of hops numbers = map (λ x. (x, hop_in (slice_get hops x))) numbers
 
--- the walk from x back to x, with x at both ends
-abbrev pub IsRoundFrom : List Hop → ℕ → List ℕ → Type 0
-IsRoundFrom table x nodes = (rest : List ℕ) × IsWalk table x (rest ++ x ∷ []) × ¬ Contains rest x
-    × (nodes ≡ x ∷ (rest ++ x ∷ []))
-
--- the loop of the lowest node that is on a loop, from this node on, which is named again at the end
-abbrev pub IsLowestLoop : List Hop → List ℕ → Type 0
-IsLowestLoop table nodes = (x : ℕ) × IsRoundFrom table x nodes × ((y : ℕ) (ys : List ℕ) → IsLoop table (y ∷ ys) → x ≤ y)
+-- the lowest loop of a table, whose first node is named again at the end
+abbrev pub IsNamedLoop : List Hop → List ℕ → Type 0
+IsNamedLoop table nodes = (loop : List ℕ) × IsLowestLoop table loop × (nodes ≡ loop ++ slice_index loop 0 ∷ [])
 
 -- pushes that lead from one table to another, in push order: each node with its new hop
 abbrev pub LeadTo : List Hop → List Hop → List (ℕ × Hop) → Type 0
@@ -42,7 +37,7 @@ LeadTo old new pushes = (order : List ℕ) × IsOrdered old new order × (pushes
 abbrev pub IsTablesFault : List Hop → List Hop → ℕ → List ℕ → Type 0
 IsTablesFault old new number nodes =
     ((x : ℕ) × (IsFirstOutside old x ⊎ (IsInRange old × IsFirstOutside new x)) × (number ≡ 4) × (nodes ≡ x ∷ []))
-    ⊎ (IsInRange old × IsInRange new × IsLowestLoop new nodes × (number ≡ 7))
+    ⊎ (IsInRange old × IsInRange new × IsNamedLoop new nodes × (number ≡ 7))
 
 -- the pushes from a table to these hops, and why there are none. A table that is longer names a number past them
 abbrev pub LeadFrom : List Hop → List Hop → List (ℕ × Hop) → Type 0

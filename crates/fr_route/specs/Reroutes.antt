@@ -5,7 +5,7 @@ use Rattle.fr_route.specs.Routes.{AreHops, IsHop}
 use Rattle.fr_route.specs.States.{State}
 use Rattle.fr_tables.specs.Faults.{IsOrdered}
 use Rattle.fr_tables.specs.Pushes.{IsPushOrder}
-use Rattle.fr_tables.specs.Tables.{IsFirstOutside}
+use Rattle.fr_tables.specs.Tables.{IsFirstOutside, IsInRange}
 use Rattle.fr_tables.specs.declared.fault.TableFault.{TableFault}
 use Rattle.fr_tables.specs.declared.fault.TableFault.TheVariants.{Length, Range, Loop, Memory}
 use Rattle.fr_tables.specs.declared.hop.Hop.{Hop}
@@ -59,9 +59,10 @@ pub record ArePushes (s : State) (table : List Hop) (nodes : List ℕ) : Type 0 
   pub are : AreHops s s.nodes hops
   pub order : IsOrdered table hops nodes
 
--- why this fails: the table has too few or too many hops, its first out-of-range hop names x, or memory is missing
+-- why this fails: the table has too few or too many hops, its first out-of-range hop names x, or memory is missing for
+-- a table with none of these faults
 abbrev pub IsPushesFault : State → List Hop → TableFault → Type 0
 IsPushesFault s table Length = length table ≢ s.nodes
 IsPushesFault s table (Range x) = (length table ≡ s.nodes) × IsFirstOutside table x
 IsPushesFault s table (Loop nodes) = ⊥
-IsPushesFault s table Memory = Unit {0}
+IsPushesFault s table Memory = (length table ≡ s.nodes) × IsInRange table

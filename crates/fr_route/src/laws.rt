@@ -3,6 +3,7 @@
 ghost use Rattle.fr_route.specs.Laws.{RoundIsUnique, RoundLeavesNoLoop, RoundKeepsJoined, ReportIsUnique};
 ghost use Rattle.fr_route.specs.Laws.{RoutesLeadHome, RouteIsUnique, RouteIsSimple, HopIsUnique};
 ghost use Rattle.fr_route.specs.Laws.{HopsHaveNoLoop, ReroutedAreTold};
+ghost use Rattle.fr_route.specs.Laws.{ChangeKeepsRoutes, PushesKeepRoutes, ReplacingKeepsRoutes};
 ghost use Rattle.fr_route.specs.Laws.{AnswerInIsUnique, AnswerIsUnique, LineAnswerIsUnique};
 
 /// The first links determine the state after a round, and so the report. The links after a round contain no cycle, and
@@ -25,10 +26,14 @@ pub fn route_law()
 
 /// The hops of a settled network are a table without loops, in which each hop names a node. So the laws of push orders
 /// apply to them ([`push_law`](fr_tables::laws::push_law)). Exactly the nodes whose hop has changed are reported as
-/// rerouted.
+/// rerouted. While these nodes are pushed, a node that has a route before and after the change has one at each moment.
+/// The same holds while a new network replaces an old one, and while the hops are pushed into any other table.
 pub fn hops_law()
     ensures no_loop { HopsHaveNoLoop }
     ensures told { ReroutedAreTold }
+    ensures kept { ChangeKeepsRoutes }
+    ensures replaced { ReplacingKeepsRoutes }
+    ensures pushed { PushesKeepRoutes }
 {}
 
 /// The state and the request determine the answer and the state after it. The same holds for a line in either form, with

@@ -25,7 +25,6 @@ mod form;
 mod hops;
 mod json;
 pub mod laws;
-mod looping;
 mod outcome;
 mod pushing;
 mod questions;

@@ -12,7 +12,6 @@ use crate::fault::AnswerFault;
 use crate::form::{Answer, Form, Manner, accepted};
 use crate::hops::resized;
 use crate::json::pushes_object;
-use crate::looping::lowest_loop;
 use crate::refusals::Reason;
 use crate::refusing::refuse;
 use crate::texts::pushes_line;
@@ -85,17 +84,19 @@ fn refuse_tables(
     manner: Manner,
     fault: TableFault,
     _old: &[Hop],
-    new: &[Hop],
+    _new: &[Hop],
 ) -> Result<Answer, AnswerFault>
-    requires { IsFaultOf _old.now new.now fault }
-    ensures refuses { IfOk result (λ answer. (number : ℕ) × (nodes : List ℕ) × IsTablesFault _old.now new.now number nodes
+    requires { IsFaultOf _old.now _new.now fault }
+    ensures refuses { IfOk result (λ answer. (number : ℕ) × (nodes : List ℕ) × IsTablesFault _old.now _new.now number nodes
         × RefusesBy manner (record { number = number; nodes = nodes; edit = None }) answer) }
     ensures memory { IfErr result (λ why. why ≡ Memory) }
 {
     match fault {
         TableFault::Range(x) => refuse(alloc, manner, Reason::NoNode, &[x], None),
-        TableFault::Loop(_) => {
-            let nodes = lowest_loop(alloc, new)?;
+        TableFault::Loop(mut nodes) => {
+            // Each cycle names its first node again.
+            let first = nodes[0];
+            nodes.push(first)?;
             refuse(alloc, manner, Reason::Cycle, &nodes, None)
         }
         TableFault::Length | TableFault::Memory => Err(AnswerFault::Memory),

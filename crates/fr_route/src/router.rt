@@ -3,6 +3,7 @@
 ghost use Rattle.std.specs.Prelude.{◌≡◌, ◌≢◌, ◌<◌, ◌≤◌, ◌⊎◌, [], ◌∷◌, length, replicate};
 ghost use Rattle.std.specs.Prelude.{Ok, Some, IfOk, IfErr, IfSome, OnErr, OnOk};
 ghost use Rattle.std.specs.Option.{option_copied};
+ghost use Rattle.fr_graph.specs.Limits.{most_edits};
 ghost use Rattle.fr_crew.specs.Settlements.{CanBegin, HoldsSinks, IsCounted};
 ghost use Rattle.fr_route.specs.Ways.{Settles, NeverStarts};
 ghost use Rattle.fr_route.specs.declared.fault.RouteFault.TheVariants.{Start, Memory};
@@ -168,8 +169,8 @@ impl<'a, F: Fn(&Net, u32, Option<&[u32]>, Turns) -> Result<Turns, CrewFault>> As
             (without_place result) router.new told.new }
         ensures place { IfErr result (IsPlaced router.old revision.now.edits.now revision.now.dest) }
     {
-        told.make_room(router.net.nodes())?;
         let movable = router.movable(self.alloc, revision)?;
+        told.make_room(router.net.nodes())?;
         let from = movable.as_slice();
         let dest = revision.dest;
         let spare = &mut router.spare;
@@ -288,7 +289,8 @@ impl Router {
     /// for the faults of `Net::with_link` or `Net::with_join`, and a batch for its length or the first edit that
     /// `Net::with_edits` refuses. The fault names exactly the nodes or the cycle that these calls name. Fails with
     /// `Range` only for a destination that is not a node. Fails with `Start` and `Memory` as `open` does, but never
-    /// with `Start` if the change is refused. If it fails, the router is unchanged.
+    /// with `Start` if the change is refused, nor with `Memory` for a destination that is not a node or for a batch that
+    /// is too long. If it fails, the router is unchanged.
     ///
     /// The change is made in place, and everything that can fail comes before anything is kept. To find nodes that can
     /// turn, the call looks only at the ends of the edited links, at the two destinations, and at the nodes with links
@@ -413,6 +415,7 @@ impl Router {
     fn movable(&self, alloc: Global, revision: &Revision<'_>) -> Result<Vec<u32>, NotMade>
         ensures movable { IfOk result
             (λ nodes. nodes.items ≡ movable self.now revision.now.dest revision.now.edits.now) }
+        ensures few { OnOk result (length revision.now.edits.now ≤ most_edits) }
         ensures fault { IfErr result (IsPlaced self.now revision.now.edits.now revision.now.dest) }
         ensures no_start { IfErr result (λ undone. undone.fault ≢ Start) }
     {
@@ -524,10 +527,12 @@ impl Router {
     /// Lists the nodes whose hop in `table` differs from the hop here, in push order: each one comes after those of
     /// them on its route. A caller that pushes the hops of these nodes into the table, one after the other, ends with
     /// the hops of this router. At no moment is there a loop that was not in the table at first
-    /// ([`push_law`](fr_tables::laws::push_law)). The table can have loops.
+    /// ([`push_law`](fr_tables::laws::push_law)), and no node that has a route in the table and here loses it
+    /// ([`hops_law`](crate::laws::hops_law)). The table can have loops.
     ///
-    /// Fails with `Length` if the table does not have one hop for each node, with `Range` and the node that the first
-    /// out-of-range hop names, and with `Memory` if an allocation is refused; never with `Loop`. O(n).
+    /// The faults are tested in this order. Fails with `Length` if the table does not have one hop for each node, with
+    /// `Range` and the node that the first out-of-range hop names, and with `Memory` if an allocation is refused; never
+    /// with `Loop`. O(n).
     pub fn pushes(&self, alloc: Global, table: &[Hop]) -> Result<Vec<u32>, TableFault>
         ensures pushes { IfOk result (λ nodes. ArePushes self.now table.now nodes.items) }
         ensures fault { IfErr result (IsPushesFault self.now table.now) }

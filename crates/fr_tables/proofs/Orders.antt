@@ -1,42 +1,85 @@
--- Push orders: their beginnings and whole waves are closed downstream, they end with the new table, and the tables
+-- Push orders: their beginnings and whole groups are closed downstream, they end with the new table, and the tables
 -- determine them.
-use Rattle.std.proofs.Common.{Contains, List, [], arith, get_or, inl, inr, length, length-append, refl, slice_get, subst, suc, sym, ℕ, ⊎_elim, ◌++◌}
+use Rattle.std.proofs.Common.{Contains, List, [], arith, get_or, inl, inr, length, refl, slice_get, subst, suc, sym, ℕ, ⊎_elim, ◌++◌, ◌-◌, ◌≤◌}
 use Rattle.std.proofs.Common.{◌<◌, ◌∙◌, ◌∷◌, ◌≡◌, ap, Some, length-set, set}
 use Rattle.std.proofs.lemmas.List.Elements.{Contains-append_left, Contains-push, Contains-push_cases}
 use Rattle.std.proofs.lemmas.Bool.{cases_lt, cases_eq}
 use Rattle.std.proofs.lemmas.List.{ext_get_or, get_or_append_left, get_or_default, get_or-set_other, get_or-set_same}
 use Rattle.std.proofs.lemmas.Option.{get_or_from_slice_get, slice_get-get_or, slice_get_past, slice_get_within}
-use Rattle.fr_tables.specs.Pushes.{DifferAt, IsBefore, IsClosedDownstream, IsPushOrder, IsPushed, IsUpToWave}
+use Rattle.fr_tables.specs.Pushes.{AreAlike, AreRoutedFirst, DifferAt, IsBefore, IsBetween, IsClosedDownstream, IsPushOrder, IsPushed, IsSentInTime}
+use Rattle.fr_tables.specs.Pushes.{IsUpToGroup}
+use Rattle.fr_tables.specs.Tables.{Arrives}
 use Rattle.fr_tables.specs.declared.hop.Hop.{Hop}
 use Rattle.fr_tables.specs.declared.hop.Hop.TheVariants.{Here}
+use Rattle.fr_tables.proofs.Arriving.{alike_downstream, cases_arrives}
 use Rattle.fr_tables.proofs.Counts.{cases_differ, wave_falls, wave_unique}
 use Rattle.fr_tables.proofs.Members.{Contains-cases, Contains-head, Contains-none, Contains-tail, cases_member}
 
-pub waves_closed : (old new : List Hop) (nodes : List ℕ) (wave : ℕ) → IsUpToWave old new nodes wave → IsClosedDownstream old new nodes
-waves_closed old new nodes wave up x y inside down differs =
-    let (k, of_x, low) = up.others x inside in
+pub groups_closed : (old new : List Hop) (nodes : List ℕ) → IsUpToGroup old new nodes → IsClosedDownstream old new nodes
+groups_closed old new nodes up x y inside down differs =
+    let (k, of_x) = up.waves x inside in
     elim (wave_falls old new x y k (up.differ x inside) down of_x) [
       | inl e ↦ subst (Contains nodes) e inside
-      | inr (l, of_y, falls) ↦ up.before y l differs of_y (omega (arith, falls, low))
+      | inr (l, of_y, falls) ↦ up.before x y k l inside differs (alike_downstream new x y down) of_x of_y falls
     ]
 
-pub beginning_closed : (old new : List Hop) (done left : List ℕ) → IsPushOrder old new (done ++ left) → IsClosedDownstream old new done
-beginning_closed old new done left order x y (i, low, here) down differs =
-    let (j, inside, there) = (order.these y).1 differs in
-    let whole = length-append done left in
-    let at_i : get_or (done ++ left) i 0 ≡ x = get_or_append_left done left 0 i low ∙ (get_or_default done i 0 x low ∙ here) in
-    let at_j : get_or (done ++ left) j 0 ≡ y = get_or_default (done ++ left) j 0 y inside ∙ there in
-    let x_differs : DifferAt old new x =
-    (order.these x).0 (i, omega (arith, whole, low), get_or_default (done ++ left) i x 0 (omega (arith, whole, low)) ∙ at_i) in
-    elim (cases_lt j (length done)) [
-      | inl lt ↦ (j, lt, sym (get_or_append_left done left y j lt) ∙ there)
-      | inr ge ↦
-          let before : IsBefore old new x y = rw (at_i, at_j) at (order.sorted i j (omega (arith, ge, low)) inside) in
-          elim (wave_falls old new x y before.wave_x x_differs down before.of_x) [
-            | inl e ↦ subst (Contains done) e (i, low, here)
-            | inr (l, of_y, falls) ↦ absurd (omega (arith, falls, before.earlier, wave_unique old new y l before.wave_y of_y before.of_y))
+module _ (old new : List Hop) (done left : List ℕ) (order : IsPushOrder old new (done ++ left)) where
+  -- a differing node is one of the first, or it comes later
+  first_nodes : (y : ℕ) → DifferAt old new y
+      → ((j : ℕ) × (length done ≤ j) × (j < length (done ++ left)) × (get_or (done ++ left) j 0 ≡ y) → Contains done y) → Contains done y
+  first_nodes y differs later =
+      let (j, inside, there) = (order.these y).1 differs in
+      elim (cases_lt j (length done)) [
+        | inl lt ↦ (j, lt, sym (get_or_append_left done left y j lt) ∙ there)
+        | inr ge ↦ later (j, ge, inside, get_or_default (done ++ left) j 0 y inside ∙ there)
+      ]
+
+  pub beginning_closed : IsClosedDownstream old new done
+  beginning_closed x y (i, low, here) down differs = first_nodes y differs (λ (j, ge, inside, there).
+      let at : get_or (done ++ left) i 0 ≡ x = get_or_append_left done left 0 i low ∙ (get_or_default done i 0 x low ∙ here) in
+      let before : IsBefore old new x y = rw (at, there) at (order.sorted i j (omega (arith, ge, low)) inside) in
+      let x_differs : DifferAt old new x = (order.these x).0 (Contains-append_left done left x (i, low, here)) in
+      elim (wave_falls old new x y before.wave_x x_differs down before.of_x) [
+        | inl e ↦ subst (Contains done) e (i, low, here)
+        | inr (l, of_y, falls) ↦ absurd
+            (omega (arith, falls, before.earlier (alike_downstream new x y down), wave_unique old new y l before.wave_y of_y before.of_y))
+      ])
+
+  pub beginning_routed_first : AreRoutedFirst old new done
+  beginning_routed_first = elim (cases_lt 0 (length done)) [
+    | inr none ↦ inl (λ x (i, low, here). absurd (omega (arith, low, none)))
+    | inl some ↦ elim (cases_lt (length done) (length (done ++ left))) [
+      | inr all ↦ inr (λ x differs home. first_nodes x differs (λ (j, ge, inside, there). absurd (omega (arith, all, ge, inside))))
+      | inl more ↦
+          let last : ℕ = get_or (done ++ left) (length done - 1) 0 in
+          let wave = (order.sorted (length done - 1) (length done) (omega (arith, some)) more).of_x in
+          elim (cases_arrives new last wave.walk wave.whole) [
+            | inl home ↦ inl (λ x (i, low, here).
+                let at : get_or (done ++ left) i 0 ≡ x = get_or_append_left done left 0 i low ∙ (get_or_default done i 0 x low ∙ here) in
+                elim (cases_eq i (length done - 1)) [
+                  | inl e ↦ subst (Arrives new) (sym (ap (λ (k : ℕ). get_or (done ++ left) k 0) e) ∙ at) home
+                  | inr apart ↦ subst (Arrives new) at
+                      ((order.sorted i (length done - 1) (omega (arith, low, apart)) (omega (arith, some, more))).routed home)
+                ])
+            | inr lost ↦ inr (λ x differs home. first_nodes x differs (λ (j, ge, inside, there).
+                let after = order.sorted (length done - 1) j (omega (arith, some, ge)) inside in
+                absurd (lost (after.routed (subst (Arrives new) (sym there) home)))))
           ]
     ]
+  ]
+
+pub between_closed : (old new : List Hop) (confirmed sent nodes : List ℕ) → IsSentInTime old new confirmed sent → IsBetween confirmed sent nodes
+    → IsClosedDownstream old new nodes × AreRoutedFirst old new nodes
+between_closed old new confirmed sent nodes time between = (
+  λ x y inside down differs. ⊎_elim
+      (λ same. subst (Contains nodes) (sym same) inside)
+      (λ apart. between.first y (time.downstream x y (between.last x inside) down differs apart))
+      (cases_eq y x),
+  ⊎_elim
+      (λ all. inl (λ x found. all x (between.last x found)))
+      (λ all. inr (λ x differs home. between.first x (all x differs home)))
+      time.routed,
+)
 
 -- two tables with the same hops are equal
 same_table : (some other : List Hop) → length some ≡ length other → ((x : ℕ) → slice_get some x ≡ slice_get other x) → some ≡ other
@@ -111,9 +154,12 @@ sorted_unique R one (x ∷ xs) (y ∷ ys) s t to from =
 
 one_before : (old new : List Hop) (x y : ℕ) → IsBefore old new x y → ¬ IsBefore old new y x
 one_before old new x y a b =
+    let alike : AreAlike new x y = (b.routed, a.routed) in
+    let back : AreAlike new y x = (a.routed, b.routed) in
     let on_x = wave_unique old new x a.wave_x b.wave_y a.of_x b.of_y in
     let on_y = wave_unique old new y a.wave_y b.wave_x a.of_y b.of_x in
-    omega (arith, a.lower (omega (arith, on_x, on_y, a.earlier, b.earlier)), b.lower (omega (arith, on_x, on_y, a.earlier, b.earlier)))
+    let same : a.wave_x ≡ a.wave_y = omega (arith, on_x, on_y, a.earlier alike, b.earlier back) in
+    omega (arith, a.lower alike same, b.lower back (omega (arith, on_x, on_y, same)))
 
 pub order_unique : (old new : List Hop) (order other : List ℕ) → IsPushOrder old new order → IsPushOrder old new other → order ≡ other
 order_unique old new order other a b = sorted_unique (IsBefore old new) (one_before old new) order other

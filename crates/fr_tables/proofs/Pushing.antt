@@ -1,12 +1,14 @@
 -- Hops of a set that is closed downstream are pushed: which loops there can be, and where a packet goes.
-use Rattle.std.proofs.Common.{Bool, Contains, List, [], ap, arith, cond, eqb, false, inl, inr, refl, slice_get, subst, sym, true, ℕ, ⊎_elim, ◌++◌}
+use Rattle.std.proofs.Common.{Some, Bool, Contains, List, [], ap, arith, cond, eqb, false, inl, inr, refl, slice_get, subst, sym, true, ℕ, ⊎_elim, ◌++◌}
 use Rattle.std.proofs.Common.{◌+◌, ◌∙◌, ◌∷◌, ◌≡◌, ◌≤◌, ◌↔◌, ◌⊎◌}
 use Rattle.std.specs.List.{count_by}
 use Rattle.std.proofs.lemmas.Bool.{cases_Bool, eqb-true}
 use Rattle.std.proofs.lemmas.List.Sums.{sum_by-append, sum_by-cons}
-use Rattle.fr_tables.specs.Pushes.{DifferAt, Grows, IsClosedDownstream, IsPushed, Moves}
-use Rattle.fr_tables.specs.Tables.{IsDownstream, IsLoop, IsLoopFree, IsWalk, SendsOn, end_of}
+use Rattle.fr_tables.specs.Pushes.{AreRoutedFirst, DifferAt, Grows, IsClosedDownstream, IsPushed, Moves}
+use Rattle.fr_tables.specs.Tables.{Arrives, IsDownstream, IsLoop, IsLoopFree, IsWalk, SendsOn, end_of}
 use Rattle.fr_tables.specs.declared.hop.Hop.{Hop}
+use Rattle.fr_tables.specs.declared.hop.Hop.TheVariants.{Here}
+use Rattle.fr_tables.proofs.Arriving.{alike_downstream, arrives_before}
 use Rattle.fr_tables.proofs.Counts.{cases_differ}
 use Rattle.fr_tables.proofs.Members.{Contains-head, Contains-tail, cases_member}
 use Rattle.fr_tables.proofs.Walks.{end_append, free_once}
@@ -62,6 +64,34 @@ module _ (old new : List Hop) (nodes : List ℕ) (table : List Hop) (pushed : Is
 
     pub pushed_right : (x : ℕ) (ys : List ℕ) → Contains nodes x → IsWalk table x ys ↔ IsWalk new x ys
     pushed_right x ys inside = (clean_walk x ys (λ z. closed x z inside), walk_clean x ys (λ z. closed x z inside))
+
+    -- a pushed node with a route in the new table has it in the mixed table
+    clean_arrives : (x : ℕ) (ys : List ℕ) → IsClean old new nodes x → IsWalk new x ys → slice_get new (end_of x ys) ≡ Some Here → Arrives table x
+    clean_arrives x [] clean goes home = record { by = []; goes = tt; home = clean_here x clean ∙ home }
+    clean_arrives x (y ∷ ys) clean goes home = arrives_before table x y (clean_here x clean ∙ goes.0)
+        (clean_arrives y ys (clean_next old new nodes x y clean goes.0) goes.1 home)
+
+    -- a node keeps its route if the pushed nodes that it meets have one
+    pub still_arrives : (x : ℕ) → ((y : ℕ) → Contains nodes y → Arrives new y) → Arrives old x → Arrives table x
+    still_arrives x routes had = go x had.by had.goes had.home
+      where
+        inside_arrives : (x : ℕ) → Contains nodes x → Arrives table x
+        inside_arrives x inside = let route = routes x inside in clean_arrives x route.by (λ z. closed x z inside) route.goes route.home
+
+        go : (x : ℕ) (ys : List ℕ) → IsWalk old x ys → slice_get old (end_of x ys) ≡ Some Here → Arrives table x
+        go x [] goes home = ⊎_elim (inside_arrives x)
+            (λ out. record { by = []; goes = tt; home = pushed.others x out ∙ home })
+            (cases_member nodes x)
+        go x (y ∷ ys) goes home = ⊎_elim (inside_arrives x)
+            (λ out. arrives_before table x y (pushed.others x out ∙ goes.0) (go y ys goes.1 home))
+            (cases_member nodes x)
+
+    -- if all nodes that get a route have been pushed, a node with a route has that of the new table
+    pub keeps_routes : (x : ℕ) → AreRoutedFirst old new nodes → Arrives old x → Arrives new x → Arrives table x
+    keeps_routes x first had has = ⊎_elim
+        (λ routes. still_arrives x routes had)
+        (λ all. clean_arrives x has.by (λ y down differs. all y differs ((alike_downstream new x y down).0 has)) has.goes has.home)
+        first
 
 -- how often a walk visits a node
 

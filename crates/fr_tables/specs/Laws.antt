@@ -2,8 +2,9 @@
 -- routers first is the idea of RFC 6976.
 use Rattle.std.specs.Prelude.{◌≡◌, ℕ, ◌≤◌, ◌++◌, ◌↔◌, List, ◌∷◌, Contains, length}
 use Rattle.std.specs.Prelude.{nat_eq, count_by, [], slice_get, slice_set, Some}
-use Rattle.fr_tables.specs.Tables.{IsInRange, IsLoop, IsLoopFree, IsWalk}
-use Rattle.fr_tables.specs.Pushes.{Grows, IsClosedDownstream, IsPushOrder, IsPushed, IsUpToWave, Moves}
+use Rattle.fr_tables.specs.Tables.{Arrives, IsInRange, IsLoop, IsLoopFree, IsWalk}
+use Rattle.fr_tables.specs.Pushes.{AreRoutedFirst, Grows, IsBetween, IsClosedDownstream, IsPushOrder, IsPushed}
+use Rattle.fr_tables.specs.Pushes.{IsSentInTime, IsUpToGroup, Moves}
 use Rattle.fr_tables.specs.declared.hop.Hop.{Hop}
 
 -- Before the first push the table is the old one.
@@ -33,6 +34,17 @@ PushedIsRight = (old new : List Hop) (nodes : List ℕ) (table : List Hop) (x : 
     → IsClosedDownstream old new nodes
     → IsPushed old new nodes table → Contains nodes x → IsWalk table x ys ↔ IsWalk new x ys
 
+-- If each pushed node has a route in the new table, no node loses the route that it has in the old one.
+abbrev pub NoRouteIsLost : Type 0
+NoRouteIsLost = (old new : List Hop) (nodes : List ℕ) (table : List Hop) (x : ℕ) → IsClosedDownstream old new nodes
+    → ((y : ℕ) → Contains nodes y → Arrives new y) → IsPushed old new nodes table → Arrives old x → Arrives table x
+
+-- A node with a route in the old and in the new table has one meanwhile, if nodes without a route in the new table are
+-- pushed last.
+abbrev pub RoutesAreKept : Type 0
+RoutesAreKept = (old new : List Hop) (nodes : List ℕ) (table : List Hop) (x : ℕ) → IsClosedDownstream old new nodes
+    → AreRoutedFirst old new nodes → IsPushed old new nodes table → Arrives old x → Arrives new x → Arrives table x
+
 -- A packet that moves while hops are pushed visits no node more than twice.
 abbrev pub ComesTwiceAtMost : Type 0
 ComesTwiceAtMost = (old new : List Hop) (pushed : ℕ → List ℕ) (x : ℕ) (ys : List ℕ) (z : ℕ) → IsLoopFree old
@@ -45,11 +57,27 @@ abbrev pub BeginningIsClosed : Type 0
 BeginningIsClosed = (old new : List Hop) (done left : List ℕ) → IsPushOrder old new (done ++ left)
     → IsClosedDownstream old new done
 
--- So are whole waves with any nodes of the next one: the nodes of a wave may be pushed in any order, or at the same
--- time.
-abbrev pub WavesAreClosed : Type 0
-WavesAreClosed = (old new : List Hop) (nodes : List ℕ) (wave : ℕ) → IsUpToWave old new nodes wave
-    → IsClosedDownstream old new nodes
+-- In each of them, the nodes with a route in the new table come first.
+abbrev pub BeginningIsRoutedFirst : Type 0
+BeginningIsRoutedFirst = (old new : List Hop) (done left : List ℕ) → IsPushOrder old new (done ++ left)
+    → AreRoutedFirst old new done
+
+-- So while a push order is pushed, a node that has a route before and after it has one at each moment.
+abbrev pub OrderKeepsRoutes : Type 0
+OrderKeepsRoutes = (old new : List Hop) (done left : List ℕ) (table : List Hop) (x : ℕ)
+    → IsPushOrder old new (done ++ left) → IsPushed old new done table
+    → Arrives old x → Arrives new x → Arrives table x
+
+-- Whole groups with any nodes of the next group are closed downstream: the nodes of a group may be pushed in any order,
+-- or at the same time.
+abbrev pub GroupsAreClosed : Type 0
+GroupsAreClosed = (old new : List Hop) (nodes : List ℕ) → IsUpToGroup old new nodes → IsClosedDownstream old new nodes
+
+-- A router may be slow to confirm. Whichever of the sent pushes have arrived, the nodes with new hops are closed
+-- downstream, and those with a route come first.
+abbrev pub AnyBetweenIsClosed : Type 0
+AnyBetweenIsClosed = (old new : List Hop) (confirmed sent nodes : List ℕ) → IsSentInTime old new confirmed sent
+    → IsBetween confirmed sent nodes → IsClosedDownstream old new nodes × AreRoutedFirst old new nodes
 
 -- After the last push the table is the new one.
 abbrev pub EndsAsNew : Type 0

@@ -2,7 +2,7 @@
 -- its first node. Next hops and forwarding loops are those of RFC 6976; downstream means towards the destination.
 use Rattle.std.specs.Prelude.{◌≡◌, ℕ, ◌<◌, ◌≤◌, ◌++◌, List, [], ◌∷◌, length, slice_get, Some}
 use Rattle.fr_tables.specs.declared.hop.Hop.{Hop}
-use Rattle.fr_tables.specs.declared.hop.Hop.TheVariants.{To}
+use Rattle.fr_tables.specs.declared.hop.Hop.TheVariants.{Here, To}
 
 -- node x sends on to node y
 abbrev pub SendsOn : List Hop → ℕ → ℕ → Type 0
@@ -28,6 +28,10 @@ abbrev pub IsLoop : List Hop → List ℕ → Type 0
 IsLoop table [] = ⊥
 IsLoop table (x ∷ xs) = IsWalk table x (xs ++ x ∷ [])
 
+-- the walk from x comes back to x
+abbrev pub IsOnLoop : List Hop → ℕ → Type 0
+IsOnLoop table x = (xs : List ℕ) × IsLoop table (x ∷ xs)
+
 -- the table has no loop
 abbrev pub IsLoopFree : List Hop → Type 0
 IsLoopFree table = (nodes : List ℕ) → ¬ IsLoop table nodes
@@ -37,6 +41,12 @@ pub record IsDownstream (table : List Hop) (x y : ℕ) : Type 0 where
   pub by : List ℕ
   pub goes : IsWalk table x by
   pub ends : end_of x by ≡ y
+
+-- x has a route: the walk from x leads to the destination
+pub record Arrives (table : List Hop) (x : ℕ) : Type 0 where
+  pub by : List ℕ
+  pub goes : IsWalk table x by
+  pub home : slice_get table (end_of x by) ≡ Some Here
 
 -- each hop names a node of the table
 abbrev pub IsInRange : List Hop → Type 0

@@ -1,8 +1,9 @@
 //! The laws of push orders. Each clause is a law of `specs/Laws.antt`, proved. The functions do nothing.
 
-ghost use Rattle.fr_tables.specs.Laws.{StartsAsOld, PushIsOneMore, NoLoopIsNew};
-ghost use Rattle.fr_tables.specs.Laws.{NeverLoops, PushedIsRight, ComesTwiceAtMost};
-ghost use Rattle.fr_tables.specs.Laws.{BeginningIsClosed, WavesAreClosed, EndsAsNew, OrderExists, OrderIsUnique};
+ghost use Rattle.fr_tables.specs.Laws.{StartsAsOld, PushIsOneMore, NoLoopIsNew, NeverLoops, PushedIsRight};
+ghost use Rattle.fr_tables.specs.Laws.{ComesTwiceAtMost, BeginningIsClosed, GroupsAreClosed, AnyBetweenIsClosed};
+ghost use Rattle.fr_tables.specs.Laws.{EndsAsNew, OrderExists, OrderIsUnique};
+ghost use Rattle.fr_tables.specs.Laws.{NoRouteIsLost, RoutesAreKept, BeginningIsRoutedFirst, OrderKeepsRoutes};
 
 /// If the new table has no loop and the pushed nodes are closed downstream, pushes add no loop, in whatever order they
 /// are made: each loop of the mixed table was in the old table. If the old table had no loop either, a packet that
@@ -16,12 +17,23 @@ pub fn push_law()
     ensures twice { ComesTwiceAtMost }
 {}
 
-/// The pushed nodes of a push order are closed downstream at each moment, even if the nodes of one wave are pushed in
-/// any order. The last push makes the new table. Two tables have exactly one push order.
+/// The pushed nodes of a push order are closed downstream at each moment, even if the nodes of one group are pushed in
+/// any order, and even if routers are slow to confirm a push. The last push makes the new table. Two tables have
+/// exactly one push order.
 pub fn order_law()
     ensures beginnings { BeginningIsClosed }
-    ensures waves { WavesAreClosed }
+    ensures groups { GroupsAreClosed }
+    ensures between { AnyBetweenIsClosed }
     ensures whole { EndsAsNew }
     ensures exists { OrderExists }
     ensures unique { OrderIsUnique }
+{}
+
+/// A node that has a route in the old and in the new table has one at each moment between, if the nodes without a route
+/// in the new table are pushed last. A push order does so.
+pub fn route_law()
+    ensures unlost { NoRouteIsLost }
+    ensures kept { RoutesAreKept }
+    ensures beginnings { BeginningIsRoutedFirst }
+    ensures order { OrderKeepsRoutes }
 {}

@@ -11,21 +11,21 @@ pub const FIRST_PART: &str = "\
 <title>revroute</title>
 <style>
 :root{--back:#fbfbf9;--panel:#fff;--ink:#1d2329;--soft:#5c6670;--edge:#d5d9dd;--link:#39434d;--hop:#1259b5;--turn:#b35c00;--gold:#ffd24d;
---grey:#b9bfc5;--route:#0b7a4b;--face:#eef3f9;--bad:#a8261c;--push:#c4dcfb}
+--grey:#828a92;--route:#0b7a4b;--face:#eef3f9;--bad:#a8261c;--push:#c4dcfb}
 @media (prefers-color-scheme:dark){:root{--back:#14181c;--panel:#1b2126;--ink:#e8ecef;--soft:#a0abb5;--edge:#343c44;--link:#d3dae0;--hop:#76b2ff;
---turn:#ffab4a;--gold:#7a5c00;--grey:#4f5962;--route:#4fd39a;--face:#26303a;--bad:#ff8a80;--push:#1b477d}}
+--turn:#ffab4a;--gold:#7a5c00;--grey:#707b85;--route:#4fd39a;--face:#26303a;--bad:#ff8a80;--push:#1b477d}}
 *{box-sizing:border-box}
-html{font:15px/1.45 system-ui,sans-serif}
+html{font:15px/1.45 system-ui,sans-serif;font-size:clamp(15px,min(1.05vw,1.86vh),60px)}
 body{margin:0;background:var(--back);color:var(--ink);height:100vh;height:100dvh;overflow:hidden;display:grid;
 grid-template:'head head' auto 'side net' minmax(0,1fr) 'side bar' auto 'foot foot' auto/22rem minmax(0,1fr)}
 header{grid-area:head;padding:.4rem 1rem;border-bottom:1px solid var(--edge);display:flex;gap:.1rem 1.4rem;
 align-items:center}
 h1{font-size:1.05rem;line-height:1.3;margin:0;flex:none}
-#say{margin:0;color:var(--soft);flex:1;min-width:0;line-height:1.3;height:2.8rem;overflow:auto;display:grid;
+#say{margin:0;color:var(--soft);flex:1;min-width:0;line-height:1.3;min-height:2.8rem;max-height:30vh;overflow:auto;display:grid;
 align-content:safe center}
 aside{grid-area:side;border-right:1px solid var(--edge);background:var(--panel);display:flex;flex-direction:column;
 min-height:0}
-#list{list-style:none;margin:0;padding:.3rem;overflow:auto;flex:1 1 40%;min-height:4rem}
+#list{list-style:none;margin:0;padding:.3rem;overflow:auto;flex:1 1 0;min-height:5rem}
 #list button{display:grid;grid-template-columns:2.2em minmax(0,1fr) minmax(0,1fr);gap:0 .5em;align-items:baseline;
 width:100%;text-align:left;border:0;border-radius:6px;background:none;color:inherit;padding:.2rem .5rem;font:inherit;
 white-space:nowrap;cursor:pointer}
@@ -37,10 +37,12 @@ white-space:nowrap;cursor:pointer}
 #list .no{color:var(--bad)}
 #list small{grid-column:2/4;white-space:normal;line-height:1.3}
 #list.long small{display:none}#list.long button{grid-template-columns:3.6em minmax(0,1fr) minmax(0,1fr)}
-#about{border-top:1px solid var(--edge);padding:.6rem .9rem;overflow:auto;flex:0 1 auto;max-height:55%}
+#about{border-top:1px solid var(--edge);padding:.6rem .9rem;overflow:auto;flex:0 1 auto}
 #about p{margin:0 0 .4rem;overflow-wrap:anywhere}
+#about p:empty{margin:0}
+#below label{display:block}
 #request,#answer{max-height:7rem;overflow:auto;font-family:ui-monospace,monospace;font-size:.9em}
-#chart{width:100%;height:70px;display:block}
+#chart{width:100%;aspect-ratio:4;max-height:6rem;display:block}
 #ring{display:block;margin:auto;max-width:100%}
 main{grid-area:net;position:relative;min-height:0;min-width:0;overflow:hidden}
 #net{display:block;width:100%;height:100%;touch-action:none;user-select:none;-webkit-user-select:none;cursor:grab}
@@ -49,14 +51,14 @@ main{grid-area:net;position:relative;min-height:0;min-width:0;overflow:hidden}
 #zoom{position:absolute;top:.5rem;right:.5rem;display:flex;flex-direction:column;gap:.3rem}
 button,select{font:inherit;line-height:1.3;color:inherit;background:var(--face);border:1px solid var(--edge);border-radius:6px;
 padding:.25rem .6rem;cursor:pointer}
-#zoom button{width:36px;padding:.2rem 0;text-align:center}
+#zoom button{width:2.4rem;padding:.2rem 0;text-align:center}
 #bar{grid-area:bar;display:flex;gap:.4rem .6rem;align-items:center;padding:.45rem 1rem;border-top:1px solid var(--edge);
 flex-wrap:wrap;background:var(--panel)}
 #bar button{min-width:2.6rem}
 #play{min-width:4.2rem}
 #slide{flex:1 1 5rem;min-width:5rem;accent-color:var(--hop)}
 #at{color:var(--soft);text-align:right;font-variant-numeric:tabular-nums;white-space:nowrap}
-footer{grid-area:foot;border-top:1px solid var(--edge);padding:.3rem 1rem;color:var(--soft);font-size:.85rem;
+footer{grid-area:foot;border-top:1px solid var(--edge);padding:.3rem 1rem;color:var(--soft);font-size:.87rem;
 position:relative}
 summary{cursor:pointer;width:max-content}
 #legend{list-style:none;margin:.2rem 0 .3rem;padding:0;display:flex;flex-wrap:wrap;gap:.1rem 1.1rem;color:var(--ink)}
@@ -75,9 +77,9 @@ summary{cursor:pointer;width:max-content}
 .link.now .tip{fill:var(--turn);stroke:none}
 .link.way path{stroke:var(--route);stroke-width:4.2}
 .link.way .tip{fill:var(--route);stroke:none}
-.link.closed path{stroke:var(--bad);stroke-width:3.2}
+.link.closed path{stroke:var(--bad);stroke-width:4.6;stroke-dasharray:14 3 3 3}
 .link.closed .tip{fill:var(--bad);stroke:none}
-.link.asked path{stroke-dasharray:7 4}
+.link.asked path{stroke-dasharray:7 5}
 .node{cursor:pointer;outline:none}
 .node .face{fill:var(--panel);stroke:var(--ink);stroke-width:1.5}
 .node text{text-anchor:middle;fill:var(--ink);font:600 13px system-ui,sans-serif}
@@ -100,15 +102,17 @@ summary{cursor:pointer;width:max-content}
 @media (max-height:800px),(max-width:760px){#below{position:absolute;left:0;right:0;bottom:100%;max-height:70vh;overflow:auto;
 padding:.6rem 1rem;background:var(--panel);border-top:1px solid var(--edge);z-index:1}}
 @media (max-height:500px),(max-width:1100px){#bar label span{display:none}}
-@media (max-height:500px){html{font-size:13px}body{grid-template-columns:17rem minmax(0,1fr)}header{padding:.1rem .8rem}
+@media (max-width:1100px){#say{min-height:4rem}}
+@media (max-height:500px),(max-width:760px) and (orientation:portrait){aside{overflow:auto}#about{flex:none;overflow:visible}}
+@media (max-height:500px){html{font-size:13px}#say{min-height:2.8rem}body{grid-template-columns:17rem minmax(0,1fr)}header{padding:.1rem .8rem}
 h1{max-width:11rem}#bar{padding:.2rem .8rem}#zoom{top:.3rem;right:.3rem}button,select{padding:.15rem .45rem}
-#list{min-height:3rem}footer{padding:.15rem .8rem}}
+footer{padding:.15rem .8rem}}
 @media (max-width:760px) and (orientation:portrait){html{font-size:14px}
-body{grid-template:'head' auto 'net' minmax(0,1fr) 'bar' auto 'side' 28vh 'foot' auto/minmax(0,1fr)}
+body{grid-template:'head' auto 'net' minmax(0,1fr) 'bar' auto 'side' 36vh 'foot' auto/minmax(0,1fr)}
 header{display:block;padding:.4rem .8rem}h1{white-space:nowrap;overflow:hidden;text-overflow:ellipsis}
 #say{align-content:start}aside{border:0;border-top:1px solid var(--edge)}
 #bar{padding:.4rem .8rem;gap:.35rem}#bar button{min-width:2.3rem;padding:.25rem .4rem}#bar #play{min-width:3.6rem}
-#bar select{padding:.25rem .1rem;max-width:8.6rem}#slide{order:1;flex-basis:60%}#at{order:1}}
+#bar select{padding:.25rem .1rem}#slide,#bar label:last-child{order:1}#slide{flex-basis:40%}#at{flex:1}}
 </style>
 <header><h1 id='title'>revroute</h1><p id='say' role='status' aria-live='polite'></p></header>
 <aside aria-label='Requests'>
@@ -133,7 +137,8 @@ header{display:block;padding:.4rem .8rem}h1{white-space:nowrap;overflow:hidden;t
 <label><span>Pushes </span><select id='order' aria-label='Pushes' title='The order of the pushes'>
 <option value='push' selected>in push order</option><option value='rising'>by rising number</option></select></label>
 </div>
-<footer><details id='fold'><summary>Legend, keys, and what is proved</summary><div id='below'>
+<footer><details id='fold'><summary>Legend, keys, and what is proved</summary>
+<div id='below' tabindex='0' role='group' aria-label='Legend, keys, and what is proved'>
 <ul id='legend' aria-label='What is drawn'>
 <li><svg width='26' height='26' aria-hidden='true'><g class='node home' transform='translate(13 13)'><circle r='12' class='ring'/><circle r='9.5' class='face'/></g></svg>the destination</li>
 <li><svg width='38' height='26' aria-hidden='true'><g class='link hop'><path d='M2 13H28'/><path class='tip' d='M36 13L27 8.4V17.6Z'/></g></svg>to the next hop</li>
@@ -154,7 +159,9 @@ header{display:block;padding:.4rem .8rem}h1{white-space:nowrap;overflow:hidden;t
 <b>Proved:</b> the data of this page: each request, answer, link, turn, count, next hop and push.
 <b>Not proved:</b> the drawing. A script in this page makes it, and is tested in a browser.
 <b>Keys:</b> left and right, a step; up and down, a line; space, play; n and p, a node;
-+ and -, the size; 0 or f, fit; Shift and an arrow, move the drawing.</div></details></footer>
++ and -, the size; 0 or f, fit; Shift and an arrow, move the drawing.
+<label><input id='letters' type='checkbox' checked>Keys that are letters, digits or signs; without them, Tab goes to each node</label>
+</div></details></footer>
 <script type='text/plain' id='story'>
 ";
 
@@ -162,25 +169,61 @@ header{display:block;padding:.4rem .8rem}h1{white-space:nowrap;overflow:hidden;t
 pub const LAST_PART: &str = "\
 </script>
 <script>
+const viewer = (() => {
 'use strict';
-const by = id => document.getElementById(id), SVG = 'http://www.w3.org/2000/svg', NL = String.fromCharCode(10);
-const faults = {1: 'the line is no JSON, or nests too deep', 2: 'the value is no request', 3: 'there is no network yet',
-  4: 'the end of a link is no node', 5: 'a link joins a node with itself', 6: 'two links join the same nodes',
-  7: 'the links contain a cycle', 8: 'there is no link between the two nodes',
-  9: 'more nodes, links or edits than the limits'};
+// What all parts of the viewer use.
+
+const by = id => document.getElementById(id), SVG = 'http://www.w3.org/2000/svg', NL = String.fromCharCode(10),
+      ARROW = String.fromCharCode(160, 8594, 160);
+const isLab = document.querySelector('meta[name=lab]') !== null;
+
+function make(parent, name, attributes) {
+  const element = document.createElementNS(SVG, name);
+  for (const key in attributes) element.setAttribute(key, attributes[key]);
+  parent.append(element);
+  return element;
+}
+
+// Sets attributes, and touches only what changes.
+function mark(element, attributes) {
+  for (const key in attributes) {
+    const value = attributes[key];
+    if (value === null) {
+      if (element.hasAttribute(key)) element.removeAttribute(key);
+    } else if (element.getAttribute(key) !== String(value)) element.setAttribute(key, value);
+  }
+}
+// The story of a page, read: its lines, their requests and answers, and what each round changed.
+
+const faults = {
+  1: 'the line is no JSON, or nests too deep',
+  2: 'the value is no request',
+  3: 'there is no network yet',
+  4: 'the end of a link is no node',
+  5: 'a link joins a node with itself',
+  6: 'two links join the same nodes',
+  7: 'the links contain a cycle',
+  8: 'there is no link between the two nodes',
+  9: 'more nodes, links or edits than the limits'
+};
 const roundLines = new Set(['turns', 'gone', 'new', 'counted', 'links', 'counts', 'hops', 'pushes']);
 const listed = (text, item) => text.split(' ').slice(1).map(item);
 const linkOf = word => word.split('>').map(Number);
-const hopIn = word => { const [node, hop] = word.split(':'); return [Number(node), hop]; };
+const hopIn = word => {
+  const [node, hop] = word.split(':');
+  return [Number(node), hop];
+};
+
 // How many items a line has after its first word.
 function itemsIn(line) {
   let items = 0;
   for (let at = line.indexOf(' '); at >= 0; at = line.indexOf(' ', at + 1)) items++;
   return items;
 }
+
 const stepsOf = walk => new Set(walk.slice(1).map((node, at) => walk[at] + '>' + node));
 const short = text => text.length > 300 ? text.slice(0, 300) + ' ..' : text;
-const isLab = document.querySelector('meta[name=lab]') !== null;
+
 // A number for two nodes, in either order.
 const WIDTH = 65536, keyOf = (a, b) => a < b ? a * WIDTH + b : b * WIDTH + a;
 
@@ -208,6 +251,7 @@ class Round {
 
 // The states of the rounds that were needed last.
 const keeping = [], MOST_KEPT = 8;
+
 function keep(round, state) {
   const sorted = [...state.links.values()].sort((a, b) => a[0] - b[0] || a[1] - b[1]);
   round.kept = {links: sorted, counts: state.counts.slice(), hops: state.hops.slice()};
@@ -224,12 +268,14 @@ function settled(round) {
   const later = [];
   let from = round;
   for (; !from.kept && !from.isWhole; from = from.before) later.push(from);
-  const {links, counts, hops} = from.kept ?? wholeState(from), state = {links: byKey(links), counts: counts.slice(), hops: hops.slice()};
+  const {links, counts, hops} = from.kept ?? wholeState(from),
+                        state = {links: byKey(links), counts: counts.slice(), hops: hops.slice()};
   while (later.length) change(state, later.pop());
   return keep(round, state);
 }
 
-const wholeState = ({said}) => ({links: listed(said.links, linkOf), counts: listed(said.counts, Number), hops: listed(said.hops, String)});
+const wholeState = ({said}) =>
+    ({links: listed(said.links, linkOf), counts: listed(said.counts, Number), hops: listed(said.hops, String)});
 
 function change(state, round) {
   for (const link of round.gone) state.links.delete(keyOf(...link));
@@ -239,7 +285,8 @@ function change(state, round) {
   for (const [node, hop] of listed(round.said.pushes, hopIn)) state.hops[node] = hop;
 }
 
-// The story, read: a block for each line of the input; a round has what its block says, and a question the round before it.
+// The story, read: a block for each line of the input; a round has what its block says, and a question the round before
+// it.
 function readStory(text, before) {
   const blocks = [];
   let block = null;
@@ -251,6 +298,7 @@ function readStory(text, before) {
     } else if (!block) continue;
     else if (block.answer === null) block.answer = line;
     else if (name === 'asks') block.asks = line.slice(5);
+    else if (name === 'cycle') block.walk = listed(line, Number);
     else if (name === 'net') {
       before = block.round = new Round(listed(line, Number), before, block);
       block.own = true;
@@ -293,7 +341,8 @@ function requestOf(block) {
 // The edits of a batch, each by a name and two numbers.
 function editsOf(words) {
   const edits = [];
-  for (let place = 0; place < words.length; place += 3) edits.push([words[place], Number(words[place + 1]), Number(words[place + 2])]);
+  for (let place = 0; place < words.length; place += 3)
+    edits.push([words[place], Number(words[place + 1]), Number(words[place + 2])]);
   return edits;
 }
 
@@ -306,15 +355,25 @@ function pathOf(heads, start, end) {
       for (let at = end; at !== null; at = from.get(at)) path.unshift(at);
       return path;
     }
-    for (const head of heads.get(node) || []) if (!from.has(head)) { from.set(head, node); open.push(head); }
+    for (const head of heads.get(node) || [])
+      if (!from.has(head)) {
+        from.set(head, node);
+        open.push(head);
+      }
   }
   return null;
 }
 
 // Makes an edit among links, or answers the walk that it would close.
 function edit(heads, [name, u, v]) {
-  const put = (a, b) => { heads.has(a) ? heads.get(a).add(b) : heads.set(a, new Set([b])); };
-  if (name === 'cut') { for (const [a, b] of [[u, v], [v, u]]) if (heads.has(a)) heads.get(a).delete(b); return null; }
+  const put = (a, b) => {
+    heads.has(a) ? heads.get(a).add(b) : heads.set(a, new Set([b]));
+  };
+  if (name === 'cut') {
+    for (const [a, b] of [[u, v], [v, u]])
+      if (heads.has(a)) heads.get(a).delete(b);
+    return null;
+  }
   const back = pathOf(heads, v, u);
   if (!back) put(u, v);
   else if (name === 'join') put(v, u);
@@ -322,11 +381,12 @@ function edit(heads, [name, u, v]) {
   return null;
 }
 
-// The walk that a refused line would have closed, by its nodes: along the links of its own network, if these are few, or those on which
-// its edits begin.
+// The walk that a refused line would have closed, by its nodes: along the links of its own network, if these are few,
+// or those on which its edits begin.
 function closedWalk(block) {
   const words = block.asks.split(' '), heads = new Map();
-  const edits = words[0] === 'net' ? words.slice(3).map(word => ['add', ...linkOf(word)]) : editsOf(words[0] === 'batch' ? words.slice(1) : words);
+  const edits = words[0] === 'net' ? words.slice(3).map(word => ['add', ...linkOf(word)]) :
+                                     editsOf(words[0] === 'batch' ? words.slice(1) : words);
   if (words[0] !== 'net') {
     if (!block.round || !block.round.drawn) return null;
     for (const [a, b] of block.round.links) heads.has(a) ? heads.get(a).add(b) : heads.set(a, new Set([b]));
@@ -339,21 +399,154 @@ function closedWalk(block) {
   return null;
 }
 
-// The closed walk of a line, if it has one: found once.
+// The closed walk of a line, if it has one: found once. The lab puts the one that the engine names into the story.
 function walkOf(block) {
   if (block.walk === undefined) block.walk = block.answer === 'refused 7' && block.asks ? closedWalk(block) : null;
   return block.walk || [];
 }
+// The steps of a page: the lines, their turns and pushes, and the tables of routers after each.
+
+let blocks = [], starts = [], steps = 0, now = 0, picked = null, shown = null, timer = null;
+
+// Keeps so many lines, and puts those of a story after them.
+function load(kept, text) {
+  blocks.length = kept;
+  const last = kept ? blocks[kept - 1].round : null;
+  blocks.push(...readStory(text, last));
+  layOut(kept);
+  starts = [];
+  steps = 0;
+  chart = null;
+  for (const block of blocks) {
+    starts.push(steps);
+    steps += stepsIn(block);
+  }
+  by('slide').max = Math.max(0, steps - 1);
+  // Its width stays the same, so that the bar and the drawing beside it do.
+  by('at').style.minWidth = 2 * String(steps).length + 3 + 'ch';
+  list(kept);
+}
+
+// The pushes of a round: in push order, or for teaching by rising number.
+const isRising = () => by('order').value === 'rising';
+const pushesOf = round => isRising() ? [...round.pushes].sort((a, b) => a - b) : round.pushes;
+
+// How many steps a line has: a round has one before each turn, one after them, and one for each push.
+function stepsIn(block) {
+  const round = block.round;
+  return block.own && round.drawn ? round.turned + 1 + (isTableKnown(round) ? round.pushed : 0) : 1;
+}
+
+function blockAt(step) {
+  let low = 0, high = blocks.length;
+  while (high - low > 1) {
+    const mid = (low + high) >> 1;
+    if (starts[mid] <= step) low = mid;
+    else high = mid;
+  }
+  return low;
+}
+
+// A round after some of its turns. A link points as at first where both its ends have turned equally often, and else
+// the other way. After all turns that the story has, the round has settled, and the hops are those of the tables after
+// so many pushes.
+function stateOf(round, turn, push) {
+  if (turn === round.turned) {
+    const hops = push ? tableAfter(round, push) : round.hops, node = push ? pushesOf(round)[push - 1] : null;
+    return {links: round.links, counts: round.counts, sink: null, hops, push, node, loop: push ? loopIn(hops) : []};
+  }
+  const counts = Array(round.nodes).fill(0);
+  for (let k = 0; k < turn; k++) counts[round.turns[k]]++;
+  const links = round.first.map(([tail, head]) => counts[tail] === counts[head] ? [tail, head] : [head, tail]);
+  return {links, counts, sink: round.turns[turn], hops: null, push: 0, node: null, loop: []};
+}
+
+// The routers' tables before the first push, or null where they are not known. They have a hop for each node of this
+// network and of the one before it. A node that is not in a network has no hop there.
+const isTableKnown = round => !round.before || round.before.drawn;
+
+function tableBefore(round) {
+  const before = round.before;
+  if (!isTableKnown(round)) return null;
+  const nodes = Math.max(round.nodes, before ? before.nodes : 0);
+  return Array.from({length: nodes}, (_, node) => before && before.hops[node] || 'cut');
+}
+
+function tableAfter(round, pushed) {
+  const table = tableBefore(round);
+  for (const node of pushesOf(round).slice(0, pushed)) table[node] = hopAfter(round, node);
+  return table;
+}
+
+const hopAfter = (round, node) => round.hops[node] || 'cut';
+const nextIn = (table, node) => table[node] === 'here' || table[node] === 'cut' ? null : Number(table[node]);
+
+// A loop of a table, from a node back to itself, or no nodes. Each hop is followed once.
+function loopIn(table) {
+  const from = [];
+  for (const start of table.keys()) {
+    let node = start;
+    while (node !== null && from[node] === undefined) {
+      from[node] = start;
+      node = nextIn(table, node);
+    }
+    if (node === null || from[node] !== start) continue;
+    const loop = [node];
+    do loop.push(nextIn(table, loop.at(-1)));
+    while (loop.at(-1) !== node);
+    return loop;
+  }
+  return [];
+}
+
+function routeOf(table, node) {
+  const route = [node];
+  while (route.length <= table.length && nextIn(table, route.at(-1)) !== null) route.push(nextIn(table, route.at(-1)));
+  return route;
+}
+
+// The nodes whose next hop this round changed, in push order; those of a new network are no news.
+function changedHops(round) {
+  return round.before && round.before.drawn && round.before.nodes === round.nodes ? round.pushes : [];
+}
+
+function routeShown(block, state) {
+  if (!state.hops) return [];
+  if (block.answer.startsWith('walk '))
+    return block.answer.split(' ').slice(1).filter(word => word !== 'cut').map(Number);
+  return picked !== null && picked < block.round.nodes ? routeOf(state.hops, picked) : [];
+}
+
+// The hops of a table between nodes of the network, as steps.
+function hopsIn(table, nodes) {
+  const hops = new Set();
+  for (const node of table.keys()) {
+    const next = nextIn(table, node);
+    if (next !== null && node < nodes && next < nodes) hops.add(node + '>' + next);
+  }
+  return hops;
+}
+// Where nodes are, and how links go round them.
 
 // Rounds that share a node number and most links are of one network: it is laid out once, as its last round leaves it.
 function layOut(from) {
   let view = null;
   for (const [at, {own, round}] of blocks.entries()) {
     if (!own || !round.drawn) continue;
-    if (at < from) { view = Object.assign(round.view, {round, pairs: null}); continue; }
-    const pairs = view && (view.pairs ??= new Set(byKey(view.round.links).keys())), share = pairs && sharedPairs(pairs, round);
+    if (at < from) {
+      view = Object.assign(round.view, {round, pairs: null});
+      continue;
+    }
+    const pairs = view && (view.pairs ??= new Set(byKey(view.round.links).keys())),
+          share = pairs && sharedPairs(pairs, round);
     if (!view || view.nodes !== round.nodes || 2 * share.both < Math.min(share.before, share.pairs.size)) {
-      view = {nodes: round.nodes, all: new Set(share ? share.pairs : byKey(round.links).keys()), shapes: new Map(), group: null};
+      view = {
+        nodes: round.nodes,
+        first: at,
+        all: new Set(share ? share.pairs : byKey(round.links).keys()),
+        shapes: new Map(),
+        group: null
+      };
       view.pairs = new Set(view.all);
     } else {
       view.pairs = share.pairs;
@@ -364,14 +557,16 @@ function layOut(from) {
   }
 }
 
-// The pairs of nodes that are joined after a round, with those that are new, and how many were there before it and how many stayed.
+// The pairs of nodes that are joined after a round, with those that are new, and how many were there before it and how
+// many stayed.
 function sharedPairs(pairs, round) {
   const before = pairs.size;
   if (round.said.gone === undefined) {
     const fresh = [...byKey(round.links).keys()];
     return {pairs: new Set(fresh), fresh, before, both: fresh.filter(key => pairs.has(key)).length};
   }
-  const keysOf = line => listed(line, word => keyOf(...linkOf(word))), gone = keysOf(round.said.gone), fresh = keysOf(round.said.new);
+  const keysOf = line => listed(line, word => keyOf(...linkOf(word))), gone = keysOf(round.said.gone),
+        fresh = keysOf(round.said.new);
   for (const key of gone) pairs.delete(key);
   for (const key of fresh) pairs.add(key);
   return {pairs, fresh, before, both: before - gone.length};
@@ -380,12 +575,20 @@ function sharedPairs(pairs, round) {
 // Parts of a network, each a list of nodes: that of the destination first, then by size.
 function partsOf(round) {
   const near = Array.from({length: round.nodes}, () => []), part = Array(round.nodes).fill(-1), parts = [];
-  for (const [a, b] of round.links) { near[a].push(b); near[b].push(a); }
+  for (const [a, b] of round.links) {
+    near[a].push(b);
+    near[b].push(a);
+  }
   for (const start of [round.home, ...near.keys()]) {
     if (part[start] >= 0) continue;
     const nodes = [start];
     part[start] = parts.length;
-    for (const node of nodes) for (const other of near[node]) if (part[other] < 0) { part[other] = parts.length; nodes.push(other); }
+    for (const node of nodes)
+      for (const other of near[node])
+        if (part[other] < 0) {
+          part[other] = parts.length;
+          nodes.push(other);
+        }
     parts.push(nodes);
   }
   return {near, parts: [parts[0], ...parts.slice(1).sort((a, b) => b.length - a.length)]};
@@ -394,16 +597,21 @@ function partsOf(round) {
 // The layer of each node: the longest way down along the links.
 function layersOf(round) {
   const layer = Array(round.nodes).fill(0), left = Array(round.nodes).fill(0), tails = layer.map(() => []);
-  for (const [tail, head] of round.links) { left[tail]++; tails[head].push(tail); }
-  const ready = [...left.keys()].filter(node => !left[node]);
-  for (const node of ready) for (const tail of tails[node]) {
-    layer[tail] = Math.max(layer[tail], layer[node] + 1);
-    if (!--left[tail]) ready.push(tail);
+  for (const [tail, head] of round.links) {
+    left[tail]++;
+    tails[head].push(tail);
   }
+  const ready = [...left.keys()].filter(node => !left[node]);
+  for (const node of ready)
+    for (const tail of tails[node]) {
+      layer[tail] = Math.max(layer[tail], layer[node] + 1);
+      if (!--left[tail]) ready.push(tail);
+    }
   return layer;
 }
 
-// Places in a row that keep their order and distance, as near as can be to those wished for: neighbours that meet move as one.
+// Places in a row that keep their order and distance, as near as can be to those wished for: neighbours that meet move
+// as one.
 function spread(wishes, gap) {
   const groups = [];
   wishes.forEach((wish, at) => {
@@ -415,24 +623,26 @@ function spread(wishes, gap) {
     groups.push(group);
   });
   const places = [];
-  for (const group of groups) for (let i = 0; i < group.size; i++) places.push(group.sum / group.size + places.length * gap);
+  for (const group of groups)
+    for (let i = 0; i < group.size; i++) places.push(group.sum / group.size + places.length * gap);
   return places;
 }
 
 // Each row in turn is ordered by the middle of the nodes that its nodes are joined with.
 function placePart(nodes, near, layer, gap) {
-  const rows = [], x = new Map(nodes.map((node, at) => [node, 0]));
+  const rows = [], x = new Map(nodes.map(node => [node, 0]));
   for (const node of nodes) (rows[layer[node]] ||= []).push(node);
   const settle = row => spread(row.map(node => x.get(node)), gap).forEach((place, at) => x.set(row[at], place));
   rows.forEach(settle);
-  for (let pass = 0; pass < 24; pass++) for (const row of pass % 2 ? rows : rows.slice().reverse()) {
-    for (const node of row) {
-      const others = near[node].map(other => x.get(other));
-      if (others.length) x.set(node, others.reduce((sum, place) => sum + place, 0) / others.length + node * 1e-6);
+  for (let pass = 0; pass < 24; pass++)
+    for (const row of pass % 2 ? rows : rows.slice().reverse()) {
+      for (const node of row) {
+        const others = near[node].map(other => x.get(other));
+        if (others.length) x.set(node, others.reduce((sum, place) => sum + place, 0) / others.length + node * 1e-6);
+      }
+      row.sort((a, b) => x.get(a) - x.get(b));
+      settle(row);
     }
-    row.sort((a, b) => x.get(a) - x.get(b));
-    settle(row);
-  }
   return x;
 }
 
@@ -480,6 +690,7 @@ function makeRoom(view) {
   const [left, top] = [0, 1].map(side => Math.min(...points.map(([at, rim]) => at[side] - rim)));
   view.size = [0, 1].map(side => Math.max(...points.map(([at, rim]) => at[side] + rim)) - (side ? top : left));
   view.place = view.place.map(([x, y]) => [x - left, y - top]);
+  view.corner = [left, top];
 }
 
 // The bend of a link's curve: none where it passes no other node, else the least that takes it round them.
@@ -493,14 +704,16 @@ function bendOf(view, a, b) {
       if (oy < Math.min(ay, by) - far || oy > Math.max(ay, by) + far) continue;
       if (ox < Math.min(ax, bx) - far || ox > Math.max(ax, bx) + far) continue;
       for (let t = 0.08; t < 0.95; t += 0.07) {
-        const off = 2 * t * (1 - t) * bend, px = ax + (bx - ax) * t - (by - ay) / long * off, py = ay + (by - ay) * t + (bx - ax) / long * off;
+        const off = 2 * t * (1 - t) * bend, px = ax + (bx - ax) * t - (by - ay) / long * off,
+              py = ay + (by - ay) * t + (bx - ax) / long * off;
         if ((px - ox) ** 2 + (py - oy) ** 2 < 460) return false;
       }
     }
     return true;
   };
   if (view.all.size > MOST_CURVES) return 0;
-  for (const bend of [0, 50, -50, 90, -90, 140, -140, 200, -200, 280, -280]) if (clear(bend)) return bend;
+  for (const bend of [0, 50, -50, 90, -90, 140, -140, 200, -200, 280, -280])
+    if (clear(bend)) return bend;
   return 30;
 }
 
@@ -508,29 +721,19 @@ function bendOf(view, a, b) {
 function curve(view, shape, tail, head) {
   const from = view.place[tail], to = view.place[head], long = Math.hypot(to[0] - from[0], to[1] - from[1]) || 1;
   const bend = tail === shape.a ? shape.bend : -shape.bend;
-  const mid = [(from[0] + to[0]) / 2 - (to[1] - from[1]) / long * bend, (from[1] + to[1]) / 2 + (to[0] - from[0]) / long * bend];
+  const mid = [
+    (from[0] + to[0]) / 2 - (to[1] - from[1]) / long * bend, (from[1] + to[1]) / 2 + (to[0] - from[0]) / long * bend
+  ];
   const dx = to[0] - mid[0], dy = to[1] - mid[1], end = Math.hypot(dx, dy) || 1, ux = dx / end, uy = dy / end;
   const reach = 22, edge = [to[0] - ux * reach, to[1] - uy * reach], base = [edge[0] - ux * 9, edge[1] - uy * 9];
   const fix = point => point.map(value => value.toFixed(1)).join(' ');
-  return {line: 'M' + fix(from) + 'Q' + fix(mid) + ' ' + fix(base),
-    tip: 'M' + fix(edge) + 'L' + fix([base[0] - uy * 4.6, base[1] + ux * 4.6]) + 'L' + fix([base[0] + uy * 4.6, base[1] - ux * 4.6]) + 'Z'};
+  return {
+    line: 'M' + fix(from) + 'Q' + fix(mid) + ' ' + fix(base),
+    tip: 'M' + fix(edge) + 'L' + fix([base[0] - uy * 4.6, base[1] + ux * 4.6]) + 'L' +
+        fix([base[0] + uy * 4.6, base[1] - ux * 4.6]) + 'Z'
+  };
 }
-
-function make(parent, name, attributes) {
-  const element = document.createElementNS(SVG, name);
-  for (const key in attributes) element.setAttribute(key, attributes[key]);
-  parent.append(element);
-  return element;
-}
-
-// Sets attributes, and touches only what changes.
-function mark(element, attributes) {
-  for (const key in attributes) {
-    const value = attributes[key];
-    if (value === null) { if (element.hasAttribute(key)) element.removeAttribute(key); }
-    else if (element.getAttribute(key) !== String(value)) element.setAttribute(key, value);
-  }
-}
+// The drawing of a network at a step.
 
 // The shape of a link. In the lab a broad line that is not seen takes its clicks.
 function shapeOf(view, key) {
@@ -538,7 +741,7 @@ function shapeOf(view, key) {
   const shape = {a, b, bend: bendOf(view, a, b), g, line: make(g, 'path', {}), tip: make(g, 'path', {class: 'tip'})};
   if (isLab) {
     shape.hit = make(g, 'path', {class: 'hit'});
-    mark(g, {role: 'button', tabindex: -1});
+    mark(g, {role: 'button'});
   }
   view.shapes.set(key, shape);
 }
@@ -555,26 +758,34 @@ function build(view) {
     make(g, 'text', {y: 0}).textContent = node;
     return {g, count: make(g, 'text', {y: 12, class: 'count'})};
   });
-  view.plain = placesOf(view);
+  const given = acts.places(view);
+  view.isGiven = given !== null;
+  view.plain = given ?? placesOf(view);
 }
 
 // Gives each node and link its place in the pane as it is. A link that came later gets its own.
 function arrange(view) {
   const {clientWidth, clientHeight} = pane;
   view.pane = clientWidth + ' ' + clientHeight;
-  view.place = stretched(view.plain, ...room());
+  view.place = view.isGiven ? view.plain.map(at => [...at]) : stretched(view.plain, ...room());
   view.shapes.clear();
   view.lines.replaceChildren();
   view.bends.clear();
   addShapes(view);
   makeRoom(view);
-  const placeOf = node => view.place[node].map(at => at.toFixed(1)).join(' ');
-  view.spots.forEach(({g}, node) => mark(g, {transform: 'translate(' + placeOf(node) + ')'}));
+  for (const node of view.spots.keys()) putSpot(view, node);
+}
+
+function putSpot(view, node) {
+  mark(view.spots[node].g, {transform: 'translate(' + view.place[node].map(at => at.toFixed(1)).join(' ') + ')'});
 }
 
 function setUp(view) {
   if (!view.group) build(view);
-  if (view.pane !== pane.clientWidth + ' ' + pane.clientHeight) { arrange(view); return true; }
+  if (view.pane !== pane.clientWidth + ' ' + pane.clientHeight) {
+    arrange(view);
+    return true;
+  }
   addShapes(view);
   return false;
 }
@@ -582,183 +793,8 @@ function setUp(view) {
 // The links of all rounds get their shapes at once, if they are few; otherwise each when it is drawn.
 function addShapes(view) {
   if (view.all.size > MOST_CURVES) return;
-  for (const key of view.all) if (!view.shapes.has(key)) shapeOf(view, key);
-}
-
-// What of the drawing the pane shows: where its corner is, and how large it is.
-const pane = document.querySelector('main'), camera = {x: 0, y: 0, scale: 1, isFitted: true};
-const MOST_SCALE = 2.4, LARGEST = 6, EDGE = 8, BUTTONS = 44, MOST_CURVES = 1500;
-// The width and height that the drawing may take: beside it are the buttons for its size.
-const room = () => [pane.clientWidth - EDGE - BUTTONS, pane.clientHeight - 2 * EDGE].map(side => Math.max(64, side));
-
-function fitted(view) {
-  const [wide, high] = view.size, [width, height] = room(), scale = Math.min(MOST_SCALE, width / wide, height / high);
-  return {x: EDGE + (width - wide * scale) / 2, y: EDGE + (height - high * scale) / 2, scale, isFitted: true};
-}
-
-// Moves and sizes the drawing. A part of it stays in sight. Counts that are too small to read give way to larger numbers.
-function look(change) {
-  if (!shown) return;
-  Object.assign(camera, {isFitted: false}, change);
-  const [wide, high] = shown.size.map(side => side * camera.scale), rim = 48;
-  camera.x = Math.max(rim - wide, Math.min(pane.clientWidth - rim, camera.x));
-  camera.y = Math.max(rim - high, Math.min(pane.clientHeight - rim, camera.y));
-  const {x, y, scale} = camera;
-  mark(shown.group, {class: scale < 0.5 ? 'small' : null});
-  mark(shown.group, {transform: 'translate(' + x.toFixed(2) + ' ' + y.toFixed(2) + ')scale(' + scale.toFixed(4) + ')'});
-}
-
-const fit = () => { if (shown) look(fitted(shown)); };
-const move = (across, down) => look({x: camera.x + across, y: camera.y + down});
-
-// Makes the drawing larger or smaller, and keeps the point of the pane where it is.
-function zoom(factor, [x, y] = [pane.clientWidth / 2, pane.clientHeight / 2]) {
-  if (!shown) return;
-  const least = Math.min(0.2, fitted(shown).scale), scale = Math.max(least, Math.min(LARGEST, camera.scale * factor));
-  const grown = scale / camera.scale;
-  look({scale, x: x - (x - camera.x) * grown, y: y - (y - camera.y) * grown});
-}
-
-// A drag moves the drawing, two fingers and the wheel size it. After a drag nothing is clicked.
-function listenToPointers() {
-  const net = by('net'), fingers = new Map(), far = (a, b) => Math.hypot(a[0] - b[0], a[1] - b[1]);
-  const inPane = ([x, y]) => { const frame = pane.getBoundingClientRect(); return [x - frame.left, y - frame.top]; };
-  let isDrag = false;
-  const lift = event => {
-    fingers.delete(event.pointerId);
-    if (!fingers.size) net.classList.remove('moved');
-  };
-  net.addEventListener('pointerdown', event => {
-    fingers.set(event.pointerId, [event.clientX, event.clientY]);
-    isDrag = fingers.size > 1;
-  });
-  addEventListener('pointermove', event => {
-    const was = fingers.get(event.pointerId), at = [event.clientX, event.clientY];
-    if (!event.buttons) fingers.clear();
-    if (!was || !event.buttons || !isDrag && far(was, at) < 5) return;
-    isDrag = true;
-    net.classList.add('moved');
-    const other = [...fingers].find(([id]) => id !== event.pointerId);
-    fingers.set(event.pointerId, at);
-    if (!other) return move(at[0] - was[0], at[1] - was[1]);
-    const middle = [0, 1].map(side => (was[side] + other[1][side]) / 2);
-    zoom(far(at, other[1]) / (far(was, other[1]) || 1), inPane(middle));
-    move((at[0] - was[0]) / 2, (at[1] - was[1]) / 2);
-  });
-  for (const kind of ['pointerup', 'pointercancel']) addEventListener(kind, lift);
-  net.addEventListener('click', event => { if (isDrag) { isDrag = false; event.stopPropagation(); } }, true);
-  pane.addEventListener('wheel', event => {
-    event.preventDefault();
-    const steps = event.deltaY * (event.deltaMode ? 16 : 1) * (event.ctrlKey ? 0.01 : 0.0015);
-    zoom(Math.exp(-steps), inPane([event.clientX, event.clientY]));
-  }, {passive: false});
-}
-
-let blocks = [], starts = [], steps = 0, now = 0, picked = null, shown = null, timer = null;
-
-// Keeps so many lines, and puts those of a story after them.
-function load(kept, text) {
-  blocks.length = kept;
-  const last = kept ? blocks[kept - 1].round : null;
-  blocks.push(...readStory(text, last));
-  layOut(kept);
-  starts = [];
-  steps = 0;
-  chart = null;
-  for (const block of blocks) { starts.push(steps); steps += stepsIn(block); }
-  by('slide').max = Math.max(0, steps - 1);
-  // Its width stays the same, so that the bar and the drawing beside it do.
-  by('at').style.minWidth = 2 * String(steps).length + 3 + 'ch';
-  list(kept);
-}
-
-// The pushes of a round: in push order, or for teaching by rising number.
-const isRising = () => by('order').value === 'rising';
-const pushesOf = round => isRising() ? [...round.pushes].sort((a, b) => a - b) : round.pushes;
-
-// How many steps a line has: a round has one before each turn, one after them, and one for each push.
-function stepsIn(block) {
-  const round = block.round;
-  return block.own && round.drawn ? round.turned + 1 + (isTableKnown(round) ? round.pushed : 0) : 1;
-}
-
-function blockAt(step) {
-  let low = 0, high = blocks.length;
-  while (high - low > 1) { const mid = (low + high) >> 1; if (starts[mid] <= step) low = mid; else high = mid; }
-  return low;
-}
-
-// A round after some of its turns. A link points as at first where both its ends have turned equally often, and else the other way.
-// After all turns that the story has, the round has settled, and the hops are those of the tables after so many pushes.
-function stateOf(round, turn, push) {
-  if (turn === round.turned) {
-    const hops = push ? tableAfter(round, push) : round.hops, node = push ? pushesOf(round)[push - 1] : null;
-    return {links: round.links, counts: round.counts, sink: null, hops, push, node, loop: push ? loopIn(hops) : []};
-  }
-  const counts = Array(round.nodes).fill(0);
-  for (let k = 0; k < turn; k++) counts[round.turns[k]]++;
-  const links = round.first.map(([tail, head]) => counts[tail] === counts[head] ? [tail, head] : [head, tail]);
-  return {links, counts, sink: round.turns[turn], hops: null, push: 0, node: null, loop: []};
-}
-
-// The routers' tables before the first push, or null where they are not known. They have a hop for each node of this
-// network and of the one before it. A node that is not in a network has no hop there.
-const isTableKnown = round => !round.before || round.before.drawn;
-function tableBefore(round) {
-  const before = round.before;
-  if (!isTableKnown(round)) return null;
-  const nodes = Math.max(round.nodes, before ? before.nodes : 0);
-  return Array.from({length: nodes}, (_, node) => before && before.hops[node] || 'cut');
-}
-
-function tableAfter(round, pushed) {
-  const table = tableBefore(round);
-  for (const node of pushesOf(round).slice(0, pushed)) table[node] = hopAfter(round, node);
-  return table;
-}
-
-const hopAfter = (round, node) => round.hops[node] || 'cut';
-const nextIn = (table, node) => table[node] === 'here' || table[node] === 'cut' ? null : Number(table[node]);
-
-// A loop of a table, from a node back to itself, or no nodes. Each hop is followed once.
-function loopIn(table) {
-  const from = [];
-  for (const start of table.keys()) {
-    let node = start;
-    while (node !== null && from[node] === undefined) { from[node] = start; node = nextIn(table, node); }
-    if (node === null || from[node] !== start) continue;
-    const loop = [node];
-    do loop.push(nextIn(table, loop.at(-1))); while (loop.at(-1) !== node);
-    return loop;
-  }
-  return [];
-}
-
-function routeOf(table, node) {
-  const route = [node];
-  while (route.length <= table.length && nextIn(table, route.at(-1)) !== null) route.push(nextIn(table, route.at(-1)));
-  return route;
-}
-
-// The nodes whose next hop this round changed, in push order; those of a new network are no news.
-function changedHops(round) {
-  return round.before && round.before.drawn && round.before.nodes === round.nodes ? round.pushes : [];
-}
-
-function routeShown(block, state) {
-  if (!state.hops) return [];
-  if (block.answer.startsWith('walk ')) return block.answer.split(' ').slice(1).filter(word => word !== 'cut').map(Number);
-  return picked !== null && picked < block.round.nodes ? routeOf(state.hops, picked) : [];
-}
-
-// The hops of a table between nodes of the network, as steps.
-function hopsIn(table, nodes) {
-  const hops = new Set();
-  for (const node of table.keys()) {
-    const next = nextIn(table, node);
-    if (next !== null && node < nodes && next < nodes) hops.add(node + '>' + next);
-  }
-  return hops;
+  for (const key of view.all)
+    if (!view.shapes.has(key)) shapeOf(view, key);
 }
 
 function drawLinks(view, round, state, way, walk) {
@@ -778,12 +814,18 @@ function drawLinks(view, round, state, way, walk) {
     }
     const hop = hops.delete(step), old = round.hops[tail] !== String(head), out = round.hops[tail] === 'cut';
     const kind = hop ? (old ? ' hop old' : ' hop') : head === state.sink ? ' now' : out ? ' out' : '';
-    mark(shape.g, {class: 'link' + kind + marks(step), 'data-tail': tail, 'data-head': head, 'data-hop': hop ? 1 : null,
-      visibility: null});
-    if (isLab) mark(shape.g, {'aria-label': 'link from ' + tail + ' to ' + head});
+    mark(shape.g, {
+      class: 'link' + kind + marks(step),
+      'data-tail': tail,
+      'data-head': head,
+      'data-hop': hop ? 1 : null,
+      visibility: null
+    });
+    if (isLab) mark(shape.g, {'aria-label': 'link from ' + tail + ' to ' + head, tabindex: hasLetters() ? -1 : 0});
   }
   for (const [key, shape] of view.shapes) {
-    if (!there.has(key)) mark(shape.g, {class: 'link', visibility: 'hidden', 'data-tail': null, 'data-head': null, 'data-hop': null});
+    if (!there.has(key))
+      mark(shape.g, {class: 'link', visibility: 'hidden', 'data-tail': null, 'data-head': null, 'data-hop': null});
   }
   // What is left of both is no link: old next hops, and links that a refused line asked for.
   view.more.replaceChildren();
@@ -808,18 +850,29 @@ function arrow(view, group, shape, tail, head, kinds) {
 
 // The closed walk of a network that is refused, where it is short: its nodes in a circle.
 function drawRing(walk) {
-  const ring = by('ring'), nodes = walk.slice(1), isDrawn = nodes.length > 0 && nodes.length <= 24, far = Math.max(46, 9 * nodes.length);
+  const ring = by('ring'), nodes = walk.slice(1), isDrawn = nodes.length > 0 && nodes.length <= 24,
+        far = Math.max(46, 9 * nodes.length);
   ring.toggleAttribute('hidden', !isDrawn);
   ring.replaceChildren();
   if (!isDrawn) return;
   const wide = 2 * far + 52, turn = 2 * Math.PI / nodes.length, view = {place: {}, round: {home: null}};
-  nodes.forEach((node, at) => { view.place[node] = [wide / 2 + far * Math.sin(at * turn), wide / 2 - far * Math.cos(at * turn)]; });
-  mark(ring, {viewBox: '0 0 ' + wide + ' ' + wide, width: Math.min(wide, 300), 'aria-label': 'The closed walk ' + walk.join(' ')});
+  nodes.forEach((node, at) => {
+    view.place[node] = [wide / 2 + far * Math.sin(at * turn), wide / 2 - far * Math.cos(at * turn)];
+  });
+  mark(ring, {
+    viewBox: '0 0 ' + wide + ' ' + wide,
+    width: Math.min(wide, 300),
+    'aria-label': 'The closed walk ' + walk.join(' ')
+  });
   for (const [tail, head] of [...stepsOf(walk)].map(linkOf)) {
     arrow(view, ring, {a: tail, b: head, bend: 0}, tail, head, 'link closed asked');
   }
   for (const node of nodes) {
-    const g = make(ring, 'g', {class: 'node', 'data-node': node, transform: 'translate(' + view.place[node].map(at => at.toFixed(1)).join(' ') + ')'});
+    const g = make(ring, 'g', {
+      class: 'node',
+      'data-node': node,
+      transform: 'translate(' + view.place[node].map(at => at.toFixed(1)).join(' ') + ')'
+    });
     make(g, 'circle', {r: 18, class: 'face'});
     make(g, 'text', {y: 4}).textContent = node;
   }
@@ -829,136 +882,145 @@ function drawNodes(view, round, state, way, news) {
   view.spots.forEach((spot, node) => {
     const count = state.counts[node], isCut = round.hops[node] === 'cut', isHome = node === round.home;
     const hop = state.hops && state.hops[node], isSaid = hop === 'here' ? isHome : hop === 'cut' && isCut;
-    const kinds = [['home', isHome], ['out', isCut], ['now', node === state.sink], ['new', news.includes(node)],
-      ['push', node === state.node], ['way', way.includes(node)], ['pick', node === picked]];
+    const kinds = [
+      ['home', isHome], ['out', isCut], ['now', node === state.sink], ['new', news.includes(node)],
+      ['push', node === state.node], ['way', way.includes(node)], ['pick', node === picked]
+    ];
     if (spot.count.textContent !== String(count)) spot.count.textContent = count;
-    const label = 'node ' + node + (isHome ? ', the destination' : '') + ', turned ' + count + (count === 1 ? ' time' : ' times') +
-      (node === state.sink ? ', turns next' : '') + (node === state.node ? ', gets its next hop now' : '') +
-      (isCut ? ', cut off' : '') + (hop && !isSaid ? ', ' + hopText(hop) : '');
-    mark(spot.g, {class: 'node' + kinds.filter(kind => kind[1]).map(kind => ' ' + kind[0]).join(''), 'aria-label': label,
-      'aria-pressed': node === picked, 'data-node': node, 'data-count': count,
-      'data-hop': hop, 'data-cut': isCut ? 1 : null,
-      'data-turns': node === state.sink ? 1 : null, tabindex: node === (picked ?? round.home) ? 0 : -1});
+    const label = 'node ' + node + (isHome ? ', the destination' : '') + ', turned ' + count +
+        (count === 1 ? ' time' : ' times') + (node === state.sink ? ', turns next' : '') +
+        (node === state.node ? ', gets its next hop now' : '') + (isCut ? ', cut off' : '') +
+        (hop && !isSaid ? ', ' + hopText(hop) : '');
+    mark(spot.g, {
+      class: 'node' + kinds.filter(kind => kind[1]).map(kind => ' ' + kind[0]).join(''),
+      'aria-label': label,
+      'aria-pressed': node === picked,
+      'data-node': node,
+      'data-count': count,
+      'data-hop': hop,
+      'data-cut': isCut ? 1 : null,
+      'data-turns': node === state.sink ? 1 : null,
+      tabindex: node === (picked ?? round.home) || !hasLetters() ? 0 : -1
+    });
   });
 }
+// What of the drawing the pane shows, and how pointers move it.
 
-// How often a node has turned, at each step of the whole page: the steps at which this changes.
-function chartOf(node) {
-  const points = [[0, 0]], word = ' ' + node;
-  let most = 1, count = 0;
-  const put = (step, value) => { if (value !== count) points.push([step, value]); count = value; };
-  blocks.forEach(({own, round}, at) => {
-    if (!own) return;
-    put(starts[at], 0);
-    if (!round.drawn || !round.said.turns.includes(word)) return;
-    listed(round.said.turns, Number).forEach((turned, turn) => { if (turned === node) put(starts[at] + turn + 1, count + 1); });
-    most = Math.max(most, count);
+// What of the drawing the pane shows: where its corner is, and how large it is.
+const pane = document.querySelector('main'), camera = {
+  x: 0,
+  y: 0,
+  scale: 1,
+  isFitted: true
+};
+const MOST_SCALE = 2.4, LARGEST = 6, EDGE = 8, MOST_CURVES = 1500;
+
+// The width and height that the drawing may take: beside it are the buttons for its size.
+const room = () => [by('zoom').offsetLeft - EDGE, pane.clientHeight - 2 * EDGE].map(side => Math.max(64, side));
+
+function fitted(view) {
+  const [wide, high] = view.size, [width, height] = room(), scale = Math.min(MOST_SCALE, width / wide, height / high);
+  return {x: EDGE + (width - wide * scale) / 2, y: EDGE + (height - high * scale) / 2, scale, isFitted: true};
+}
+
+// Moves and sizes the drawing. A part of it stays in sight. Counts that are too small to read give way to larger
+// numbers.
+function look(change) {
+  if (!shown) return;
+  Object.assign(camera, {isFitted: false}, change);
+  const [wide, high] = shown.size.map(side => side * camera.scale), rim = 48;
+  camera.x = Math.max(rim - wide, Math.min(pane.clientWidth - rim, camera.x));
+  camera.y = Math.max(rim - high, Math.min(pane.clientHeight - rim, camera.y));
+  const {x, y, scale} = camera;
+  mark(shown.group, {class: scale < 0.5 ? 'small' : null});
+  mark(shown.group, {transform: 'translate(' + x.toFixed(2) + ' ' + y.toFixed(2) + ')scale(' + scale.toFixed(4) + ')'});
+}
+
+const fit = () => {
+  if (shown) look(fitted(shown));
+};
+const move = (across, down) => look({x: camera.x + across, y: camera.y + down});
+
+// Makes the drawing larger or smaller, and keeps the point of the pane where it is.
+function zoom(factor, [x, y] = [pane.clientWidth / 2, pane.clientHeight / 2]) {
+  if (!shown) return;
+  const least = Math.min(0.2, fitted(shown).scale), scale = Math.max(least, Math.min(LARGEST, camera.scale * factor));
+  const grown = scale / camera.scale;
+  look({scale, x: x - (x - camera.x) * grown, y: y - (y - camera.y) * grown});
+}
+
+// Moves a node of the drawing, and its links with it.
+function moveNode(view, node, [across, down]) {
+  view.place[node] = [view.place[node][0] + across, view.place[node][1] + down];
+  putSpot(view, node);
+  view.bends.clear();
+  for (const shape of view.shapes.values()) {
+    if (shape.a === node || shape.b === node) Object.assign(shape, {bend: bendOf(view, shape.a, shape.b), tail: null});
+  }
+  show(now, true);
+}
+
+// After nodes were moved: the curves of all links go round them, and what is drawn stays where it is on the screen.
+function keepPlaces(view) {
+  const was = {...camera};
+  Object.assign(view, {plain: view.place, isGiven: true});
+  arrange(view);
+  lookAs(was, view);
+  show(now, true);
+}
+
+function lookAs({x, y, scale, isFitted}, view) {
+  look({x: x + view.corner[0] * scale, y: y + view.corner[1] * scale, scale, isFitted});
+}
+
+// A drag moves the drawing, two fingers and the wheel size it. A drag of a node moves the node, in the lab. After a
+// drag nothing is clicked.
+function listenToPointers() {
+  const net = by('net'), fingers = new Map(), far = (a, b) => Math.hypot(a[0] - b[0], a[1] - b[1]);
+  const inPane = ([x, y]) => {
+    const frame = pane.getBoundingClientRect();
+    return [x - frame.left, y - frame.top];
+  };
+  let isDrag = false, held = null;
+  const lift = event => {
+    fingers.delete(event.pointerId);
+    if (held !== null && isDrag && !fingers.size) acts.drop(held);
+    if (!fingers.size) held = null;
+    if (!fingers.size) net.classList.remove('moved');
+  };
+  net.addEventListener('pointerdown', event => {
+    fingers.set(event.pointerId, [event.clientX, event.clientY]);
+    isDrag = fingers.size > 1;
+    const g = !isDrag && acts.drag && event.target.closest('.node');
+    held = g ? Number(g.dataset.node) : null;
   });
-  return {node, most, points: [...points, [steps, count]]};
-}
-
-let chart = null;
-function drawChart(node) {
-  if (!chart || chart.node !== node) chart = chartOf(node);
-  const {points, most} = chart, svg = by('chart'), wide = 280, high = 70;
-  const x = step => (4 + (wide - 8) * step / Math.max(1, steps)).toFixed(1), y = value => (high - 8 - (high - 24) * value / most).toFixed(1);
-  // One value for each half of a pixel, the greatest, is all that can be seen.
-  const seen = new Map();
-  for (const [step, value] of points) {
-    const place = Math.round(2 * x(step)) / 2;
-    seen.set(place, Math.max(value, seen.get(place) ?? 0));
-  }
-  svg.replaceChildren();
-  mark(svg, {viewBox: '0 0 ' + wide + ' ' + high, 'aria-label': 'The count of node ' + node + ' over all steps; at most ' + most});
-  make(svg, 'path', {d: 'M' + [...seen].map(([place, value], at) => (at ? 'H' + place + 'V' : place + ' ') + y(value)).join('')});
-  make(svg, 'line', {x1: x(now), x2: x(now), y1: 10, y2: high - 6});
-  make(svg, 'text', {x: 4, y: 10}).textContent = 'count of node ' + node + ', at most ' + most;
-  svg.removeAttribute('hidden');
-}
-
-function tellNode(block, round, state) {
-  const known = state && picked !== null && picked < round.nodes;
-  by('picked').textContent = known ? 'Node ' + picked + (picked === round.home ? ', the destination' : '') + ': turned ' + state.counts[picked] + ' in this round.'
-    : 'Choose a node to see its route and its count over time.';
-  const route = known && state.hops ? routeOf(state.hops, picked) : null;
-  const text = !known ? '' : !route ? 'It has a route once the round has ended.'
-    : 'walk ' + route.join(' ') + (state.hops[route.at(-1)] === 'cut' ? ' cut' : '');
-  by('route').textContent = text;
-  mark(by('route'), {'data-route': route ? text : null});
-  if (known) drawChart(picked); else by('chart').setAttribute('hidden', '');
-}
-
-const hopText = hop => hop === 'here' ? 'is the destination' : hop === 'cut' ? 'has no next hop' : 'sends to ' + hop;
-const hopName = hop => hop === 'here' ? 'the destination' : hop === 'cut' ? 'no next hop' : hop;
-
-// A turn, the end of the turns, or a push, in words; and what is pushed next.
-function roundText(round, turn, state) {
-  const {turned, total} = round, left = turned < total ? '. Turns ' + (turned + 1) + ' to ' + total + ' are not shown' : '';
-  if (!state.hops) return 'turn ' + turn + ' of ' + total + '. Node ' + state.sink + ' is a sink, and turns next.';
-  if (state.push) return pushText(round, state) + nextText(round, state.push);
-  return (total ? 'turn ' + total + ' of ' + total + ', the round has ended' + left + '.' : 'no node turns.') + nextText(round, 0);
-}
-
-function pushText(round, {push, node, hops, loop}) {
-  const gone = node < round.nodes ? '' : ', which is gone,', before = hopName(tableBefore(round)[node]);
-  const order = isRising() ? ', by rising number' : '';
-  return 'push ' + push + ' of ' + round.pushed + order + '. Node ' + node + gone + ' now ' + hopText(hops[node]) +
-    ' (before: ' + before + '). ' +
-    (loop.length ? 'A loop is in the tables: ' + loop.join(' ') + '.' : 'No loop is in the tables.');
-}
-
-// The push after so many, where there is one.
-function nextText(round, pushed) {
-  const table = tableBefore(round), node = pushesOf(round)[pushed];
-  if (!table) return ' The hops before it are not known, so no push is shown.';
-  if (node === undefined) return '';
-  return ' Next push: node ' + node + ' (' + hopName(table[node]) + ' to ' + hopName(hopAfter(round, node)) + ').';
-}
-
-function tellStep(block, turn, state, news) {
-  const round = block.round;
-  const refusal = faultOf(block);
-  by('say').textContent = 'Line ' + block.line + ': ' + (refusal ? 'refused: ' + refusal + '. Nothing has changed.'
-    : !block.own ? 'a question; the network stays as it was.'
-    : !round.drawn ? 'only the answer is shown.' : roundText(round, turn, state));
-  const request = requestOf(block), walk = walkOf(block);
-  by('request').textContent = short(request);
-  mark(by('request'), {'data-request': request});
-  by('answer').textContent = block.answer;
-  by('more').textContent = (refusal ? 'Refused: ' + refusal + '.' : '') + (walk.length ? ' The cycle: ' + walk.join(' ') + '.' : '');
-  mark(by('more'), {'data-closed': walk.length ? walk.join(' ') : null});
-  const change = node => node + ' (' + hopName(round.before.hops[node]) + ' to ' + hopName(round.hops[node]) + ')';
-  by('changed').textContent =
-    news.length ? 'Next hops that the round changed, in push order: ' + news.map(change).join(', ') + '.' : '';
-  mark(by('changed'), {'data-changed': news.join(' ')});
-  by('at').textContent = (now + 1) + ' / ' + steps;
-  by('slide').value = now;
-  by('slide').setAttribute('aria-valuetext', by('say').textContent);
-  const count = (number, name) => number.toLocaleString('en') + ' ' + name + (number === 1 ? '' : 's');
-  by('title').textContent = !round ? 'No network yet'
-    : count(round.nodes, 'node') + (round.drawn ? ', ' + count(round.links.length, 'link') : '') + ', destination ' + round.home;
-  document.title = 'revroute: ' + by('title').textContent;
-}
-
-// The button of a line in the list, scrolled into sight.
-function buttonOf(at) {
-  const box = by('list');
-  if (!box.classList.contains('long')) {
-    const button = box.children[at].firstChild;
-    button.scrollIntoView({block: 'nearest'});
-    return button;
-  }
-  const top = at * rows.height, least = top + rows.height + 2 * RIM - box.clientHeight;
-  box.scrollTop = Math.min(top, Math.max(least, box.scrollTop));
-  placeRows();
-  return box.children[1 + at - rows.first].firstChild;
-}
-
-let current = null;
-function currentButton(at) {
-  if (current) current.removeAttribute('aria-current');
-  current = buttonOf(at);
-  current.setAttribute('aria-current', 'step');
+  addEventListener('pointermove', event => {
+    const was = fingers.get(event.pointerId), at = [event.clientX, event.clientY];
+    if (!event.buttons) fingers.clear();
+    if (!was || !event.buttons || !isDrag && far(was, at) < 5) return;
+    isDrag = true;
+    net.classList.add('moved');
+    const other = [...fingers].find(([id]) => id !== event.pointerId);
+    fingers.set(event.pointerId, at);
+    const way = [at[0] - was[0], at[1] - was[1]];
+    if (!other && held !== null) return acts.drag(held, way.map(side => side / camera.scale));
+    if (!other) return move(...way);
+    const middle = [0, 1].map(side => (was[side] + other[1][side]) / 2);
+    zoom(far(at, other[1]) / (far(was, other[1]) || 1), inPane(middle));
+    move(...way.map(side => side / 2));
+  });
+  for (const kind of ['pointerup', 'pointercancel']) addEventListener(kind, lift);
+  net.addEventListener('click', event => {
+    if (isDrag) {
+      isDrag = false;
+      event.stopPropagation();
+    }
+  }, true);
+  pane.addEventListener('wheel', event => {
+    event.preventDefault();
+    const steps = event.deltaY * (event.deltaMode ? 16 : 1) * (event.ctrlKey ? 0.01 : 0.0015);
+    zoom(Math.exp(-steps), inPane([event.clientX, event.clientY]));
+  }, {passive: false});
 }
 
 // Moves the drawing if this node is outside of the pane.
@@ -970,110 +1032,129 @@ function keepInSight(view, node) {
   });
   if (across || down) move(across, down);
 }
+// What is said of a step, and of a chosen node.
 
-function showNothing() {
-  for (const id of ['net', 'ring', 'chart']) by(id).setAttribute('hidden', '');
-  for (const id of ['request', 'answer', 'more', 'changed', 'route', 'picked', 'at']) by(id).textContent = '';
-  by('title').textContent = 'No network yet';
-  by('say').textContent = isLab ? 'Type a request, or open a file of requests.' : 'The input held no line.';
-  by('none').textContent = isLab ? '' : 'There is nothing to show: no line was read.';
-  by('none').removeAttribute('hidden');
-  acts.shown();
+const hopText = hop => hop === 'here' ? 'is the destination' : hop === 'cut' ? 'has no next hop' : 'sends to ' + hop;
+const hopName = hop => hop === 'here' ? 'destination' : hop === 'cut' ? 'none' : hop;
+const changeText = (node, old, next) => node + ' (' + hopName(old) + ARROW + hopName(next) + ')';
+
+// A turn, the end of the turns, or a push, in words; and what is pushed next.
+function roundText(round, turn, state) {
+  const {turned, total} = round,
+                 left = turned < total ? '. Turns ' + (turned + 1) + ' to ' + total + ' are not shown' : '';
+  if (!state.hops) return 'turn ' + turn + ' of ' + total + '. Node ' + state.sink + ' is a sink, and turns next.';
+  if (state.push) return pushText(round, state) + nextText(round, state.push);
+  return (total ? 'turn ' + total + ' of ' + total + ', the round has ended' + left + '.' : 'no node turns.') +
+      nextText(round, 0);
 }
 
-function show(step, keep) {
-  if (!blocks.length) return showNothing();
-  now = Math.max(0, Math.min(steps - 1, step));
-  const at = blockAt(now), block = blocks[at], round = block.round, drawn = round && round.drawn;
-  const place = now - starts[at], last = drawn ? round.turned : 0;
-  const turn = block.own ? Math.min(place, last) : last, push = block.own ? place - turn : 0;
-  const state = drawn ? stateOf(round, turn, push) : null, net = by('net'), none = by('none');
-  const changes = drawn && block.own && state.hops ? changedHops(round) : [];
-  const news = push ? pushesOf(round).slice(0, push - 1) : changes;
-  const walk = walkOf(block), isNetwork = walk.length > 0 && block.asks.startsWith('net ');
-  net.toggleAttribute('hidden', !drawn);
-  none.toggleAttribute('hidden', Boolean(drawn));
-  mark(net, {'data-line': block.line, 'data-turn': block.own ? turn : 0, 'data-push': push});
-  mark(net, {'data-loop': push ? state.loop.join(' ') : null});
-  if (drawn) {
-    const view = round.view, way = routeShown(block, state);
-    const isNew = setUp(view);
-    if (shown !== view) { net.replaceChildren(view.group); shown = view; fit(); }
-    else if (isNew && camera.isFitted) fit();
-    mark(net, {'aria-label': 'A network of ' + round.nodes + ' nodes, destination ' + round.home});
-    drawLinks(view, round, state, way, push ? state.loop : isNetwork ? [] : walk);
-    drawNodes(view, round, state, way, news);
-    const moved = state.sink ?? state.node;
-    if (moved !== null && moved < round.nodes) keepInSight(view, moved);
-  } else none.textContent = !round ? 'There is no network yet.'
-    : 'This network is larger than a page shows (256 nodes). The answers are in the list.';
-  drawRing(isNetwork ? walk : []);
-  tellNode(block, round, state);
-  tellStep(block, turn, state, changes);
-  currentButton(at);
-  clearTimeout(show.later);
-  const part = push ? '&push=' + push : block.own ? '&turn=' + turn : '';
-  const named = '#line=' + block.line + part + (isRising() ? '&order=rising' : '');
-  if (!keep) show.later = setTimeout(() => history.replaceState(null, '', named), 400);
-  acts.shown();
+function pushText(round, {push, node, hops, loop}) {
+  const gone = node < round.nodes ? '' : ', which is gone,', before = hopName(tableBefore(round)[node]);
+  const order = isRising() ? ', by rising number' : '';
+  return 'push ' + push + ' of ' + round.pushed + order + '. Node ' + node + gone + ' now ' + hopText(hops[node]) +
+      ' (before: ' + before + '). ' +
+      (loop.length ? 'A loop is in the tables: ' + loop.join(' ') + '.' : 'No loop is in the tables.');
 }
 
-function pick(node) {
-  picked = picked === node ? null : node;
-  show(now);
+// The push after so many, where there is one.
+function nextText(round, pushed) {
+  const table = tableBefore(round), node = pushesOf(round)[pushed];
+  if (!table) return ' The hops before it are not known, so no push is shown.';
+  if (node === undefined) return '';
+  return ' Next push: node ' + changeText(node, table[node], hopAfter(round, node)) + '.';
 }
 
-function pickNext(on) {
-  const round = blocks[blockAt(now)].round;
-  if (!round || !round.drawn) return;
-  picked = picked === null ? round.home : (picked + on + round.nodes) % round.nodes;
-  show(now);
-  round.view.spots[picked].g.focus({preventScroll: true});
-  keepInSight(round.view, picked);
+function tellStep(block, turn, state, news) {
+  const round = block.round;
+  const refusal = faultOf(block);
+  by('say').textContent = 'Line ' + block.line + ': ' +
+      (refusal          ? 'refused: ' + refusal + '. Nothing has changed.' :
+           !block.own   ? 'a question; the network stays as it was.' :
+           !round.drawn ? 'only the answer is shown.' :
+                          roundText(round, turn, state));
+  const request = requestOf(block), walk = walkOf(block);
+  by('request').textContent = short(request);
+  mark(by('request'), {'data-request': request});
+  by('answer').textContent = block.answer;
+  by('more').textContent =
+      (refusal ? 'Refused: ' + refusal + '.' : '') + (walk.length ? ' The cycle: ' + walk.join(' ') + '.' : '');
+  mark(by('more'), {'data-closed': walk.length ? walk.join(' ') : null});
+  const change = node => changeText(node, round.before.hops[node], round.hops[node]);
+  by('changed').textContent =
+      news.length ? 'Next hops that the round changed, in push order: ' + news.map(change).join(', ') + '.' : '';
+  mark(by('changed'), {'data-changed': news.join(' ')});
+  by('at').textContent = (now + 1) + ' / ' + steps;
+  by('slide').value = now;
+  by('slide').setAttribute('aria-valuetext', by('say').textContent);
+  const count = (number, name) => number.toLocaleString('en') + ' ' + name + (number === 1 ? '' : 's');
+  by('title').textContent = !round ? 'No network yet' :
+                                     count(round.nodes, 'node') +
+          (round.drawn ? ', ' + count(round.links.length, 'link') : '') + ', destination ' + round.home;
+  document.title = 'revroute: ' + by('title').textContent;
 }
 
-function goLine(on) {
-  const at = Math.max(0, Math.min(blocks.length - 1, blockAt(now) + on));
-  show(starts[at]);
-}
-
-function play(on) {
-  clearTimeout(timer);
-  timer = null;
-  by('play').textContent = on ? 'Pause' : 'Play';
-  by('say').setAttribute('aria-live', on ? 'off' : 'polite');
-  if (!on) return;
-  if (now === steps - 1) show(0);
-  const pace = () => acts.pace(Number(by('speed').value));
-  const tick = () => {
-    show(now + 1);
-    if (now === steps - 1) play(false); else timer = setTimeout(tick, pace());
+// How often a node has turned, at each step of the whole page: the steps at which this changes.
+function chartOf(node) {
+  const points = [[0, 0]], word = ' ' + node;
+  let most = 1, count = 0;
+  const put = (step, value) => {
+    if (value !== count) points.push([step, value]);
+    count = value;
   };
-  timer = setTimeout(tick, pace());
+  blocks.forEach(({own, round}, at) => {
+    if (!own) return;
+    put(starts[at], 0);
+    if (!round.drawn || !round.said.turns.includes(word)) return;
+    listed(round.said.turns, Number).forEach((turned, turn) => {
+      if (turned === node) put(starts[at] + turn + 1, count + 1);
+    });
+    most = Math.max(most, count);
+  });
+  return {node, most, points: [...points, [steps, count]]};
 }
 
-// Goes to the step that the fragment names, as #line=3&turn=2 or #line=3&push=1; a line alone is the end of its turns.
-function goFragment() {
-  const words = new URLSearchParams(location.hash.slice(1)), at = blocks.findIndex(block => block.line === Number(words.get('line')));
-  if (at < 0) return false;
-  by('order').value = words.get('order') === 'rising' ? 'rising' : 'push';
-  const block = blocks[at], turns = block.own && block.round.drawn ? block.round.turned : 0;
-  const number = name => Math.max(0, Number(words.get(name)) || 0);
-  const turn = words.has('turn') ? Math.min(turns, number('turn')) : turns;
-  const place = words.has('push') ? turns + number('push') : turn;
-  show(Math.min((starts[at + 1] ?? steps) - 1, starts[at] + place), true);
-  return true;
+let chart = null;
+
+function drawChart(node) {
+  if (!chart || chart.node !== node) chart = chartOf(node);
+  const {points, most} = chart, svg = by('chart'), wide = 280, high = 70;
+  const x = step => (4 + (wide - 8) * step / Math.max(1, steps)).toFixed(1),
+        y = value => (high - 8 - (high - 24) * value / most).toFixed(1);
+  // One value for each half of a pixel, the greatest, is all that can be seen.
+  const seen = new Map();
+  for (const [step, value] of points) {
+    const place = Math.round(2 * x(step)) / 2;
+    seen.set(place, Math.max(value, seen.get(place) ?? 0));
+  }
+  svg.replaceChildren();
+  mark(svg, {
+    viewBox: '0 0 ' + wide + ' ' + high,
+    'aria-label': 'The count of node ' + node + ' over all steps; at most ' + most
+  });
+  make(
+      svg, 'path',
+      {d: 'M' + [...seen].map(([place, value], at) => (at ? 'H' + place + 'V' : place + ' ') + y(value)).join('')});
+  make(svg, 'line', {x1: x(now), x2: x(now), y1: 10, y2: high - 6});
+  make(svg, 'text', {x: 4, y: 10}).textContent = 'count of node ' + node + ', at most ' + most;
+  svg.removeAttribute('hidden');
 }
 
-const keys = {ArrowRight: () => show(now + 1), ArrowLeft: () => show(now - 1), ArrowDown: () => goLine(1), ArrowUp: () => goLine(-1),
-  Home: () => show(0), End: () => show(steps - 1), ' ': () => play(timer === null),
-  n: () => pickNext(1), p: () => pickNext(-1),
-  Escape: () => { if (picked !== null) pick(picked); },
-  '+': () => zoom(1.25), '=': () => zoom(1.25), '-': () => zoom(0.8), 0: fit, f: fit};
-const shifted = {ArrowRight: () => move(-60, 0), ArrowLeft: () => move(60, 0),
-  ArrowDown: () => move(0, -60), ArrowUp: () => move(0, 60)};
-// What a click on a node or a link does. The lab has its own.
-const acts = {node: pick, link: () => {}, shown: () => {}, pace: wait => wait};
+function tellNode(round, state) {
+  const known = state && picked !== null && picked < round.nodes;
+  by('picked').textContent = known ? 'Node ' + picked + (picked === round.home ? ', the destination' : '') +
+          ': turned ' + state.counts[picked] + ' in this round.' :
+      isLab ? '' :
+              'Choose a node to see its route and its count over time.';
+  const route = known && state.hops ? routeOf(state.hops, picked) : null;
+  const text = !known ? '' :
+      !route          ? 'It has a route once the round has ended.' :
+                        'walk ' + route.join(' ') + (state.hops[route.at(-1)] === 'cut' ? ' cut' : '');
+  by('route').textContent = text;
+  mark(by('route'), {'data-route': route ? text : null});
+  if (known) drawChart(picked);
+  else by('chart').setAttribute('hidden', '');
+}
+// The list of lines.
 
 // The list of lines, from this one on.
 function list(from) {
@@ -1088,15 +1169,21 @@ function list(from) {
 }
 
 // A list of more lines than this has only those near its sight, all of one height, and room for the others.
-const MOST_ROWS = 1000, MARGIN = 40, RIM = 5, rows = {first: 0, last: 0, height: 0};
+const MOST_ROWS = 1000, MARGIN = 40, RIM = 5, rows = {
+  first: 0,
+  last: 0,
+  height: 0
+};
 
 function placeRows() {
   const box = by('list');
   rows.height ||= heightOfRow();
-  const seen = Math.floor(box.scrollTop / rows.height), last = Math.min(blocks.length, seen + Math.ceil(box.clientHeight / rows.height) + 1);
+  const seen = Math.floor(box.scrollTop / rows.height),
+        last = Math.min(blocks.length, seen + Math.ceil(box.clientHeight / rows.height) + 1);
   if (rows.first <= seen && last <= rows.last) return;
   Object.assign(rows, {first: Math.max(0, seen - MARGIN), last: Math.min(blocks.length, last + MARGIN)});
-  const top = box.scrollTop, focus = box.contains(document.activeElement) ? document.activeElement.at : null, items = [];
+  const top = box.scrollTop, focus = box.contains(document.activeElement) ? document.activeElement.at : null,
+        items = [];
   for (let at = rows.first; at < rows.last; at++) items.push(itemOf(blocks[at], at));
   box.replaceChildren(roomFor(rows.first), ...items, roomFor(blocks.length - rows.last));
   box.scrollTop = top;
@@ -1139,9 +1226,33 @@ function itemOf(block, at) {
   return item;
 }
 
+// The button of a line in the list, scrolled into sight.
+function buttonOf(at) {
+  const box = by('list');
+  if (!box.classList.contains('long')) {
+    const {firstChild, offsetTop, offsetHeight} = box.children[at], top = offsetTop - box.offsetTop - RIM;
+    box.scrollTop = Math.min(top, Math.max(top + offsetHeight + 2 * RIM - box.clientHeight, box.scrollTop));
+    return firstChild;
+  }
+  const top = at * rows.height, least = top + rows.height + 2 * RIM - box.clientHeight;
+  box.scrollTop = Math.min(top, Math.max(least, box.scrollTop));
+  placeRows();
+  return box.children[1 + at - rows.first].firstChild;
+}
+
+let current = null;
+
+function currentButton(at) {
+  if (current) current.removeAttribute('aria-current');
+  current = buttonOf(at);
+  current.setAttribute('aria-current', 'step');
+}
+
 function listenToList() {
   const box = by('list'), isLong = () => box.classList.contains('long');
-  box.addEventListener('scroll', () => { if (isLong()) placeRows(); }, {passive: true});
+  box.addEventListener('scroll', () => {
+    if (isLong()) placeRows();
+  }, {passive: true});
   new ResizeObserver(() => {
     if (!isLong()) return;
     Object.assign(rows, {first: 0, last: 0, height: 0});
@@ -1149,63 +1260,298 @@ function listenToList() {
     currentButton(blockAt(now));
   }).observe(box);
 }
+// What the page shows now, and its keys and buttons.
+
+function show(step, keep) {
+  if (!blocks.length) return showNothing();
+  now = Math.max(0, Math.min(steps - 1, step));
+  const at = blockAt(now), block = blocks[at], round = block.round, drawn = round && round.drawn;
+  const place = now - starts[at], last = drawn ? round.turned : 0;
+  const turn = block.own ? Math.min(place, last) : last, push = block.own ? place - turn : 0;
+  const state = drawn ? stateOf(round, turn, push) : null, net = by('net'), none = by('none');
+  const changes = drawn && block.own && state.hops ? changedHops(round) : [];
+  const news = push ? pushesOf(round).slice(0, push - 1) : changes;
+  const walk = walkOf(block), isNetwork = walk.length > 0 && block.asks.startsWith('net ');
+  net.toggleAttribute('hidden', !drawn);
+  none.toggleAttribute('hidden', Boolean(drawn));
+  mark(net, {'data-line': block.line, 'data-turn': block.own ? turn : 0, 'data-push': push});
+  mark(net, {'data-loop': push ? state.loop.join(' ') : null});
+  if (drawn) {
+    const view = round.view, way = routeShown(block, state);
+    const isNew = setUp(view);
+    if (shown !== view) {
+      net.replaceChildren(view.group);
+      shown = view;
+      fit();
+    } else if (isNew && camera.isFitted) fit();
+    mark(net, {'aria-label': 'A network of ' + round.nodes + ' nodes, destination ' + round.home});
+    drawLinks(view, round, state, way, push ? state.loop : isNetwork ? [] : walk);
+    drawNodes(view, round, state, way, news);
+    const moved = state.sink ?? state.node;
+    if (moved !== null && moved < round.nodes) keepInSight(view, moved);
+  } else
+    none.textContent = !round ? 'There is no network yet.' :
+                                'This network is larger than a page shows (256 nodes). The answers are in the list.';
+  drawRing(isNetwork ? walk : []);
+  tellNode(round, state);
+  tellStep(block, turn, state, changes);
+  currentButton(at);
+  clearTimeout(show.later);
+  const part = push ? '&push=' + push : block.own ? '&turn=' + turn : '';
+  const named = '#line=' + block.line + part + (isRising() ? '&order=rising' : '');
+  if (!keep) show.later = setTimeout(() => history.replaceState(null, '', named), 400);
+  acts.shown();
+}
+
+function showNothing() {
+  for (const id of ['net', 'ring', 'chart']) by(id).setAttribute('hidden', '');
+  for (const id of ['request', 'answer', 'more', 'changed', 'route', 'picked', 'at']) by(id).textContent = '';
+  by('title').textContent = 'No network yet';
+  by('say').textContent = isLab ? 'Type a request, or open a file of requests.' : 'The input held no line.';
+  by('none').textContent = isLab ? '' : 'There is nothing to show: no line was read.';
+  by('none').removeAttribute('hidden');
+  acts.shown();
+}
+
+function pick(node) {
+  picked = picked === node ? null : node;
+  show(now);
+}
+
+function pickNext(on) {
+  const round = blocks[blockAt(now)].round;
+  if (!round || !round.drawn) return;
+  picked = picked === null ? round.home : (picked + on + round.nodes) % round.nodes;
+  show(now);
+  round.view.spots[picked].g.focus({preventScroll: true});
+  keepInSight(round.view, picked);
+}
+
+function goLine(on) {
+  const at = Math.max(0, Math.min(blocks.length - 1, blockAt(now) + on));
+  show(starts[at]);
+}
+
+function play(on) {
+  clearTimeout(timer);
+  timer = null;
+  by('play').textContent = on ? 'Pause' : 'Play';
+  by('say').setAttribute('aria-live', on ? 'off' : 'polite');
+  if (!on) return;
+  if (now === steps - 1) show(0);
+  const pace = () => acts.pace(Number(by('speed').value));
+  const tick = () => {
+    show(now + 1);
+    if (now === steps - 1) play(false);
+    else timer = setTimeout(tick, pace());
+  };
+  timer = setTimeout(tick, pace());
+}
+
+// Goes to the step that the fragment names, as #line=3&turn=2 or #line=3&push=1; a line alone is the end of its turns.
+function goFragment() {
+  const words = new URLSearchParams(location.hash.slice(1)),
+        at = blocks.findIndex(block => block.line === Number(words.get('line')));
+  if (at < 0) return false;
+  by('order').value = words.get('order') === 'rising' ? 'rising' : 'push';
+  const block = blocks[at], turns = block.own && block.round.drawn ? block.round.turned : 0;
+  const number = name => Math.max(0, Number(words.get(name)) || 0);
+  const turn = words.has('turn') ? Math.min(turns, number('turn')) : turns;
+  const place = words.has('push') ? turns + number('push') : turn;
+  show(Math.min((starts[at + 1] ?? steps) - 1, starts[at] + place), true);
+  return true;
+}
+
+const keys = {
+  ArrowRight: () => show(now + 1),
+  ArrowLeft: () => show(now - 1),
+  ArrowDown: () => goLine(1),
+  ArrowUp: () => goLine(-1),
+  Home: () => show(0),
+  End: () => show(steps - 1),
+  ' ': () => play(timer === null),
+  n: () => pickNext(1),
+  p: () => pickNext(-1),
+  Escape: () => {
+    if (picked !== null) pick(picked);
+  },
+  '+': () => zoom(1.25),
+  '=': () => zoom(1.25),
+  '-': () => zoom(0.8),
+  0: fit,
+  f: fit
+};
+
+const shifted = {
+  ArrowRight: () => move(-60, 0),
+  ArrowLeft: () => move(60, 0),
+  ArrowDown: () => move(0, -60),
+  ArrowUp: () => move(0, 60)
+};
+
+// Keys with Ctrl, which only the lab has.
+const controlled = {};
+
+// What a click on a node, on a link or beside them does, and who says where nodes are. The lab has its own.
+const acts = {
+  node: pick,
+  link: () => {},
+  empty: () => {},
+  drag: null,
+  drop: () => {},
+  places: () => null,
+  shown: () => {},
+  pace: wait => wait
+};
+
+// What a key does: nothing where it is typed or scrolls a text, or where it is a letter and these are turned off.
+function actionOf({key, target, shiftKey, ctrlKey, metaKey, altKey}) {
+  if (metaKey || altKey || target.closest('dialog, select, textarea, input:not([type=range])')) return null;
+  if (ctrlKey) return controlled[key];
+  if (scrolling.has(key) && isScrolled(target) || isLetter(key) && !hasLetters()) return null;
+  if (key === ' ' && target.matches('button, summary')) return null;
+  const g = key === 'Enter' && target.closest('.node, .link');
+  return g ? () => act(g) : shiftKey && shifted[key] || keys[key];
+}
 
 function listenToKeys() {
   document.addEventListener('keydown', event => {
-    const target = event.target, tag = target.tagName;
-    const isTyped = target.closest('dialog, select, textarea, input:not([type=range])');
-    if (event.ctrlKey || event.metaKey || event.altKey || isTyped) return;
-    const action = (event.shiftKey && shifted[event.key]) || keys[event.key];
-    const g = event.key === 'Enter' && target.closest('.node, .link');
-    if (g) return act(g);
-    if (!action || event.key === ' ' && (tag === 'BUTTON' || tag === 'SUMMARY')) return;
+    const action = actionOf(event);
+    if (!action) return;
     event.preventDefault();
     if (event.key.startsWith('Arrow') && !event.shiftKey || event.key === 'Home' || event.key === 'End') play(false);
     action();
   });
 }
 
+// Keys that a text needs itself, where it does not fit its box.
+const scrolling = new Set(['ArrowUp', 'ArrowDown', 'ArrowLeft', 'ArrowRight', 'Home', 'End', ' ']);
+
+function isScrolled(target) {
+  if (target.matches('button, input, summary')) return false;
+  for (let it = target; it && it !== document.body; it = it.parentElement) {
+    if (it.scrollHeight > it.clientHeight && getComputedStyle(it).overflowY === 'auto') return true;
+  }
+  return false;
+}
+
+// Keys that are letters, digits or signs can be turned off, for people who speak to their computer.
+const isLetter = key => key.length === 1 && key !== ' ', hasLetters = () => by('letters').checked;
+
 function act(g) {
   if (g.classList.contains('node')) acts.node(Number(g.dataset.node));
   else acts.link(Number(g.dataset.tail), Number(g.dataset.head));
 }
 
-// Whether the legend is open is kept in the browser, if it can keep something.
+// What a reader has chosen is kept in the browser. Where nothing can be kept, the page goes on without it.
+function kept(name) {
+  try {
+    return localStorage.getItem('revroute-' + name);
+  } catch { return null; }
+}
+
+function keepWord(name, word) {
+  try {
+    localStorage.setItem('revroute-' + name, word);
+  } catch { return; }
+}
+
+// Whether the legend is open is kept.
 function listenToFold() {
   const fold = by('fold'), isRoomy = innerWidth > 760 && innerHeight > 800;
-  const kept = () => { try { return localStorage.getItem('revroute-legend'); } catch { return null; } };
-  const keep = () => {
-    // This comes before the change. Where nothing can be kept, the page goes on without it.
-    try { localStorage.setItem('revroute-legend', fold.open ? 'folded' : 'open'); } catch { return; }
-  };
-  fold.open = (kept() ?? (isRoomy ? 'open' : 'folded')) === 'open';
-  fold.firstElementChild.addEventListener('click', keep);
+  fold.open = (kept('legend') ?? (isRoomy ? 'open' : 'folded')) === 'open';
+  // This comes before the change.
+  fold.firstElementChild.addEventListener('click', () => keepWord('legend', fold.open ? 'folded' : 'open'));
+}
+
+function listenToLetters() {
+  const box = by('letters');
+  box.checked = kept('letters') !== 'off';
+  box.addEventListener('change', () => {
+    keepWord('letters', box.checked ? 'on' : 'off');
+    show(now, true);
+  });
 }
 
 function start() {
-  const go = step => { play(false); show(step); };
-  const clicks = {back: () => go(now - 1), next: () => go(now + 1), play: () => play(timer === null),
-    larger: () => zoom(1.25), smaller: () => zoom(0.8), whole: fit};
+  const go = step => {
+    play(false);
+    show(step);
+  };
+  const clicks = {
+    back: () => go(now - 1),
+    next: () => go(now + 1),
+    play: () => play(timer === null),
+    larger: () => zoom(1.25),
+    smaller: () => zoom(0.8),
+    whole: fit
+  };
   for (const id in clicks) by(id).addEventListener('click', clicks[id]);
   by('slide').addEventListener('input', () => go(Number(by('slide').value)));
   by('order').addEventListener('change', () => show(now));
-  by('net').addEventListener('click', event => { const g = event.target.closest('.node, .link'); if (g) act(g); });
-  by('list').addEventListener('click', event => { const it = event.target.closest('button'); if (it) go(starts[it.at]); });
+  by('net').addEventListener('click', event => {
+    const g = event.target.closest('.node, .link');
+    if (g) act(g);
+    else acts.empty(event);
+  });
+  by('list').addEventListener('click', event => {
+    const it = event.target.closest('button');
+    if (it) go(starts[it.at]);
+  });
   listenToKeys();
   listenToPointers();
   addEventListener('hashchange', goFragment);
-  new ResizeObserver(() => { if (shown) show(now, true); }).observe(pane);
+  new ResizeObserver(() => {
+    if (shown) show(now, true);
+  }).observe(pane);
   listenToList();
   if (!goFragment()) show(0, true);
 }
 
-listenToFold();
-load(0, by('story').textContent);
-if (blocks.length || isLab) start();
-else {
+function begin() {
+  listenToFold();
+  listenToLetters();
+  load(0, by('story').textContent);
+  if (blocks.length || isLab) return start();
   showNothing();
   for (const id of ['bar', 'about', 'zoom']) by(id).setAttribute('hidden', '');
 }
+
+// What the lab uses of the viewer.
+const offered = {
+  by,
+  NL,
+  acts,
+  keys,
+  controlled,
+  pane,
+  camera,
+  room,
+  load,
+  stepsIn,
+  blockAt,
+  show,
+  showNothing,
+  play,
+  pick,
+  fit,
+  lookAs,
+  keepInSight,
+  moveNode,
+  keepPlaces,
+  placesOf,
+  get blocks() { return blocks; },
+  get starts() { return starts; },
+  get steps() { return steps; },
+  get now() { return now; },
+  get shown() { return shown; },
+  get isPlayed() { return timer !== null; },
+  get picked() { return picked; },
+  set picked(node) { picked = node; },
+};
+begin();
+return offered;
+})();
 </script>
 </html>
 ";

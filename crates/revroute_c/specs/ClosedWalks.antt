@@ -1,6 +1,7 @@
 -- The cycle for which edits or a network are refused, and when there is none. This project's own.
 use Rattle.std.specs.Prelude.{◌≡◌, ℕ, ◌<◌, ◌≤◌, ◌⊎◌, List, length, map, Option, Some, None}
 use Rattle.fr_graph.specs.Batches.{AreMade, IsRefusedAt}
+use Rattle.fr_graph.specs.Evidence.{NamesFirst, NamesInBatch}
 use Rattle.fr_graph.specs.Faults.{IsFaultless, IsFirstFault}
 use Rattle.fr_graph.specs.Limits.{most_edits}
 use Rattle.fr_graph.specs.Network.{Network}
@@ -30,14 +31,15 @@ IsNoWalk (Cycle walk) = ⊥
 IsNoWalk NoLink = Unit {0}
 IsNoWalk Memory = Unit {0}
 
--- these nodes are a cycle for which an edit of the network is refused, the first edit that is refused
+-- these nodes are the cycle for which an edit of the network is refused, the first edit that is refused
 pub record IsWalkOfEdit (net : Network) (edits : List LinkEdit) (nodes : List ℕ) : Type 0 where
   pub at : ℕ
   pub fault : NetFault
   pub refused : IsRefusedAt net (map edit_of edits) at fault
+  pub names : NamesInBatch net (map edit_of edits) (record { at = at; fault = fault })
   pub walk : IsWalkOf fault nodes
 
--- these nodes are a cycle for which a change of a session is refused
+-- these nodes are the cycle for which a change of a session is refused
 abbrev pub IsWalkOfChange : Option State → List LinkEdit → List ℕ → Type 0
 IsWalkOfChange None edits nodes = ⊥
 IsWalkOfChange (Some s) edits nodes = AreKnown edits × (length edits ≤ most_edits) × IsWalkOfEdit (net_at s) edits nodes
@@ -54,9 +56,10 @@ abbrev pub HasNoWalkOfChange : Option State → List LinkEdit → Type 0
 HasNoWalkOfChange None edits = ⊥
 HasNoWalkOfChange (Some s) edits = ¬ AreKnown edits ⊎ (most_edits < length edits) ⊎ EndWithoutWalk (net_at s) edits
 
--- these nodes are a cycle for which a network is refused
+-- these nodes are the cycle for which a network is refused
 abbrev pub IsWalkOfNetwork : ℕ → List (ℕ × ℕ) → List ℕ → Type 0
-IsWalkOfNetwork n links nodes = (fault : NetFault) × IsFirstFault n links fault × IsWalkOf fault nodes
+IsWalkOfNetwork n links nodes =
+    (fault : NetFault) × IsFirstFault n links fault × NamesFirst n links fault × IsWalkOf fault nodes
 
 -- a network is not refused for a cycle: its links have no fault, or another one
 abbrev pub HasNoWalkOfNetwork : ℕ → List (ℕ × ℕ) → Type 0

@@ -36,7 +36,7 @@ pub record EndsWithAnswer (old : Option State) (begun piece : List ℕ) (size : 
 abbrev pub IsWantedAtEnd : Option State → List ℕ → List ℕ → ℕ → ℕ → Type 0
 IsWantedAtEnd old begun piece room size =
     ((room < least_room) × (size ≡ least_room))
-    ⊎ EndsWithAnswer old begun piece size
+    ⊎ ((least_room ≤ room) × EndsWithAnswer old begun piece size)
 
 -- the line that has begun would be too long with its bytes in the piece
 abbrev pub IsTooLong : List ℕ → List ℕ → Type 0

@@ -3,6 +3,7 @@
 use Rattle.std.specs.Prelude.{◌≡◌, ℕ, ◌<◌, ◌≤◌, ◌⊎◌, List, [], ◌∷◌, length, map, position, slice_get}
 use Rattle.std.specs.Prelude.{Option, Some, None}
 use Rattle.fr_graph.specs.Batches.{IsRefusedAt}
+use Rattle.fr_graph.specs.Evidence.{NamesFirst, NamesInBatch}
 use Rattle.fr_graph.specs.Faults.{IsFaultless, IsFirstFault}
 use Rattle.fr_graph.specs.Limits.{most_edits}
 use Rattle.fr_graph.specs.Network.{Network}
@@ -85,9 +86,12 @@ nodes_of_edit e fault = nodes_named fault
 abbrev pub refusal_at : ℕ → NetFault → ℕ × ℕ → Refusal
 refusal_at at fault nodes = record { number = fault_number fault; u = nodes.0; v = nodes.1; at = at }
 
--- why a network is refused: its links have this first fault, or the destination is not a node
+-- why a network is refused: its links have this first fault, with these nodes as evidence, or the destination is not a
+-- node
 abbrev pub IsNewFault : ℕ → ℕ → List (ℕ × ℕ) → NetFault → Type 0
-IsNewFault n d links fault = IsFirstFault n links fault ⊎ (IsFaultless n links × (n ≤ d) × (fault ≡ Range d))
+IsNewFault n d links fault =
+    (IsFirstFault n links fault × NamesFirst n links fault)
+    ⊎ (IsFaultless n links × (n ≤ d) × (fault ≡ Range d))
 
 -- the refusal of a network
 abbrev pub IsNewRefused : ℕ → ℕ → List (ℕ × ℕ) → Refusal → Type 0
@@ -100,13 +104,16 @@ pub record IsEditRefused (net : Network) (edits : List LinkEdit) (r : Refusal) :
   pub fault : NetFault
   pub edit : LinkEdit
   pub refused : IsRefusedAt net (map edit_of edits) at fault
+  -- the fault names exactly the nodes that are its evidence
+  pub names : NamesInBatch net (map edit_of edits) (record { at = at; fault = fault })
   pub edit_is : slice_get edits at ≡ Some edit
   pub is : r ≡ refusal_at at fault (nodes_of_edit edit fault)
 
--- the refusal of edits of known kinds: there are more than the limit, or one of them cannot be made
+-- the refusal of edits of known kinds: there are more than the limit, and the place is the first one past it, or one of
+-- them cannot be made
 abbrev pub AreRefused : Network → List LinkEdit → Refusal → Type 0
 AreRefused net edits r =
-    ((most_edits < length edits) × (r ≡ refusal_at (length edits) TooMany (0, 0)))
+    ((most_edits < length edits) × (r ≡ refusal_at most_edits TooMany (0, 0)))
     ⊎ ((length edits ≤ most_edits) × IsEditRefused net edits r)
 
 -- the refusal of the first edit with an unknown kind

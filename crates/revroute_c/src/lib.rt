@@ -7,12 +7,14 @@
 
 ghost use Rattle.std.specs.Prelude.{◌≡◌, ◌≢◌, ◌≤◌, ◌<◌, ◌⊎◌, ◌↔◌, [], None, length, map, IfSome};
 ghost use denote.RawPtr.{null_ptr};
+ghost use Rattle.fr_graph.specs.Limits.{most_edits, IsWithinLimits};
 ghost use Rattle.fr_lines.specs.Requests.{make_edits, move_dest, new_network};
 ghost use Rattle.fr_route.specs.States.{IsReport};
 ghost use Rattle.revroute_c.specs.ClosedWalks.{HasNoWalkOfChange, HasNoWalkOfNetwork};
 ghost use Rattle.revroute_c.specs.ClosedWalks.{IsWalkOfChange, IsWalkOfNetwork};
 ghost use Rattle.revroute_c.specs.Lending.{held_by, IsUnchanged};
 ghost use Rattle.revroute_c.specs.Pieces.{TakesPiece};
+ghost use Rattle.revroute_c.specs.PushOrders.{OrdersPushes};
 ghost use Rattle.revroute_c.specs.Questions.{AreCounts, AreHopsWritten, AreAsManyAsNodes, AreLinks};
 ghost use Rattle.revroute_c.specs.Questions.{HasNoRoute, IsRouteFrom, TellsDest, TellsHop, no_network};
 ghost use Rattle.revroute_c.specs.ReaderLending.{IsSameReader};
@@ -31,6 +33,7 @@ mod engine;
 mod handle;
 mod loose;
 mod pieces;
+mod push_orders;
 mod questions;
 mod reader_handle;
 mod reader_opening;
@@ -45,6 +48,7 @@ use closed_walks::{walk_of_change, walk_of_network};
 use fr_route::{VERSION, is_blank};
 use handle::Handle;
 use pieces::{finish_line, take_anew, take_front};
+use push_orders::{Tables, order_of};
 use questions::{
     HOP_OF_NO_NETWORK, counts_in, dest_in, hop_in, hops_in, links_in, report_in, size_in, walk_in,
 };
@@ -53,7 +57,9 @@ use reader_opening::{reader_anew, reader_in};
 use readers::{copied, hop_read, walk_read};
 use records::{Link, LinkEdit, Refusal, Round, first_unknown, unknown_at};
 use replies::{LEAST_ROOM, hand_out, reply, reply_anew};
-use rounds::{NewNetwork, change_in, move_dest_in, open_anew, open_in};
+use rounds::{
+    NewNetwork, change_in, is_too_large, move_dest_in, open_anew, open_in, refuse_size,
+};
 use statuses::{ANSWERED, BLANK, NO_MEMORY, NO_NETWORK, REFUSED, TOO_SHORT};
 use std::alloc::Global;
 use tables::pushes_in;
@@ -160,7 +166,7 @@ pub extern "C" fn revroute_finish(
 ///
 /// - `REFUSED`: there are too many nodes or links, the links have another fault, or the destination is not a node.
 ///   `refusal` gets the number that lines use for the reason, and the nodes of the first fault.
-/// - `NO_MEMORY`: an allocation was refused.
+/// - `NO_MEMORY`: an allocation was refused. There are not too many nodes or links.
 ///
 /// In these two cases the session, the handle's own bytes and `round` are unchanged. O(n + m), and the cost of
 /// [`Router::open_alone`](fr_route::Router::open_alone).
@@ -177,9 +183,13 @@ pub extern "C" fn revroute_open(
     ensures begins { BeginsRound (new_network nodes dest (map link_of links.now))
         (IsNewRefused nodes dest (map link_of links.now)) (held_by handle.old) (held_by handle.new)
         (round_outcome result round.old round.new refusal.old refusal.new) }
+    ensures no_memory { result ≡ REVROUTE_NO_MEMORY → IsWithinLimits nodes (map link_of links.now) }
     ensures kept { ¬ (result ≡ REVROUTE_ANSWERED) → handle.new.at ≡ handle.old.at }
     ensures status { (result ≡ REVROUTE_ANSWERED) ⊎ (result ≡ REVROUTE_NO_MEMORY) ⊎ (result ≡ REVROUTE_REFUSED) }
 {
+    if is_too_large(nodes, links) {
+        return refuse_size(refusal);
+    }
     let asked = NewNetwork { nodes, dest, links };
     match handle.engine_mut() {
         Some(engine) => open_in(engine, alloc, &asked, round, refusal),
@@ -191,9 +201,10 @@ pub extern "C" fn revroute_open(
 /// a line with that change. Returns `ANSWERED`, or:
 ///
 /// - `REFUSED`: an edit has an unknown kind, which is tested first; or there are more than 1,024 edits; or one of them
-///   cannot be made. `refusal` gets the number that lines use for the reason, the place of the edit and its nodes.
+///   cannot be made. `refusal` gets the number that lines use for the reason, the place of the edit and its nodes. If
+///   there are too many edits, the place is the limit.
 /// - `NO_NETWORK`: there is no network yet.
-/// - `NO_MEMORY`: an allocation was refused.
+/// - `NO_MEMORY`: an allocation was refused. No edit has an unknown kind, and there are not too many.
 ///
 /// In these cases the session, the handle's own bytes and `round` are unchanged. The cost is that of
 /// [`Router::change_telling_alone`](fr_route::Router::change_telling_alone). If an edit is refused, finding the
@@ -209,6 +220,7 @@ pub extern "C" fn revroute_change(
     ensures begins { BeginsRound (make_edits (map edit_of edits.now)) (IsChangeRefused handle.old.session edits.now)
         (held_by handle.old) (held_by handle.new) (round_outcome result round.old round.new refusal.old refusal.new) }
     ensures known { result ≡ REVROUTE_ANSWERED → AreKnown edits.now }
+    ensures no_memory { result ≡ REVROUTE_NO_MEMORY → length edits.now ≤ most_edits }
     ensures unknown { ¬ AreKnown edits.now → result ≡ REVROUTE_REFUSED }
     ensures no_network { (result ≡ REVROUTE_NO_NETWORK) ↔ (AreKnown edits.now × (handle.old.session ≡ None)) }
     ensures kept { handle.new.at ≡ handle.old.at }
@@ -226,7 +238,7 @@ pub extern "C" fn revroute_change(
 }
 
 /// Moves the destination and begins a round, as a line `["dest",..]` does. Returns `REFUSED` if the new destination is
-/// not a node. The other results and the cost are those of [`revroute_change`].
+/// not a node, also if memory is missing. The other results and the cost are those of [`revroute_change`].
 #[unsafe(no_mangle)]
 pub extern "C" fn revroute_move_dest(
     alloc: Global,
@@ -238,6 +250,7 @@ pub extern "C" fn revroute_move_dest(
     ensures begins { BeginsRound (move_dest dest) (IsMoveRefused handle.old.session dest)
         (held_by handle.old) (held_by handle.new) (round_outcome result round.old round.new refusal.old refusal.new) }
     ensures no_network { (result ≡ REVROUTE_NO_NETWORK) ↔ (handle.old.session ≡ None) }
+    ensures no_memory { result ≡ REVROUTE_NO_MEMORY → IfSome handle.old.session (λ s. dest < s.nodes) }
     ensures kept { handle.new.at ≡ handle.old.at }
     ensures status { (result ≡ REVROUTE_ANSWERED) ⊎ (result ≡ REVROUTE_NO_MEMORY) ⊎ (result ≡ REVROUTE_NO_NETWORK)
         ⊎ (result ≡ REVROUTE_REFUSED) }
@@ -249,9 +262,9 @@ pub extern "C" fn revroute_move_dest(
 }
 
 /// Writes the cycle for which [`revroute_change`] refuses these edits to the front of `nodes`, and its length to
-/// `size`. The first node comes again at the end. Returns `NO_WALK` if the edits are not refused for a cycle.
-/// `TOO_SHORT`, `NO_NETWORK` and `NO_MEMORY` are as for [`revroute_links`]. Nothing changes. O(n + m), and the cost of
-/// the edits.
+/// `size`. The first node comes again at the end. Returns `NO_WALK` if the edits are not refused for a cycle; if an
+/// edit has an unknown kind or there are too many, this needs no memory. `TOO_SHORT`, `NO_NETWORK` and `NO_MEMORY` are
+/// as for [`revroute_links`]. Nothing changes. O(n + m), and the cost of the edits.
 #[unsafe(no_mangle)]
 pub extern "C" fn revroute_closed_walk(
     alloc: Global,
@@ -265,6 +278,7 @@ pub extern "C" fn revroute_closed_walk(
         (outcome result nodes.old nodes.new size.new) }
     ensures no_network { (result ≡ REVROUTE_NO_NETWORK) ↔ (handle.old.session ≡ None) }
     ensures no_walk { result ≡ REVROUTE_NO_WALK → HasNoWalkOfChange handle.old.session edits.now }
+    ensures no_memory { result ≡ REVROUTE_NO_MEMORY → AreKnown edits.now × (length edits.now ≤ most_edits) }
     ensures status { (result ≡ REVROUTE_ANSWERED) ⊎ ((REVROUTE_TOO_SHORT ≤ result) × (result ≤ REVROUTE_NO_NETWORK))
         ⊎ (result ≡ REVROUTE_NO_WALK) }
 {
@@ -288,6 +302,7 @@ pub extern "C" fn revroute_closed_walk_of(
     ensures gives { GivesList (IsWalkOfNetwork nodes (map link_of links.now))
         (outcome result walk.old walk.new size.new) }
     ensures no_walk { result ≡ REVROUTE_NO_WALK → HasNoWalkOfNetwork nodes (map link_of links.now) }
+    ensures no_memory { result ≡ REVROUTE_NO_MEMORY → IsWithinLimits nodes (map link_of links.now) }
     ensures status { (result ≡ REVROUTE_ANSWERED) ⊎ (result ≡ REVROUTE_TOO_SHORT) ⊎ (result ≡ REVROUTE_NO_MEMORY)
         ⊎ (result ≡ REVROUTE_NO_WALK) }
 {
@@ -371,9 +386,9 @@ pub extern "C" fn revroute_changed(handle: &mut Handle, nodes: &mut [u32], size:
 /// Returns `ANSWERED`, or:
 ///
 /// - `TOO_SHORT`: there is too little room.
-/// - `NO_TABLE`: the table does not have one hop for each node, or one of its hops does not name a node.
 /// - `NO_NETWORK`: there is no network yet.
-/// - `NO_MEMORY`: an allocation was refused.
+/// - `NO_TABLE`: the table does not have one hop for each node, or one of its hops does not name a node.
+/// - `NO_MEMORY`: an allocation was refused. The table is not one for which the call returns `NO_TABLE`.
 ///
 /// `size` is 0 in the last three cases. In all four cases `nodes` is unchanged. The session never changes. O(n).
 #[unsafe(no_mangle)]
@@ -388,6 +403,7 @@ pub extern "C" fn revroute_pushes(
     ensures gives { GivesList (ArePushesOf handle.old.session table.now) (outcome result nodes.old nodes.new size.new) }
     ensures no_network { (result ≡ REVROUTE_NO_NETWORK) ↔ (handle.old.session ≡ None) }
     ensures no_table { result ≡ REVROUTE_NO_TABLE → IsNoTable handle.old.session table.now }
+    ensures no_memory { result ≡ REVROUTE_NO_MEMORY → ¬ IsNoTable handle.old.session table.now }
     ensures status { (result ≡ REVROUTE_ANSWERED) ⊎ ((REVROUTE_TOO_SHORT ≤ result) × (result ≤ REVROUTE_NO_NETWORK))
         ⊎ (result ≡ REVROUTE_NO_TABLE) }
 {
@@ -396,6 +412,33 @@ pub extern "C" fn revroute_pushes(
         Some(engine) => pushes_in(engine.session(), alloc, table, nodes, size),
         None => NO_NETWORK,
     }
+}
+
+/// Writes the nodes at which two tables of the caller's own differ, in push order, to the front of `nodes`, and their
+/// number to `size`. The tables have hops as [`revroute_hops`] writes them, whatever method made them. A number past the
+/// end of the shorter table is cut off there. Only `old` may have loops. It needs no session. Returns `ANSWERED`, or:
+///
+/// - `REFUSED`: a table has more than 4,096 hops; or a number in `old`, or otherwise in `new`, does not name a hop; or
+///   `new` has a loop. `refusal` gets the number that lines use for the reason and its nodes. If it is a loop, its
+///   nodes are at the front of `nodes`, with the first one again at the end, and `size` is their number. Otherwise
+///   `size` is 0.
+/// - `TOO_SHORT`: there is too little room, for the order or the loop.
+/// - `NO_MEMORY`: an allocation was refused. Both tables are within the limit, and all their numbers name hops.
+///
+/// `nodes` is unchanged after any result but `ANSWERED` and a refusal for a loop. O(n).
+#[unsafe(no_mangle)]
+pub extern "C" fn revroute_push_order(
+    alloc: Global,
+    old: &[u32],
+    new: &[u32],
+    nodes: &mut [u32],
+    size: &mut usize,
+    refusal: &mut Refusal,
+) -> u32
+    ensures { OrdersPushes old.now new.now (outcome result nodes.old nodes.new size.new) refusal.old refusal.new }
+{
+    *size = 0;
+    order_of(alloc, &Tables { old, new }, nodes, size, refusal)
 }
 
 /// Writes how often each node turned in the last round, in the order of the nodes. All else is as for
@@ -420,7 +463,7 @@ pub extern "C" fn revroute_counts(handle: &mut Handle, counts: &mut [u64], size:
 /// - `TOO_SHORT`: there is too little room.
 /// - `NO_ROUTE`: the node is cut off, or the number is not a node.
 /// - `NO_NETWORK`: there is no network yet.
-/// - `NO_MEMORY`: an allocation was refused.
+/// - `NO_MEMORY`: an allocation was refused. The number is a node.
 ///
 /// `size` is 0 in the last three cases. In all four cases `nodes` is unchanged. O(r) for a route of r nodes.
 #[unsafe(no_mangle)]
@@ -435,6 +478,7 @@ pub extern "C" fn revroute_walk(
     ensures gives { GivesList (IsRouteFrom handle.old.session node) (outcome result nodes.old nodes.new size.new) }
     ensures no_network { (result ≡ REVROUTE_NO_NETWORK) ↔ (handle.old.session ≡ None) }
     ensures no_route { result ≡ REVROUTE_NO_ROUTE → IfSome handle.old.session (λ s. HasNoRoute s node) }
+    ensures no_memory { result ≡ REVROUTE_NO_MEMORY → IfSome handle.old.session (λ s. node < s.nodes) }
     ensures status { (result ≡ REVROUTE_ANSWERED) ⊎ ((REVROUTE_TOO_SHORT ≤ result) × (result ≤ REVROUTE_NO_ROUTE)) }
 {
     *size = 0;

@@ -123,6 +123,7 @@ pub(crate) fn walk_in(
     ensures gives { GivesList (IsRouteFrom session.now node) (outcome result nodes.old nodes.new size.new) }
     ensures no_network { (result ≡ NO_NETWORK) ↔ (session.now ≡ None) }
     ensures no_route { result ≡ NO_ROUTE → IfSome session.now (λ s. HasNoRoute s node) }
+    ensures no_memory { result ≡ NO_MEMORY → IfSome session.now (λ s. node < s.nodes) }
     ensures status { (result ≡ ANSWERED) ⊎ ((TOO_SHORT ≤ result) × (result ≤ NO_ROUTE)) }
 {
     let Some(router) = session.router() else {

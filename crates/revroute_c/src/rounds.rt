@@ -1,12 +1,13 @@
 //! The calls with numbers that begin a round: a network, edits, another destination.
 
-ghost use Rattle.std.specs.Prelude.{◌≡◌, ◌≢◌, ◌≤◌, ◌⊎◌, ◌↔◌, length, map, None, IfOk, IfErr};
+ghost use Rattle.std.specs.Prelude.{◌≡◌, ◌≢◌, ◌<◌, ◌≤◌, ◌⊎◌, ◌↔◌, length, map, None, IfOk, IfErr, IfSome, IsTrue};
 ghost use Rattle.fr_graph.specs.Batches.{AreMade, IsBatchFault};
-ghost use Rattle.fr_graph.specs.Faults.{IsFirstFault, IsNetworkOf};
-ghost use Rattle.fr_graph.specs.Limits.{most_edits};
+ghost use Rattle.fr_graph.specs.Evidence.{NamesFirst, NamesInBatch};
+ghost use Rattle.fr_graph.specs.Faults.{IsFirstFault, IsNetworkOf, IsTooLarge};
+ghost use Rattle.fr_graph.specs.Limits.{most_edits, IsWithinLimits};
 ghost use Rattle.fr_lines.specs.Requests.{make_edits, move_dest, new_network};
 ghost use Rattle.fr_graph.specs.declared.fault.EditFault.{EditFault};
-ghost use Rattle.fr_graph.specs.declared.fault.NetFault.TheVariants.{Memory};
+ghost use Rattle.fr_graph.specs.declared.fault.NetFault.TheVariants.{Memory, TooMany};
 ghost use Rattle.fr_route.specs.Answers.{IsAccepted};
 ghost use Rattle.revroute_c.specs.Lending.{held_by, IsNull};
 ghost use Rattle.revroute_c.specs.Records.{AreKnown, edit_of, link_of};
@@ -17,7 +18,7 @@ use crate::engine::Engine;
 use crate::handle::Handle;
 use crate::records::{Link, LinkEdit, Refusal, Round, edits_of, pairs_of, round_of};
 use crate::statuses::{ANSWERED, NO_MEMORY, NO_NETWORK, REFUSED};
-use fr_graph::{EditFault, MAX_EDITS, MAX_LINKS, Net, NetFault};
+use fr_graph::{EditFault, MAX_EDITS, MAX_LINKS, MAX_NODES, Net, NetFault};
 use fr_route::{Change, RouteFault, Router, fault_number};
 use std::alloc::Global;
 
@@ -32,7 +33,7 @@ fn step_of(walk: &[u32]) -> (u32, u32)
 }
 
 /// The nodes that a fault of links names.
-fn named_nodes(fault: &NetFault) -> (u32, u32)
+pub(crate) fn named_nodes(fault: &NetFault) -> (u32, u32)
     ensures { result ≡ nodes_named fault.now }
 {
     match fault {
@@ -55,7 +56,7 @@ fn edited_nodes(edit: LinkEdit, fault: &NetFault) -> (u32, u32)
 }
 
 /// The refusal for a fault at this place, with these nodes.
-fn refusal_for(at: usize, fault: &NetFault, nodes: (u32, u32)) -> Refusal
+pub(crate) fn refusal_for(at: usize, fault: &NetFault, nodes: (u32, u32)) -> Refusal
     ensures { result ≡ refusal_at at fault.now nodes }
 {
     Refusal {
@@ -66,14 +67,20 @@ fn refusal_for(at: usize, fault: &NetFault, nodes: (u32, u32)) -> Refusal
     }
 }
 
+/// Whether there are more nodes or links than a network may have. This needs no memory.
+pub(crate) fn is_too_large(nodes: u32, links: &[Link]) -> bool
+    ensures large { IsTrue result → IsTooLarge nodes (map link_of links.now) }
+    ensures small { ¬ IsTrue result → IsWithinLimits nodes (map link_of links.now) }
+{
+    nodes > MAX_NODES || links.len() > MAX_LINKS
+}
+
 /// The network with these links.
 pub(crate) fn network_of(alloc: Global, nodes: u32, links: &[Link]) -> Result<Net, NetFault>
     ensures ok { IfOk result (IsNetworkOf nodes (map link_of links.now)) }
     ensures refused { IfErr result (λ fault. fault ≢ Memory → IsFirstFault nodes (map link_of links.now) fault) }
+    ensures names { IfErr result (NamesFirst nodes (map link_of links.now)) }
 {
-    if links.len() > MAX_LINKS {
-        return Err(NetFault::TooMany);
-    }
     let pairs = pairs_of(alloc, links)?;
     Net::new(alloc, nodes, &pairs)
 }
@@ -104,6 +111,15 @@ impl<'a> NewNetwork<'a> {
             Err(RouteFault::Net(_) | RouteFault::Range | RouteFault::Start) => unreachable!(),
         }
     }
+}
+
+/// Refuses a network that is too large.
+pub(crate) fn refuse_size(refusal: &mut Refusal) -> u32
+    ensures status { result ≡ REFUSED }
+    ensures refused { refusal.new ≡ refusal_at 0 TooMany (0, 0) }
+{
+    *refusal = refusal_for(0, &NetFault::TooMany, (0, 0));
+    REFUSED
 }
 
 /// Replaces the network, and lists the nodes whose hop has changed.
@@ -166,7 +182,7 @@ pub(crate) fn edited(net: &Net, alloc: Global, edits: &[LinkEdit]) -> Result<Net
     ensures few { IfOk result (λ _. length edits.now ≤ most_edits) }
     ensures made { IfOk result (AreMade net.now (map edit_of edits.now)) }
     ensures refused { IfErr result (λ refused. refused.fault ≢ Memory
-        → IsBatchFault net.now (map edit_of edits.now) refused) }
+        → IsBatchFault net.now (map edit_of edits.now) refused × NamesInBatch net.now (map edit_of edits.now) refused) }
 {
     let made = edits_of(alloc, edits)?;
     net.with_edits(alloc, &made)
@@ -208,13 +224,14 @@ pub(crate) fn change_in(
         engine.old engine.new
         (round_outcome result round.old round.new refusal.old refusal.new) }
     ensures no_network { (result ≡ NO_NETWORK) ↔ (engine.old.session ≡ None) }
+    ensures no_memory { result ≡ NO_MEMORY → length edits.now ≤ most_edits }
     ensures status { (result ≡ ANSWERED) ⊎ (result ≡ NO_MEMORY) ⊎ (result ≡ NO_NETWORK) ⊎ (result ≡ REFUSED) }
 {
     if engine.session().router().is_none() {
         return NO_NETWORK;
     }
     if edits.len() > MAX_EDITS {
-        *refusal = refusal_for(edits.len(), &NetFault::TooMany, (0, 0));
+        *refusal = refusal_for(MAX_EDITS, &NetFault::TooMany, (0, 0));
         return REFUSED;
     }
     let Ok(made) = edits_of(alloc, edits) else {
@@ -245,19 +262,22 @@ pub(crate) fn move_dest_in(
     ensures begins { BeginsRound (move_dest dest) (IsMoveRefused engine.old.session dest) engine.old engine.new
         (round_outcome result round.old round.new refusal.old refusal.new) }
     ensures no_network { (result ≡ NO_NETWORK) ↔ (engine.old.session ≡ None) }
+    ensures no_memory { result ≡ NO_MEMORY → IfSome engine.old.session (λ s. dest < s.nodes) }
     ensures status { (result ≡ ANSWERED) ⊎ (result ≡ NO_MEMORY) ⊎ (result ≡ NO_NETWORK) ⊎ (result ≡ REFUSED) }
 {
+    let Some(router) = engine.session().router() else {
+        return NO_NETWORK;
+    };
+    if dest >= router.net().nodes() {
+        *refusal = refusal_for(0, &NetFault::Range(dest), (dest, dest));
+        return REFUSED;
+    }
     match engine.published.change(alloc, Change::Destination { dest }) {
-        None => NO_NETWORK,
         Some(Ok(report)) => {
             *round = round_of(report);
             ANSWERED
         }
-        Some(Err(RouteFault::Range)) => {
-            *refusal = refusal_for(0, &NetFault::Range(dest), (dest, dest));
-            REFUSED
-        }
         Some(Err(RouteFault::Memory)) => NO_MEMORY,
-        Some(Err(RouteFault::Net(_) | RouteFault::Start)) => unreachable!(),
+        None | Some(Err(RouteFault::Net(_) | RouteFault::Range | RouteFault::Start)) => unreachable!(),
     }
 }

@@ -68,6 +68,21 @@ class TestController(unittest.TestCase):
             self.assertEqual([routers.hops[it] for it in range(SIDE * SIDE)], [network.next_hop(it) for it in range(SIDE * SIDE)])
             self.assertGreater(routers.pushed, 50)
 
+    def test_a_link_that_comes_back_at_once(self):
+        """No hop of the network differs then, but the router has lost its route."""
+        network, pushed = Network(3, 0, [(1, 0), (2, 1)]), []
+        controller = Controller(network, lambda *push: pushed.append(push) or True)
+        controller.update()
+        self.assertEqual(pushed, [(0, NoHop.HERE), (1, 0), (2, 1)])
+        controller.down(1, 0)
+        controller.up(1, 0)
+        controller.update()
+        self.assertEqual(pushed[3:], [(1, 0)])
+        network.batch([("cut", 1, 0), ("join", 1, 0)])
+        self.assertEqual((network.changed(), network.pushes(controller.table)), ([], []))
+        del controller.table[1]
+        self.assertEqual(network.pushes(controller.table), [(1, 0)])
+
     def event(self, routers, controller, down):
         """A late push arrives, a link comes back, or one fails."""
         kind = routers.draw.randrange(3)

@@ -149,6 +149,21 @@ class MemoryTest(unittest.TestCase):
         network.close()
         self.assertEqual(ctypes.c_long.in_dll(library, "refusing_held").value, 0)
 
+    def test_there_is_no_push_order_without_memory(self):
+        left = ctypes.c_long.in_dll(library, "refusing_left")
+        found, number = None, 0
+        while found is None:
+            number += 1
+            left.value = number
+            try:
+                found = revroute.push_order([revroute.NoHop.HERE, 2], [None, 2, 0])
+            except MemoryError:
+                self.assertEqual(left.value, 0)
+            left.value = 0
+        self.assertEqual(found, [(0, revroute.NoHop.CUT_OFF), (2, 0)])
+        self.assertGreater(number, 1)
+        self.assertEqual(ctypes.c_long.in_dll(library, "refusing_held").value, 0)
+
     def test_pushes_without_memory_change_nothing(self):
         left = ctypes.c_long.in_dll(library, "refusing_left")
         with revroute.Network(4, 0, [(0, 1), (1, 2), (2, 3)]) as network:

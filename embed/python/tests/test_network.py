@@ -258,6 +258,7 @@ class NetworkTests(unittest.TestCase):
                 (lambda: network.cut(number, 1), (number, 1), 0),
                 (lambda: network.cut(-7, number), (-7, number), 0),
                 (lambda: network.batch([("join", 2, 0), ("add", number, -7)]), (number,), 1),
+                (lambda: network.batch([("cut", 0, number)] * 1030), (), 1024),
                 (lambda: network.move_dest(number), (number,), 0),
                 (lambda: Network(3, number), (number,), 0),
                 (lambda: Network(3, -7, [(0, 1), (number, 2)]), (number,), 0),
@@ -573,10 +574,25 @@ class NetworkTests(unittest.TestCase):
             links = network.to_networkx()
             self.assertTrue(networkx.is_directed_acyclic_graph(links))
             self.assertEqual({*map(frozenset, links.edges)}, {*map(frozenset, graph.edges)})
-            self.assertEqual([*links], [*graph])
+            # the nodes by their steps from the destination, and then by their order in the graph
+            steps = networkx.single_source_shortest_path_length(graph, "node 3")
+            self.assertEqual([*links], sorted(graph, key=lambda node: steps.get(node, 40)))
+            self.assertEqual({node: len(network.walk(node)) - 1 for node in near}, dict(steps))
         edges = networkx.DiGraph([("b", "a"), ("c", "b")])
         self.assertEqual(Network.from_networkx(edges, "a").walk("c"), ["c", "b", "a"])
-        self.assertRaises(Refused, Network.from_networkx, networkx.DiGraph([(1, 2), (2, 1)]), 1)
+        both, parallel = networkx.DiGraph([(1, 2), (2, 1)]), networkx.MultiGraph([(1, 2), (1, 2), (2, 3)])
+        for doubled in (both, parallel, networkx.MultiDiGraph(both)):
+            with self.assertRaises(Refused) as met:
+                Network.from_networkx(doubled, 1)
+            self.assertEqual((met.exception.number, {*met.exception.nodes}), (6, {1, 2}))
+            self.assertIn("networkx.Graph(graph) merges them", str(met.exception))
+            self.assertEqual(Network.from_networkx(networkx.Graph(doubled), 1).walk(2), [2, 1])
+        self.assertEqual(Network.from_networkx(networkx.MultiGraph([(1, 2), (2, 3)]), 1).walk(3), [3, 2, 1])
+        # links that point away are steps too: node 0 is nearer than node 9, which points to it
+        away = networkx.DiGraph([(9, 0), (5, 0)])
+        self.assertEqual([*Network.from_networkx(away, 5).to_networkx()], [5, 0, 9])
+        weighted = networkx.Graph([("b", "a", {"weight": 9}), ("c", "a", {"weight": 1}), ("c", "b", {"weight": 1})])
+        self.assertEqual(Network.from_networkx(weighted, "a").walk("b"), ["b", "a"])
         with self.assertRaises(KeyError) as met:
             Network.from_networkx(edges, "d")
         self.assertEqual(str(met.exception), "there is no node 'd' in the network")

@@ -133,9 +133,9 @@ pub fn filled<T: Copy + Default>(
 }
 
 /// The same, with room for `room` elements in the first call.
-fn filled_with<T: Copy + Default>(
+pub fn filled_with<T: Copy + Default>(
     room: usize,
-    fill: impl Fn(*mut T, usize, *mut usize) -> u32,
+    mut fill: impl FnMut(*mut T, usize, *mut usize) -> u32,
 ) -> Result<Option<Vec<T>>, NoMemory> {
     let mut found = listed((0..room).map(|_| T::default()))?;
     loop {

@@ -24,10 +24,10 @@ impl Hop {
         }
     }
 
-    /// The number that the library uses for the hop.
+    /// The number that the library uses for the hop. A number that is too great for a node stays too great for one.
     pub(crate) fn value(self) -> u32 {
         match self {
-            Hop::To(node) => node,
+            Hop::To(node) => node.min(sys::NO_HOP),
             Hop::Here => sys::HERE,
             Hop::CutOff => sys::CUT_OFF,
         }

@@ -1,10 +1,10 @@
-//! Why a network or a change is refused.
+//! Why a network, a change or a table is refused.
 
 use crate::NoMemory;
 use std::error::Error;
 use std::fmt;
 
-/// Why a network or a change is refused, with the nodes that show it. Nothing has changed.
+/// Why a network, a change or a table is refused, with the nodes that show it. Nothing has changed.
 #[derive(Debug, Clone, PartialEq, Eq)]
 #[non_exhaustive]
 pub enum Refused {
@@ -17,11 +17,11 @@ pub enum Refused {
     SelfLink(u32),
     /// More than one link would connect these two nodes.
     Twice(u32, u32),
-    /// The links would contain this cycle. The first node comes again at the end.
+    /// The links would contain this cycle, or the new table contains it. The first node comes again at the end.
     ClosedWalk(Vec<u32>),
     /// No link connects these two nodes.
     NoLink(u32, u32),
-    /// There would be more than 4,096 nodes, 32,768 links or 1,024 edits.
+    /// There would be more than 4,096 nodes, 32,768 links or 1,024 edits, or a table has more than 4,096 hops.
     TooMany,
 }
 
@@ -55,8 +55,8 @@ impl From<NoMemory> for Refused {
 /// Why a batch is refused. Nothing has changed.
 #[derive(Debug, Clone, PartialEq, Eq)]
 pub struct RefusedEdit {
-    /// The index of the first edit that cannot be made after those before it. If the reason is not a single edit
-    /// (there are too many, or memory ran out), it is the number of edits.
+    /// The index of the first edit that cannot be made after those before it. If there are too many edits, it is their
+    /// limit, 1,024. If memory ran out, it is the number of edits.
     pub at: usize,
     /// The reason.
     pub why: Refused,

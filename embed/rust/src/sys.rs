@@ -46,7 +46,8 @@ pub const NO_WALK: u32 = 7;
 pub const BEGUN: u32 = 8;
 /// The line is longer than the limit. Nothing was taken.
 pub const TOO_LONG: u32 = 9;
-// `NO_TABLE`, 10, is never returned: the crate checks a table before it passes it on.
+// `NO_TABLE`, 10, is never returned: the crate checks a table before it passes it on. Neither is `NULL_ARRAY`, 11: no
+// slice is null.
 
 /// In place of a next hop: the node is the destination.
 pub const HERE: u32 = 0xffff_ffff;
@@ -207,6 +208,17 @@ unsafe extern "C" {
         nodes: *mut u32,
         room: usize,
         length: *mut usize,
+    ) -> u32;
+
+    pub fn revroute_push_order(
+        old_hops: *const u32,
+        old_count: usize,
+        new_hops: *const u32,
+        new_count: usize,
+        nodes: *mut u32,
+        room: usize,
+        length: *mut usize,
+        refusal: *mut Refusal,
     ) -> u32;
 
     pub fn revroute_counts(

@@ -99,6 +99,24 @@ fn without_memory_pushes_change_nothing() -> Result<(), Refused> {
 }
 
 #[test]
+fn without_memory_there_is_no_push_order() {
+    let _held = COUNTER.lock().unwrap_or_else(PoisonError::into_inner);
+    let (old, new) = (
+        [Hop::Here, Hop::To(2)],
+        [Hop::CutOff, Hop::To(2), Hop::To(0)],
+    );
+    let mut number = 1;
+    let pushes = loop {
+        match poor(number, || revroute::push_order(&old, &new)) {
+            Err(Refused::NoMemory) => number += 1,
+            ended => break ended,
+        }
+    };
+    assert!(number > 1, "a push order takes memory");
+    assert_eq!(pushes, Ok(vec![(0, Hop::CutOff), (2, Hop::To(0))]));
+}
+
+#[test]
 fn without_memory_the_network_is_as_it_was() -> Result<(), Refused> {
     let _held = COUNTER.lock().unwrap_or_else(PoisonError::into_inner);
     let links = [(0, 1), (1, 2), (2, 3)];

@@ -350,7 +350,7 @@ fn a_batch_has_at_most_1024_edits() -> Result<(), Box<dyn Error>> {
     network.batch(&edits)?;
     let longer = [&edits[..], &[Edit::Cut(0, 1)]].concat();
     let refused = RefusedEdit {
-        at: 1025,
+        at: 1024,
         why: Refused::TooMany,
     };
     assert_eq!(network.batch(&longer), Err(refused));

@@ -43,6 +43,8 @@ gives a router its hop, and returns once the router has confirmed it:
 >>> network.pushes(table)
 []
 
+`push_order(old, new)` has the pushes from a table of your own to another one, whatever method made them.
+
 While one thread changes the network, other threads can read next hops. Give each of them a reader. It never waits for
 a change:
 
@@ -57,6 +59,7 @@ A `Session` answers lines of text, as the program `revroute run` does.
 from .network import Network, Refused
 from .reader import Reader, WalkTooLong
 from .session import AnswerLost, LineTooLong, NoHop, NoSuchNode, Report, Session, Size, version
+from .tables import push_order
 
 __version__ = version()
 __all__ = [
@@ -72,5 +75,6 @@ __all__ = [
     "Size",
     "WalkTooLong",
     "__version__",
+    "push_order",
     "version",
 ]

@@ -9,6 +9,7 @@ import ctypes
 from pathlib import Path
 from typing import Any
 
+# The last status of the header, NULL_ARRAY, is never returned: no argument here is null.
 ANSWERED, BLANK, TOO_SHORT, NO_MEMORY, NO_NETWORK, NO_ROUTE, REFUSED, NO_WALK, BEGUN, TOO_LONG, NO_TABLE = range(11)
 HERE, CUT_OFF, NO_SUCH_NODE, NO_HOP = range(0xFFFFFFFF, 0xFFFFFFFB, -1)
 CUT, ADD, JOIN = range(3)
@@ -64,6 +65,7 @@ _WORDS: dict[str, list[Any]] = {
     "hops": [_handle, _numbers, _size, _length],
     "changed": [_handle, _numbers, _size, _length],
     "pushes": [_handle, _given, _size, _numbers, _size, _length],
+    "push_order": [_given, _size, _given, _size, _numbers, _size, _length, ctypes.POINTER(Refusal)],
     "counts": [_handle, ctypes.POINTER(_wide), _size, _length],
     "links": [_handle, ctypes.POINTER(Link), _size, _length],
     "walk": [_handle, _number, _numbers, _size, _length],

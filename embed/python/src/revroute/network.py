@@ -34,19 +34,20 @@ _REASONS = {
 
 
 class Refused(ValueError):
-    """A network or a change is refused. Nothing has changed.
+    """A network, a change or a table is refused. Nothing has changed.
 
     `number` says why, as in the answer `refused` of a session, and `nodes` has the nodes that show it:
 
     - 4: there is no such node. `nodes` has its name or number.
     - 5: a link would connect a node with itself. `nodes` has this node.
     - 6: more than one link would connect two nodes. `nodes` has both.
-    - 7: the links would contain a cycle. `nodes` has its nodes, with the first one again at the end.
+    - 7: the links would contain a cycle, or a new table contains one. `nodes` has its nodes, with the first one again
+      at the end.
     - 8: no link connects two nodes. `nodes` has both. If one of them does not exist, the text names it.
     - 9: there would be more nodes, links or edits than the limits. `nodes` is empty.
 
     `at` is the index of the first refused edit in a batch, counted from 0. If there are too many edits, it is their
-    number.
+    limit, 1,024.
 
     >>> network = Network(3, 0, [(1, 0), (2, 1)])
     >>> try:
@@ -135,17 +136,28 @@ class Network(Generic[Name]):
         The links of a directed graph point as its edges do. In an undirected graph each link points to the end that is
         fewer steps away from the destination. If both ends are equally far, it points to the one that comes first in
         the graph. Such links form no cycle.
+
+        Nodes are numbered by their steps from the destination, whichever way edges point, and then by their order in
+        the graph. A next hop has the lowest number, so in an undirected graph all routes have the fewest hops at first.
+
+        At most one link joins two nodes. So parallel edges of a multigraph, and edges of a directed graph both ways,
+        raise Refused with the number 6. Its text says how to merge them. Attributes of edges, as `weight`, are not
+        used.
         """
-        names = list(graph)
         if dest not in graph:
             raise NoSuchNode(dest)
-        place = {name: at for at, name in enumerate(names)}
+        steps = _steps(graph, dest)
+        names = sorted(graph, key=lambda name: steps.get(name, len(graph)))
         links = graph.edges()
         if not graph.is_directed():
-            steps = _steps(graph, dest)
-            rank = {name: (steps.get(name, len(names)), at) for name, at in place.items()}
-            links = [(u, v) if rank[u] > rank[v] else (v, u) for u, v in links]
-        return cls(len(names), dest, links, names=names)
+            place = {name: at for at, name in enumerate(names)}
+            links = [(u, v) if place[u] > place[v] else (v, u) for u, v in links]
+        try:
+            return cls(len(names), dest, links, names=names)
+        except Refused as refused:
+            if refused.number == _calls.TWICE:
+                refused.args = (f"{refused}: networkx.Graph(graph) merges them into one edge without a direction",)
+            raise
 
     def to_networkx(self) -> networkx.DiGraph:
         """The links as they point now, as a directed networkx graph."""
@@ -404,11 +416,13 @@ def _clamped(number: int) -> int:
 
 
 def _steps(graph: Any, dest: Any) -> dict[Any, int]:
-    """How many steps each node is away from the destination. Only nodes that are connected with it are included."""
+    """How many steps each node is away from the destination, whichever way edges point. Only nodes that are connected
+    with it are included."""
+    ways = (graph.succ, graph.pred) if graph.is_directed() else (graph.adj,)
     steps, open_nodes = {dest: 0}, deque([dest])
     while open_nodes:
         node = open_nodes.popleft()
-        for other in graph[node]:
+        for other in (it for way in ways for it in way[node]):
             if other not in steps:
                 steps[other] = steps[node] + 1
                 open_nodes.append(other)

@@ -1,12 +1,15 @@
-use Rattle.fr_tables.proofs.Orders.{beginning_closed, ends_as_new, order_unique, waves_closed}
+use Rattle.fr_tables.proofs.Orders.{beginning_closed, between_closed, ends_as_new, groups_closed, order_unique}
 use Rattle.fr_tables.proofs.Existing.{order_exists}
 use Rattle.fr_tables.proofs.laws.order_law.Goals as goal
 
 pub returns-clause-beginnings : goal.returns-clause-beginnings
 returns-clause-beginnings c = beginning_closed
 
-pub returns-clause-waves : goal.returns-clause-waves
-returns-clause-waves c = waves_closed
+pub returns-clause-groups : goal.returns-clause-groups
+returns-clause-groups c = groups_closed
+
+pub returns-clause-between : goal.returns-clause-between
+returns-clause-between c = between_closed
 
 pub returns-clause-whole : goal.returns-clause-whole
 returns-clause-whole c = ends_as_new

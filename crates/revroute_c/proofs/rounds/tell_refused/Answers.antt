@@ -16,8 +16,9 @@ pub returns-in-Err : goal.returns-in-Err
 returns-in-Err c =
     let some : c.in-Err.field-0.fault ≢ Memory = search rules in
     record {
-      refused = λ _. edit_refused c.args.net.now c.args.edits.now c.in-Err.field-0 _ c.edited_nodes.result c.refusal_for.result
-          c.requires.few (c.in-Err.ensures.refused some) c.edited_nodes.ensures c.refusal_for.ensures;
+      refused = let why = c.in-Err.ensures.refused some in
+          λ _. edit_refused c.args.net.now c.args.edits.now c.in-Err.field-0 _ c.edited_nodes.result c.refusal_for.result
+          c.requires.few why.0 why.1 c.edited_nodes.ensures c.refusal_for.ensures;
       unrefused = λ other. absurd (other refl);
       status = inr refl;
     }

@@ -1,8 +1,9 @@
-use Rattle.std.proofs.Common.{◌≡◌, ◌≢◌, ◌∙◌, ◌<◌, List, ap, arith, length, refl, rules, subst, sym, vec_len, ℕ}
+use Rattle.std.proofs.Common.{◌≡◌, ◌≢◌, ◌∙◌, ◌<◌, ◌≤◌, List, ap, arith, length, refl, rules, subst, sym, vec_len, ℕ}
 use Rattle.std.proofs.lemmas.List.{with_items_is}
 use Rattle.std.proofs.lemmas.Result.{err_from_is_err_and}
 use Rattle.std.specs.Vec.{with_items}
 use Rattle.fr_graph.specs.Batches.{AreMade}
+use Rattle.fr_graph.specs.Limits.{most_edits}
 use Rattle.fr_graph.specs.Network.{Network}
 use Rattle.fr_crew.specs.Settlements.{HoldsSinks}
 use Rattle.fr_graph.specs.declared.fault.NotEdited.{NotEdited}
@@ -77,37 +78,38 @@ edit_if-requires g c = record {
   );
 }
 
-pub returns-in_err-make_room-clause-tried : goal.returns-in_err-make_room-clause-tried
-returns-in_err-make_room-clause-tried g c =
-    let p = err_from_is_err_and c.from_residual.result c.from_residual.ensures.1 in
-    rw (p.1, p.2) (record {
-      made = tt;
-      told_of = tt;
-      rerouted = tt;
-      fault = (0, tt);
-      unchanged = refl;
-      untold = c.make_room.ensures.same;
-      no_start = λ _ e. absurd cc;
-    })
-
 pub returns-in_err-movable-clause-tried : goal.returns-in_err-movable-clause-tried
 returns-in_err-movable-clause-tried g c =
-    let p = err_from_is_err_and c.from_residual-in_err-movable.result c.from_residual-in_err-movable.ensures.1 in
+    let p = err_from_is_err_and c.from_residual.result c.from_residual.ensures.1 in
     rw (p.1, p.2) (record {
       made = tt;
       told_of = tt;
       rerouted = tt;
       fault = (c.in_err-movable.field-0.0.at, c.in_err-movable.ensures.fault);
       unchanged = refl;
-      untold = c.make_room.ensures.same;
+      untold = refl;
       no_start = λ _. c.in_err-movable.ensures.no_start;
+    })
+
+pub returns-in_err-make_room-clause-tried : goal.returns-in_err-make_room-clause-tried
+returns-in_err-make_room-clause-tried g c =
+    let p = err_from_is_err_and c.from_residual-in_err-make_room.result c.from_residual-in_err-make_room.ensures.1 in
+    rw (p.1, p.2) (record {
+      made = tt;
+      told_of = tt;
+      rerouted = tt;
+      fault = (0, c.in_ok-movable.ensures.few);
+      unchanged = refl;
+      untold = c.make_room.ensures.same;
+      no_start = λ _ e. absurd cc;
     })
 
 -- why the edits are not made, or why there is no round on the network that they make
 not_made : (g : Over) (c : In_err-outcome g) → c.args.revision.now.dest < (state_of c.router.inside).nodes
+    → length c.args.revision.now.edits.now ≤ most_edits
     → state_of c.router.inside ≡ c.args.router.now
     → IsPlaced c.args.router.now c.args.revision.now.edits.now c.args.revision.now.dest (of_not_edited c.in_err-outcome.field-0.0)
-not_made g c below same =
+not_made g c below few same =
     let s : State = state_of c.router.inside in
     let edits = c.args.revision.now.edits.now in
     let d = c.args.revision.now.dest in
@@ -115,7 +117,7 @@ not_made g c below same =
     let placed : (r : NotEdited RouteFault) → reason ≡ r → IsPlaced s edits d (of_not_edited r) =
     λ r. elim r as (λ (r : NotEdited RouteFault). c.in_err-outcome.field-0.0 ≡ r → IsPlaced s edits d (of_not_edited r)) [
       | Refused refused ↦ λ is.
-          refused_fault s edits d refused (rw is at c.in_err-outcome.ensures.refused)
+          refused_fault s edits d refused few (rw is at c.in_err-outcome.ensures.refused)
           (rw is at c.in_err-outcome.ensures.names)
       | Fault fault ↦ λ is.
           let why = rw is at c.in_err-outcome.ensures.refused in
@@ -135,7 +137,7 @@ returns-in_err-outcome-clause-tried g c =
       made = tt;
       told_of = tt;
       rerouted = tt;
-      fault = ((of_not_edited reason).at, not_made g at.In_err-outcome (in_range g at.After-router) (now_is g at.After-router));
+      fault = ((of_not_edited reason).at, not_made g at.In_err-outcome (in_range g at.After-router) c.in_ok-movable.ensures.few (now_is g at.After-router));
       unchanged = search rules;
       untold = c.make_room.ensures.same;
       no_start = search rules;
@@ -145,7 +147,7 @@ pub returns-in_err-outcome-clause-place : goal.returns-in_err-outcome-clause-pla
 returns-in_err-outcome-clause-place g c =
     let at = goal.at.returns-in_err-outcome-clause-place g c in
     let p = err_from_is_err_and c.from_residual-in_err-outcome.result c.from_residual-in_err-outcome.ensures.1 in
-    rw (p.1, p.2) (not_made g at.In_err-outcome (in_range g at.After-router) (now_is g at.After-router))
+    rw (p.1, p.2) (not_made g at.In_err-outcome (in_range g at.After-router) c.in_ok-movable.ensures.few (now_is g at.After-router))
 
 pub put_in_place-requires-clause-one_each : goal.put_in_place-requires-clause-one_each
 put_in_place-requires-clause-one_each g c =

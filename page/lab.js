@@ -1,0 +1,430 @@
+// The lab: each action is a request. The proved program answers all requests so far. Then the round is played.
+'use strict';
+const {by, NL, acts, keys, controlled, pane, camera, room} = viewer;
+const {
+  load,
+  stepsIn,
+  blockAt,
+  show,
+  showNothing,
+  play,
+  pick,
+  fit,
+  lookAs,
+  keepInSight,
+  moveNode,
+  keepPlaces,
+  placesOf
+} = viewer;
+const MOST_BYTES = 1 << 20, MOST_TEXT = MOST_BYTES.toLocaleString('en'), MOST_TIME = 20000, MOST_DRAWN = 256;
+
+// A text has requests, one a line. Blank lines and comments are none. One comment may say where nodes are: for the
+// place of a request from which on a network is laid out, the places of its nodes.
+const PLACES = '# places ';
+
+function placesIn(comment) {
+  const isPlace = at => Array.isArray(at) && at.length === 2 && at.every(Number.isFinite);
+  try {
+    const all = Object.entries(JSON.parse(comment.slice(PLACES.length)));
+    return Object.fromEntries(all.filter(([, nodes]) => Array.isArray(nodes) && nodes.every(isPlace)));
+  } catch { return {}; }
+}
+
+function readText(text) {
+  const all = text.split(NL), comment = all.findLast(line => line.startsWith(PLACES));
+  return {lines: all.filter(line => !/^[ \t\r]*(#|$)/.test(line)), places: comment ? placesIn(comment) : {}};
+}
+
+function textOf(lines, places) {
+  const comment = Object.keys(places).length ? [PLACES + JSON.stringify(places)] : [];
+  return [...lines, ...comment].map(line => line + NL).join('');
+}
+
+let {lines, places} = readText(JSON.parse(by('given').textContent));
+let queue = Promise.resolve(), fault = null, note = null;
+
+function tell(text) {
+  fault = text;
+  hint();
+}
+
+function hint() {
+  by('hint').className = fault ? 'no' : '';
+  by('hint').textContent = fault ? fault :
+      note                       ? note :
+      !viewer.blocks.length      ? 'Add a node, take a sample, or open a file of requests.' :
+      viewer.picked === null     ? 'Click a link to cut it, two nodes to join them, empty space to add a node.' :
+                                   'Node ' + viewer.picked + ' is chosen. Click another node to join the two.';
+  by('home').disabled = by('remove').disabled = viewer.picked === null;
+  by('undo').disabled = !lines.length && !replaced.length;
+}
+
+acts.shown = () => {
+  fault = null;
+  hint();
+};
+acts.pace = wait =>
+    blockAt(viewer.now) === viewer.blocks.length - 1 ? Math.min(wait, MOST_TIME / stepsIn(viewer.blocks.at(-1))) : wait;
+
+// Asks the server. The text of its answer, or null if there is none; then the hint says why.
+async function sent(task, body) {
+  if (new Blob([body]).size > MOST_BYTES)
+    return tell('The lab takes at most ' + MOST_TEXT + ' bytes of requests.'), null;
+  const how = {method: 'POST', headers: {'Content-Type': 'text/plain'}, body};
+  const reply = await fetch(task, how).catch(() => null), text = reply && await reply.text().catch(() => null);
+  if (text === null) return tell('The lab has ended. Save the requests, and start it again.'), null;
+  return reply.ok ? text : (tell(text), null);
+}
+
+// Has these requests answered. The first of them, which are kept, have their answers already. Returns whether they are.
+async function run(next, kept, where) {
+  const there = () => Object.fromEntries(Object.entries(where ?? places).filter(([at]) => at < next.length));
+  const text = await sent('run?from=' + kept, textOf(next, there()));
+  if (text === null) return false;
+  const isMore = kept === lines.length && next.length > kept;
+  lines = next;
+  places = there();
+  viewer.picked = note = null;
+  play(false);
+  load(kept, text);
+  if (!viewer.blocks.length) showNothing();
+  else if (!isMore) showLast();
+  else {
+    show(viewer.starts[kept]);
+    if (kept === viewer.blocks.length - 1 && viewer.steps - viewer.starts[kept] > 1) play(true);
+  }
+  return true;
+}
+
+// Shows the network as the last request leaves it, before its first push.
+function showLast(keep) {
+  const {own, round} = viewer.blocks.at(-1);
+  show(viewer.starts.at(-1) + (own && round.drawn ? round.turned : 0), keep);
+}
+
+const later = task => {
+  queue = queue.then(task);
+};
+const ask = (...request) => askLine(JSON.stringify(request));
+const askLine = line => later(() => run([...lines, line], lines.length));
+
+// What undo brings back where an action was more than one request: the requests before it, if they are this many now.
+const replaced = [];
+async function runAll(next, kept, where) {
+  const was = {lines, places, count: next.length};
+  if (await run(next, kept, where)) replaced.push(was);
+  hint();
+}
+
+async function takeBack() {
+  const was = replaced.at(-1);
+  if (was && was.count === lines.length) {
+    if (await run(was.lines, 0, was.places)) replaced.pop();
+    return hint();
+  }
+  if (!lines.length) return tell('There is nothing to undo.');
+  return run(lines.slice(0, -1), Math.max(0, lines.length - 2));
+}
+
+const undo = () => later(takeBack);
+
+function replace(text) {
+  const next = readText(text);
+  later(() => runAll(next.lines, 0, next.places));
+}
+
+// A click counts on the network as it is now: from an earlier line it goes to the last.
+function isEarlier() {
+  if (!viewer.blocks.length || blockAt(viewer.now) === viewer.blocks.length - 1) return false;
+  play(false);
+  showLast();
+  tell('This is the network after the last request. Click again.');
+  return true;
+}
+
+// The node that the keyboard is at, if it is at one.
+function nodeInFocus() {
+  const g = document.activeElement.closest('#net .node');
+  return g ? Number(g.dataset.node) : null;
+}
+
+function focusOn(node) {
+  if (!viewer.shown || !viewer.shown.spots[node]) return;
+  viewer.shown.spots[node].g.focus({preventScroll: true});
+  keepInSight(viewer.shown, node);
+}
+
+// A link that was cut cannot keep the focus. It goes to the node from which the keyboard came to the link.
+acts.link = (tail, head) => {
+  if (isEarlier()) return;
+  const node = near === head ? head : tail;
+  ask('cut', tail, head);
+  later(() => focusOn(node));
+};
+acts.node = node => {
+  if (viewer.picked === null || viewer.picked === node) return pick(node);
+  const first = viewer.picked;
+  if (!isEarlier()) ask('join', first, node);
+};
+
+// The node that an action is about: the chosen one, or the one that the keyboard is at.
+const nodeMeant = () => viewer.picked ?? nodeInFocus();
+
+function makeHome() {
+  const node = nodeMeant();
+  if (node === null) return tell('Choose a node first. It becomes the destination.');
+  if (!isEarlier()) ask('dest', node);
+}
+
+// The network as the last request leaves it, or null where none is drawn.
+function lastRound() {
+  const round = viewer.blocks.length ? viewer.blocks.at(-1).round : null;
+  return round && round.drawn ? round : null;
+}
+
+// A network with other nodes is a new one, with the links as they are now. The nodes stay where they are on the screen.
+async function remake({nodes, home, links, spots}, focus) {
+  const was = {...camera}, line = JSON.stringify(['net', nodes, home, links]);
+  if (!await run([...lines, line], lines.length, {...places, [lines.length]: spots.map(rounded)})) return;
+  if (viewer.shown) lookAs(was, viewer.shown);
+  focusOn(focus);
+}
+
+const rounded = at => at.map(side => Math.round(10 * side) / 10);
+
+function addNode(at) {
+  const round = lastRound();
+  if (!round && viewer.blocks.length && viewer.blocks.at(-1).round)
+    return tell('The lab draws at most ' + MOST_DRAWN + ' nodes.');
+  if (!round) return run([...lines, '["net",1,0,[]]'], lines.length);
+  const {nodes, home, links, view} = round;
+  if (nodes === MOST_DRAWN) return tell('The lab draws at most ' + MOST_DRAWN + ' nodes.');
+  return remake({nodes: nodes + 1, home, links, spots: [...view.place, at ?? freePlace(view)]}, nodes);
+}
+
+// Where a node is far from all others, of a few places in sight.
+function freePlace(view) {
+  const [wide, high] = room(), all = [];
+  for (let across = 1; across < 12; across++)
+    for (let down = 1; down < 12; down++) {
+      const at = [(across / 12 * wide - camera.x) / camera.scale, (down / 12 * high - camera.y) / camera.scale];
+      all.push([Math.min(120, ...view.place.map(([x, y]) => Math.hypot(x - at[0], y - at[1]))), at]);
+    }
+  return all.reduce((best, one) => one[0] > best[0] ? one : best)[1];
+}
+
+// The nodes above a node that is removed move down by one, so that of two nodes the same one stays the lower.
+async function removeNode(node) {
+  const {nodes, home, links, view} = lastRound();
+  if (node === home) return tell('The destination cannot be removed. First make another node the destination.');
+  const number = other => other > node ? other - 1 : other;
+  const left = links.filter(link => !link.includes(node)).map(link => link.map(number));
+  const spots = view.place.filter((_, other) => other !== node);
+  await remake({nodes: nodes - 1, home: number(home), links: left, spots}, number(home));
+  if (node < nodes - 1)
+    note = 'Nodes ' + (node + 1) + ' to ' + (nodes - 1) + ' are now ' + node + ' to ' + (nodes - 2) + '.';
+  hint();
+}
+
+function remove() {
+  const node = nodeMeant();
+  if (node === null) return tell('Choose a node first. It is removed.');
+  if (!isEarlier()) later(() => removeNode(node));
+}
+
+const add = at => {
+  if (!isEarlier()) later(() => addNode(at));
+};
+
+// A click beside all nodes and links lets the chosen node go, or else adds a node there.
+acts.empty = event => {
+  if (event.detail > 1) return;
+  if (viewer.picked !== null) return pick(viewer.picked);
+  const frame = pane.getBoundingClientRect();
+  add([(event.clientX - frame.left - camera.x) / camera.scale, (event.clientY - frame.top - camera.y) / camera.scale]);
+};
+
+// Where nodes are is kept for the request from which on the network is laid out so.
+acts.places = view => places[view.first] && places[view.first].length === view.nodes ? places[view.first] : null;
+acts.drag = (node, way) => moveNode(viewer.shown, node, way);
+acts.drop = () => {
+  keepPlaces(viewer.shown);
+  putPlaces({...places, [viewer.shown.first]: viewer.shown.place.map(rounded)});
+};
+
+function putPlaces(where) {
+  places = where;
+  later(() => sent('keep', textOf(lines, places)));
+}
+
+// Moves the node by the keyboard.
+function nudge(way) {
+  const node = nodeMeant();
+  if (node === null || !viewer.shown) return tell('Choose a node first. It is moved.');
+  moveNode(viewer.shown, node, way.map(side => side / camera.scale));
+  acts.drop();
+  keepInSight(viewer.shown, node);
+}
+
+function anew() {
+  const view = viewer.shown;
+  if (!view) return;
+  Object.assign(view, {plain: placesOf(view), isGiven: false, pane: null});
+  show(viewer.now);
+  fit();
+  const {[view.first]: _, ...others} = places;
+  putPlaces(others);
+}
+
+function focusNode(on) {
+  const round = viewer.blocks.length ? viewer.blocks[blockAt(viewer.now)].round : null;
+  if (!round || !round.drawn) return;
+  const node = nodeInFocus() ?? viewer.picked;
+  focusOn(node === null ? round.home : (node + on + round.nodes) % round.nodes);
+}
+
+// The links of the node that the keyboard was at last, one after another, or all links if it was at none.
+let near = null;
+function focusLink(on) {
+  near = nodeInFocus() ?? (document.activeElement.closest('#net .link') ? near : viewer.picked);
+  const links = [...by('net').querySelectorAll('.link[data-tail]')].filter(
+      g => !g.closest('.more') && (near === null || [g.dataset.tail, g.dataset.head].includes(String(near))));
+  if (!links.length) return;
+  const at = links.indexOf(document.activeElement), next = at < 0 ? 0 : at + on;
+  links[(next + links.length) % links.length].focus({preventScroll: true});
+}
+
+// The samples. A link leads from its tail to its head.
+const upTo = (count, item) => Array.from({length: count}, (_, at) => item(at));
+function gridLinks(wide, high) {
+  const isIn = (x, y) => x < wide && y < high, links = [];
+  for (let node = 0; node < wide * high; node++) {
+    const [x, y] = [node % wide, Math.floor(node / wide)];
+    if (isIn(x + 1, y)) links.push([node + 1, node]);
+    if (isIn(x, y + 1)) links.push([node + wide, node]);
+  }
+  return links;
+}
+
+// 4 cores; then in each of 4 parts 2 switches below the cores, and 2 below these. Edges 12 to 19 are at the bottom.
+function treeLinks() {
+  const parts = [0, 1, 2, 3], two = [0, 1];
+  return parts.flatMap(
+      part => two.flatMap(
+          a =>
+              [...two.map(core => [4 + 2 * part + a, 2 * a + core]),
+               ...two.map(edge => [12 + 2 * part + edge, 4 + 2 * part + a])]));
+}
+
+const net = (nodes, home, links) => [JSON.stringify(['net', nodes, home, links])];
+const samples = {
+  chain: () => net(8, 0, upTo(7, node => [node, node + 1])),
+  grid: () => net(16, 0, gridLinks(4, 4)),
+  ring: () =>
+      net(12, 0,
+          [
+            ...upTo(6, node => [node + 1, node]), [6, 7], ...upTo(4, at => [7 + at, 8 + at]), [11, 0], [4, 10], [8, 2],
+            [5, 11], [7, 1]
+          ]),
+  tree: () => net(20, 12, treeLinks()),
+  tour: () =>
+      ['["net",5,0,[[1,0],[2,0],[3,1],[3,2],[4,3]]]', '["walk",4]', '["cut",1,0]', '["links"]', '["walk",1]',
+       '["walk",4]', '["add",0,4]', '["add",4,0]', '["hops"]'],
+};
+
+function takeSample(name) {
+  later(() => {
+    const more = samples[name](), next = [...lines, ...more];
+    return more.length === 1 ? run(next, lines.length) : runAll(next, lines.length, places);
+  });
+}
+
+function save() {
+  const file = document.createElement('a');
+  file.href = URL.createObjectURL(new Blob([textOf(lines, places)], {type: 'text/plain'}));
+  file.download = 'requests.jsonl';
+  file.click();
+  setTimeout(() => URL.revokeObjectURL(file.href), 10000);
+}
+
+async function readFile() {
+  const [file] = by('file').files;
+  if (!file) return;
+  const decode = bytes => new TextDecoder('utf-8', {fatal: true, ignoreBOM: true}).decode(bytes);
+  const text = file.size <= MOST_BYTES && await file.arrayBuffer().then(decode).catch(() => null);
+  if (typeof text === 'string') by('text').value = text;
+  else {
+    by('reading').close('cancel');
+    tell(text === null ? 'The file is not UTF-8, or cannot be read.' : 'The file has over ' + MOST_TEXT + ' bytes.');
+  }
+}
+
+function openDialog(dialog) {
+  dialog.returnValue = '';
+  dialog.showModal();
+}
+
+function openText() {
+  by('file').value = '';
+  by('text').value = '';
+  openDialog(by('reading'));
+  by('text').focus();
+}
+
+const openSamples = () => openDialog(by('samples'));
+document.querySelector('aside').prepend(by('lab'));
+by('letters').parentNode.before(...by('labkeys').childNodes);
+by('labkeys').remove();
+Object.assign(keys, {
+  n: () => focusNode(1),
+  p: () => focusNode(-1),
+  l: () => focusLink(1),
+  k: () => focusLink(-1),
+  d: makeHome,
+  i: () => add(),
+  x: remove,
+  Delete: remove,
+  u: undo,
+  a: anew,
+  m: openSamples,
+  o: openText,
+  s: save,
+  '/': () => by('line').focus()
+});
+Object.assign(controlled, {
+  ArrowRight: () => nudge([20, 0]),
+  ArrowLeft: () => nudge([-20, 0]),
+  ArrowDown: () => nudge([0, 20]),
+  ArrowUp: () => nudge([0, -20])
+});
+const buttons = {
+  undo,
+  home: makeHome,
+  add: () => add(),
+  remove,
+  anew,
+  sample: openSamples,
+  open: openText,
+  save
+};
+for (const id in buttons) by(id).addEventListener('click', buttons[id]);
+by('ask').addEventListener('submit', event => {
+  event.preventDefault();
+  const line = by('line').value;
+  if (line.trim()) askLine(line);
+  by('line').value = '';
+});
+by('line').addEventListener('keydown', event => {
+  if (event.key === 'Escape') by('line').blur();
+});
+by('file').addEventListener('change', readFile);
+by('reading').addEventListener('close', () => {
+  if (by('reading').returnValue === 'read') replace(by('text').value);
+});
+by('samples').addEventListener('close', () => {
+  if (by('samples').returnValue in samples) takeSample(by('samples').returnValue);
+});
+setInterval(() => fetch('alive', {method: 'POST'}).catch(() => {}), 4000);
+addEventListener('pagehide', () => navigator.sendBeacon('closed'));
+if (viewer.blocks.length && !location.hash) showLast(true);
+hint();

@@ -1,0 +1,211 @@
+// The story of a page, read: its lines, their requests and answers, and what each round changed.
+
+const faults = {
+  1: 'the line is no JSON, or nests too deep',
+  2: 'the value is no request',
+  3: 'there is no network yet',
+  4: 'the end of a link is no node',
+  5: 'a link joins a node with itself',
+  6: 'two links join the same nodes',
+  7: 'the links contain a cycle',
+  8: 'there is no link between the two nodes',
+  9: 'more nodes, links or edits than the limits'
+};
+const roundLines = new Set(['turns', 'gone', 'new', 'counted', 'links', 'counts', 'hops', 'pushes']);
+const listed = (text, item) => text.split(' ').slice(1).map(item);
+const linkOf = word => word.split('>').map(Number);
+const hopIn = word => {
+  const [node, hop] = word.split(':');
+  return [Number(node), hop];
+};
+
+// How many items a line has after its first word.
+function itemsIn(line) {
+  let items = 0;
+  for (let at = line.indexOf(' '); at >= 0; at = line.indexOf(' ', at + 1)) items++;
+  return items;
+}
+
+const stepsOf = walk => new Set(walk.slice(1).map((node, at) => walk[at] + '>' + node));
+const short = text => text.length > 300 ? text.slice(0, 300) + ' ..' : text;
+
+// A number for two nodes, in either order.
+const WIDTH = 65536, keyOf = (a, b) => a < b ? a * WIDTH + b : b * WIDTH + a;
+
+// A round of the story. Its lines are read when they are needed: the story may have thousands of rounds.
+class Round {
+  constructor([nodes, home], before, block) {
+    Object.assign(this, {nodes, home, before, block, drawn: true, said: {}, view: null, kept: null});
+  }
+  get turns() { return this.listed ??= listed(this.said.turns, Number); }
+  get turned() { return itemsIn(this.said.turns); }
+  // All turns of the round, also those that the story leaves out.
+  get total() { return Number(this.block.answer.split(' ')[1]); }
+  get pushes() { return listed(this.said.pushes, word => hopIn(word)[0]); }
+  get pushed() { return itemsIn(this.said.pushes); }
+  get gone() { return listed(this.said.gone, linkOf); }
+  get fresh() { return listed(this.said.new, linkOf); }
+  get isWhole() { return this.said.links !== undefined; }
+  // The links, counts and hops after the round.
+  get links() { return settled(this).links; }
+  get counts() { return settled(this).counts; }
+  get hops() { return settled(this).hops; }
+  // The links before the round: a link points as it did if its ends turned equally often.
+  get first() { return this.links.map(([a, b]) => this.counts[a] === this.counts[b] ? [a, b] : [b, a]); }
+}
+
+// The states of the rounds that were needed last.
+const keeping = [], MOST_KEPT = 8;
+
+function keep(round, state) {
+  const sorted = [...state.links.values()].sort((a, b) => a[0] - b[0] || a[1] - b[1]);
+  round.kept = {links: sorted, counts: state.counts.slice(), hops: state.hops.slice()};
+  keeping.push(round);
+  if (keeping.length > MOST_KEPT) keeping.shift().kept = null;
+  return round.kept;
+}
+
+const byKey = links => new Map(links.map(link => [keyOf(...link), link]));
+
+// The state after a round: the last whole state before it, and what each round since then changed.
+function settled(round) {
+  if (round.kept) return round.kept;
+  const later = [];
+  let from = round;
+  for (; !from.kept && !from.isWhole; from = from.before) later.push(from);
+  const {links, counts, hops} = from.kept ?? wholeState(from),
+                        state = {links: byKey(links), counts: counts.slice(), hops: hops.slice()};
+  while (later.length) change(state, later.pop());
+  return keep(round, state);
+}
+
+const wholeState = ({said}) =>
+    ({links: listed(said.links, linkOf), counts: listed(said.counts, Number), hops: listed(said.hops, String)});
+
+function change(state, round) {
+  for (const link of round.gone) state.links.delete(keyOf(...link));
+  for (const link of round.fresh) state.links.set(keyOf(...link), link);
+  state.counts.fill(0);
+  for (const [node, count] of listed(round.said.counted, hopIn)) state.counts[node] = Number(count);
+  for (const [node, hop] of listed(round.said.pushes, hopIn)) state.hops[node] = hop;
+}
+
+// The story, read: a block for each line of the input; a round has what its block says, and a question the round before
+// it.
+function readStory(text, before) {
+  const blocks = [];
+  let block = null;
+  for (const line of text.split(NL)) {
+    const name = line.split(' ', 1)[0];
+    if (name === 'line') {
+      block = {line: Number(line.slice(5)), answer: null, round: before, own: false, asks: null};
+      blocks.push(block);
+    } else if (!block) continue;
+    else if (block.answer === null) block.answer = line;
+    else if (name === 'asks') block.asks = line.slice(5);
+    else if (name === 'cycle') block.walk = listed(line, Number);
+    else if (name === 'net') {
+      before = block.round = new Round(listed(line, Number), before, block);
+      block.own = true;
+    } else if (name === 'omitted') block.round.drawn = false;
+    else if (roundLines.has(name)) block.round.said[name] = line;
+  }
+  return blocks;
+}
+
+// Why a line was refused, in words: with its nodes if it is a single edit.
+function faultOf(block) {
+  if (!block.answer.startsWith('refused ')) return null;
+  const number = Number(block.answer.slice(8)), [name, ...words] = (block.asks || '').split(' '), [u, v] = words;
+  const nodes = block.round ? block.round.nodes : 0, gone = words.filter(word => Number(word) >= nodes);
+  const isEdit = ['add', 'cut', 'join'].includes(name);
+  if (name === 'batch' && number > 3) return 'in an edit: ' + faults[number];
+  if (number === 4 && name === 'net') return netFault(words);
+  if (number === 4 && gone.length) return (name === 'dest' ? 'the destination ' : '') + gone[0] + ' is no node';
+  if (number === 5 && isEdit) return 'the link joins node ' + u + ' with itself';
+  if (number === 6 && isEdit) return 'there is a link between ' + u + ' and ' + v;
+  if (number === 7 && isEdit) return 'the link would close a cycle';
+  if (number === 8 && isEdit) return 'there is no link between ' + u + ' and ' + v;
+  return faults[number] || 'refused';
+}
+
+function netFault([nodes, home, ...links]) {
+  if (nodes === '0') return 'there is no node';
+  const gone = links.flatMap(linkOf).find(node => node >= Number(nodes));
+  return gone === undefined ? 'the destination ' + home + ' is no node' : gone + ' is no node, and a link ends there';
+}
+
+// What a line asks, as a line, or why nobody knows: one that is no request has no words here.
+function requestOf(block) {
+  if (!block.asks) return block.answer === 'refused 1' ? 'no JSON' : 'no request';
+  const [name, ...words] = block.asks.split(' ');
+  if (name === 'net') return JSON.stringify([name, Number(words[0]), Number(words[1]), words.slice(2).map(linkOf)]);
+  return JSON.stringify(name === 'batch' ? [name, editsOf(words)] : [name, ...words.map(Number)]);
+}
+
+// The edits of a batch, each by a name and two numbers.
+function editsOf(words) {
+  const edits = [];
+  for (let place = 0; place < words.length; place += 3)
+    edits.push([words[place], Number(words[place + 1]), Number(words[place + 2])]);
+  return edits;
+}
+
+// The nodes from one to another along links, few as can be, or null where no links lead there.
+function pathOf(heads, start, end) {
+  const from = new Map([[start, null]]), open = [start];
+  for (const node of open) {
+    if (node === end) {
+      const path = [];
+      for (let at = end; at !== null; at = from.get(at)) path.unshift(at);
+      return path;
+    }
+    for (const head of heads.get(node) || [])
+      if (!from.has(head)) {
+        from.set(head, node);
+        open.push(head);
+      }
+  }
+  return null;
+}
+
+// Makes an edit among links, or answers the walk that it would close.
+function edit(heads, [name, u, v]) {
+  const put = (a, b) => {
+    heads.has(a) ? heads.get(a).add(b) : heads.set(a, new Set([b]));
+  };
+  if (name === 'cut') {
+    for (const [a, b] of [[u, v], [v, u]])
+      if (heads.has(a)) heads.get(a).delete(b);
+    return null;
+  }
+  const back = pathOf(heads, v, u);
+  if (!back) put(u, v);
+  else if (name === 'join') put(v, u);
+  else return [u, ...back];
+  return null;
+}
+
+// The walk that a refused line would have closed, by its nodes: along the links of its own network, if these are few,
+// or those on which its edits begin.
+function closedWalk(block) {
+  const words = block.asks.split(' '), heads = new Map();
+  const edits = words[0] === 'net' ? words.slice(3).map(word => ['add', ...linkOf(word)]) :
+                                     editsOf(words[0] === 'batch' ? words.slice(1) : words);
+  if (words[0] !== 'net') {
+    if (!block.round || !block.round.drawn) return null;
+    for (const [a, b] of block.round.links) heads.has(a) ? heads.get(a).add(b) : heads.set(a, new Set([b]));
+  }
+  if (edits.length > 4096) return null;
+  for (const one of edits) {
+    const walk = edit(heads, one);
+    if (walk) return walk;
+  }
+  return null;
+}
+
+// The closed walk of a line, if it has one: found once. The lab puts the one that the engine names into the story.
+function walkOf(block) {
+  if (block.walk === undefined) block.walk = block.answer === 'refused 7' && block.asks ? closedWalk(block) : null;
+  return block.walk || [];
+}

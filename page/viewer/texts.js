@@ -1,0 +1,122 @@
+// What is said of a step, and of a chosen node.
+
+const hopText = hop => hop === 'here' ? 'is the destination' : hop === 'cut' ? 'has no next hop' : 'sends to ' + hop;
+const hopName = hop => hop === 'here' ? 'destination' : hop === 'cut' ? 'none' : hop;
+const changeText = (node, old, next) => node + ' (' + hopName(old) + ARROW + hopName(next) + ')';
+
+// A turn, the end of the turns, or a push, in words; and what is pushed next.
+function roundText(round, turn, state) {
+  const {turned, total} = round,
+                 left = turned < total ? '. Turns ' + (turned + 1) + ' to ' + total + ' are not shown' : '';
+  if (!state.hops) return 'turn ' + turn + ' of ' + total + '. Node ' + state.sink + ' is a sink, and turns next.';
+  if (state.push) return pushText(round, state) + nextText(round, state.push);
+  return (total ? 'turn ' + total + ' of ' + total + ', the round has ended' + left + '.' : 'no node turns.') +
+      nextText(round, 0);
+}
+
+function pushText(round, {push, node, hops, loop}) {
+  const gone = node < round.nodes ? '' : ', which is gone,', before = hopName(tableBefore(round)[node]);
+  const order = isRising() ? ', by rising number' : '';
+  return 'push ' + push + ' of ' + round.pushed + order + '. Node ' + node + gone + ' now ' + hopText(hops[node]) +
+      ' (before: ' + before + '). ' +
+      (loop.length ? 'A loop is in the tables: ' + loop.join(' ') + '.' : 'No loop is in the tables.');
+}
+
+// The push after so many, where there is one.
+function nextText(round, pushed) {
+  const table = tableBefore(round), node = pushesOf(round)[pushed];
+  if (!table) return ' The hops before it are not known, so no push is shown.';
+  if (node === undefined) return '';
+  return ' Next push: node ' + changeText(node, table[node], hopAfter(round, node)) + '.';
+}
+
+function tellStep(block, turn, state, news) {
+  const round = block.round;
+  const refusal = faultOf(block);
+  by('say').textContent = 'Line ' + block.line + ': ' +
+      (refusal          ? 'refused: ' + refusal + '. Nothing has changed.' :
+           !block.own   ? 'a question; the network stays as it was.' :
+           !round.drawn ? 'only the answer is shown.' :
+                          roundText(round, turn, state));
+  const request = requestOf(block), walk = walkOf(block);
+  by('request').textContent = short(request);
+  mark(by('request'), {'data-request': request});
+  by('answer').textContent = block.answer;
+  by('more').textContent =
+      (refusal ? 'Refused: ' + refusal + '.' : '') + (walk.length ? ' The cycle: ' + walk.join(' ') + '.' : '');
+  mark(by('more'), {'data-closed': walk.length ? walk.join(' ') : null});
+  const change = node => changeText(node, round.before.hops[node], round.hops[node]);
+  by('changed').textContent =
+      news.length ? 'Next hops that the round changed, in push order: ' + news.map(change).join(', ') + '.' : '';
+  mark(by('changed'), {'data-changed': news.join(' ')});
+  by('at').textContent = (now + 1) + ' / ' + steps;
+  by('slide').value = now;
+  by('slide').setAttribute('aria-valuetext', by('say').textContent);
+  const count = (number, name) => number.toLocaleString('en') + ' ' + name + (number === 1 ? '' : 's');
+  by('title').textContent = !round ? 'No network yet' :
+                                     count(round.nodes, 'node') +
+          (round.drawn ? ', ' + count(round.links.length, 'link') : '') + ', destination ' + round.home;
+  document.title = 'revroute: ' + by('title').textContent;
+}
+
+// How often a node has turned, at each step of the whole page: the steps at which this changes.
+function chartOf(node) {
+  const points = [[0, 0]], word = ' ' + node;
+  let most = 1, count = 0;
+  const put = (step, value) => {
+    if (value !== count) points.push([step, value]);
+    count = value;
+  };
+  blocks.forEach(({own, round}, at) => {
+    if (!own) return;
+    put(starts[at], 0);
+    if (!round.drawn || !round.said.turns.includes(word)) return;
+    listed(round.said.turns, Number).forEach((turned, turn) => {
+      if (turned === node) put(starts[at] + turn + 1, count + 1);
+    });
+    most = Math.max(most, count);
+  });
+  return {node, most, points: [...points, [steps, count]]};
+}
+
+let chart = null;
+
+function drawChart(node) {
+  if (!chart || chart.node !== node) chart = chartOf(node);
+  const {points, most} = chart, svg = by('chart'), wide = 280, high = 70;
+  const x = step => (4 + (wide - 8) * step / Math.max(1, steps)).toFixed(1),
+        y = value => (high - 8 - (high - 24) * value / most).toFixed(1);
+  // One value for each half of a pixel, the greatest, is all that can be seen.
+  const seen = new Map();
+  for (const [step, value] of points) {
+    const place = Math.round(2 * x(step)) / 2;
+    seen.set(place, Math.max(value, seen.get(place) ?? 0));
+  }
+  svg.replaceChildren();
+  mark(svg, {
+    viewBox: '0 0 ' + wide + ' ' + high,
+    'aria-label': 'The count of node ' + node + ' over all steps; at most ' + most
+  });
+  make(
+      svg, 'path',
+      {d: 'M' + [...seen].map(([place, value], at) => (at ? 'H' + place + 'V' : place + ' ') + y(value)).join('')});
+  make(svg, 'line', {x1: x(now), x2: x(now), y1: 10, y2: high - 6});
+  make(svg, 'text', {x: 4, y: 10}).textContent = 'count of node ' + node + ', at most ' + most;
+  svg.removeAttribute('hidden');
+}
+
+function tellNode(round, state) {
+  const known = state && picked !== null && picked < round.nodes;
+  by('picked').textContent = known ? 'Node ' + picked + (picked === round.home ? ', the destination' : '') +
+          ': turned ' + state.counts[picked] + ' in this round.' :
+      isLab ? '' :
+              'Choose a node to see its route and its count over time.';
+  const route = known && state.hops ? routeOf(state.hops, picked) : null;
+  const text = !known ? '' :
+      !route          ? 'It has a route once the round has ended.' :
+                        'walk ' + route.join(' ') + (state.hops[route.at(-1)] === 'cut' ? ' cut' : '');
+  by('route').textContent = text;
+  mark(by('route'), {'data-route': route ? text : null});
+  if (known) drawChart(picked);
+  else by('chart').setAttribute('hidden', '');
+}
