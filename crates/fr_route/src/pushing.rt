@@ -1,6 +1,6 @@
 //! The answers to requests for the pushes between two tables of hops.
 
-ghost use Rattle.std.specs.Prelude.{◌≡◌, ℕ, List, Option, None, Some, IfErr, IfOk, string_bytes};
+ghost use Rattle.std.specs.Prelude.{◌≡◌, ℕ, ◌<◌, ◌++◌, ◌∷◌, [], List, Option, None, Some, IfErr, IfOk, length, slice_index, string_bytes};
 ghost use Rattle.fr_lines.specs.Requests.{order_pushes};
 ghost use Rattle.fr_route.specs.Pushing.{IsTablesFault, changes_of};
 ghost use Rattle.fr_route.specs.Replies.{IsFromReply, IsStillReply, RefusesBy, pushes_in as text_of_pushes};
@@ -93,12 +93,20 @@ fn refuse_tables(
 {
     match fault {
         TableFault::Range(x) => refuse(alloc, manner, Reason::NoNode, &[x], None),
-        TableFault::Loop(mut nodes) => {
-            // Each cycle names its first node again.
-            let first = nodes[0];
-            nodes.push(first)?;
+        TableFault::Loop(nodes) => {
+            let nodes = closed(nodes)?;
             refuse(alloc, manner, Reason::Cycle, &nodes, None)
         }
         TableFault::Length | TableFault::Memory => Err(AnswerFault::Memory),
     }
+}
+
+/// A loop with its first node again at its end, as all cycles are named.
+fn closed(mut nodes: Vec<u32>) -> Result<Vec<u32>, AllocError>
+    requires { 0 < length nodes.items }
+    ensures { IfOk result (λ named. named.items ≡ nodes.items ++ slice_index nodes.items 0 ∷ []) }
+{
+    let first = nodes[0];
+    nodes.push(first)?;
+    Ok(nodes)
 }
