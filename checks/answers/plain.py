@@ -240,10 +240,12 @@ def route(table, x):
 
 
 def pushes(old, new):
-    """The numbers at which two tables differ, each with its new hop, by wave, and within a wave by number."""
+    """The numbers at which two tables differ, each with its new hop: first those with a route in the new table, by wave
+    and then by number, and after them the others, likewise."""
     differ = {x for x in {*old, *new} if old.get(x, CUT) != new.get(x, CUT)}
+    lost = {x for x in differ if new.get(route(new, x)[-1], CUT) != HERE}
     wave = {x: len(differ.intersection(route(new, x))) for x in differ}
-    return [[x, new.get(x, CUT)] for x in sorted(differ, key=lambda x: (wave[x], x))]
+    return [[x, new.get(x, CUT)] for x in sorted(differ, key=lambda x: (x in lost, wave[x], x))]
 
 
 def lowest_loop(table):

@@ -116,16 +116,18 @@ class Network:
 
 
 def push_order(old, new):
-    """The nodes at which two tables differ, by how many of them are on the new route of each, and then by number."""
-    wave = {}
+    """The nodes at which two tables differ: first those that the new table leads to the destination, and then the others. Both are sorted by how many
+    differing nodes are on the new route of each, and then by number."""
+    place = {}
     for start in range(len(new)):
         walk = [start]
-        while walk[-1] not in wave and new[walk[-1]].isdigit():
+        while walk[-1] not in place and new[walk[-1]].isdigit():
             walk.append(int(new[walk[-1]]))
         for node in reversed(walk):
-            if node not in wave:
-                wave[node] = (old[node] != new[node]) + (wave[int(new[node])] if new[node].isdigit() else 0)
-    return sorted((node for node in wave if old[node] != new[node]), key=lambda node: (wave[node], node))
+            if node not in place:
+                lost, wave = place[int(new[node])] if new[node].isdigit() else (new[node] != 'here', 0)
+                place[node] = lost, wave + (old[node] != new[node])
+    return sorted((node for node in place if old[node] != new[node]), key=lambda node: (place[node], node))
 
 
 def padded(table, nodes):

@@ -218,7 +218,7 @@ static inline const char *revroute_refusal_text(uint32_t number_) {
 }
 
 /* Why, and where. `number` is one of the reasons above, and `u` and `v` are the nodes that it names. `at` is the index
- * of the first refused edit, counted from 0. If there are too many edits, `at` is their limit, 1,024. For a network or
+ * of the first refused edit, counted from 0. If there are too many, `at` is the limit, 1,024 edits. For a network or
  * a destination it is 0. */
 typedef struct revroute_refusal {
     revroute_reason number;
@@ -313,7 +313,7 @@ uint32_t revroute_next_hop(revroute *session, uint32_t node);
 revroute_status revroute_hops(revroute *session, uint32_t *hops, size_t room, size_t *length);
 
 /* Writes the nodes whose next hop the last accepted round changed, in push order: each node after those of them on its
- * new route. Refused calls and questions do not change this list. O(r) for r of these nodes.
+ * new route, and nodes without a route last. Refused calls and questions do not change this list. O(r) for r of these nodes.
  *
  * A number that is not a node of the network before or after the round counts as cut off there, and before the first
  * network all numbers do. So if the new network is smaller, the nodes that are gone and had a hop are on the list.
@@ -321,11 +321,12 @@ revroute_status revroute_hops(revroute *session, uint32_t *hops, size_t room, si
 revroute_status revroute_changed(revroute *session, uint32_t *nodes, size_t room, size_t *length);
 
 /* Writes the nodes whose hop in the caller's table is not their next hop, in push order: each node after those of them
- * on its route. The table has `count` hops, one for each node in the order of the nodes, as revroute_hops writes
+ * on its route, and nodes without a route last. The table has `count` hops, one for each node in the order of the nodes, as revroute_hops writes
  * them: a node, REVROUTE_HERE or REVROUTE_CUT_OFF. It may contain loops.
  *
  * Give the table the next hops of these nodes, one after the other. At the end all its hops are next hops, and at no
- * moment does it contain a loop that it did not contain before.
+ * moment does it contain a loop that it did not contain before. A node that reaches the destination by the table before
+ * and after does so at every moment.
  *
  * REVROUTE_NO_TABLE if it does not have one hop for each node, or one of its hops names no node. REVROUTE_NO_MEMORY if
  * memory ran out. O(n). */
@@ -333,19 +334,20 @@ revroute_status revroute_pushes(revroute *session, const uint32_t *table, size_t
                                 size_t *length);
 
 /* Writes the nodes whose hop differs in two tables of your own, in push order: each node after those of them on its
- * walk in the new table. Any method may have made the tables: this call needs no session and no network. A table has
+ * walk in the new table, and nodes without a route last. Any method may have made the tables: this call needs no session and no network. A table has
  * hops as revroute_hops writes them. If one table is shorter, the nodes past its end are cut off in it.
  *
  * Give the old table the new hops of these nodes, one after the other. At the end it is the new table, and at no moment
- * does it contain a loop that it did not contain before. So the old table may contain loops, and the new one may not.
+ * does it contain a loop that it did not contain before. So the old table may contain loops, and the new one may not. A
+ * node that has a route in both tables has one at every moment.
  *
  * - REVROUTE_ANSWERED: the order is at the front of `nodes`, and *length is its length.
  * - REVROUTE_REFUSED: *refusal says why, and its `at` is 0. The first reason that holds is named:
  *   - REVROUTE_TOO_MANY: a table has more than 4,096 hops.
  *   - REVROUTE_RANGE: u is a number in a table that is no hop: neither a node, nor REVROUTE_HERE or REVROUTE_CUT_OFF.
  *     It is the first one in the old table, or else in the new one. The nodes are those of the longer table.
- *   - REVROUTE_CLOSED_WALK: the new table has a loop, and u sends on to v on it. The nodes of the loop are at the front
- *     of `nodes`, with the first one again at the end, and *length is their number.
+ *   - REVROUTE_CLOSED_WALK: the new table has a loop, and u sends on to v on it. u is the lowest node that is on a loop.
+ *     The nodes of its loop, from u on, are at the front of `nodes`, with u again at the end, and *length is their number.
  * - REVROUTE_TOO_SHORT: there is too little room for the order or for the loop.
  * - REVROUTE_NO_MEMORY: memory ran out.
  *
@@ -446,9 +448,9 @@ void revroute_reader_close(revroute_reader *reader);
 
 /* The version of this header. A program can compare it with the version of the library that it runs with. */
 #define REVROUTE_VERSION_MAJOR 0
-#define REVROUTE_VERSION_MINOR 2
+#define REVROUTE_VERSION_MINOR 3
 #define REVROUTE_VERSION_PATCH 0
-#define REVROUTE_VERSION "0.2.0"
+#define REVROUTE_VERSION "0.3.0"
 
 /* Writes the version of the library, in the form of REVROUTE_VERSION, to the front of the buffer `text`, which has
  * `room` bytes. REVROUTE_ANSWERED or REVROUTE_TOO_SHORT. In both cases *length is the length of the version. O(1). */

@@ -25,51 +25,38 @@ pub(crate) enum EditWord {
     Join,
 }
 
-impl Word {
-    /// The word in its quotes.
-    #[inline(always)]
-    fn quoted(self) -> &'static [u8]
-        ensures { result.now ≡ 34 ∷ (letters self ++ 34 ∷ []) }
-    {
-        match self {
-            Word::Network => b"\"net\"",
-            Word::Edit(EditWord::Cut) => b"\"cut\"",
-            Word::Edit(EditWord::Add) => b"\"add\"",
-            Word::Edit(EditWord::Join) => b"\"join\"",
-            Word::Batch => b"\"batch\"",
-            Word::Destination => b"\"dest\"",
-            Word::Walk => b"\"walk\"",
-            Word::Ask(Question::Links) => b"\"links\"",
-            Word::Ask(Question::Counts) => b"\"counts\"",
-            Word::Ask(Question::Hops) => b"\"hops\"",
-        }
-    }
-}
-
 /// The word at the start of the array at the front, and the text after it.
 #[inline(always)]
 pub(crate) fn opening_word(text: &[u8]) -> Option<(Word, &[u8])>
     ensures { IfSome result (λ next. Begins text.now (opening (letters next.0)) next.1.now) }
 {
-    let quoted = behind_space(behind_mark(b'[', text)?);
-    let word = word_like(quoted)?;
-    Some((word, quoted.strip_prefix(word.quoted())?))
+    let (word, rest) = word_at_front(behind_space(behind_mark(b'[', text)?))?;
+    Some((word, rest))
 }
 
-/// The only word that can begin as this text does. The other letters are not tested.
+/// The word in quotes at the front, and the text after its quotes. Each word is compared as a constant, which costs a
+/// few instructions. `strip_prefix` would call a function that compares texts of any length.
 #[inline(always)]
-fn word_like(quoted: &[u8]) -> Option<Word> {
-    match quoted {
-        [b'"', b'n', ..] => Some(Word::Network),
-        [b'"', b'c', b'u', ..] => Some(Word::Edit(EditWord::Cut)),
-        [b'"', b'a', ..] => Some(Word::Edit(EditWord::Add)),
-        [b'"', b'j', ..] => Some(Word::Edit(EditWord::Join)),
-        [b'"', b'b', ..] => Some(Word::Batch),
-        [b'"', b'd', ..] => Some(Word::Destination),
-        [b'"', b'w', ..] => Some(Word::Walk),
-        [b'"', b'l', ..] => Some(Word::Ask(Question::Links)),
-        [b'"', b'c', b'o', ..] => Some(Word::Ask(Question::Counts)),
-        [b'"', b'h', ..] => Some(Word::Ask(Question::Hops)),
+fn word_at_front(text: &[u8]) -> Option<(Word, &[u8])>
+    ensures { IfSome result (λ next. text.now ≡ (34 ∷ (letters next.0 ++ 34 ∷ [])) ++ next.1.now) }
+{
+    match text {
+        [b'"', b'w', b'a', b'l', b'k', b'"', rest @ ..] => Some((Word::Walk, rest)),
+        [b'"', b'c', b'u', b't', b'"', rest @ ..] => Some((Word::Edit(EditWord::Cut), rest)),
+        [b'"', b'a', b'd', b'd', b'"', rest @ ..] => Some((Word::Edit(EditWord::Add), rest)),
+        [b'"', b'j', b'o', b'i', b'n', b'"', rest @ ..] => Some((Word::Edit(EditWord::Join), rest)),
+        [b'"', b'd', b'e', b's', b't', b'"', rest @ ..] => Some((Word::Destination, rest)),
+        [b'"', b'h', b'o', b'p', b's', b'"', rest @ ..] => Some((Word::Ask(Question::Hops), rest)),
+        [b'"', b'l', b'i', b'n', b'k', b's', b'"', rest @ ..] => Some((
+            Word::Ask(Question::Links),
+            rest,
+        )),
+        [b'"', b'c', b'o', b'u', b'n', b't', b's', b'"', rest @ ..] => Some((
+            Word::Ask(Question::Counts),
+            rest,
+        )),
+        [b'"', b'b', b'a', b't', b'c', b'h', b'"', rest @ ..] => Some((Word::Batch, rest)),
+        [b'"', b'n', b'e', b't', b'"', rest @ ..] => Some((Word::Network, rest)),
         _ => None,
     }
 }

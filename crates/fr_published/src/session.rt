@@ -3,7 +3,7 @@
 ghost use Rattle.std.specs.Prelude.{◌≡◌, [], None, Some, IfOk, IfSome, OnErr};
 ghost use Rattle.fr_published.specs.Answers.{AnswersLine, MakesChange, PutsRouter};
 ghost use Rattle.fr_published.specs.Published.{HasHopsOf, published};
-ghost use Rattle.core.specs.Option.{option_map};
+ghost use Rattle.std.specs.Option.{option_map};
 ghost use Rattle.fr_shared.specs.Knowledge.{past_of};
 
 use crate::publishing::{opened, publish, replaced, session_law};

@@ -1,4 +1,5 @@
-//! The answers in JSON.
+//! The answers in JSON. The functions that other modules call are not inlined, so that answers in text do not pay for
+//! their local variables.
 
 ghost use Rattle.std.specs.Prelude.{◌≡◌, ◌≤◌, ◌++◌, ◌+◌, ◌*◌, length, slice_get};
 ghost use Rattle.std.specs.Prelude.{IfOk, OnOk, codes, decimal, string_bytes};
@@ -99,6 +100,7 @@ fn push_link(
 }
 
 /// `{"links":[[1,0],[2,1]]}`: the links, each from its tail to its head.
+#[inline(never)]
 pub(crate) fn links_object(alloc: Global, links: Links<'_>) -> Result<String, AllocError>
     ensures { IfOk result (λ line. string_bytes line ≡ links_json links.entry) }
 {
@@ -114,6 +116,7 @@ pub(crate) fn links_object(alloc: Global, links: Links<'_>) -> Result<String, Al
 }
 
 /// `{"counts":[0,1,2]}`: the count of each node.
+#[inline(never)]
 pub(crate) fn counts_object(alloc: Global, counts: &[u64]) -> Result<String, AllocError>
     ensures { IfOk result (λ line. string_bytes line ≡ counts_json counts.now) }
 {
@@ -130,6 +133,7 @@ pub(crate) fn counts_object(alloc: Global, counts: &[u64]) -> Result<String, All
 }
 
 /// `{"hops":["here",0,"cut"]}`: the hop of each node.
+#[inline(never)]
 pub(crate) fn hops_object(alloc: Global, hops: &[Hop]) -> Result<String, AllocError>
     ensures { IfOk result (λ line. string_bytes line ≡ hops_json hops.now) }
 {
@@ -146,6 +150,7 @@ pub(crate) fn hops_object(alloc: Global, hops: &[Hop]) -> Result<String, AllocEr
 }
 
 /// `{"walk":[3,2,1,0]}`: the nodes of a route.
+#[inline(never)]
 pub(crate) fn walk_object(alloc: Global, nodes: &[u32]) -> Result<String, AllocError>
     ensures { IfOk result (λ line. string_bytes line ≡ walk_json nodes.now) }
 {
@@ -156,6 +161,7 @@ pub(crate) fn walk_object(alloc: Global, nodes: &[u32]) -> Result<String, AllocE
 }
 
 /// The answer for a route from a node that is cut off.
+#[inline(never)]
 pub(crate) fn no_walk_object(alloc: Global) -> Result<String, AllocError>
     ensures { IfOk result (λ line. string_bytes line ≡ no_walk_json) }
 {
@@ -238,6 +244,7 @@ fn push_round(line: &mut String, report: Report, buffer: &mut Buffer) -> Result<
 
 /// Appends the report of a round, with the numbers whose hop has changed, and their hops in this table:
 /// `{"turned":1,"cut_off":0,"changed":[[3,2],[1,3]]}`.
+#[inline(never)]
 pub(crate) fn push_report_object(
     line: &mut String,
     report: Report,
@@ -258,6 +265,7 @@ pub(crate) fn push_report_object(
 
 /// The answer to a line that is refused: `{"refused":7,"fault":"cycle","nodes":[0,4,3,2,0],"line":12}`, with
 /// `"edit":1` before `"line"` for a batch.
+#[inline(never)]
 pub(crate) fn refusal_object(
     alloc: Global,
     refusal: &Refusal<'_>,

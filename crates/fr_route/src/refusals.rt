@@ -4,6 +4,7 @@ ghost use Rattle.std.specs.Prelude.{◌≡◌, IfNone, IfSome};
 ghost use Rattle.fr_route.specs.Json.{fault_name};
 ghost use Rattle.fr_route.specs.Answers.{fault_number as fault_number_of};
 ghost use Rattle.fr_route.specs.Refusals.{number_of};
+ghost use Rattle.fr_route.specs.Texts.{refusal_text};
 
 use fr_graph::NetFault;
 
@@ -61,6 +62,24 @@ impl Reason {
             Reason::Cycle => 7,
             Reason::NoLink => 8,
             Reason::TooMany => 9,
+        }
+    }
+
+    /// The answer as text to a line that is refused for this reason. These are constants because they are the answers
+    /// to most short lines.
+    pub(crate) fn answer(self) -> &'static str
+        ensures { result.now ≡ refusal_text (number_of self) }
+    {
+        match self {
+            Reason::NotJson => "refused 1",
+            Reason::NotRequest => "refused 2",
+            Reason::NoNetwork => "refused 3",
+            Reason::NoNode => "refused 4",
+            Reason::SelfLink => "refused 5",
+            Reason::Twice => "refused 6",
+            Reason::Cycle => "refused 7",
+            Reason::NoLink => "refused 8",
+            Reason::TooMany => "refused 9",
         }
     }
 

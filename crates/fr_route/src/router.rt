@@ -33,6 +33,9 @@ use std::mem;
 use std::sync::Wait;
 use std::thread::Threads;
 
+/// How many nodes of a route there is room for at first, so that the list of a short route never grows.
+const ROUTE_ROOM: usize = 16;
+
 /// A settled network: the links and counts after the last round, and the next hop of each node. The value in contracts
 /// is the state: the number of nodes, the destination, the links in order, and the counts.
 #[derive(Debug)]
@@ -567,7 +570,7 @@ impl Router {
         if self.next_hop(x) == Hop::CutOff {
             return Ok(Walked::CutOff);
         }
-        let mut route = Vec::new(alloc);
+        let mut route = Vec::with_capacity(alloc, ROUTE_ROOM)?;
         route.push(x)?;
         let mut at = x;
         'hops: while let Hop::To(next) = self.next_hop(at) {

@@ -415,6 +415,14 @@ impl Session {
     }
 }
 
+/// The parts of a request for a network.
+#[derive(Clone, Copy)]
+struct Parts<'a> {
+    nodes: u32,
+    dest: u32,
+    links: &'a [(u32, u32)],
+}
+
 /// The nodes that a new router reroutes when it replaces the one before it, if there was one, and if the caller asks for
 /// them.
 fn told_replaced(
@@ -560,12 +568,12 @@ impl<'a, F: Fn(&Net, u32, Option<&[u32]>, Turns) -> Result<Turns, CrewFault>> As
     {
         match request {
             Request::Network { nodes, dest, links } => {
-                match self.open_network(*nodes, *dest, links) {
-                    Ok(router) => {
-                        Ok(accepted(session.put(self.alloc, manner.form, router, told)?))
-                    }
-                    Err(fault) => refuse_for(self.alloc, manner, fault, &[*dest], None),
-                }
+                let parts = Parts {
+                    nodes: *nodes,
+                    dest: *dest,
+                    links,
+                };
+                self.reply_network(session, manner, parts, told)
             }
             Request::Cut { u, v } => {
                 self.reply_edit(session, manner, Edit::Cut { u: *u, v: *v }, told)
@@ -588,6 +596,29 @@ impl<'a, F: Fn(&Net, u32, Option<&[u32]>, Turns) -> Result<Turns, CrewFault>> As
                 table,
                 wanted: Some(wanted),
             } => pushes_between(self.alloc, manner, table, wanted),
+        }
+    }
+
+    /// The answer to a request for a network. It is not inlined, so that other requests do not pay for the router that
+    /// is a local variable here.
+    #[inline(never)]
+    fn reply_network(
+        &self,
+        session: &mut Session,
+        manner: Manner,
+        parts: Parts<'_>,
+        told: &mut Told,
+    ) -> Result<Answer, AnswerFault>
+        requires settles { Settles F.pre F.post self.now.settle.now }
+        requires lists { HasList manner.form told.old }
+        ensures { IsReplied (NeverStarts F.post self.now.settle.now) manner session.old
+            (Ok (new_network parts.entry.nodes parts.entry.dest parts.entry.links.now)) told.old result session.new
+            told.new }
+    {
+        let Parts { nodes, dest, links } = parts;
+        match self.open_network(nodes, dest, links) {
+            Ok(router) => Ok(accepted(session.put(self.alloc, manner.form, router, told)?)),
+            Err(fault) => refuse_for(self.alloc, manner, fault, &[dest], None),
         }
     }
 
@@ -634,6 +665,7 @@ impl<'a, F: Fn(&Net, u32, Option<&[u32]>, Turns) -> Result<Turns, CrewFault>> As
     }
 
     /// The answer to a batch of edits.
+    #[inline(never)]
     fn reply_batch(
         &self,
         session: &mut Session,
@@ -666,6 +698,7 @@ impl<'a, F: Fn(&Net, u32, Option<&[u32]>, Turns) -> Result<Turns, CrewFault>> As
     }
 
     /// The answer to a request to move the destination.
+    #[inline(never)]
     fn reply_move(
         &self,
         session: &mut Session,

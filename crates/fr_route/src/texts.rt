@@ -21,7 +21,9 @@ const NUMBER_ROOM: usize = 5;
 
 const _: () = prove!(MAX_NODES < 10_000);
 
-/// A line that begins with this word, with room for so many numbers and a line end after it.
+/// A line that begins with this word, with room for so many numbers and a line end after it. It is inlined, so that a
+/// word is copied as a constant.
+#[inline(always)]
 fn begun(alloc: Global, word: &str, numbers: usize) -> Result<String, AllocError>
     ensures { IfOk result (λ line. string_bytes line ≡ word.now) }
 {
@@ -31,8 +33,8 @@ fn begun(alloc: Global, word: &str, numbers: usize) -> Result<String, AllocError
     Ok(line)
 }
 
-/// Appends a text and a number. The buffer is for the digits, and is reused for each number. A number of one digit, as
-/// in a refusal, needs no buffer.
+/// Appends a text and a number. It is inlined, so that the text is copied as a constant.
+#[inline(always)]
 fn push_number(
     line: &mut String,
     before: &str,
@@ -43,20 +45,19 @@ fn push_number(
     ensures room { Fits line.old line.new result (length before.now + 20) }
 {
     line.push_str(before)?;
+    push_digits(line, number, buffer)
+}
+
+/// Appends a number. The buffer is for the digits, and is reused for each number. A number of one digit, as most counts
+/// are, needs no buffer.
+fn push_digits(line: &mut String, number: u64, buffer: &mut Buffer) -> Result<(), AllocError>
+    ensures text { OnOk result (string_bytes line.new ≡ string_bytes line.old ++ decimal number) }
+    ensures room { Fits line.old line.new result 20 }
+{
     if number < 10 {
         return line.push(char::from(b'0' + number as u8));
     }
     line.push_str(buffer.format(number))
-}
-
-/// Appends the number of nodes that are cut off, after its word. It does not call `push_number`: all callers of that
-/// function put one byte before the number, so it compiles to a store of that byte.
-fn push_cut(line: &mut String, cut: u64, buffer: &mut Buffer) -> Result<(), AllocError>
-    ensures text { OnOk result (string_bytes line.new ≡ string_bytes line.old ++ (codes " cut " ++ decimal cut)) }
-    ensures room { Fits line.old line.new result 25 }
-{
-    line.push_str(" cut ")?;
-    line.push_str(buffer.format(cut))
 }
 
 /// `links`, and then a space and `tail>head` for each link. Fails with `AllocError` if an allocation is refused. O(b)
@@ -161,19 +162,12 @@ pub(crate) fn push_report(line: &mut String, report: Report) -> Result<(), Alloc
     let mut buffer = Buffer::new();
     line.push_str("turned")?;
     push_number(line, " ", report.turned, &mut buffer)?;
-    push_cut(line, report.cut, &mut buffer)
+    push_number(line, " cut ", report.cut, &mut buffer)
 }
 
 /// The answer to a line that is refused.
 pub(crate) fn refusal_line(alloc: Global, refusal: Reason) -> Result<String, AllocError>
     ensures { IfOk result (λ line. string_bytes line ≡ refusal_text (number_of refusal)) }
 {
-    let mut line = begun(alloc, "refused", 1)?;
-    push_number(
-        &mut line,
-        " ",
-        u64::from(refusal.number()),
-        &mut Buffer::new(),
-    )?;
-    Ok(line)
+    begun(alloc, refusal.answer(), 1)
 }

@@ -8,9 +8,12 @@ use Rattle.std.proofs.lemmas.List.{length-map, length-replicate}
 use Rattle.std.proofs.lemmas.List.Elements.{All-append, All-cons, All-get_or, All-map, All-nil, All-replicate}
 use Rattle.std.proofs.lemmas.Option.{get_or_from_slice_get, none-some, slice_get_within}
 use Rattle.fr_shared.specs.Histories.{padded}
+use Rattle.fr_shared.proofs.Padding.{padded_length}
+use Rattle.fr_tables.specs.Faults.{AreTables}
 use Rattle.fr_tables.specs.Tables.{IsInRange, IsFirstOutside}
 use Rattle.fr_tables.specs.declared.hop.Hop.{Hop}
 use Rattle.fr_tables.specs.declared.hop.Hop.TheVariants.{Here, To, CutOff}
+use Rattle.revroute_c.specs.PushOrders.{AreInRange, hops_of, nodes_of}
 use Rattle.revroute_c.specs.Questions.{cut_off, here}
 use Rattle.revroute_c.specs.Tables.{hop_of, is_outside}
 
@@ -65,6 +68,19 @@ front_inside p xs ys none = by (find p xs) (find p ys) (sym (find-append p xs ys
     by : (a b : Option ℕ) → option_or a b ≡ None → (a ≡ None) × (b ≡ None)
     by None b is = (refl, is)
     by (Some x) b is = absurd (none-some x (sym is))
+
+-- two tables of numbers that name hops
+pub are_tables : (old new : List ℕ) → AreInRange old new → AreTables (hops_of (nodes_of old new) old) (hops_of (nodes_of old new) new)
+are_tables old new is =
+    let n : ℕ = nodes_of old new in
+    let none = front_inside (is_outside n) old new is.in_range in
+    let old_long : length (hops_of n old) ≡ n = padded_length n (map hop_of old) (omega (arith, length-map old hop_of)) in
+    let new_long : length (hops_of n new) ≡ n = padded_length n (map hop_of new) (omega (arith, length-map new hop_of)) in
+    record {
+      one_length = record { same = old_long ∙ sym new_long; few = omega (arith, new_long, is.few) };
+      old_range = padded_in_range n old (omega arith) none.0;
+      new_range = padded_in_range n new (omega arith) none.1;
+    }
 
 -- a table with a number for each node
 pub all_in_range : (n : ℕ) (numbers : List ℕ) → length numbers ≡ n → find (is_outside n) numbers ≡ None → IsInRange (map hop_of numbers)

@@ -3,7 +3,7 @@
 use Rattle.std.specs.Prelude.{◌≡◌, ◌≢◌, ℕ, ◌<◌, ◌≤◌, ◌⊎◌, ◌++◌, List, [], ◌∷◌, length, map, max, find, Some, None}
 use Rattle.fr_graph.specs.Limits.{most_nodes}
 use Rattle.fr_shared.specs.Histories.{padded}
-use Rattle.fr_tables.specs.Faults.{IsOnceRound, IsOrdered}
+use Rattle.fr_tables.specs.Faults.{IsLowestLoop, IsOrdered}
 use Rattle.fr_tables.specs.declared.hop.Hop.{Hop}
 use Rattle.revroute_c.specs.Replies.{IsGiven, IsLength, IsWritten, Outcome}
 use Rattle.revroute_c.specs.Rounds.{first_step}
@@ -29,12 +29,12 @@ pub record AreOrdered (old new nodes : List ℕ) : Type 0 where
   pub in_range : AreInRange old new
   pub order : IsOrdered (hops_of (nodes_of old new) old) (hops_of (nodes_of old new) new) nodes
 
--- the nodes of a loop of the new table, which visits no node twice, and then the first one again
+-- the loop of the lowest node on a loop of the new table, from this node on, and then this node again
 pub record IsLoopOfNew (old new nodes : List ℕ) : Type 0 where
   pub in_range : AreInRange old new
   pub first : ℕ
   pub rest : List ℕ
-  pub loop : IsOnceRound (hops_of (nodes_of old new) new) (first ∷ rest)
+  pub loop : IsLowestLoop (hops_of (nodes_of old new) new) (first ∷ rest)
   pub nodes_are : nodes ≡ (first ∷ rest) ++ first ∷ []
 
 -- the refusal for this reason, with these two nodes

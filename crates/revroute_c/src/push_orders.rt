@@ -56,6 +56,7 @@ impl<'a> Tables<'a> {
     }
 
     /// The push order.
+    #[tactic(auto, using(crate::proofs::InRange::are_tables))]
     fn order(&self, alloc: Global) -> Result<Vec<u32>, TableFault>
         requires { AreInRange self.now.old.now self.now.new.now }
         ensures order { IfOk result (λ order. IsOrdered (hops_of (nodes_of self.now.old.now self.now.new.now) self.now.old.now)

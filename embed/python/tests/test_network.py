@@ -103,15 +103,17 @@ class ByLines:
 
 
 def push_order(before, hops):
-    """The nodes whose hop differs. They are ordered by how many of them are on the node's route, itself included, and
-    then by number. A number that is not a node of one of the networks is cut off there."""
+    """The nodes whose hop differs: first those whose route leads to the destination, and then the others. Both are
+    ordered by how many of the nodes are on the node's route, itself included, and then by number. A number that is not
+    a node of one of the networks is cut off there."""
     nodes = range(max(len(before), len(hops)))
     old, new = ([*table, *[NoHop.CUT_OFF] * (len(nodes) - len(table))] for table in (before, hops))
 
-    def wave(x):
-        return (new[x] != old[x]) + (0 if isinstance(new[x], NoHop) else wave(new[x]))
+    def group(x):
+        lost, wave = (new[x] != NoHop.HERE, 0) if isinstance(new[x], NoHop) else group(new[x])
+        return lost, wave + (new[x] != old[x])
 
-    return sorted((x for x in nodes if new[x] != old[x]), key=lambda x: (wave(x), x))
+    return sorted((x for x in nodes if new[x] != old[x]), key=lambda x: (group(x), x))
 
 
 def drawn_table(draw, hops):

@@ -10,18 +10,20 @@ from revroute import Network, NoHop, NoSuchNode, Refused, push_order
 HERE, CUT_OFF = NoHop.HERE, NoHop.CUT_OFF
 
 
-def wave(old, new, node):
-    """How many nodes on the walk of a node in the new table have another hop in the old one, itself included."""
+def group(old, new, node):
+    """Whether the walk of a node in the new table misses the destination, and how many nodes on it have another hop in the
+    old table, the node itself included."""
     count = 0
     while not isinstance(node, NoHop):
         count += old[node] != new[node]
         node = new[node]
-    return count
+    return node is not HERE, count
 
 
 def order_of(old, new):
-    """The definition: the nodes whose hop differs, by wave, and within a wave by number."""
-    return sorted((x for x in range(len(new)) if old[x] != new[x]), key=lambda x: (wave(old, new, x), x))
+    """The definition: the nodes whose hop differs. Those with a route in the new table come first. Both parts are by wave,
+    and within a wave by number."""
+    return sorted((x for x in range(len(new)) if old[x] != new[x]), key=lambda x: (group(old, new, x), x))
 
 
 def has_loop(table):

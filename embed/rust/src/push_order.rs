@@ -4,11 +4,12 @@ use crate::engine::filled_with;
 use crate::{Hop, NoMemory, Refused, listed, sys};
 
 /// The nodes whose hop differs in two tables of your own, each with its hop in the new one. They are in push order: each
-/// node after those of them on its walk in the new table. `O(n)` for n nodes.
+/// node after those of them on its walk in the new table, and nodes without a route last. `O(n)` for n nodes.
 ///
 /// Any method may have made the tables: this needs no network. Give the old table these hops one after the other. At the
 /// end it is the new table, and at no moment does it have a loop that it did not have before. So the old table may have
-/// loops, and the new one may not. If one table is shorter, the nodes past its end are cut off in it.
+/// loops, and the new one may not. A node that has a route in both tables has one at every moment. If one table is
+/// shorter, the nodes past its end are cut off in it.
 ///
 /// ```
 /// use revroute::Hop::{CutOff, Here, To};
@@ -29,7 +30,8 @@ use crate::{Hop, NoMemory, Refused, listed, sys};
 /// - [`TooMany`](Refused::TooMany): a table has more than 4,096 hops.
 /// - [`NoSuchNode`](Refused::NoSuchNode): a hop names a number that is not a node of the longer table. It is the first
 ///   such hop in the old table, or else in the new one.
-/// - [`ClosedWalk`](Refused::ClosedWalk): the new table has this loop. The first node comes again at the end.
+/// - [`ClosedWalk`](Refused::ClosedWalk): the new table has this loop. It begins at the lowest node that is on a
+///   loop, which comes again at the end.
 /// - [`NoMemory`](Refused::NoMemory): memory ran out.
 pub fn push_order(old: &[Hop], new: &[Hop]) -> Result<Vec<(u32, Hop)>, Refused> {
     let (from, to) = (values(old)?, values(new)?);

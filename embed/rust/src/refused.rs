@@ -55,8 +55,8 @@ impl From<NoMemory> for Refused {
 /// Why a batch is refused. Nothing has changed.
 #[derive(Debug, Clone, PartialEq, Eq)]
 pub struct RefusedEdit {
-    /// The index of the first edit that cannot be made after those before it. If there are too many edits, it is their
-    /// limit, 1,024. If memory ran out, it is the number of edits.
+    /// The index of the first edit that cannot be made after those before it. If there are too many, it is the
+    /// limit, 1,024 edits. If memory ran out, it is the number of edits.
     pub at: usize,
     /// The reason.
     pub why: Refused,

@@ -85,6 +85,8 @@ fn a_loop_is_one_of_the_new_table() {
             Err(Refused::ClosedWalk(walk)) => {
                 met += 1;
                 assert!(walk.len() > 1 && walk.first() == walk.last());
+                let lowest = (0..length as u32).find(|&node| goes_round(&new, node));
+                assert_eq!(lowest, walk.first().copied());
                 assert!(walk.windows(2).all(|it| hop(&new, it[0]) == To(it[1])));
             }
             Err(other) => panic!("{other}"),

@@ -46,8 +46,8 @@ class Refused(ValueError):
     - 8: no link connects two nodes. `nodes` has both. If one of them does not exist, the text names it.
     - 9: there would be more nodes, links or edits than the limits. `nodes` is empty.
 
-    `at` is the index of the first refused edit in a batch, counted from 0. If there are too many edits, it is their
-    limit, 1,024.
+    `at` is the index of the first refused edit in a batch, counted from 0. If there are too many, it is the limit,
+    1,024 edits.
 
     >>> network = Network(3, 0, [(1, 0), (2, 1)])
     >>> try:

@@ -22,11 +22,11 @@ def push_order(
     new: Union[Mapping[Name, Union[Name, NoHop, None]], Sequence[Union[Name, NoHop, None]]],
 ) -> list[tuple[Name, Union[Name, NoHop]]]:
     """The nodes whose hop differs in two tables of your own, each with its hop in the new one. They are in push order:
-    each node after those of them on its walk in the new table.
+    each node after those of them on its walk in the new table, and nodes without a route last.
 
     Any method may have made the tables: this needs no network. Give the old table these hops one after the other. At
     the end it is the new table, and at no moment does it have a loop that it did not have before. So the old table may
-    have loops, and the new one may not.
+    have loops, and the new one may not. A node that has a route in both tables has one at every moment.
 
     >>> push_order([NoHop.HERE, 0, 1, None], [NoHop.HERE, 2, 3, 0])
     [(3, 0), (2, 3), (1, 2)]
@@ -42,7 +42,8 @@ def push_order(
 
     - Refused with number 9 if there are more than 4,096 nodes.
     - NoSuchNode if a hop of a table is not a node of one of the tables.
-    - Refused with number 7 if the new table has a loop. `nodes` has its nodes, with the first one again at the end.
+    - Refused with number 7 if the new table has a loop. `nodes` has the loop of the lowest node that is on one, from this
+      node on, with this node again at the end.
     - MemoryError if memory runs out.
 
     O(n) for n nodes.

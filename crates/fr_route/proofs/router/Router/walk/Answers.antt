@@ -9,7 +9,7 @@ use Rattle.fr_route.proofs.router.Router.walk.Goals as goal
 pub hops-init : goal.hops-init
 hops-init c =
     let open_hop : ¬ (c.next_hop.result ≡ CutOff) = search rules in
-    let items : c.push.new.self.items ≡ c.args.x ∷ [] = c.in_ok-push.ensures.items ∙ ap (λ l. l ++ c.args.x ∷ []) c.new-route.ensures.items in
+    let items : c.push.new.self.items ≡ c.args.x ∷ [] = c.in_ok-push.ensures.items ∙ ap (λ l. l ++ c.args.x ∷ []) c.in_ok-route.ensures.items in
     subst (HasWalked c.args.self.now c.args.x c.args.x) (sym items) (walk_begins c.args.self.now c.args.x c.next_hop.result c.next_hop.ensures open_hop)
 
 pub next_hop-requires-in-hops : goal.next_hop-requires-in-hops

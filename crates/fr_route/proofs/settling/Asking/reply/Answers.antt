@@ -1,15 +1,5 @@
-use Rattle.std.proofs.Common.{◌≡◌, ◌≤◌, Option, length, string_bytes, sym, None, refl, subst, [], ◌∷◌}
-use Rattle.fr_route.proofs.Replying.{done, faulty, new_refusal, new_text, still, walk_tells, ask_tells}
 use Rattle.std.proofs.lemmas.Result.{IfOk-weaker}
-use Rattle.std.specs.Prelude.{String}
-use Rattle.std.specs.declared.alloc.Global.{Global}
-use Rattle.fr_lines.specs.Requests.{new_network}
-use Rattle.fr_route.specs.Answers.{IsAccepted}
-use Rattle.fr_route.specs.Replies.{IsReportIn}
-use Rattle.fr_route.specs.Reroutes.{AreReplaced}
-use Rattle.fr_route.specs.States.{State}
-use Rattle.fr_route.specs.Texts.{longest_report}
-use Rattle.fr_route.specs.Refusals.{IsNewFault}
+use Rattle.fr_route.proofs.Replying.{still, walk_tells, ask_tells}
 use Rattle.fr_route.specs.Listing.{nodes_told}
 use Rattle.fr_route.proofs.settling.Asking.reply.Goals as goal
 
@@ -28,29 +18,8 @@ returns-in-Destination g c = rw c.in-Destination.is c.reply_move.ensures
 pub returns-in-Batch : goal.returns-in-Batch
 returns-in-Batch g c = rw c.in-Batch.is (rw c.deref-in-Batch.ensures.value at c.reply_batch.ensures)
 
-pub returns-in_ok-put-in-Ok : goal.returns-in_ok-put-in-Ok
-returns-in_ok-put-in-Ok g c =
-    let n = c.in-Network.nodes in
-    let d = c.in-Network.dest in
-    let links = c.in-Network.links.items in
-    let put = c.in_ok-put-in-Ok.ensures in
-    let s : Option State = c.args.session.now in
-    let accepted : IsAccepted None (new_network n d links) c.in-Ok.router = rw c.deref.ensures.value at c.in-Ok.ensures.accepted in
-    let text : c.accepted.result.text ≡ c.in_ok-put-in-Ok.field-0 = c.accepted.ensures.0 in
-    rw c.in-Network.is (done _ c.args.manner s (new_network n d links) c.args.told.now c.in-Ok.router c.accepted.result c.put.new.self c.put.new.told
-    accepted
-    (λ list. new_text c.args.manner.form s n d links c.in-Ok.router (string_bytes c.accepted.result.text)
-    (subst (λ (t : String Global). IsReportIn c.args.manner.form (AreReplaced s c.in-Ok.router) c.in-Ok.router (string_bytes t)) (sym text) (put.report list)))
-    c.accepted.ensures.1 put.put (λ listing. put.told listing)
-    (λ e. subst (λ (t : String Global). length (string_bytes t) ≤ longest_report) (sym text) (put.short e)))
-
-pub returns-in-Err : goal.returns-in-Err
-returns-in-Err g c =
-    let why = rw c.deref.ensures.value at c.in-Err.ensures.refused in
-    rw c.in-Network.is (faulty _ c.args.manner c.args.session.now _ c.args.told.now c.in-Err.fault (c.in-Network.dest ∷ []) None c.refuse_for.result
-    c.args.session.now c.args.told.now (new_refusal c.in-Network.nodes c.in-Network.dest c.in-Network.links.items c.in-Err.fault why)
-    (λ e. subst (IsNewFault c.in-Network.nodes c.in-Network.dest c.in-Network.links.items) e why)
-    c.in-Err.ensures.no_start refl refl c.refuse_for.ensures.refuses c.refuse_for.ensures.start)
+pub returns-in-Network : goal.returns-in-Network
+returns-in-Network g c = rw c.in-Network.is (rw c.deref.ensures.value at c.reply_network.ensures)
 
 pub returns-in-Walk : goal.returns-in-Walk
 returns-in-Walk g c =
