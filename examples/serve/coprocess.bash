@@ -1,4 +1,4 @@
-coproc service { ./revroute serve; }
+coproc service { ./revroute serve --alone; }
 ask() {
     printf '%s\n' "$1" >&"${service[1]}"
     IFS= read -r answer <&"${service[0]}"

@@ -1,7 +1,7 @@
 import json
 from subprocess import PIPE, Popen
 
-with Popen(["./revroute", "serve", "--json"], stdin=PIPE, stdout=PIPE, text=True, bufsize=1) as service:
+with Popen(["./revroute", "serve", "--alone", "--json"], stdin=PIPE, stdout=PIPE, text=True, bufsize=1) as service:
 
     def ask(*request):
         print(json.dumps(request), file=service.stdin)  # bufsize=1: each line goes out at once

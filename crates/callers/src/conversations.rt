@@ -4,7 +4,7 @@ ghost use Rattle.std.specs.Prelude.{IfOk, take};
 ghost use Rattle.fr_command.specs.Outputs.{IsOutput};
 ghost use Rattle.fr_command.specs.Conversations.{Takes, text_of};
 
-use fr_command::{Conversation, RunFault, Taken, serve};
+use fr_command::{Conversation, Joined, RunFault, Taken, serve};
 use fr_crew::{OpenGate, Plan};
 use std::alloc::Global;
 use std::sync::Wait;
@@ -34,8 +34,10 @@ pub fn served<T: Threads + Wait + Sync>(
     ensures { IfOk result (λ out. IsOutput text.now out.items) }
 {
     let plan = Plan::new(1, 0, 0).unwrap();
-    let mut reader = text;
-    let mut out = Vec::new(alloc);
-    serve(rt, alloc, &mut reader, &mut out, &plan, &OpenGate)?;
-    Ok(out)
+    let mut stream = Joined {
+        reader: text,
+        writer: Vec::new(alloc),
+    };
+    serve(rt, alloc, &mut stream, &plan, &OpenGate)?;
+    Ok(stream.writer)
 }

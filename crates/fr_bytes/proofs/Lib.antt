@@ -6,3 +6,5 @@ pub mod Cutting
 pub mod Ending
 -- what holds of results
 pub mod Results
+-- what is done with streams
+pub mod Traffics

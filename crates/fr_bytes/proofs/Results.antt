@@ -20,3 +20,9 @@ pub only_fault : {T E : Type 0} (r : Result T E) (one : E) (P : E → Type 0) �
     → IfErr r P
 only_fault (Ok x) one P only h = tt
 only_fault (Err y) one P only h = subst P (sym only) h
+
+-- what follows from what holds if a call fails holds of its only fault
+pub of_the_fault : {T E : Type 0} (r : Result T E) (one : E) (P : E → Type 0) (Q : Type 0)
+    → IfErr r (λ fault. fault ≡ one) → OnErr r Q → (Q → P one) → IfErr r P
+of_the_fault (Ok x) one P Q only h f = tt
+of_the_fault (Err y) one P Q only h f = subst P (sym only) (f h)

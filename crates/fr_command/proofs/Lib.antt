@@ -2,6 +2,10 @@
 pub mod Taking
 -- a service answers pieces
 pub mod Served
+-- a line is not answered
+pub mod Unanswered
+-- a service answers in time
+pub mod InTime
 -- lines have one answer each
 pub mod AnswersIn
 -- an input has one output

@@ -1,6 +1,6 @@
 -- How many lines of an input are answered.
 use Rattle.std.proofs.Common.{◌≡◌, ◌∙◌, ℕ, ◌≤◌, false, List, [], ◌∷◌, ◌++◌, length, take, Option, Some}
-use Rattle.std.proofs.Common.{append-nil, append_assoc, refl, sym, ap, subst}
+use Rattle.std.proofs.Common.{append-nil, append_assoc, inr, refl, sym, ap, subst}
 use Rattle.std.specs.Prelude.{slice_get}
 use Rattle.std.proofs.Math.Seq.{take-append_seam}
 use Rattle.std.proofs.KnownBytes.{Appends-nil, Appends-trans, Appends-kept}
@@ -9,10 +9,11 @@ use Rattle.fr_route.specs.Blank.{is_blank}
 use Rattle.fr_route.specs.declared.form.Form.{Form}
 use Rattle.fr_route.specs.declared.form.Form.TheVariants.{Text}
 use Rattle.fr_bytes.specs.Lines.{lines_of}
-use Rattle.fr_bytes.specs.Bytes.{IsBeginning, most_bytes}
+use Rattle.fr_bytes.specs.Bytes.{IsBeginning, ReadsInput, most_bytes}
 use Rattle.fr_bytes.specs.declared.fault.RunFault.{RunFault}
 use Rattle.fr_bytes.specs.declared.fault.RunFault.TheVariants.{Read, Write, TooLong, Start, Memory}
 use Rattle.fr_command.specs.Outputs.{asking_count, WritesOutput, WritesOutputIn, WritesBeginning, StopsAtLine}
+use Rattle.fr_command.specs.Faults.{IsRunFaultIn}
 use Rattle.fr_command.specs.Points.{Point, AreAnswersIn, first_point}
 use Rattle.fr_command.specs.InLines.{BeginsAnswer, IsLineFault, IsAnsweringFault}
 use Rattle.fr_command.specs.declared.responder.Tally.{Tally}
@@ -90,13 +91,14 @@ module _ (form : Form) (whole line : List ℕ) (left : List (List ℕ)) (now : P
       }
 
   -- the line failed
-  stops_at_line : (new : Option (List ℕ)) → is_blank line ≡ false → Keeps mid new → StopsAtLine form whole old new
+  stops_at_line : (new : Option (List ℕ)) → is_blank line ≡ false → Keeps mid new
+      → (stop : StopsAtLine form whole old new) × (stop.last ≡ now) × (stop.line ≡ line)
   stops_at_line new asks kept =
       let done = h.done in
       let front : take (length done) (lines_of whole) ≡ done = rw h.cut (take-append_seam done (line ∷ left)) in
       let answers : AreAnswersIn form first_point (take (length done) (lines_of whole)) h.out now =
       subst (λ (ls : List (List ℕ)). AreAnswersIn form first_point ls h.out now) (sym front) h.are_answers in
-      record {
+      let stop : StopsAtLine form whole old new = record {
         place = length done;
         line = line;
         out = h.out;
@@ -106,7 +108,8 @@ module _ (form : Form) (whole line : List ℕ) (left : List (List ℕ)) (now : P
         are_answers = answers;
         begins = λ all is. output_begins_with form whole h.out all (length done) now answers is;
         writes = Appends-kept old mid new h.out h.writes kept;
-      }
+      } in
+      (stop, refl, refl)
 
   -- the line was not answered
   pub line_failed : (new : Option (List ℕ)) (fault : RunFault) → IsLineFault form now line mid new fault
@@ -114,8 +117,10 @@ module _ (form : Form) (whole line : List ℕ) (left : List (List ℕ)) (now : P
   line_failed new Read why = why
   line_failed new Write why = stops_writing new why
   line_failed new TooLong why = why
-  line_failed new Start why = stops_at_line new why.0 why.1
-  line_failed new Memory why = stops_at_line new why.0 why.1
+  line_failed new Start why =
+      let stop = stops_at_line new why.0.0 why.1 in
+      (stop.0, rw (stop.1, stop.2) why.0)
+  line_failed new Memory why = (stops_at_line new why.0 why.1).0
 
 -- no line is left
 pub all_answered : (form : Form) (whole : List ℕ) (now : Point) (old new : Option (List ℕ)) (tally : Tally)
@@ -176,3 +181,12 @@ writes_text whole old new tally count w counted = record {
 pub counts_all : (form : Form) (whole : List ℕ) (old new : Option (List ℕ)) (tally : Tally) → length whole ≤ most_bytes
     → WritesOutputIn form whole old new tally → tally.answered ≡ asking_count (lines_of whole)
 counts_all form whole old new tally short w = w.answered ∙ answered_all form whole w.out w.last short w.output
+
+-- a run that has read its input fails as the answering of its lines does
+pub run_failed : (form : Form) (bytes : List ℕ) (r s old new : Option (List ℕ)) (fault : RunFault)
+    → ReadsInput r s bytes → IsAnsweringFault form bytes old new fault → IsRunFaultIn form r s old new fault
+run_failed form bytes r s old new Read reads why = absurd why
+run_failed form bytes r s old new Write reads why = (bytes, reads, why)
+run_failed form bytes r s old new TooLong reads why = absurd why
+run_failed form bytes r s old new Start reads why = (bytes, reads, why.0, why.1)
+run_failed form bytes r s old new Memory reads why = inr (bytes, reads, why)

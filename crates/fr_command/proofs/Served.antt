@@ -13,6 +13,7 @@ use Rattle.fr_route.specs.Blank.{is_blank}
 use Rattle.fr_route.specs.declared.form.Form.{Form}
 use Rattle.fr_bytes.specs.Lines.{lines_of}
 use Rattle.fr_bytes.specs.Bytes.{IsBeginning, most_bytes}
+use Rattle.fr_bytes.specs.Streams.{Traffic, Writes}
 use Rattle.fr_bytes.specs.declared.fault.RunFault.{RunFault}
 use Rattle.fr_bytes.specs.declared.fault.RunFault.TheVariants.{Read, Write, TooLong, Start, Memory}
 use Rattle.fr_command.specs.Outputs.{IsOutputIn, WritesOutputIn, WritesBeginning}
@@ -22,10 +23,11 @@ use Rattle.fr_command.specs.Conversations.{carried, point_of, silence_in, talk_a
 use Rattle.fr_command.specs.Faults.{IsServeFaultIn, IsTakeFault}
 use Rattle.fr_command.specs.declared.responder.Tally.{Tally}
 use Rattle.fr_command.specs.InLines.{BeginsAnswer, IsLineFault}
-use Rattle.fr_command.specs.InPieces.{StopsInPiece, BeginsInPiece, IsFrontFault, IsPieceFault}
+use Rattle.fr_command.specs.InPieces.{Answers, StopsInPiece, BeginsInPiece, IsFrontFault, IsPieceFault, Tells}
 use Rattle.fr_command.proofs.Determined.{each_output, output_unique, begins-trans, begins_behind}
 use Rattle.fr_bytes.proofs.Ending.{lines_go_on, line_goes_on, begun_alone}
 use Rattle.fr_bytes.proofs.Ending.{begun_short, first_line_is, one_line, ends_line}
+use Rattle.fr_bytes.proofs.Traffics.{writes_nothing, writes_on}
 use Rattle.fr_command.proofs.Taking.{takes_on, takes_none, answer_stands, ends_in, lines_end}
 
 -- nothing was taken yet
@@ -53,6 +55,40 @@ says_kept first last xs u v w h kept = record {
   takes = h.takes;
   writes = Appends-kept u v w h.text h.writes kept;
 }
+
+-- the same for a stream
+pub tells_nothing : (talk : Talk) (t : Traffic) → lines_of talk.begun ≡ talk.begun ∷ [] → Tells talk [] talk t t
+tells_nothing talk t alone = record {
+  text = [];
+  takes = takes_none talk talk [] alone refl (sym (append-nil talk.begun)) refl refl;
+  writes = writes_nothing t;
+}
+
+pub tells_on : (first mid last : Talk) (xs ys : List ℕ) (t u v : Traffic) → Tells first xs mid t u
+    → Tells mid ys last u v → Tells first (xs ++ ys) last t v
+tells_on first mid last xs ys t u v h k = record {
+  text = h.text ++ k.text;
+  takes = takes_on first mid last xs ys h.text k.text h.takes k.takes;
+  writes = writes_on t u v h.text k.text h.writes k.writes;
+}
+
+pub tells_still : (first last : Talk) (xs : List ℕ) (t u v : Traffic) → Tells first xs last t u → Writes u v []
+    → Tells first xs last t v
+tells_still first last xs t u v h none = record {
+  text = h.text;
+  takes = h.takes;
+  writes = subst (λ (text : List ℕ). Writes t v text) (append-nil h.text) (writes_on t u v h.text [] h.writes none);
+}
+
+pub tells_says : (first last : Talk) (xs : List ℕ) (t u : Traffic) → Tells first xs last t u
+    → Says first xs last t.written u.written
+tells_says first last xs t u h = record { text = h.text; takes = h.takes; writes = h.writes.1 }
+
+-- what was answered and flushed
+pub answers_says : (first last : Talk) (xs : List ℕ) (t u : Traffic) → Answers first xs last t u
+    → Says first xs last t.written u.written
+answers_says first last xs t u h =
+    says_kept first last xs t.written h.0.written u.written (tells_says first last xs t h.0 h.1) h.2.1
 
 -- everything that was written is a beginning, too
 pub says_begins : (first last : Talk) (piece : List ℕ) (done : ℕ) (u v : Option (List ℕ))
@@ -107,12 +143,13 @@ module _ (first mid : Talk) (piece : List ℕ) (done : ℕ) (u v : Option (List 
 
   -- or it stops there
   stops_later : (fault : RunFault) (new : Talk) (w : Option (List ℕ)) → new ≡ mid → Keeps v w
-      → IsTakeFault (carried mid (drop done piece)) (drop done piece) fault → StopsInPiece fault first piece new u w
+      → IsTakeFault (point_of mid) (carried mid (drop done piece)) (drop done piece) fault → StopsInPiece fault first piece new u w
   stops_later fault new w same kept why = record {
     count = done;
     says = subst (λ (t : Talk). Says first (take done piece) t u w) (sym same)
         (says_kept first mid (take done piece) u v w h kept);
-    untaken = subst (λ (t : Talk). IsTakeFault (carried t (drop done piece)) (drop done piece) fault) (sym same) why;
+    untaken = subst (λ (t : Talk). IsTakeFault (point_of t) (carried t (drop done piece)) (drop done piece) fault)
+        (sym same) why;
   }
 
   -- a fault at the first line of the rest of a piece is a fault of the piece
@@ -158,24 +195,27 @@ pub read_on : (r s t : Option (List ℕ)) (bytes piece room : List ℕ) (count :
 read_on r s t bytes piece room count few h k = Consumes-trans r s t bytes (take count (piece ++ room)) h
     (subst (λ (l : List ℕ). Consumes s t l) (sym (take-append-le count piece room few)) k)
 
-module _ (form : Form) (bytes : List ℕ) (talk : Talk) (u v : Option (List ℕ))
-    (h : Says (silence_in form) bytes talk u v) where
+module _ (form : Form) (bytes : List ℕ) (talk : Talk) (a : Traffic) (v : Option (List ℕ))
+    (h : Says (silence_in form) bytes talk a.written v) where
   -- the answers to the lines before the one that has begun
-  before_begun : (w : Option (List ℕ)) → Keeps v w → AnswersBefore form bytes talk.begun u w
-  before_begun w kept = record {
-    before = h.takes.ended;
-    behind = [];
-    text = h.text;
-    last = point_of talk;
-    cut = h.takes.cut;
-    are_answers = h.takes.are_answers;
-    writes = Appends-kept u v w h.text h.writes kept;
-  }
+  before_begun : (w : Option (List ℕ)) → Keeps v w
+      → (stop : AnswersBefore form bytes talk.begun a.written w) × (stop.last ≡ point_of talk)
+  before_begun w kept =
+      let stop : AnswersBefore form bytes talk.begun a.written w = record {
+        before = h.takes.ended;
+        behind = [];
+        text = h.text;
+        last = point_of talk;
+        cut = h.takes.cut;
+        are_answers = h.takes.are_answers;
+        writes = Appends-kept a.written v w h.text h.writes kept;
+      } in
+      (stop, refl)
 
   -- the end of the input ended that line, and its answer was written
   pub output_written : (last : Talk) (text : List ℕ) (w : Option (List ℕ)) (tally : Tally) → Ends talk text last
       → Appends v w text
-      → tally.answered ≡ last.answered → tally.refused ≡ last.refused → WritesOutputIn form bytes u w tally
+      → tally.answered ≡ last.answered → tally.refused ≡ last.refused → WritesOutputIn form bytes a.written w tally
   output_written last text w tally end more answered refused =
       let output = lines_end form bytes h.text text talk (point_of last) h.takes
       (ends_in form bytes h.text text talk last h.takes end) in
@@ -184,14 +224,14 @@ module _ (form : Form) (bytes : List ℕ) (talk : Talk) (u v : Option (List ℕ)
         last = point_of last;
         output = output;
         only = λ other is. output_unique form bytes other (h.text ++ text) is (point_of last, output);
-        writes = Appends-trans u v w h.text text h.writes more;
+        writes = Appends-trans a.written v w h.text text h.writes more;
         answered = answered;
         refused = refused;
       }
 
   -- or a beginning of its answer was written
   output_begun : (w : Option (List ℕ)) → BeginsAnswer talk.form (point_of talk) talk.begun v w
-      → WritesBeginning form bytes u w
+      → WritesBeginning form bytes a.written w
   output_begun w part =
       let answer = subst (λ (f : Form). AreAnswersIn f (point_of talk)
       (talk.begun ∷ []) part.answer part.last) h.takes.same_form part.are_answers in
@@ -203,28 +243,30 @@ module _ (form : Form) (bytes : List ℕ) (talk : Talk) (u v : Option (List ℕ)
         output = output;
         only = λ other is. output_unique form bytes other (h.text ++ part.answer) is output;
         begins = begins_behind h.text part.out part.answer part.begins;
-        writes = Appends-trans u v w h.text part.out h.writes part.writes;
+        writes = Appends-trans a.written v w h.text part.out h.writes part.writes;
       }
 
   -- or it was not answered
-  pub end_failed : (r s w : Option (List ℕ)) (fault : RunFault) → Consumes r s bytes
-      → IsLineFault talk.form (point_of talk) talk.begun v w fault → IsServeFaultIn form r s u w fault
-  end_failed r s w Read reads why = absurd why
-  end_failed r s w Write reads why = (bytes, reads, output_begun w why)
-  end_failed r s w TooLong reads why = absurd why
-  end_failed r s w Start reads why = (bytes, talk.begun, reads, before_begun w why.1, why.0)
-  end_failed r s w Memory reads why = (
+  pub end_failed : (b : Traffic) (fault : RunFault) → Consumes a.left b.left bytes
+      → IsLineFault talk.form (point_of talk) talk.begun v b.written fault → IsServeFaultIn form a b fault
+  end_failed b Read reads why = absurd why
+  end_failed b Write reads why = (bytes, reads, output_begun b.written why)
+  end_failed b TooLong reads why = absurd why
+  end_failed b Start reads why =
+      let stop = before_begun b.written why.1 in
+      (bytes, talk.begun, reads, stop.0, rw stop.1 why.0)
+  end_failed b Memory reads why = (
     bytes,
     talk.begun,
     reads,
-    before_begun w why.1,
+    (before_begun b.written why.1).0,
     blank_or_some talk.begun why.0,
     λ blank. let bad : true ≡ false = sym blank ∙ why.0 in cc,
   )
 
-  module _ (piece : List ℕ) (w : Option (List ℕ)) where
+  module _ (piece : List ℕ) (b : Traffic) where
     -- the answer to a later piece was begun
-    piece_begun : BeginsInPiece talk piece v w → WritesBeginning form (bytes ++ piece) u w
+    piece_begun : BeginsInPiece talk piece v b.written → WritesBeginning form (bytes ++ piece) a.written b.written
     piece_begun k =
         let output = each_output form (bytes ++ piece) in
         let front = take k.count piece in
@@ -241,25 +283,25 @@ module _ (form : Form) (bytes : List ℕ) (talk : Talk) (u v : Option (List ℕ)
           only = λ other is. output_unique form (bytes ++ piece) other output.0 is output.1;
           begins = begins-trans (h.text ++ k.out) (h.text ++ k.whole) output.0
               (begins_behind h.text k.out k.whole k.begins) stands;
-          writes = Appends-trans u v w h.text k.out h.writes k.writes;
+          writes = Appends-trans a.written v b.written h.text k.out h.writes k.writes;
         }
 
-    module _ (fault : RunFault) (new : Talk) (k : StopsInPiece fault talk piece new v w) where
+    module _ (fault : RunFault) (new : Talk) (k : StopsInPiece fault talk piece new v b.written) where
       -- or it stops at a line, after which there is none if the rest of the piece does not end it
-      piece_stopped : (line : List ℕ) × (stop : AnswersBefore form (bytes ++ piece) line u w)
-          × IsTakeFault line (drop k.count piece) fault
+      piece_stopped : (line : List ℕ) × (stop : AnswersBefore form (bytes ++ piece) line a.written b.written)
+          × IsTakeFault stop.last line (drop k.count piece) fault
           × (lines_of (drop k.count piece) ≡ drop k.count piece ∷ [] → stop.behind ≡ [])
       piece_stopped =
           let front = take k.count piece in
           let rest = drop k.count piece in
-          let said = says_on (silence_in form) talk new bytes front u v w h k.says in
+          let said = says_on (silence_in form) talk new bytes front a.written v b.written h k.says in
           let whole : bytes ++ piece ≡ (bytes ++ front) ++ rest =
           sym (append_assoc bytes front rest ∙ ap (λ (l : List ℕ). bytes ++ l) (take-append-drop k.count piece)) in
           let first = first_line_is rest in
           let onward = lines_go_on (bytes ++ front) new.begun said.takes.ended said.takes.cut rest in
           let alone = begun_alone (bytes ++ front) new.begun said.takes.ended said.takes.cut in
           let line = line_goes_on new.begun rest (before_first ends_line rest) first.0 alone first.1 in
-          let answers : AnswersBefore form (bytes ++ piece) (carried new rest) u w = record {
+          let answers : AnswersBefore form (bytes ++ piece) (carried new rest) a.written b.written = record {
             before = said.takes.ended;
             behind = first.0;
             text = said.text;
@@ -273,7 +315,7 @@ module _ (form : Form) (bytes : List ℕ) (talk : Talk) (u v : Option (List ℕ)
       -- this is all that the bytes have after the last newline, if there were few
       stopped_at_last : length talk.begun + length piece ≤ most_bytes + 1
           → most_bytes < length (carried new (drop k.count piece))
-          → (last : Talk) × Says (silence_in form) (bytes ++ piece) last u w × (length last.begun ≡ most_bytes + 1)
+          → (last : Talk) × Says (silence_in form) (bytes ++ piece) last a.written b.written × (length last.begun ≡ most_bytes + 1)
       stopped_at_last few long =
           let front = take k.count piece in
           let rest = drop k.count piece in
@@ -290,10 +332,10 @@ module _ (form : Form) (bytes : List ℕ) (talk : Talk) (u v : Option (List ℕ)
                 (λ x. not (ends_line x)) rest,
           )) in
           let last : Talk = talk_at new.form (point_of new) (new.begun ++ rest) in
-          let tail : Says new rest last w w = record
-          { text = []; takes = takes_none new last rest alone one refl refl refl; writes = Appends-nil w } in
-          let said = says_on (silence_in form) talk last bytes (front ++ rest) u v w h
-          (says_on talk new last front rest v w w k.says tail) in
+          let tail : Says new rest last b.written b.written = record
+          { text = []; takes = takes_none new last rest alone one refl refl refl; writes = Appends-nil b.written } in
+          let said = says_on (silence_in form) talk last bytes (front ++ rest) a.written v b.written h
+          (says_on talk new last front rest v b.written b.written k.says tail) in
           let exact : length (new.begun ++ rest) ≡ most_bytes + 1 =
           omega (
             arith,
@@ -303,23 +345,23 @@ module _ (form : Form) (bytes : List ℕ) (talk : Talk) (u v : Option (List ℕ)
             prefix_len-le-length (λ x. not (ends_line x)) rest,
           ) in (
             last,
-            subst (λ (l : List ℕ). Says (silence_in form) (bytes ++ l) last u w)
+            subst (λ (l : List ℕ). Says (silence_in form) (bytes ++ l) last a.written b.written)
                 (take-append-drop k.count piece) said,
             exact,
           )
 
     -- the piece was not answered to its end
-    pub piece_failed : (r s : Option (List ℕ)) (new : Talk) (fault : RunFault) → Consumes r s (bytes ++ piece)
-        → length talk.begun + length piece ≤ most_bytes + 1 → IsPieceFault talk piece new v w fault
-        → IsServeFaultIn form r s u w fault
-    piece_failed r s new Read reads few why = absurd why.untaken
-    piece_failed r s new Write reads few why = (bytes ++ piece, reads, piece_begun why)
-    piece_failed r s new TooLong reads few why =
+    pub piece_failed : (new : Talk) (fault : RunFault) → Consumes a.left b.left (bytes ++ piece)
+        → length talk.begun + length piece ≤ most_bytes + 1 → IsPieceFault talk piece new v b.written fault
+        → IsServeFaultIn form a b fault
+    piece_failed new Read reads few why = absurd why.untaken
+    piece_failed new Write reads few why = (bytes ++ piece, reads, piece_begun why)
+    piece_failed new TooLong reads few why =
         let last = stopped_at_last TooLong new why few why.untaken in
         (bytes ++ piece, last.0, reads, last.1, last.2)
-    piece_failed r s new Start reads few why =
+    piece_failed new Start reads few why =
         let stopped = piece_stopped Start new why in
         (bytes ++ piece, stopped.0, reads, stopped.1, stopped.2)
-    piece_failed r s new Memory reads few why =
+    piece_failed new Memory reads few why =
         let stopped = piece_stopped Memory new why in
         (bytes ++ piece, stopped.0, reads, stopped.1, stopped.2.0, λ blank. stopped.3 (stopped.2.1 blank))

@@ -5,11 +5,14 @@ use Rattle.fr_route.specs.Blank.{is_blank}
 use Rattle.fr_route.specs.declared.form.Form.{Form}
 use Rattle.fr_route.specs.declared.form.Form.TheVariants.{Text}
 use Rattle.fr_bytes.specs.Bytes.{most_bytes, ReadsInput, ReadsSome, ReadsOneTooMany}
+use Rattle.fr_bytes.specs.Streams.{Traffic}
 use Rattle.fr_bytes.specs.declared.fault.RunFault.{RunFault}
 use Rattle.fr_bytes.specs.declared.fault.RunFault.TheVariants.{Read, Write, TooLong, Start, Memory}
+use Rattle.fr_crew.specs.declared.plan.Plan.{Plan}
 use Rattle.fr_words.specs.declared.draws.Draw.{Draw}
 use Rattle.fr_command.specs.Outputs.{WritesBeginning, StopsAtLine}
 use Rattle.fr_command.specs.Conversations.{Talk, Says, AnswersBefore, MayWantMemory, silence_in}
+use Rattle.fr_command.specs.Points.{Point, MayStartAt}
 use Rattle.fr_command.specs.Plays.{WritesPlayBeginning}
 
 -- the whole input was read, and the answers to the lines before one that is not blank were written
@@ -18,14 +21,17 @@ StopsAfterReading form before after old new =
     (bytes : List ℕ) × ReadsInput before after bytes × StopsAtLine form bytes old new
 
 -- Why a run that answers in this form fails. If a read fails or the input is too long, nothing was written. If a write
--- fails, a beginning of the output was written. A thread or memory is missing for a line, and then the answers to the
--- lines before it were written; or memory is missing for the input, and then nothing was written.
+-- fails, a beginning of the output was written. A thread is missing for a line that may need one, or memory for a line,
+-- and then the answers to the lines before it were written; or memory is missing for the input, and then nothing was
+-- written.
 abbrev pub IsRunFaultIn : (form : Form) (before after old new : Option (List ℕ)) → RunFault → Type 0
 IsRunFaultIn form before after old new Read = Keeps old new
 IsRunFaultIn form before after old new Write =
     (bytes : List ℕ) × ReadsInput before after bytes × WritesBeginning form bytes old new
 IsRunFaultIn form before after old new TooLong = Keeps old new × ReadsOneTooMany before after
-IsRunFaultIn form before after old new Start = StopsAfterReading form before after old new
+IsRunFaultIn form before after old new Start =
+    (bytes : List ℕ) × ReadsInput before after bytes × (stop : StopsAtLine form bytes old new)
+    × MayStartAt stop.last stop.line
 IsRunFaultIn form before after old new Memory =
     (Keeps old new × ReadsSome before after) ⊎ StopsAfterReading form before after old new
 
@@ -34,26 +40,30 @@ abbrev pub IsRunFault : (before after old new : Option (List ℕ)) → RunFault 
 IsRunFault before after old new fault = IsRunFaultIn Text before after old new fault
 
 -- Why a service that answers in this form fails. If a read fails, or the last byte read makes a line too long, exactly
--- the lines that had ended were answered. If a write fails, a beginning of the output was written. If a thread or
--- memory is missing for a line, the lines before it were answered.
-abbrev pub IsServeFaultIn : (form : Form) (before after old new : Option (List ℕ)) → RunFault → Type 0
-IsServeFaultIn form before after old new Read =
-    (bytes : List ℕ) × (talk : Talk) × Consumes before after bytes × Says (silence_in form) bytes talk old new
-IsServeFaultIn form before after old new Write =
-    (bytes : List ℕ) × Consumes before after bytes × WritesBeginning form bytes old new
-IsServeFaultIn form before after old new TooLong =
-    (bytes : List ℕ) × (talk : Talk) × Consumes before after bytes × Says (silence_in form) bytes talk old new
+-- the lines that had ended were answered. If a write fails, a beginning of the output was written. If a thread is
+-- missing for a line that may need one, or memory for a line, the lines before it were answered.
+abbrev pub IsServeFaultIn : (form : Form) (old new : Traffic) → RunFault → Type 0
+IsServeFaultIn form old new Read =
+    (bytes : List ℕ) × (talk : Talk) × Consumes old.left new.left bytes
+    × Says (silence_in form) bytes talk old.written new.written
+IsServeFaultIn form old new Write =
+    (bytes : List ℕ) × Consumes old.left new.left bytes × WritesBeginning form bytes old.written new.written
+IsServeFaultIn form old new TooLong =
+    (bytes : List ℕ) × (talk : Talk) × Consumes old.left new.left bytes
+    × Says (silence_in form) bytes talk old.written new.written
     × (length talk.begun ≡ most_bytes + 1)
-IsServeFaultIn form before after old new Start =
-    (bytes : List ℕ) × (line : List ℕ) × Consumes before after bytes × AnswersBefore form bytes line old new
-    × (is_blank line ≡ false)
-IsServeFaultIn form before after old new Memory =
-    (bytes : List ℕ) × (line : List ℕ) × Consumes before after bytes × (stop : AnswersBefore form bytes line old new)
+IsServeFaultIn form old new Start =
+    (bytes : List ℕ) × (line : List ℕ) × Consumes old.left new.left bytes
+    × (stop : AnswersBefore form bytes line old.written new.written)
+    × MayStartAt stop.last line
+IsServeFaultIn form old new Memory =
+    (bytes : List ℕ) × (line : List ℕ) × Consumes old.left new.left bytes
+    × (stop : AnswersBefore form bytes line old.written new.written)
     × (line ≢ []) × (is_blank line ≡ true → stop.behind ≡ [])
 
 -- why a service that answers as text fails
-abbrev pub IsServeFault : (before after old new : Option (List ℕ)) → RunFault → Type 0
-IsServeFault before after old new fault = IsServeFaultIn Text before after old new fault
+abbrev pub IsServeFault : (old new : Traffic) → RunFault → Type 0
+IsServeFault old new fault = IsServeFaultIn Text old new fault
 
 -- Why a play fails. If a write fails, a beginning of the output was written; otherwise nothing was written. It starts
 -- no thread.
@@ -65,19 +75,24 @@ IsDrawnPlayFault draw before after old new TooLong = Keeps old new × ReadsOneTo
 IsDrawnPlayFault draw before after old new Start = ⊥
 IsDrawnPlayFault draw before after old new Memory = Keeps old new
 
--- Why a conversation takes nothing of a piece, with which its line becomes `line`: the line is too long; or it is not
--- blank, and a thread is missing for its answer; or memory is missing. A conversation reads and writes nothing.
-abbrev pub IsTakeFault : (line piece : List ℕ) → RunFault → Type 0
-IsTakeFault line piece Read = ⊥
-IsTakeFault line piece Write = ⊥
-IsTakeFault line piece TooLong = most_bytes < length line
-IsTakeFault line piece Start = is_blank line ≡ false
-IsTakeFault line piece Memory = MayWantMemory line piece
+-- Why a conversation at this point takes nothing of a piece, with which its line becomes `line`: the line is too long;
+-- or it may need a thread, which is missing; or memory is missing. A conversation reads and writes nothing.
+abbrev pub IsTakeFault : (point : Point) (line piece : List ℕ) → RunFault → Type 0
+IsTakeFault point line piece Read = ⊥
+IsTakeFault point line piece Write = ⊥
+IsTakeFault point line piece TooLong = most_bytes < length line
+IsTakeFault point line piece Start = MayStartAt point line
+IsTakeFault point line piece Memory = MayWantMemory line piece
 
--- why a conversation does not end this line: it is not blank, and a thread or memory is missing for its answer
-abbrev pub IsFinishFault : (line : List ℕ) → RunFault → Type 0
-IsFinishFault line Read = ⊥
-IsFinishFault line Write = ⊥
-IsFinishFault line TooLong = ⊥
-IsFinishFault line Start = is_blank line ≡ false
-IsFinishFault line Memory = is_blank line ≡ false
+-- why a conversation does not end this line at this point: the line may need a thread, which is missing; or it is not
+-- blank, and memory is missing for its answer
+abbrev pub IsFinishFault : (point : Point) (line : List ℕ) → RunFault → Type 0
+IsFinishFault point line Read = ⊥
+IsFinishFault point line Write = ⊥
+IsFinishFault point line TooLong = ⊥
+IsFinishFault point line Start = MayStartAt point line
+IsFinishFault point line Memory = is_blank line ≡ false
+
+-- this plan starts no thread: there is one worker, or it makes no call
+abbrev pub StartsNone : Plan → Type 0
+StartsNone plan = (plan.budget ≡ 0) ⊎ (plan.workers ≡ 1)

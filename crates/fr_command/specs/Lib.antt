@@ -1,6 +1,7 @@
 pub mod Points
 pub mod Outputs
 pub mod Conversations
+pub mod Services
 pub mod Faults
 pub mod InLines
 pub mod InPieces

@@ -1,7 +1,8 @@
 -- The answers to lines, one after the other, in either form, and how many lines there are. This project's own.
 use Rattle.std.specs.Prelude.{◌≡◌, ◌↔◌, ◌+◌, ◌-◌, ◌^◌, ℕ, Bool, IsTrue, List, []}
-use Rattle.std.specs.Prelude.{◌∷◌, ◌++◌, MatchBool, min, if◌then◌else◌, Option, None}
+use Rattle.std.specs.Prelude.{◌∷◌, ◌++◌, MatchBool, min, if◌then◌else◌, Option, None, false}
 use Rattle.fr_lines.specs.Requests.{reading}
+use Rattle.fr_route.specs.Answers.{MayStartForLine}
 use Rattle.fr_route.specs.Blank.{is_blank}
 use Rattle.fr_route.specs.Forms.{IsAnswerIn, IsLineRefused}
 use Rattle.fr_route.specs.States.{State}
@@ -42,6 +43,11 @@ abbrev pub IsAnswerAt : Form → Point → List ℕ → List ℕ → Bool → Op
 IsAnswerAt form point line text is_refused next =
     IsAnswerIn form (one_more point.ended) point.state (reading line) text next
     × (IsTrue is_refused ↔ IsLineRefused point.state (reading line))
+
+-- a line may need a thread at this point: it is not blank, it is accepted, and a node can turn on the network that it
+-- makes
+abbrev pub MayStartAt : Point → List ℕ → Type 0
+MayStartAt point line = (is_blank line ≡ false) × MayStartForLine point.state (reading line)
 
 -- the answers to lines in this form, each followed by byte 10, and the point after them. A blank line has no answer
 abbrev pub AreAnswersIn : Form → Point → List (List ℕ) → List ℕ → Point → Type 0

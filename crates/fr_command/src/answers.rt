@@ -1,10 +1,10 @@
 //! Answering the lines of an input.
 
 ghost use Rattle.std.specs.Prelude.{◌≡◌, ◌≢◌, [], ◌∷◌, List, ℕ, IfErr, IfNone};
-ghost use Rattle.std.specs.Prelude.{IfOk, IfSome, OnOk, false, string_bytes, true};
+ghost use Rattle.std.specs.Prelude.{IfOk, IfSome, OnOk, string_bytes};
 ghost use Rattle.std.specs.Io.KnownBytes.{Appends};
-ghost use Rattle.fr_route.specs.Blank.{is_blank};
-ghost use Rattle.fr_command.specs.InLines.{IsAnsweringFault, IsLineFault};
+ghost use Rattle.fr_command.specs.Faults.{StartsNone};
+ghost use Rattle.fr_command.specs.InLines.{IsAnsweringFault, IsLineFault, IsUnanswered};
 ghost use Rattle.fr_command.specs.Outputs.{WritesOutputIn};
 ghost use Rattle.fr_command.specs.Points.{AreAnswersIn, first_point};
 
@@ -27,7 +27,7 @@ pub(crate) fn answer_all<T: Threads + Wait + Sync, W: Write, G: Gate + Sync>(
 ) -> Result<Tally, RunFault>
     ensures ok { IfOk result (WritesOutputIn form input.now (W.contents writer.old) (W.contents writer.new)) }
     ensures fault { IfErr result (IsAnsweringFault form input.now (W.contents writer.old) (W.contents writer.new)) }
-    ensures no_start { crew.now.plan.now.budget ≡ 0 → result ≢ Err RunFault.Start }
+    ensures no_start { StartsNone crew.now.plan.now → result ≢ Err RunFault.Start }
 {
     let mut responder = Responder::new(crew.alloc);
     answer_each(crew, form, &mut responder, input, writer)
@@ -45,7 +45,7 @@ fn answer_each<T: Threads + Wait + Sync, W: Write, G: Gate + Sync>(
     requires { responder.old ≡ first_point }
     ensures ok { IfOk result (WritesOutputIn form input.now (W.contents writer.old) (W.contents writer.new)) }
     ensures fault { IfErr result (IsAnsweringFault form input.now (W.contents writer.old) (W.contents writer.new)) }
-    ensures no_start { crew.now.plan.now.budget ≡ 0 → result ≢ Err RunFault.Start }
+    ensures no_start { StartsNone crew.now.plan.now → result ≢ Err RunFault.Start }
 {
     for line in Lines::new(input) {
         answer_one(crew, form, responder, line, writer)?;
@@ -65,7 +65,7 @@ fn answer_one<T: Threads + Wait + Sync, W: Write, G: Gate + Sync>(
         × Appends (W.contents writer.old) (W.contents writer.new) out) }
     ensures fault { IfErr result
         (IsLineFault form responder.old line.now (W.contents writer.old) (W.contents writer.new)) }
-    ensures no_start { crew.now.plan.now.budget ≡ 0 → result ≢ Err RunFault.Start }
+    ensures no_start { StartsNone crew.now.plan.now → result ≢ Err RunFault.Start }
 {
     match answer_text(crew, form, responder, line) {
         Ok(Some(text)) => write_whole(writer, text.as_bytes()),
@@ -86,8 +86,8 @@ fn answer_text<T: Threads + Wait + Sync, G: Gate + Sync>(
     ensures text { IfOk result
         (λ answer. IfSome answer
         (λ text. AreAnswersIn form responder.old (line.now ∷ []) (string_bytes text) responder.new)) }
-    ensures asks { IfErr result (λ _. is_blank line.now ≡ false) }
-    ensures no_start { crew.now.plan.now.budget ≡ 0 → result ≢ Err AnswerFault.Start }
+    ensures fault { IfErr result (IsUnanswered responder.old line.now) }
+    ensures no_start { StartsNone crew.now.plan.now → result ≢ Err AnswerFault.Start }
 {
     let Some(mut text) = responder.answer(crew, form, line)? else {
         return Ok(None);

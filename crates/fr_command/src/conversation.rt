@@ -8,7 +8,7 @@ ghost use Rattle.fr_bytes.specs.Lines.{lines_of};
 ghost use Rattle.fr_bytes.specs.Bytes.{most_bytes};
 ghost use Rattle.fr_command.specs.Conversations.{Takes, Ends, silence, silence_in};
 ghost use Rattle.fr_command.specs.Conversations.{carried, line_size, point_of, text_of};
-ghost use Rattle.fr_command.specs.Faults.{IsTakeFault, IsFinishFault};
+ghost use Rattle.fr_command.specs.Faults.{IsTakeFault, IsFinishFault, StartsNone};
 ghost use Rattle.fr_command.specs.InPieces.{IsHoldFault};
 
 use crate::fault::run_fault;
@@ -124,8 +124,9 @@ impl Conversation {
             (λ taken. Takes self.old (take taken.count piece.now) (text_of taken.answer) self.new) }
         ensures within { OnOk result (length (carried self.old piece.now) ≤ most_bytes) }
         ensures unchanged { OnErr result (self.new ≡ self.old) }
-        ensures fault { IfErr result (IsTakeFault (carried self.old piece.now) piece.now) }
-        ensures no_start { plan.now.budget ≡ 0 → result ≢ Err RunFault.Start }
+        ensures fault { IfErr result
+            (IsTakeFault (point_of self.old) (carried self.old piece.now) piece.now) }
+        ensures no_start { StartsNone plan.now → result ≢ Err RunFault.Start }
     {
         let kept = self.begun.len();
         let end = front_size(piece);
@@ -169,8 +170,8 @@ impl Conversation {
     ) -> Result<Option<String>, RunFault>
         ensures ends { IfOk result (λ answer. Ends self.old (text_of answer) self.new) }
         ensures unchanged { OnErr result (self.new ≡ self.old) }
-        ensures fault { IfErr result (IsFinishFault self.old.begun) }
-        ensures no_start { plan.now.budget ≡ 0 → result ≢ Err RunFault.Start }
+        ensures fault { IfErr result (IsFinishFault (point_of self.old) self.old.begun) }
+        ensures no_start { StartsNone plan.now → result ≢ Err RunFault.Start }
     {
         let crew = Crew {
             rt,

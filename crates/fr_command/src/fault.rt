@@ -5,9 +5,10 @@ ghost use Rattle.std.specs.Prelude.{◌≡◌, ◌⊎◌, ◌↔◌};
 use fr_bytes::RunFault;
 use fr_route::AnswerFault;
 
-/// The exit status for a fault, and the line for standard error. No clause says what they are; they are only tested.
-/// O(1).
-pub fn run_end(fault: &RunFault) -> (u8, &'static str) {
+/// The exit status for a fault, which is 1, and the line for standard error. No clause says what the line is. O(1).
+pub fn run_end(fault: &RunFault) -> (u8, &'static str)
+    ensures { result.0 ≡ 1 }
+{
     match fault {
         RunFault::Read => (1, "revroute: read fault"),
         RunFault::Write => (1, "revroute: write fault"),

@@ -1,9 +1,9 @@
 //! What the commands of the program do, with any readers and writers.
 //!
 //! [`run`] answers the lines of an input as text, and [`play_drawn`] plays the schedule of a [`Draw`] on its network.
-//! [`serve`] answers each line as soon as it has ended. It uses a [`Conversation`], to which a caller can pass bytes
-//! from any source. [`run_in`] and [`serve_in`] answer in either [`Form`], as text or as JSON, and return a [`Tally`]
-//! of the answered and the refused lines.
+//! [`serve`] answers each line of a [`Stream`] as soon as it has ended. It uses a [`Conversation`], to which a caller can
+//! pass bytes from any source. [`run_in`] and [`serve_in`] answer in either [`Form`], as text or as JSON, and return a
+//! [`Tally`] of the answered and the refused lines.
 //!
 //! Parts of [`run`] are public, for programs that read an input and write another text: [`read_input`], [`Lines`],
 //! [`first_line`] and [`write_whole`]. [`command_line`] and [`task_of`] read the words of a command line, and
@@ -25,7 +25,9 @@ mod words;
 
 pub use conversation::{Conversation, Taken};
 pub use fault::run_end;
-pub use fr_bytes::{Lines, MAX_BYTES, RunFault, first_line, read_input, write_whole};
+pub use fr_bytes::{
+    Joined, Lines, MAX_BYTES, RunFault, Stream, first_line, read_input, write_whole,
+};
 pub use fr_route::Form;
 pub use fr_words::{CommandLine, Draw, MAX_STEPS, Task, TaskFault, task_end};
 pub use play::play_drawn;

@@ -3,6 +3,8 @@
 ghost use Rattle.std.specs.Prelude.{◌≡◌, ◌≢◌, ◌∷◌, [], true, false, if◌then◌else◌, IfErr, IfOk, IfNone, IfSome, OnErr};
 ghost use Rattle.fr_route.specs.Blank.{is_blank};
 ghost use Rattle.fr_command.specs.Conversations.{text_of};
+ghost use Rattle.fr_command.specs.Faults.{StartsNone};
+ghost use Rattle.fr_command.specs.InLines.{IsUnanswered};
 ghost use Rattle.fr_command.specs.Points.{AreAnswersIn, after_blank, first_point, one_more};
 
 use fr_crew::{Crew, Gate};
@@ -97,8 +99,8 @@ impl Responder {
         ensures blank { IfOk result (λ answer. IfNone answer (is_blank line.now ≡ true)) }
         ensures some { IfOk result (λ answer. IfSome answer (λ _. is_blank line.now ≡ false)) }
         ensures unchanged { OnErr result (self.new ≡ self.old) }
-        ensures asks { IfErr result (λ _. is_blank line.now ≡ false) }
-        ensures no_start { crew.now.plan.now.budget ≡ 0 → result ≢ Err AnswerFault.Start }
+        ensures fault { IfErr result (IsUnanswered self.old line.now) }
+        ensures no_start { StartsNone crew.now.plan.now → result ≢ Err AnswerFault.Start }
     {
         let number = self.ended.saturating_add(1);
         let next = Line {

@@ -2,7 +2,7 @@
 
 ghost use Rattle.std.specs.Prelude.{◌≡◌, ◌≢◌, List, ℕ, IfErr, IfOk};
 ghost use Rattle.fr_bytes.specs.Bytes.{ReadsInput, ReadsAtMostOneTooMany};
-ghost use Rattle.fr_command.specs.Faults.{IsRunFault, IsRunFaultIn};
+ghost use Rattle.fr_command.specs.Faults.{IsRunFault, IsRunFaultIn, StartsNone};
 ghost use Rattle.fr_command.specs.Outputs.{WritesOutput, WritesOutputIn};
 
 use crate::answers::answer_all;
@@ -41,7 +41,7 @@ pub fn run<T: Threads + Wait + Sync, R: Read, W: Write, G: Gate + Sync>(
     ensures limit { ReadsAtMostOneTooMany (R.remaining reader.old) (R.remaining reader.new) }
     ensures fault { IfErr result (IsRunFault (R.remaining reader.old) (R.remaining reader.new)
         (W.contents writer.old) (W.contents writer.new)) }
-    ensures no_start { plan.now.budget ≡ 0 → result ≢ Err RunFault.Start }
+    ensures no_start { StartsNone plan.now → result ≢ Err RunFault.Start }
 {
     let crew = Crew {
         rt,
@@ -69,7 +69,7 @@ pub fn run_in<T: Threads + Wait + Sync, R: Read, W: Write, G: Gate + Sync>(
     ensures limit { ReadsAtMostOneTooMany (R.remaining reader.old) (R.remaining reader.new) }
     ensures fault { IfErr result (IsRunFaultIn form (R.remaining reader.old) (R.remaining reader.new)
         (W.contents writer.old) (W.contents writer.new)) }
-    ensures no_start { crew.now.plan.now.budget ≡ 0 → result ≢ Err RunFault.Start }
+    ensures no_start { StartsNone crew.now.plan.now → result ≢ Err RunFault.Start }
 {
     let input = read_input(crew.alloc, reader)?;
     let tally = answer_all(crew, form, &input, writer)?;

@@ -10,9 +10,7 @@ use fr_crew::{
     Crew, OpenGate, Plan, Settled, live_walk, settle, settle_alone, settled_counts,
     settled_counts_alone,
 };
-use fr_net::{
-    Edit, LineFault, Net, NetFault, NotEdited, Question, Request, Turns, read_line,
-};
+use fr_net::{Edit, LineFault, Net, NetFault, NotEdited, Question, Request, Turns, read_line};
 use fr_round::Round;
 use fr_route::{Change, Report, Router, Session, counts_line, fault_number, links_line};
 use fr_shared::open;

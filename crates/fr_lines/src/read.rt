@@ -47,11 +47,7 @@ fn request_in(alloc: Global, value: &Value) -> Result<Request, LineFault>
 
 /// The request of a word and the items after it, with an arm for each word.
 #[tactic(auto, unfolding(crate::specs::Requests::request_of_word))]
-fn request_by_word(
-    alloc: Global,
-    word: &str,
-    rest: &[Value],
-) -> Result<Request, LineFault>
+fn request_by_word(alloc: Global, word: &str, rest: &[Value]) -> Result<Request, LineFault>
     ensures { Tells (ok_or (request_of_word word.now (map view rest.now)) NotRequest) result }
 {
     match word {

@@ -36,7 +36,7 @@ use crate::router::Router;
 use crate::settling::Asking;
 use crate::told::Told;
 use fr_crew::{Crew, CrewFault, Gate, Plan, settled_counts, settled_counts_alone};
-use fr_graph::{Edit, Net, Turns};
+use fr_graph::{Edit, MAX_EDITS, Net, NetFault, Turns};
 use fr_lines::{LineFault, Question, Request, read_line};
 use fr_tables::Hop;
 use std::alloc::Global;
@@ -724,7 +724,8 @@ impl<'a, F: Fn(&Net, u32, Option<&[u32]>, Turns) -> Result<Turns, CrewFault>> As
         }
     }
 
-    /// Makes these edits, and returns the report of the round. Room for the report is taken before anything is changed.
+    /// Makes these edits, and returns the report of the round. Room for the report is taken before anything is changed,
+    /// but only for edits within the limit.
     fn revise(
         &self,
         router: &mut Router,
@@ -737,6 +738,12 @@ impl<'a, F: Fn(&Net, u32, Option<&[u32]>, Turns) -> Result<Turns, CrewFault>> As
         requires node { revision.now.dest < router.old.nodes }
         ensures { IsRevised (NeverStarts F.post self.now.settle.now) form router.old revision.now told.old result router.new told.new }
     {
+        if revision.edits.len() > MAX_EDITS {
+            return Err(NotMade {
+                at: MAX_EDITS,
+                fault: RouteFault::Net(NetFault::TooMany),
+            });
+        }
         let mut text = report_begun(self.alloc, form, router.net().nodes())?;
         let report = self.edit(router, revision, &|report| Ok(report), told)?;
         router.state_law();

@@ -49,7 +49,8 @@ fn push_number(
 }
 
 /// Appends a number. The buffer is for the digits, and is reused for each number. A number of one digit, as most counts
-/// are, needs no buffer.
+/// are, needs no buffer. It is inlined because it is called for each number of a walk.
+#[inline(always)]
 fn push_digits(line: &mut String, number: u64, buffer: &mut Buffer) -> Result<(), AllocError>
     ensures text { OnOk result (string_bytes line.new ≡ string_bytes line.old ++ decimal number) }
     ensures room { Fits line.old line.new result 20 }

@@ -21,9 +21,12 @@ option name default numbers =
 abbrev pub workers_option : Text → Rule
 workers_option default = option (codes "workers") default (Signed (pos 1) (pos most_workers))
 
--- 0 to 18,446,744,073,709,551,615
+-- the largest seed
+abbrev pub most_seed : ℕ
+most_seed = 18446744073709551615
+
 abbrev pub seed_option : Rule
-seed_option = option (codes "seed") (codes "0") (Unsigned 0 18446744073709551615)
+seed_option = option (codes "seed") (codes "0") (Unsigned 0 most_seed)
 
 -- the largest budget that the command line accepts
 abbrev pub most_budget : ℕ
@@ -72,6 +75,10 @@ command =
 -- the text is a number of at most `most`
 abbrev pub IsNumberUpTo : ℕ → Text → Type 0
 IsNumberUpTo most text = IsNumeral 10 (without_leading_plus text) × (digits_value 10 (without_leading_plus text) ≤ most)
+
+-- the option with this name was given a number of at most `most`
+abbrev pub HasNumber : ℕ → Text → List Row → Type 0
+HasNumber most name rows = (text : Text) × (one_of name rows ≡ Some text) × IsNumberUpTo most text
 
 -- the number of an option
 abbrev pub number_of : Text → List Row → Option ℕ

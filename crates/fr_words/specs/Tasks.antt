@@ -1,5 +1,5 @@
 -- What a command line asks for. This project's own.
-use Rattle.std.specs.Prelude.{ℕ, ◌⊎◌, ◌≡◌, ◌≢◌, ◌≤◌, ◌↔◌, ⊤, IsTrue, List, [], Some, codes}
+use Rattle.std.specs.Prelude.{ℕ, ◌⊎◌, ◌≡◌, ◌≢◌, ◌≤◌, ◌↔◌, ⊤, IsTrue, List, [], Some, codes, if◌then◌else◌, string_bytes}
 use Rattle.clap.specs.Walk.{Row, Text}
 use Rattle.clap.specs.Simple.{subcommand_of}
 use Rattle.clap.specs.Faults.{fault_of}
@@ -9,7 +9,7 @@ use Rattle.clap.specs.declared.error.kind.ErrorKind.TheVariants.{DisplayHelp, Di
 use Rattle.fr_core.specs.Limits.{most_workers}
 use Rattle.fr_crew.specs.declared.plan.Plan.{Plan}
 use Rattle.fr_words.specs.Draws.{most_steps}
-use Rattle.fr_words.specs.Commands.{command, most_budget, number_of, IsGiven}
+use Rattle.fr_words.specs.Commands.{command, most_budget, most_seed, number_of, HasNumber, IsGiven}
 use Rattle.fr_words.specs.declared.draws.Draw.{Draw}
 use Rattle.fr_words.specs.declared.task.CommandLine.{CommandLine}
 use Rattle.fr_words.specs.declared.task.Task.{Task}
@@ -35,6 +35,29 @@ IsDrawIn rows draw =
     (number_of (codes "workers") rows ≡ Some draw.workers) × (1 ≤ draw.workers) × (draw.workers ≤ most_workers)
     × (number_of (codes "seed") rows ≡ Some draw.seed)
     × (number_of (codes "steps") rows ≡ Some draw.steps) × (draw.steps ≤ most_steps)
+
+-- the number of workers is not 0
+abbrev pub HasWorkers : List Row → Type 0
+HasWorkers rows =
+    HasNumber most_workers (codes "workers") rows × (number_of (codes "workers") rows ≢ Some 0)
+
+-- these options give a budget
+abbrev pub HasBudget : List Row → Type 0
+HasBudget rows = IsGiven (codes "alone") rows ⊎ HasNumber most_budget (codes "budget") rows
+
+-- these options give a plan: each number is in its range
+abbrev pub HasPlan : List Row → Type 0
+HasPlan rows = HasWorkers rows × HasNumber most_seed (codes "seed") rows × HasBudget rows
+
+-- these options give a draw: each number is in its range
+abbrev pub HasDraw : List Row → Type 0
+HasDraw rows =
+    HasWorkers rows × HasNumber most_seed (codes "seed") rows × HasNumber most_steps (codes "steps") rows
+
+-- the subcommand with this name and these options has a task
+abbrev pub HasTask : Text → List Row → Type 0
+HasTask name rows =
+    (((name ≡ codes "run") ⊎ (name ≡ codes "serve")) × HasPlan rows) ⊎ ((name ≡ codes "play") × HasDraw rows)
 
 -- the task of the subcommand with this name, with the numbers of its options
 abbrev pub IsTaskOf : Text → List Row → Task → Type 0
@@ -76,3 +99,10 @@ IsFaultOf words (Usage text asked) = (kind : ErrorKind) × IsAmong kind (fault_o
     × (kind ≢ DisplayVersion) × (IsTrue asked ↔ (kind ≡ DisplayHelp))
 IsFaultOf words (Version text) = IsAmong DisplayVersion (fault_of command words)
 IsFaultOf words Memory = ⊤
+
+-- how the program ends with a fault: the status 0 and the text if the words ask for it, 2 and the text if they are
+-- wrong, and 1 if memory is missing
+abbrev pub IsEndOf : TaskFault → (status : ℕ) → (text : List ℕ) → Type 0
+IsEndOf (Usage text asked) status shown = (status ≡ (if asked then 0 else 2)) × (shown ≡ string_bytes text)
+IsEndOf (Version text) status shown = (status ≡ 0) × (shown ≡ string_bytes text)
+IsEndOf Memory status shown = status ≡ 1

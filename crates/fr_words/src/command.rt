@@ -27,7 +27,7 @@ const RUN_ABOUT: &str =
     "Answers requests: each is a line of JSON on standard input, and each answer is a line on standard output";
 
 const SERVE_ABOUT: &str =
-    "Answers requests as run does, but each one as soon as its line has arrived; the input can have any length";
+    "Answers requests as run does, but each one as soon as its line has arrived; the input can have any length; use --alone";
 
 const REQUESTS: &str = "\
 Requests:
@@ -73,7 +73,8 @@ const PLAY_SEED: &str = "The seed of the schedule, 0 to 18446744073709551615";
 const BUDGET: &str =
     "The most calls that each worker makes in a round, 0 to 1000000000; 0 starts no thread, and is fastest";
 
-const ALONE: &str = "One thread makes all turns: the budget is 0, whatever --budget says; fastest";
+const ALONE: &str =
+    "One thread makes all turns: the budget is 0, whatever --budget says; fastest, and the way to serve";
 
 const JSON: &str = "Answers are JSON, one object on a line";
 

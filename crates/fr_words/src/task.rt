@@ -1,12 +1,12 @@
 //! What the words of a command line ask for.
 
-ghost use Rattle.std.specs.Prelude.{◌≡◌, ◌≤◌, ◌↔◌, IsTrue, ℕ, List, Some, IfOk, IfErr, IfSome, IsNone, map, codes};
+ghost use Rattle.std.specs.Prelude.{◌≡◌, ◌≤◌, ◌↔◌, IsTrue, Some, IfOk, IfErr, IfSome, IsNone, map, codes};
 ghost use Rattle.clap.specs.Values.{kind_of};
 ghost use Rattle.clap.specs.Words.{found_of, rows_of};
-ghost use Rattle.clap.specs.Walk.{one_of};
-ghost use Rattle.fr_words.specs.Commands.{number_of, IsGiven, IsNumberUpTo};
+ghost use Rattle.fr_words.specs.Commands.{number_of, HasNumber, IsGiven, most_budget, most_seed};
 ghost use Rattle.fr_words.specs.Tasks.{IsBudgetIn, IsPlanIn, IsDrawIn, IsTaskIn, IsTaskOf};
-ghost use Rattle.fr_words.specs.Tasks.{IsCommandLineIn, IsCommandLineOf, IsUsageOf, IsFaultOf};
+ghost use Rattle.fr_words.specs.Tasks.{HasBudget, HasDraw, HasPlan, HasTask};
+ghost use Rattle.fr_words.specs.Tasks.{IsCommandLineIn, IsCommandLineOf, IsEndOf, IsUsageOf, IsFaultOf};
 
 use crate::command::{MAX_BUDGET, matches_of};
 use crate::draws::{Draw, MAX_STEPS};
@@ -103,7 +103,8 @@ pub fn task_of<'a>(alloc: Global, words: &'a [&'a str], version: &'a str) -> Res
 
 /// The command line of a subcommand and its options.
 fn command_line_in(name: &str, options: &ArgMatches) -> Option<CommandLine>
-    ensures { IfSome result (IsCommandLineOf name.now (rows_of (found_of options.now))) }
+    ensures some { IfSome result (IsCommandLineOf name.now (rows_of (found_of options.now))) }
+    ensures none { IsNone result → ¬ HasTask name.now (rows_of (found_of options.now)) }
 {
     Some(CommandLine {
         task: task_in(name, options)?,
@@ -114,7 +115,8 @@ fn command_line_in(name: &str, options: &ArgMatches) -> Option<CommandLine>
 
 /// The task of a subcommand and its options.
 fn task_in(name: &str, options: &ArgMatches) -> Option<Task>
-    ensures { IfSome result (IsTaskOf name.now (rows_of (found_of options.now))) }
+    ensures some { IfSome result (IsTaskOf name.now (rows_of (found_of options.now))) }
+    ensures none { IsNone result → ¬ HasTask name.now (rows_of (found_of options.now)) }
 {
     match name {
         "run" => plan_in(options).map(Task::Run),
@@ -126,7 +128,8 @@ fn task_in(name: &str, options: &ArgMatches) -> Option<Task>
 
 /// The plan of the options.
 fn plan_in(options: &ArgMatches) -> Option<Plan>
-    ensures { IfSome result (IsPlanIn (rows_of (found_of options.now))) }
+    ensures some { IfSome result (IsPlanIn (rows_of (found_of options.now))) }
+    ensures none { IsNone result → ¬ HasPlan (rows_of (found_of options.now)) }
 {
     let workers = number_in(options, "workers", MAX_WORKERS)?;
     let budget = budget_in(options)?;
@@ -135,7 +138,8 @@ fn plan_in(options: &ArgMatches) -> Option<Plan>
 
 /// The budget of the options: 0 with `--alone`, whatever `--budget` says.
 fn budget_in(options: &ArgMatches) -> Option<u32>
-    ensures { IfSome result (IsBudgetIn (rows_of (found_of options.now))) }
+    ensures some { IfSome result (IsBudgetIn (rows_of (found_of options.now))) }
+    ensures none { IsNone result → ¬ HasBudget (rows_of (found_of options.now)) }
 {
     if is_given(options, "alone") {
         return Some(0);
@@ -145,7 +149,8 @@ fn budget_in(options: &ArgMatches) -> Option<u32>
 
 /// The draw of the options.
 fn draw_in(options: &ArgMatches) -> Option<Draw>
-    ensures { IfSome result (IsDrawIn (rows_of (found_of options.now))) }
+    ensures some { IfSome result (IsDrawIn (rows_of (found_of options.now))) }
+    ensures none { IsNone result → ¬ HasDraw (rows_of (found_of options.now)) }
 {
     let workers = number_in(options, "workers", MAX_WORKERS)?;
     let steps = number_in(options, "steps", MAX_STEPS)?;
@@ -155,8 +160,7 @@ fn draw_in(options: &ArgMatches) -> Option<Draw>
 /// The number of an option, if it is at most `most`.
 fn number_in(options: &ArgMatches, name: &str, most: u32) -> Option<u32>
     ensures number { IfSome result (λ n. (number_of name.now (rows_of (found_of options.now)) ≡ Some n) × (n ≤ most)) }
-    ensures none { IsNone result → (text : List ℕ) → one_of name.now (rows_of (found_of options.now)) ≡ Some text
-        → ¬ IsNumberUpTo most text }
+    ensures none { IsNone result → ¬ HasNumber most name.now (rows_of (found_of options.now)) }
 {
     match options.get_one::<u32>(name) {
         Some(number) if number <= most => Some(number),
@@ -166,7 +170,8 @@ fn number_in(options: &ArgMatches, name: &str, most: u32) -> Option<u32>
 
 /// The number of the option `seed`.
 fn seed_in(options: &ArgMatches) -> Option<u64>
-    ensures { IfSome result (λ n. number_of (codes "seed") (rows_of (found_of options.now)) ≡ Some n) }
+    ensures number { IfSome result (λ n. number_of (codes "seed") (rows_of (found_of options.now)) ≡ Some n) }
+    ensures none { IsNone result → ¬ HasNumber most_seed (codes "seed") (rows_of (found_of options.now)) }
 {
     options.get_one::<u64>("seed")
 }
@@ -207,8 +212,10 @@ fn text_of(alloc: Global, error: &Error) -> Result<String, AllocError> {
 }
 
 /// The exit status for a fault, and its text, which is for standard output if the status is 0 and otherwise for
-/// standard error. No clause says what they are; they are only tested. O(1).
-pub fn task_end(fault: &TaskFault) -> (u8, &str) {
+/// standard error. O(1).
+pub fn task_end(fault: &TaskFault) -> (u8, &str)
+    ensures { IsEndOf fault.now result.0 result.1.now }
+{
     match fault {
         TaskFault::Usage { text, asked: true } | TaskFault::Version { text } => (0, text.as_str()),
         TaskFault::Usage { text, asked: false } => (2, text.as_str()),

@@ -3,8 +3,8 @@
 #![tactic(auto)]
 
 use fr_command::{
-    CommandLine, Form, RunFault, Task, TaskFault, command_line, play_drawn, run_end, run_in,
-    serve_in, task_end,
+    CommandLine, Form, Joined, RunFault, Task, TaskFault, command_line, play_drawn, run_end,
+    run_in, serve_in, task_end,
 };
 use fr_crew::{Crew, OpenGate, Plan};
 use std::alloc::Global;
@@ -30,6 +30,11 @@ fn main(rt: HostRuntime) -> ExitCode {
     match perform(&rt, line) {
         Ok(refused) if line.strict && refused > 0 => ExitCode::from(REFUSED),
         Ok(_) => ExitCode::SUCCESS,
+        // A service without threads goes on where this one has to stop.
+        Err(RunFault::Start) if matches!(line.task, Task::Serve(_)) => {
+            let _ = rt.eprintln("revroute: no thread (serve --alone needs none)");
+            ExitCode::FAILURE
+        }
         Err(fault) => end(&rt, &fault),
     }
 }
@@ -93,7 +98,11 @@ fn perform<R: Threads + Wait + Sync + Alloc<A = Global> + Input + Print>(
             Ok(tally.refused)
         }
         Task::Serve(plan) => {
-            let tally = serve_in(&crew_of(rt, &plan), form, &mut rt.reader(), &mut out)?;
+            let mut stream = Joined {
+                reader: rt.reader(),
+                writer: out,
+            };
+            let tally = serve_in(&crew_of(rt, &plan), form, &mut stream)?;
             Ok(tally.refused)
         }
         Task::Play(draw) => {

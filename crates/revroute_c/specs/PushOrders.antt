@@ -41,13 +41,13 @@ pub record IsLoopOfNew (old new nodes : List ℕ) : Type 0 where
 abbrev pub refusal_with : ℕ → ℕ × ℕ → Refusal
 refusal_with number nodes = record { number = number; u = nodes.0; v = nodes.1; at = 0 }
 
--- the tables are refused, whatever hops the new one has: they have more nodes than a network may have, or x is the first
--- of their numbers that names no hop
+-- the tables are refused, whatever hops the new one has: they have more nodes than a network may have, or x is the
+-- first of their numbers that names no hop
 abbrev pub AreNoTables : List ℕ → List ℕ → Refusal → Type 0
 AreNoTables old new r =
     ((most_nodes < nodes_of old new) × (r ≡ refusal_with 9 (0, 0)))
     ⊎ ((nodes_of old new ≤ most_nodes)
-        × ((x : ℕ) × (find (is_outside (nodes_of old new)) (old ++ new) ≡ Some x) × (r ≡ refusal_with 4 (x, x))))
+    × ((x : ℕ) × (find (is_outside (nodes_of old new)) (old ++ new) ≡ Some x) × (r ≡ refusal_with 4 (x, x))))
 
 -- a cycle is at the front of the place, and the refusal has its first step
 pub record IsCycleTold (cycle : List ℕ) (o : Outcome ℕ) (r : Refusal) : Type 0 where

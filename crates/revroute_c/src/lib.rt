@@ -57,9 +57,7 @@ use reader_opening::{reader_anew, reader_in};
 use readers::{copied, hop_read, walk_read};
 use records::{Link, LinkEdit, Refusal, Round, first_unknown, unknown_at};
 use replies::{LEAST_ROOM, hand_out, reply, reply_anew};
-use rounds::{
-    NewNetwork, change_in, is_too_large, move_dest_in, open_anew, open_in, refuse_size,
-};
+use rounds::{NewNetwork, change_in, is_too_large, move_dest_in, open_anew, open_in, refuse_size};
 use statuses::{ANSWERED, BLANK, NO_MEMORY, NO_NETWORK, REFUSED, TOO_SHORT};
 use std::alloc::Global;
 use tables::pushes_in;
@@ -415,13 +413,14 @@ pub extern "C" fn revroute_pushes(
 }
 
 /// Writes the nodes at which two tables of the caller's own differ, in push order, to the front of `nodes`, and their
-/// number to `size`. The tables have hops as [`revroute_hops`] writes them, whatever method made them. A number past the
-/// end of the shorter table is cut off there. Only `old` may have loops. It needs no session. Returns `ANSWERED`, or:
+/// number to `size`. The tables have hops as [`revroute_hops`] writes them, whatever method made them. A number past
+/// the end of the shorter table is cut off there. Only `old` may have loops. It needs no session. Returns `ANSWERED`,
+/// or:
 ///
 /// - `REFUSED`: a table has more than 4,096 hops; or a number in `old`, or otherwise in `new`, does not name a hop; or
-///   `new` has a loop. `refusal` gets the number that lines use for the reason and its nodes. If it is a loop, its
-///   nodes are at the front of `nodes`, with the first one again at the end, and `size` is their number. Otherwise
-///   `size` is 0.
+///   `new` has a loop. `refusal` gets the number that lines use for the reason and its nodes. For a loop, the loop of
+///   the lowest such node is at the front of `nodes`. It begins at this node and has it again at the end, and `size` is
+///   its length. Otherwise `size` is 0.
 /// - `TOO_SHORT`: there is too little room, for the order or the loop.
 /// - `NO_MEMORY`: an allocation was refused. Both tables are within the limit, and all their numbers name hops.
 ///

@@ -1,6 +1,7 @@
 //! The push order between two tables of the caller.
 
-ghost use Rattle.std.specs.Prelude.{◌≡◌, ◌<◌, ◌≤◌, ◌++◌, [], ◌∷◌, find, length, slice_index, IfErr, IfNone, IfOk, IfSome};
+ghost use Rattle.std.specs.Prelude.{◌≡◌, ◌<◌, ◌≤◌, ◌++◌, [], ◌∷◌, find, length, slice_index};
+ghost use Rattle.std.specs.Prelude.{IfErr, IfNone, IfOk, IfSome};
 ghost use Rattle.fr_graph.specs.Limits.{most_nodes};
 ghost use Rattle.fr_tables.specs.Faults.{IsFaultOf, IsOrdered};
 ghost use Rattle.revroute_c.specs.PushOrders.{hops_of, nodes_of, AreInRange, AreNoTables, OrdersPushes};
@@ -59,7 +60,8 @@ impl<'a> Tables<'a> {
     #[tactic(auto, using(crate::proofs::InRange::are_tables))]
     fn order(&self, alloc: Global) -> Result<Vec<u32>, TableFault>
         requires { AreInRange self.now.old.now self.now.new.now }
-        ensures order { IfOk result (λ order. IsOrdered (hops_of (nodes_of self.now.old.now self.now.new.now) self.now.old.now)
+        ensures order { IfOk result (λ order.
+            IsOrdered (hops_of (nodes_of self.now.old.now self.now.new.now) self.now.old.now)
             (hops_of (nodes_of self.now.old.now self.now.new.now) self.now.new.now) order.items) }
         ensures fault { IfErr result (IsFaultOf (hops_of (nodes_of self.now.old.now self.now.new.now) self.now.old.now)
             (hops_of (nodes_of self.now.old.now self.now.new.now) self.now.new.now)) }

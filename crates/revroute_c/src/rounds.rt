@@ -278,6 +278,7 @@ pub(crate) fn move_dest_in(
             ANSWERED
         }
         Some(Err(RouteFault::Memory)) => NO_MEMORY,
-        None | Some(Err(RouteFault::Net(_) | RouteFault::Range | RouteFault::Start)) => unreachable!(),
+        None | Some(Err(RouteFault::Net(_) | RouteFault::Range | RouteFault::Start)) =>
+            unreachable!(),
     }
 }

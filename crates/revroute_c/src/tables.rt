@@ -33,7 +33,10 @@ fn is_outside(count: u32, number: u32) -> bool
 pub(crate) fn first_outside(count: u32, numbers: &[u32]) -> Option<u32>
     ensures { result ≡ find (is_outside_of count) numbers.now }
 {
-    numbers.iter().copied().find(|number| is_outside(count, *number))
+    numbers
+        .iter()
+        .copied()
+        .find(|number| is_outside(count, *number))
 }
 
 /// The table of these numbers.
@@ -66,7 +69,10 @@ pub(crate) fn pushes_in(
         return NO_NETWORK;
     };
     let count = router.net().nodes();
-    if table.len() != count as usize || first_outside(count, table).is_some() {
+    if table.len() != count as usize {
+        return NO_TABLE;
+    }
+    if let Some(_number) = first_outside(count, table) {
         return NO_TABLE;
     }
     let Ok(hops) = table_of(alloc, table) else {

@@ -7,6 +7,7 @@ use crate::outcomes::{tell_first, tell_outcome};
 use crate::runs::{FEW_PLANS, PLANS, run_alone, run_of, tell_in, tell_plans};
 use crate::streams::{tell_narrow_writes, tell_slow_reads};
 use crate::tasks::{draw_at, outcome_of, task_at};
+use crate::telling::tell;
 use crate::words::{tell_faults, tell_words};
 use crate::{changes, plays};
 use fr_command::{Form, Task};
@@ -24,6 +25,7 @@ pub fn tell_answer<R: Threads + Wait + Sync + AllocGlobal + Print>(
         "run" => tell_run(rt, &case.input(rt.alloc())),
         "form" => tell_form(rt, case),
         "made" => tell_made(rt, case),
+        "beginnings" => tell_beginnings(rt, case),
         "gate" => tell_gate(rt, case),
         "batch" => tell_batch(rt, case),
         "chain" => tell_chain(rt, case),
@@ -81,6 +83,23 @@ fn bytes_in(value: &Value) -> Option<(u8, usize)> {
     Some((byte, count))
 }
 
+/// `["beginnings", request]`: whether each beginning of a request, without its last byte, is refused as no JSON.
+fn tell_beginnings<R: Threads + Wait + Sync + AllocGlobal + Print>(
+    rt: &R,
+    case: &Case<'_>,
+) -> Option<()> {
+    let line = case.value(1)?.to_string(rt.alloc()).ok()?;
+    for end in 1..line.len() {
+        let outcome = run_of(rt, &line[..end]);
+        if outcome.out != b"refused 1\n" {
+            tell_outcome(rt, &outcome);
+            return Some(());
+        }
+    }
+    tell(rt, "each is refused as no JSON");
+    Some(())
+}
+
 /// `["gate", held, until]`: a run of the lines under a gate that holds a worker until another is answered.
 fn tell_gate<R: Threads + Wait + Sync + AllocGlobal + Print>(
     rt: &R,
@@ -126,7 +145,7 @@ fn tell_play<R: Threads + Wait + Sync + AllocGlobal + Print>(
     Some(())
 }
 
-/// `["drawn play", workers, seed, steps]`: whether a play makes the schedule that is drawn.
+/// `["drawn play", workers, seed, steps]`: whether a play is that of the schedule that is drawn.
 fn tell_drawn_play<R: Threads + Wait + Sync + AllocGlobal + Print>(
     rt: &R,
     case: &Case<'_>,

@@ -41,10 +41,13 @@ impl Read for MadeReader {
     }
 }
 
-/// A network and a batch of so many edits, which alternately cut the link from 1 to 0 and add it again.
+/// A chain of four nodes and a batch of so many edits, which alternately cut the link from 1 to 0 and add it again.
 pub fn by_turns(alloc: Global, count: u32) -> String {
     let mut input = String::new(alloc);
-    put_word(&mut input, "[\"net\",2,0,[[1,0]]]\n[\"batch\",[");
+    put_word(
+        &mut input,
+        "[\"net\",4,0,[[1,0],[2,1],[3,2]]]\n[\"batch\",[",
+    );
     for i in 0..count {
         put_word(&mut input, if i > 0 { "," } else { "" });
         put_word(

@@ -4,26 +4,27 @@ use crate::outcomes::tell_outcome;
 use crate::tasks::outcome_of;
 use crate::telling::{put, put_word, tell};
 use fr_command::{Draw, Task};
-use fr_core::{Entry, Reply, Target, play};
+use fr_core::{Entry, Reply, Target, check_run, play};
 use fr_net::{Net, Request, read_line};
 use rand_core::SeedableRng;
 use rand_core::utils::NextWord;
 use rand_pcg::Lcg64Xsh32;
 use std::alloc::Global;
+use std::fmt::Write as FmtWrite;
 use std::sync::Wait;
 use std::thread::Threads;
 
-/// Prints whether a play on the network of a line begins with the entries of the schedule that is drawn here from the
-/// same seed. Node 0 is the destination, and all other nodes have links.
+/// Prints whether a play on the network of a line writes the entries of the schedule that is drawn here from the same
+/// seed, and then the links and the counts that they lead to. Node 0 is the destination, and all other nodes have links.
 pub fn tell_drawn<R: Threads + Wait + Sync + AllocGlobal + Print>(
     rt: &R,
     draw: Draw,
     seed: u64,
     line: &str,
 ) -> Option<()> {
-    let begin = begin_of_play(rt.alloc(), draw, seed, line)?;
+    let text = text_of_play(rt.alloc(), draw, seed, line)?;
     let outcome = outcome_of(rt, Task::Play(draw), &mut line.as_bytes());
-    if outcome.out.starts_with(begin.as_bytes()) {
+    if outcome.out == text.as_bytes() {
         tell(rt, "as drawn");
     } else {
         tell_outcome(rt, &outcome);
@@ -31,26 +32,57 @@ pub fn tell_drawn<R: Threads + Wait + Sync + AllocGlobal + Print>(
     Some(())
 }
 
-/// How the text of a play must begin, up to the links.
-fn begin_of_play(alloc: Global, draw: Draw, seed: u64, line: &str) -> Option<String> {
-    let entries = entries_on_line(alloc, draw, seed, line)?;
+/// The text of a play on the network of a line.
+fn text_of_play(alloc: Global, draw: Draw, seed: u64, line: &str) -> Option<String> {
+    let net = net_on_line(alloc, line)?;
+    let entries = entries_on(alloc, draw, seed, &net)?;
+    let counts = check_run(alloc, &net, 0, &entries).ok()?;
     let mut text = String::new(alloc);
     for entry in entries.iter() {
         put_word(&mut text, &entry_text(alloc, *entry));
     }
-    put_word(&mut text, "links ");
+    put_links(&mut text, &links_at(alloc, &net, &counts)?);
+    put_counts(&mut text, &counts);
     Some(text)
 }
 
-/// The entries of a play on the network of a line.
-fn entries_on_line(alloc: Global, draw: Draw, seed: u64, line: &str) -> Option<Vec<Entry>> {
+/// The network of a line.
+fn net_on_line(alloc: Global, line: &str) -> Option<Net> {
     match read_line(alloc, line.as_bytes()) {
-        Ok(Request::Network { nodes, links, .. }) => {
-            let net = Net::new(alloc, nodes, &links).ok()?;
-            entries_on(alloc, draw, seed, &net)
-        }
+        Ok(Request::Network { nodes, links, .. }) => Net::new(alloc, nodes, &links).ok(),
         _ => None,
     }
+}
+
+/// The links as counts leave them, in rising order: a link points the other way if its ends turned differently often.
+fn links_at(alloc: Global, net: &Net, counts: &[u64]) -> Option<Vec<(u32, u32)>> {
+    let mut links = Vec::new(alloc);
+    for (tail, head) in net.links() {
+        let same = counts.get(tail as usize)? == counts.get(head as usize)?;
+        links
+            .push(if same { (tail, head) } else { (head, tail) })
+            .ok()?;
+    }
+    links.sort().ok()?;
+    Some(links)
+}
+
+/// Appends the line of links.
+fn put_links(text: &mut String, links: &[(u32, u32)]) {
+    put_word(text, "links");
+    for (tail, head) in links {
+        let _ = write!(text, " {tail}>{head}");
+    }
+    put_word(text, "\n");
+}
+
+/// Appends the line of counts.
+fn put_counts(text: &mut String, counts: &[u64]) {
+    put_word(text, "counts");
+    for count in counts {
+        let _ = write!(text, " {count}");
+    }
+    put_word(text, "\n");
 }
 
 /// The entries of a play on a network.

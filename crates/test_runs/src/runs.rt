@@ -2,7 +2,7 @@
 
 use crate::outcomes::{Outcome, tell_outcome};
 use crate::telling::{tell, tell_lines, tell_value};
-use fr_command::{Form, run, run_in, serve_in};
+use fr_command::{Form, Joined, run, run_in, serve_in};
 use fr_crew::{Crew, Gate, OpenGate, Plan};
 use std::io::Read;
 use std::sync::Wait;
@@ -106,11 +106,14 @@ pub fn tell_in<R: Threads + Wait + Sync + AllocGlobal + Print>(rt: &R, form: For
     let end = run_in(&crew, form, &mut input.as_bytes(), &mut out);
     tell_lines(rt, &out);
     tell_value(rt, &end);
-    let mut served = Vec::new(rt.alloc());
-    let same = serve_in(&crew, form, &mut input.as_bytes(), &mut served) == end;
+    let mut stream = Joined {
+        reader: input.as_bytes(),
+        writer: Vec::new(rt.alloc()),
+    };
+    let same = serve_in(&crew, form, &mut stream) == end;
     tell(
         rt,
-        if same && served == out {
+        if same && stream.writer == out {
             "and as it comes"
         } else {
             "but not as it comes"

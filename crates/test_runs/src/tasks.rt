@@ -2,7 +2,7 @@
 
 use crate::cases::Case;
 use crate::outcomes::Outcome;
-use fr_command::{Draw, RunFault, Task, play_drawn, run, serve};
+use fr_command::{Draw, Joined, RunFault, Task, play_drawn, run, serve};
 use fr_crew::{OpenGate, Plan};
 use std::io::{Read, Write};
 use std::sync::Wait;
@@ -39,7 +39,10 @@ pub fn perform<T: Threads + Wait + Sync + AllocGlobal, R: Read, W: Write>(
 ) -> Result<u64, RunFault> {
     match task {
         Task::Run(plan) => run(rt, rt.alloc(), reader, writer, &plan, &OpenGate),
-        Task::Serve(plan) => serve(rt, rt.alloc(), reader, writer, &plan, &OpenGate).map(|()| 0),
+        Task::Serve(plan) => {
+            let mut stream = Joined { reader, writer };
+            serve(rt, rt.alloc(), &mut stream, &plan, &OpenGate).map(|()| 0)
+        }
         Task::Play(draw) => play_drawn(rt.alloc(), reader, writer, draw),
     }
 }

@@ -2,7 +2,9 @@
 
 use crate::cases::Case;
 use crate::telling::{tell, tell_lines, tell_value};
-use fr_command::{CommandLine, RunFault, TaskFault, command_line, run_end, task_end};
+use fr_command::{
+    CommandLine, RunFault, Task, TaskFault, command_line, run_end, task_end, task_of,
+};
 use fr_route::{AnswerFault, RouteFault};
 use serde_json::Value;
 use std::alloc::Global;
@@ -13,11 +15,24 @@ use std::fmt::Display;
 /// `middle` and ends with `end`.
 pub fn tell_words<R: AllocGlobal + Print>(rt: &R, case: &Case<'_>) -> Option<()> {
     let words = texts_of(rt.alloc(), case.value(1)?.as_array()?);
-    match command_line(rt.alloc(), &words) {
+    let line = command_line(rt.alloc(), &words);
+    if !is_of(&line, &task_of(rt.alloc(), &words)) {
+        tell(rt, "but task_of returns another task or fault");
+    }
+    match line {
         Ok(line) => tell_command_line(rt, &line),
         Err(fault) => tell_end(rt, &fault, case),
     }
     Some(())
+}
+
+/// Whether a task, or the fault in its place, is that of a command line.
+fn is_of(line: &Result<CommandLine, TaskFault>, task: &Result<Task, TaskFault>) -> bool {
+    match (line, task) {
+        (Ok(line), Ok(task)) => line.task == *task,
+        (Err(fault), Err(other)) => fault == other,
+        _ => false,
+    }
 }
 
 /// Prints a task, and the flags that were given.

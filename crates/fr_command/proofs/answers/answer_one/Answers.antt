@@ -1,19 +1,12 @@
-use Rattle.std.proofs.Common.{rules, ◌≡◌, ◌∷◌, [], List, ℕ, Result, Ok, Err, IfErr}
-use Rattle.std.proofs.Common.{OnErr, drop, string_bytes, subst, sym, take}
+use Rattle.std.proofs.Common.{rules, ◌∷◌, [], List, ℕ, drop, string_bytes, sym, take}
 use Rattle.std.proofs.lemmas.List.{take-append-drop}
 use Rattle.std.proofs.lemmas.Result.{on_ok_weaker}
 use Rattle.std.specs.Io.KnownBytes.{Appends}
+use Rattle.fr_bytes.proofs.Results.{of_the_fault}
 use Rattle.fr_bytes.specs.declared.fault.RunFault.TheVariants.{Write}
 use Rattle.fr_command.specs.InLines.{IsLineFault}
 use Rattle.fr_command.specs.Points.{AreAnswersIn}
 use Rattle.fr_command.proofs.answers.answer_one.Goals as goal
-
--- what holds if a result is an error, and of its only fault
-of_the_fault : {T E : Type 0} (r : Result T E) (one : E) (P : E → Type 0) (Q : Type 0)
-    → IfErr r (λ fault. fault ≡ one) → OnErr r Q
-    → (Q → P one) → IfErr r P
-of_the_fault (Ok x) one P Q only h f = tt
-of_the_fault (Err y) one P Q only h f = subst P (sym only) (f h)
 
 pub returns-in-Ok-Some : goal.returns-in-Ok-Some
 returns-in-Ok-Some g c =

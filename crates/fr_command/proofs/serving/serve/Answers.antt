@@ -10,6 +10,7 @@ returns-in-Ok-clause-ok g c =
       h.0,
       h.1,
       h.2,
-      writes_text h.0 (g.W.Write.contents c.args.writer.now) (g.W.Write.contents c.serve_in.new.writer) c.in-Ok.field-0
+      writes_text h.0 (g.S.Stream.traffic c.args.stream.now).written (g.S.Stream.traffic c.serve_in.new.stream).written
+          c.in-Ok.field-0
           (asking_count (lines_of h.0)) h.3 refl,
     )

@@ -1,5 +1,5 @@
-use Rattle.std.proofs.Common.{Err, List, Ok, OnOk, Result, ap, arith, decimal, if◌then◌else◌, string_bytes, sym, ℕ, ◌++◌, ◌+◌, ◌<◌, ◌∙◌}
-use Rattle.std.proofs.Common.{◌∷◌, ◌≡◌, []}
+use Rattle.std.proofs.Common.{Err, List, Ok, OnOk, Result, ap, arith, decimal, if◌then◌else◌, string_bytes, sym}
+use Rattle.std.proofs.Common.{ℕ, ◌++◌, ◌+◌, ◌<◌, ◌∙◌, ◌∷◌, ◌≡◌, []}
 use Rattle.std.proofs.lemmas.Fmt.{decimal_digit}
 use Rattle.std.specs.Result.{is_ok}
 use Rattle.fr_route.proofs.texts.push_digits.Goals as goal

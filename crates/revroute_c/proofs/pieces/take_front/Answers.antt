@@ -11,7 +11,7 @@ wanted_at_end : (s : Option State) (begun piece line : List ℕ) (room size coun
     → IsWanted s line room size → IsWantedAtEnd s begun piece room size
 wanted_at_end s begun piece line room size count ends = ⊎_elim
     (λ least. inl least)
-    (λ long. inr (record { line = line; count = count; ends = ends; answer = long.1 }))
+    (λ long. inr (long.0, record { line = line; count = count; ends = ends; answer = long.1 }))
 
 pub returns-then-status-gt-BLANK : goal.returns-then-status-gt-BLANK
 returns-then-status-gt-BLANK c =

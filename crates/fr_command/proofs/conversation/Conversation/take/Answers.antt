@@ -14,7 +14,7 @@ use Rattle.fr_bytes.proofs.Results.{handed_on}
 use Rattle.fr_command.specs.Conversations.{Talk, carried, line_size, point_of, talk_at, text_of}
 use Rattle.fr_command.specs.Faults.{IsTakeFault}
 use Rattle.fr_command.specs.InPieces.{IsHoldFault}
-use Rattle.fr_command.specs.Points.{after_blank}
+use Rattle.fr_command.specs.Points.{Point, after_blank}
 use Rattle.fr_command.proofs.Taking.{blank_ends, takes_none, takes_line}
 use Rattle.fr_command.proofs.conversation.Conversation.take.Goals as goal
 
@@ -39,18 +39,18 @@ blank_goes_on begun piece end found is missed all short blank = ⊎_elim
     (cases_lt end (length piece))
 
 -- a line that could not be kept was not taken
-not_held : (begun piece : List ℕ) (end : ℕ) (found : Bool) (fault : RunFault) → end ≡ position_or_len ends_line piece
+not_held : (point : Point) (begun piece : List ℕ) (end : ℕ) (found : Bool) (fault : RunFault) → end ≡ position_or_len ends_line piece
     → found ≡ false
     → ((end < length piece) × (is_blank (begun ++ take end piece) ≡ true)
     × (length (begun ++ take end piece) ≤ most_bytes) → found ≡ true)
-    → IsHoldFault begun (take end piece) fault → IsTakeFault (begun ++ before_first ends_line piece) piece fault
-not_held begun piece end found Read is missed all why = why
-not_held begun piece end found Write is missed all why = why
-not_held begun piece end found TooLong is missed all why =
+    → IsHoldFault begun (take end piece) fault → IsTakeFault point (begun ++ before_first ends_line piece) piece fault
+not_held point begun piece end found Read is missed all why = why
+not_held point begun piece end found Write is missed all why = why
+not_held point begun piece end found TooLong is missed all why =
     subst (λ (l : List ℕ). most_bytes < length l) (ap (λ (n : ℕ). begun ++ take n piece) is)
     (omega (arith, why, length-append begun (take end piece)))
-not_held begun piece end found Start is missed all why = absurd why
-not_held begun piece end found Memory is missed all why = (
+not_held point begun piece end found Start is missed all why = absurd why
+not_held point begun piece end found Memory is missed all why = (
   λ nothing. why.0 (ap (λ (n : ℕ). take n piece) is ∙ nothing_behind begun (before_first ends_line piece) nothing),
   blank_goes_on begun piece end found is missed all why.1,
 )
@@ -102,8 +102,8 @@ returns-in_err-hold-clause-fault g c =
     let old : Talk = c.args.self.now in
     let piece : List ℕ = c.args.piece.now in
     let fault = c.in_err-hold.field-0.0 in
-    handed_on c.from_residual.result fault (IsTakeFault (carried old piece) piece) c.from_residual.ensures.1
-    (not_held old.begun piece c.front_size-end.result c.ends_blank.result fault c.front_size-end.ensures
+    handed_on c.from_residual.result fault (IsTakeFault (point_of old) (carried old piece) piece) c.from_residual.ensures.1
+    (not_held (point_of old) old.begun piece c.front_size-end.result c.ends_blank.result fault c.front_size-end.ensures
     c.if-ends_blank.false c.ends_blank.ensures.1 c.in_err-hold.ensures.fault)
 
 pub returns-then-end-piece-clause-takes : goal.returns-then-end-piece-clause-takes

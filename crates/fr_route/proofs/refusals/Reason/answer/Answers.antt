@@ -8,8 +8,11 @@ use Rattle.fr_route.specs.declared.refusals.Reason.TheVariants.{SelfLink, Twice,
 use Rattle.fr_route.proofs.refusals.Reason.answer.Goals as goal
 
 -- a number of one digit at the end
-digit : (reason this : Reason) → reason ≡ this → number_of this < 10 → codes "refused " ++ (48 + number_of this) ∷ [] ≡ refusal_text (number_of reason)
-digit reason this is low = sym (ap (λ r. refusal_text (number_of r)) is ∙ ap (λ digits. codes "refused " ++ digits) (decimal_digit (number_of this) low))
+digit : (reason this : Reason) → reason ≡ this → number_of this < 10
+    → codes "refused " ++ (48 + number_of this) ∷ [] ≡ refusal_text (number_of reason)
+digit reason this is low =
+    let one = decimal_digit (number_of this) low in
+    sym (ap (λ r. refusal_text (number_of r)) is ∙ ap (λ digits. codes "refused " ++ digits) one)
 
 pub returns-in-NotJson : goal.returns-in-NotJson
 returns-in-NotJson c = digit c.args.self NotJson c.in-NotJson.is (omega arith)

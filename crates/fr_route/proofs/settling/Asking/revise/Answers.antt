@@ -1,12 +1,37 @@
-use Rattle.std.proofs.Common.{◌≡◌, ◌∙◌, ap, arith, length, rules, sym}
+use Rattle.std.proofs.Common.{◌≡◌, ◌∙◌, ap, arith, inl, length, refl, rules, sym}
+use Rattle.std.proofs.lemmas.Result.{err_from_is_err_and}
 use Rattle.fr_route.specs.Listing.{nodes_told}
 use Rattle.fr_route.specs.Reroutes.{AreRerouted}
 use Rattle.fr_route.specs.States.{IsReport, State, net_at}
 use Rattle.fr_route.proofs.Changed.{report_is}
-use Rattle.fr_route.proofs.Changing.{made_nodes}
+use Rattle.fr_route.proofs.Changing.{made_nodes, too_many_named}
 use Rattle.fr_route.proofs.PushLengths.{order_short}
 use Rattle.fr_route.proofs.Replying.{room_grows, text_room}
 use Rattle.fr_route.proofs.settling.Asking.revise.Goals as goal
+
+pub returns-then-revision-gt-MAX_EDITS : goal.returns-then-revision-gt-MAX_EDITS
+returns-then-revision-gt-MAX_EDITS g c = record {
+  made = tt;
+  report = λ list. tt;
+  short = λ e. tt;
+  rerouted = λ listing. tt;
+  fault = (inl (c.if-revision-gt-MAX_EDITS.true, refl, refl), λ before made d. too_many_named before _);
+  unchanged = (refl, refl);
+  no_start = λ h e. absurd cc;
+}
+
+pub returns-in_err-text : goal.returns-in_err-text
+returns-in_err-text g c =
+    let p = err_from_is_err_and c.from_residual.result c.from_residual.ensures.1 in
+    rw (p.1, p.2) (record {
+      made = tt;
+      report = λ list. tt;
+      short = λ e. tt;
+      rerouted = λ listing. tt;
+      fault = omega (arith, c.if-revision-gt-MAX_EDITS.false);
+      unchanged = (refl, refl);
+      no_start = λ h e. absurd cc;
+    })
 
 pub returns-in_err-push_report_in : goal.returns-in_err-push_report_in
 returns-in_err-push_report_in g c =
