@@ -3,6 +3,10 @@
 ghost use Rattle.std.specs.Prelude.{◌≡◌, ◌≢◌, ◌<◌, ◌≤◌, ◌⊎◌, ◌↔◌, length, true, false, slice_get, Ok, Some, None};
 ghost use Rattle.std.specs.Prelude.{IfOk, IfErr, OnErr, OnOk, IfSome, IfNone, IsTrue, MatchOption, string_bytes};
 ghost use Rattle.std.specs.Option.{option_copied};
+ghost use Rattle.std.specs.Prelude.{option_map};
+ghost use Rattle.std.specs.declared.alloc.Global.{Global};
+ghost use Rattle.std.specs.declared.vec.Vec.{Vec};
+ghost use Rattle.fr_tables.specs.declared.hop.Hop.{Hop};
 ghost use Rattle.fr_lines.specs.Requests.{ask, make_edits, move_dest, new_network, order_pushes, walk_from, plain, reading};
 ghost use Rattle.fr_crew.specs.Settlements.{CanBegin};
 ghost use Rattle.fr_route.specs.Ways.{Settles, NeverStarts};
@@ -394,8 +398,31 @@ impl Session {
         Ok(accepted(question_in(alloc, manner.form, router, question)?))
     }
 
+    /// The answer to a request for the pushes from a table to the wanted one, or to the next hops if none is given.
+    fn pushes(
+        &self,
+        alloc: Global,
+        manner: Manner,
+        table: &[Hop],
+        wanted: &Option<Vec<Hop>>,
+    ) -> Result<Answer, AnswerFault>
+        ensures reply { IfOk result
+            (IsStillReply manner self.now (order_pushes table.now (option_map (λ (t : Vec Hop Global). t.items) wanted.now))) }
+        ensures memory { IfErr result (λ fault. fault ≡ Memory) }
+    {
+        match wanted {
+            Some(wanted) => pushes_between(alloc, manner, table, wanted),
+            None => self.pushes_to_hops(alloc, manner, table),
+        }
+    }
+
     /// The answer to a request for the pushes from a table to the next hops.
-    fn pushes(&self, alloc: Global, manner: Manner, table: &[Hop]) -> Result<Answer, AnswerFault>
+    fn pushes_to_hops(
+        &self,
+        alloc: Global,
+        manner: Manner,
+        table: &[Hop],
+    ) -> Result<Answer, AnswerFault>
         ensures reply { IfOk result (λ answer. IsStillReply manner self.now (order_pushes table.now None) answer) }
         ensures memory { IfErr result (λ fault. fault ≡ Memory) }
     {
@@ -588,14 +615,7 @@ impl<'a, F: Fn(&Net, u32, Option<&[u32]>, Turns) -> Result<Turns, CrewFault>> As
             Request::Destination { dest } => self.reply_move(session, manner, *dest, told),
             Request::Walk { x } => session.walk(self.alloc, manner, *x),
             Request::Ask(question) => session.question(self.alloc, manner, *question),
-            Request::Pushes {
-                table,
-                wanted: None,
-            } => session.pushes(self.alloc, manner, table),
-            Request::Pushes {
-                table,
-                wanted: Some(wanted),
-            } => pushes_between(self.alloc, manner, table, wanted),
+            Request::Pushes { table, wanted } => session.pushes(self.alloc, manner, table, wanted),
         }
     }
 

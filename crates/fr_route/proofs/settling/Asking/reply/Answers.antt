@@ -1,4 +1,3 @@
-use Rattle.std.proofs.lemmas.Result.{IfOk-weaker}
 use Rattle.fr_route.proofs.Replying.{still, walk_tells, ask_tells}
 use Rattle.fr_route.specs.Listing.{nodes_told}
 use Rattle.fr_route.proofs.settling.Asking.reply.Goals as goal
@@ -31,9 +30,7 @@ returns-in-Ask g c =
     rw c.in-Ask.is (still _ c.args.manner c.args.session.now _ c.args.told.now c.question.result
     (λ new accepted. ask_tells c.args.session.now c.in-Ask.question (nodes_told c.args.told.now) new) c.question.ensures.reply c.question.ensures.memory)
 
-pub returns-in-Pushes-default-Some : goal.returns-in-Pushes-default-Some
-returns-in-Pushes-default-Some g c =
-    let one = c.in-Pushes-default-Some in
-    let replies = rw (c.deref-in-Pushes-default-Some.ensures.value, c.deref-in-Pushes-default-Some-2.ensures.value) at c.pushes_between.ensures.reply in
-    rw (one.is, one.wanted-is') (still _ c.args.manner c.args.session.now _ c.args.told.now c.pushes_between.result
-    (λ new accepted. absurd accepted) (IfOk-weaker c.pushes_between.result _ _ (λ a h. h c.args.session.now) replies) c.pushes_between.ensures.memory)
+pub returns-in-Pushes : goal.returns-in-Pushes
+returns-in-Pushes g c =
+    rw c.in-Pushes.is (still _ c.args.manner c.args.session.now _ c.args.told.now c.pushes.result
+    (λ new accepted. absurd accepted) (rw c.deref-in-Pushes.ensures.value at c.pushes.ensures.reply) c.pushes.ensures.memory)
