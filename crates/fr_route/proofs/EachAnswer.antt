@@ -293,7 +293,7 @@ tables_answer s reached table (Some new) = elim (from_or_fault table (padded (ma
   | inl pushes ↦ (pushes_text pushes.0, s, inr (inr (pushes.0, pushes.1, refl, refl)), reached)
   | inr fault ↦ (refusal_text fault.0, s, inl (fault.0, (fault.1, fault.2), refl, refl), reached)
 ]
-tables_answer None reached table None = (refusal_text 3, None, inl (3, ([], refl, refl), refl, refl), tt)
+tables_answer None reached table None = (refusal_text 3, None, inl (3, ([], (refl, refl)), refl, refl), tt)
 tables_answer (Some s) good table None = elim (from_or_fault table (hops_from s good s.nodes 0)) [
   | inl pushes ↦ (pushes_text pushes.0, Some s, inr (inr (pushes.0, (_, hops s good, pushes.1), refl, refl)), good)
   | inr fault ↦ (refusal_text fault.0, Some s, inl (fault.0, (fault.1, (_, hops s good, fault.2)), refl, refl), good)
