@@ -47,7 +47,7 @@ range_or_outside table = elim (cases_below (IsOutside table) (outside_or_not tab
 ]
   where
     inside : (w z : ℕ) → SendsOn table w z → ¬ IsOutside table w → z < length table
-    inside w z sends not = elim (cases_lt z (length table)) [ | inl low ↦ low | inr past ↦ absurd (not (z, sends, past)) ]
+    inside w z sends not = elim (cases_lt z (length table)) [ inl low ↦ low | inr past ↦ absurd (not (z, sends, past)) ]
 
 outside_unique : (table : List Hop) (y z : ℕ) → IsFirstOutside table y → IsFirstOutside table z → y ≡ z
 outside_unique table y z a b =

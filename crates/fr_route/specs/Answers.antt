@@ -34,8 +34,9 @@ fault_number NoLink = 8
 fault_number Memory = 0
 
 -- The request is refused in this state, with this number. A network is refused for the first fault of its links, or for
--- a destination that is not a node. Pushes are refused for their tables. Without a network, every other request is refused. A change is refused for its
--- fault. A new destination, or the start of a route, is refused if it is not a node.
+-- a destination that is not a node. Pushes are refused for their tables. Without a network, every other request is
+-- refused. A change is refused for its fault. A new destination, or the start of a route, is refused if it is not a
+-- node.
 abbrev pub IsRefused : Option State → PlainRequest → ℕ → Type 0
 IsRefused s (new_network n d links) number =
     ((fault : NetFault) × IsFirstFault n links fault × (number ≡ fault_number fault))

@@ -1,6 +1,7 @@
 //! The answers to requests for the pushes between two tables of hops.
 
-ghost use Rattle.std.specs.Prelude.{◌≡◌, ℕ, ◌<◌, ◌++◌, ◌∷◌, [], List, Option, None, Some, IfErr, IfOk, length, slice_index, string_bytes};
+ghost use Rattle.std.specs.Prelude.{◌≡◌, ℕ, ◌<◌, ◌++◌, ◌∷◌, [], List, Option, None, Some};
+ghost use Rattle.std.specs.Prelude.{IfErr, IfOk, length, slice_index, string_bytes};
 ghost use Rattle.fr_lines.specs.Requests.{order_pushes};
 ghost use Rattle.fr_route.specs.Pushing.{IsTablesFault, changes_of};
 ghost use Rattle.fr_route.specs.Replies.{IsFromReply, IsStillReply, RefusesBy, pushes_in as text_of_pushes};
@@ -64,12 +65,7 @@ pub(crate) fn pushes_from(
 }
 
 /// The text for the pushes of these nodes, each with its hop in this table.
-fn pushes_text(
-    alloc: Global,
-    form: Form,
-    nodes: &[u32],
-    hops: &[Hop],
-) -> Result<String, AllocError>
+fn pushes_text(alloc: Global, form: Form, nodes: &[u32], hops: &[Hop]) -> Result<String, AllocError>
     ensures { IfOk result (λ text. string_bytes text ≡ text_of_pushes form (changes_of hops.now nodes.now)) }
 {
     match form {
@@ -87,7 +83,8 @@ fn refuse_tables(
     _new: &[Hop],
 ) -> Result<Answer, AnswerFault>
     requires { IsFaultOf _old.now _new.now fault }
-    ensures refuses { IfOk result (λ answer. (number : ℕ) × (nodes : List ℕ) × IsTablesFault _old.now _new.now number nodes
+    ensures refuses { IfOk result (λ answer. (number : ℕ) × (nodes : List ℕ)
+        × IsTablesFault _old.now _new.now number nodes
         × RefusesBy manner (record { number = number; nodes = nodes; edit = None }) answer) }
     ensures memory { IfErr result (λ why. why ≡ Memory) }
 {

@@ -7,7 +7,8 @@ ghost use Rattle.std.specs.Prelude.{option_map};
 ghost use Rattle.std.specs.declared.alloc.Global.{Global};
 ghost use Rattle.std.specs.declared.vec.Vec.{Vec};
 ghost use Rattle.fr_tables.specs.declared.hop.Hop.{Hop};
-ghost use Rattle.fr_lines.specs.Requests.{ask, make_edits, move_dest, new_network, order_pushes, walk_from, plain, reading};
+ghost use Rattle.fr_lines.specs.Requests.{ask, make_edits, move_dest, new_network, order_pushes, walk_from};
+ghost use Rattle.fr_lines.specs.Requests.{plain, reading};
 ghost use Rattle.fr_crew.specs.Settlements.{CanBegin};
 ghost use Rattle.fr_route.specs.Ways.{Settles, NeverStarts};
 ghost use Rattle.fr_route.specs.Blank.{is_blank as is_blank_line};
@@ -406,8 +407,8 @@ impl Session {
         table: &[Hop],
         wanted: &Option<Vec<Hop>>,
     ) -> Result<Answer, AnswerFault>
-        ensures reply { IfOk result
-            (IsStillReply manner self.now (order_pushes table.now (option_map (λ (t : Vec Hop Global). t.items) wanted.now))) }
+        ensures reply { IfOk result (IsStillReply manner self.now
+            (order_pushes table.now (option_map (λ (t : Vec Hop Global). t.items) wanted.now))) }
         ensures memory { IfErr result (λ fault. fault ≡ Memory) }
     {
         match wanted {
