@@ -31,11 +31,16 @@ NOT_REQUESTS = [
     b'["net",-1,0,[]]', b'["net",1,"0",[]]', b'["batch"]', b'["batch",[],[]]', b'["batch",["cut",0,1]]',
     b'["batch",[["dest",0]]]', b'["batch",[["links"]]]', b'["batch",[["cut",0]]]', b'["batch",[["batch",[]]]]',
     b'["batch",{}]', b"[" * 127 + b"]" * 127, b'{"a":' * 127 + b"1" + b"}" * 127,
-    b'["[[[[",' + b"[" * 126 + b"]" * 127,
+    b'["[[[[",' + b"[" * 126 + b"]" * 127, b'["pushes"]', b'["pushes",0]', b'["pushes",{}]', b'["pushes",[],[],[]]',
+    b'["pushes",["fly"]]', b'["pushes",["Here"]]', b'["pushes",[-1]]', b'["pushes",[0.0]]', b'["pushes",[[0]]]',
+    b'["pushes",[],null]', b'["pushes",[0],["cut",null]]', b'["pushes",["here",4294967296]]', b'["pushes","here"]',
 ]  # fmt: skip
 QUESTIONS = (["links"], ["counts"], ["hops"])
 # A session begins with one of these, before there is a network.
-WITHOUT_NETWORK = (["cut", 0, 1], ["add", 0, 1], ["join", 0, 1], ["batch", []], ["dest", 0], ["walk", 0], *QUESTIONS)
+WITHOUT_NETWORK = (
+    *(["cut", 0, 1], ["add", 0, 1], ["join", 0, 1], ["batch", []], ["dest", 0], ["walk", 0], *QUESTIONS),
+    *(["pushes", []], ["pushes", [0], ["here", 0]], ["pushes", ["here", 2, 0], ["here", 0, 1]]),
+)
 
 
 def full():
@@ -50,11 +55,14 @@ def full():
     yield from (["walk", last], ["walk", alone], ["dest", nodes], ["counts"])
     yield from (["net", nodes, 0, [*links, [1, 1]]], ["net", MOST_NODES + 1, 0, []], ["net", LARGEST, LARGEST, [[0, 0]]])
     yield from (["batch", [["cut", 0, 0]] * count] for count in (MOST_EDITS, MOST_EDITS + 1))
+    most, more = ["cut"] * MOST_NODES, ["cut"] * (MOST_NODES + 1)
+    yield from (["pushes", more], ["pushes", most], ["pushes", most, more], ["pushes", more, []])
+    yield from (["pushes", [], ["here", *range(MOST_NODES - 1)]], ["pushes", most, [*range(1, MOST_NODES), 0]])
 
 
 # The methods of Drawn that draw a line, and how often each is taken.
 NETWORKS = {"net": 2, "wild_net": 2, "double_net": 1, "cyclic_net": 4}
-ALL_KINDS = {"edit": 8, "batch": 6, "question": 5, "walk": 3, "move": 2, "no_request": 3, **NETWORKS}
+ALL_KINDS = {"edit": 8, "batch": 6, "question": 5, "walk": 3, "move": 2, "pushes": 4, "no_request": 3, **NETWORKS}
 CHANGES = {"edit": 6, "batch": 3, "move": 1, "net": 1}
 
 
@@ -114,6 +122,17 @@ class Drawn:
 
     def move(self):
         self.ask(["dest", self.node()])
+
+    def table(self):
+        """A table that differs from the hops in a few places, and is shorter or longer by a few nodes."""
+        table = [self.session.table.get(x, "cut") for x in range(self.size())]
+        for _ in range(self.by.choice([0, 1, 1, 2, 3, 8])):
+            table[self.by.randrange(len(table))] = self.by.choice(["here", "cut", self.node(), self.node(), self.node()])
+        del table[len(table) - self.by.choice([0, 0, 0, 1, len(table)]) :]
+        return table + self.by.choice([[], [], [], [], ["cut"], [0], ["here", 1]])
+
+    def pushes(self):
+        self.ask(["pushes", *(self.table() for _ in range(self.by.choice([1, 1, 2, 2, 2])))])
 
     def order(self, size):
         """Links without a cycle."""

@@ -73,10 +73,18 @@ def is_link(value):
     return False
 
 
+def is_hop(it):
+    return is_number(it) or it == HERE or it == CUT
+
+
 def is_request(value):
     match value:
         case ["links"] | ["counts"] | ["hops"]:
             return True
+        case ["pushes", [*table]] | ["pushes", [*table], []]:
+            return all(map(is_hop, table))
+        case ["pushes", [*table], [*wanted]]:
+            return all(map(is_hop, table + wanted))
         case ["walk" | "dest", x]:
             return is_number(x)
         case ["batch", [*edits]]:
@@ -240,6 +248,17 @@ def pushes(old, new):
     return [[x, new.get(x, CUT)] for x in sorted(differ, key=lambda x: (x in lost, wave[x], x))]
 
 
+def lowest_loop(table):
+    """The loop of the lowest node that is on a loop, from this node to itself, or None."""
+    for x in sorted(table):
+        way = [x]
+        while len(way) <= len(table) and type(hop := table.get(way[-1], CUT)) is int:
+            way.append(hop)
+            if hop == x:
+                return way
+    return None
+
+
 # Answers
 
 
@@ -264,6 +283,8 @@ class Session:
         word, *items = request
         if word == "net":
             return self.round(Network(*items))
+        if word == "pushes":
+            return self.pushed(*items)
         if not self.network:
             raise Refused(3)
         match request:
@@ -283,6 +304,24 @@ class Session:
                 way = route(self.table, x)
                 return listed(word, way), {word: way}
         return self.round(changed(copy.copy(self.network), request))
+
+    def pushed(self, table, wanted=None):
+        """The pushes from a table to the wanted one, or to the hops of the network."""
+        if wanted is None and not self.network:
+            raise Refused(3)
+        size = self.network.size if wanted is None else max(len(table), len(wanted))
+        if max(size, len(table)) > MOST_NODES:
+            raise Refused(9)
+        if len(table) > size:
+            raise Refused(4, [size])
+        for hop in [*table, *(wanted or [])]:
+            if type(hop) is int and hop >= size:
+                raise Refused(4, [hop])
+        new = self.table if wanted is None else dict(enumerate(wanted))
+        if loop := lowest_loop(new):
+            raise Refused(7, loop)
+        differ = pushes(dict(enumerate(table)), new)
+        return listed("pushes", (f"{x}>{hop}" for x, hop in differ)), {"pushes": differ}
 
     def round(self, network):
         """Settles a network, which is then the one of the session."""

@@ -3,28 +3,34 @@
 #
 # usage: examples/pipe/controller.sh < CHANGES    where ./revroute is; each line of CHANGES is a request
 set -eu
-declare -A table # the hop that each router has; a router that is missing here has no route
+table=() # the hop that each router has, from router 0 on; after a restart, ask the routers
 
 # Gives a router its hop. Your own command goes here, and returns once the router has confirmed it.
 push() {
-    echo "$1: ${table[$1]:-cut} -> $2"
+    while ((${#table[@]} <= $1)); do table+=(cut); done
+    echo "$1: ${table[$1]} -> $2"
+    table[$1]=$2
 }
 
-# For each answer jq writes the changed hops or the refusal, one on a line, and then a line "done".
-coproc service {
-    ./revroute serve --json --alone | jq --unbuffered -r '(.changed[]? | "\(.[0]) \(.[1])"), (select(.refused) | "refused \(.)"), "done"'
-}
-exec {hops}<&"${service[0]}" {changes}>&"${service[1]}" {service[1]}>&-
+coproc service { ./revroute serve --json --alone; }
+exec {answers}<&"${service[0]}" {requests}>&"${service[1]}" {service[1]}>&-
 
-# All hops of a change are pushed before the next change is sent.
+ask() {
+    printf '%s\n' "$1" >&"$requests"
+    IFS= read -r answer <&"$answers"
+}
+
 while IFS= read -r change || [[ $change ]]; do
     [[ $change == *[![:space:]]* ]] || continue # a blank line has no answer
-    printf '%s\n' "$change" >&"$changes"
-    while read -r router hop <&"$hops" && [ "$router" != done ]; do
-        [ "$router" != refused ] || { echo "refused: $hop" >&2; continue; }
+    ask "$change"
+    [[ $answer != '{"refused"'* ]] || { echo "refused: $answer" >&2; continue; }
+    # What counts is the routers' table: a router may have lost a hop that the engine did not change.
+    ask '["hops"]'
+    ask "$(jq -c '["pushes", ($ARGS.positional | map(tonumber? // .)), .hops]' --args "${table[@]}" <<<"$answer")"
+    # All hops of a change are pushed before the next change is sent.
+    while read -r router hop; do
         push "$router" "$hop"
-        table[$router]=$hop
-    done
+    done < <(jq -r '.pushes[] | "\(.[0]) \(.[1])"' <<<"$answer")
 done
-exec {changes}>&-
+exec {requests}>&-
 wait

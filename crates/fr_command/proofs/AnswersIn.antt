@@ -12,7 +12,7 @@ use Rattle.fr_route.specs.Forms.{IsLineRefused}
 use Rattle.fr_route.specs.States.{State}
 use Rattle.fr_route.specs.declared.form.Form.{Form}
 use Rattle.fr_route.specs.declared.form.Form.TheVariants.{Text}
-use Rattle.fr_route.proofs.Determined.{Answered as TextAnswered, by_blank, not_both}
+use Rattle.fr_route.proofs.Determined.{Answered as TextAnswered, asked_not_refused, by_blank, not_both}
 use Rattle.fr_route.proofs.EachAnswer.{IsReached, each_line}
 use Rattle.fr_route.proofs.AnsweredIn.{answer_in_unique}
 use Rattle.fr_route.proofs.EachIn.{each_line_in}
@@ -132,8 +132,10 @@ answers_begin form old (line ∷ rest) ys a b p q h k =
 refused_or_not : (s : Option State) (asked : Result PlainRequest LineFault) (text : List ℕ) (next : Option State)
     → IsLineAnswer s asked text next → (is_refused : Bool) × (IsTrue is_refused ↔ IsLineRefused s asked)
 refused_or_not s (Ok request) text next (inl h) = (true, (λ _. (h.0, h.1), λ _. refl))
-refused_or_not s (Ok request) text next (inr h) =
+refused_or_not s (Ok request) text next (inr (inl h)) =
     (false, (λ bad. cc, λ r. absurd (not_both s request r.0 h.0 r.1 h.1)))
+refused_or_not s (Ok request) text next (inr (inr h)) =
+    (false, (λ bad. cc, λ r. absurd (asked_not_refused s request h.0 r.0 h.1 r.1)))
 refused_or_not s (Err NotJson) text next h = (true, (λ _. tt, λ _. refl))
 refused_or_not s (Err NotRequest) text next h = (true, (λ _. tt, λ _. refl))
 refused_or_not s (Err Memory) text next h = absurd h

@@ -33,19 +33,6 @@ play_unique draw n d first a b j k p q =
     ≡ end_text first q.entries q.counts = (λ i. end_text first (entries i) (counts i)) in
     (p.text ∙ (texts ∙ sym q.text), p.number ∙ (ap length entries ∙ sym q.number))
 
-accepted_unique : (draw : Draw) (r : PlainRequest) (a b : List ℕ) (j k : ℕ) → IsAcceptedPlay draw r a j
-    → IsAcceptedPlay draw r b k → (a ≡ b) × (j ≡ k)
-accepted_unique draw r a b j k p q =
-    let same : new_network p.nodes p.dest p.links ≡ new_network q.nodes q.dest q.links = sym p.network ∙ q.network in
-    let nodes : p.nodes ≡ q.nodes = cc in
-    let dest : p.dest ≡ q.dest = cc in
-    let links : p.links ≡ q.links = cc in
-    play_unique draw q.nodes q.dest (in_order q.links) a b j k
-    (subst (λ (n : ℕ). IsPlayText draw n q.dest (in_order q.links) a j) nodes
-    (subst (λ (d : ℕ). IsPlayText draw p.nodes d (in_order q.links) a j) dest
-    (subst (λ (ls : List (ℕ × ℕ)). IsPlayText draw p.nodes p.dest (in_order ls) a j) links p.play)))
-    q.play
-
 -- a network that is refused is not accepted
 not_both : (n d : ℕ) (links : List (ℕ × ℕ)) (number : ℕ) → IsRefused None (new_network n d links) number
     → IsFaultless n links → d < n → ⊥
@@ -58,17 +45,18 @@ refusal_unique number other a b j k same p q = (p.0 ∙ (ap line_of same ∙ sym
 
 of_unique : (draw : Draw) (r : PlainRequest) (a b : List ℕ) (j k : ℕ) → IsPlayOf draw r a j → IsPlayOf draw r b k
     → (a ≡ b) × (j ≡ k)
-of_unique draw r a b j k (inl (x, p, refused)) (inl (y, q, also)) =
+of_unique draw (new_network n d links) a b j k (inl (x, p, refused)) (inl (y, q, also)) =
+    let r = new_network n d links in
     refusal_unique x y a b j k
     (answer_unique None r (refusal_text x) (refusal_text y) None None (inl (x, p, refl, refl))
     (inl (y, q, refl, refl))).0 refused also
-of_unique draw r a b j k (inl (x, p, refused)) (inr h) =
-    absurd (not_both h.nodes h.dest h.links x
-    (subst (λ (t : PlainRequest). IsRefused None t x) h.network p) h.faultless h.destination)
-of_unique draw r a b j k (inr h) (inl (x, p, refused)) =
-    absurd (not_both h.nodes h.dest h.links x
-    (subst (λ (t : PlainRequest). IsRefused None t x) h.network p) h.faultless h.destination)
-of_unique draw r a b j k (inr h) (inr g) = accepted_unique draw r a b j k h g
+of_unique draw (new_network n d links) a b j k (inl (x, p, refused)) (inr h) =
+    absurd (not_both n d links x p h.faultless h.destination)
+of_unique draw (new_network n d links) a b j k (inr h) (inl (x, p, refused)) =
+    absurd (not_both n d links x p h.faultless h.destination)
+of_unique draw (new_network n d links) a b j k (inr h) (inr g) =
+    play_unique draw n d (in_order links) a b j k h.play g.play
+of_unique draw r a b j k p q = refusal_unique 3 3 a b j k refl p q
 
 reading_unique : (draw : Draw) (line : Option (Result PlainRequest LineFault)) (a b : List ℕ) (j k : ℕ)
     → IsPlayOfReading draw line a j → IsPlayOfReading draw line b k → (a ≡ b) × (j ≡ k)

@@ -78,21 +78,19 @@ pub record IsPlayText (draw : Draw) (n d : ℕ) (first : List (ℕ × ℕ)) (out
 abbrev pub IsRefusal : ℕ → List ℕ → ℕ → Type 0
 IsRefusal number out count = (out ≡ line_of (refusal_text number)) × (count ≡ 0)
 
--- the request is a network that is accepted and played
-pub record IsAcceptedPlay (draw : Draw) (request : PlainRequest) (out : List ℕ) (count : ℕ) : Type 0 where
-  pub nodes : ℕ
-  pub dest : ℕ
-  pub links : List (ℕ × ℕ)
-  pub network : request ≡ new_network nodes dest links
-  pub faultless : IsFaultless nodes links
-  pub destination : dest < nodes
-  pub play : IsPlayText draw nodes dest (in_order links) out count
+-- a network that is accepted and played
+pub record IsAcceptedPlay (draw : Draw) (n d : ℕ) (links : List (ℕ × ℕ)) (out : List ℕ) (count : ℕ) : Type 0 where
+  pub faultless : IsFaultless n links
+  pub destination : d < n
+  pub play : IsPlayText draw n d (in_order links) out count
 
--- the play of a request. A request that is refused without a network is refused here too, with the same number
+-- The play of a request. A network that is refused in a run is refused here too, with the same number. Every other
+-- request is refused with 3, since there is no network.
 abbrev pub IsPlayOf : Draw → PlainRequest → List ℕ → ℕ → Type 0
-IsPlayOf draw request out count =
-    ((number : ℕ) × IsRefused None request number × IsRefusal number out count)
-    ⊎ IsAcceptedPlay draw request out count
+IsPlayOf draw (new_network n d links) out count =
+    ((number : ℕ) × IsRefused None (new_network n d links) number × IsRefusal number out count)
+    ⊎ IsAcceptedPlay draw n d links out count
+IsPlayOf draw request out count = IsRefusal 3 out count
 
 -- the play of a line that was read with this result, if there is a line
 abbrev pub IsPlayOfReading : Draw → Option (Result PlainRequest LineFault) → List ℕ → ℕ → Type 0

@@ -11,7 +11,7 @@ use std::thread::Threads;
 
 /// A settled chain is parted, and closed again from its other end. A batch moves a link, and then the destination
 /// moves. At last two nodes are joined by a link that cannot point from the first to the second.
-const LINES: [&str; 15] = [
+const LINES: [&str; 16] = [
     r#"["net",4,0,[[1,0],[2,1],[3,2]]]"#,
     r#"["links"]"#,
     r#"["cut",1,0]"#,
@@ -23,6 +23,7 @@ const LINES: [&str; 15] = [
     r#"["walk",1]"#,
     r#"["add",0,1]"#,
     r#"["hops"]"#,
+    r#"["pushes",[]]"#,
     r#"["batch",[["cut",3,0],["add",1,0]]]"#,
     r#"["dest",3]"#,
     r#"["join",3,1]"#,

@@ -11,6 +11,9 @@
 --     ["links"]                      ask for the links
 --     ["counts"]                     ask how often each node has turned
 --     ["hops"]                       ask for the next hop of each node
+--     ["pushes", TABLE]              ask for the pushes from this table to the next hops
+--     ["pushes", TABLE, TABLE]       ask for the pushes from the first table to the second
+-- A table is an array of hops: a number, "here" or "cut".
 use Rattle.std.specs.Prelude.{ℕ, ◌^◌, List, [], ◌∷◌, Option, Some, None, ok_or, option_map}
 use Rattle.std.specs.Prelude.{option_and_then, Result, Err, nat_lt, if◌then◌else◌, codes}
 use Rattle.std.specs.Str.{bytes_eq, is_utf8}
@@ -24,7 +27,11 @@ use Rattle.fr_lines.specs.declared.requests.Question.TheVariants.{Links, Counts,
 use Rattle.fr_graph.specs.declared.edit.Edit.{Edit}
 use Rattle.fr_graph.specs.declared.edit.Edit.TheVariants as edit
 use Rattle.fr_lines.specs.declared.requests.Request.{Request}
-use Rattle.fr_lines.specs.declared.requests.Request.TheVariants.{Network, Cut, Add, Join, Batch, Destination, Walk, Ask}
+use Rattle.fr_lines.specs.declared.requests.Request.TheVariants.{Network, Cut, Add, Join, Batch, Destination, Walk, Ask, Pushes}
+use Rattle.fr_tables.specs.declared.hop.Hop.{Hop}
+use Rattle.fr_tables.specs.declared.hop.Hop.TheVariants.{Here, To, CutOff}
+use Rattle.std.specs.declared.alloc.Global.{Global}
+use Rattle.std.specs.declared.vec.Vec.{Vec}
 
 -- a request, with its links or edits as a list
 pub data PlainRequest : Type 0 where
@@ -36,6 +43,7 @@ pub data PlainRequest : Type 0 where
   move_dest : ℕ → PlainRequest
   walk_from : ℕ → PlainRequest
   ask : Question → PlainRequest
+  order_pushes : List Hop → Option (List Hop) → PlainRequest
 
 -- a request of the code, without the capacity of its `Vec`
 abbrev pub plain : Request → PlainRequest
@@ -47,6 +55,7 @@ plain (Batch edits) = make_edits edits.items
 plain (Destination d) = move_dest d
 plain (Walk x) = walk_from x
 plain (Ask question) = ask question
+plain (Pushes table wanted) = order_pushes table.items (option_map (λ (t : Vec Hop Global). t.items) wanted)
 
 -- the items as a list
 abbrev pub item_list : Items → List Data
@@ -141,6 +150,32 @@ abbrev pub ask_request : Question → List Data → Option PlainRequest
 ask_request question [] = Some (ask question)
 ask_request question (d ∷ rest) = None
 
+-- the hop of a word
+abbrev pub hop_of_word : List ℕ → Option Hop
+hop_of_word word =
+    if bytes_eq word (codes "here") then Some Here
+    else (if bytes_eq word (codes "cut") then Some CutOff else None)
+
+-- a hop: the number of the next node, or one of the two words
+abbrev pub hop_by : Option ℕ → Option (List ℕ) → Option Hop
+hop_by (Some n) word = Some (To n)
+hop_by None word = option_and_then hop_of_word word
+
+abbrev pub hop_in : Data → Option Hop
+hop_in d = hop_by (number_in d) (as_str d)
+
+-- a table: an array of hops
+abbrev pub table_in : Data → Option (List Hop)
+table_in d = option_and_then (read_all hop_in) (items_in d)
+
+-- the pushes from a table, if exactly one or two tables are left
+abbrev pub pushes_request : List Data → Option PlainRequest
+pushes_request [] = None
+pushes_request (d ∷ []) = option_map (λ table. order_pushes table None) (table_in d)
+pushes_request (d ∷ e ∷ []) =
+    option_and_then (λ table. option_map (λ wanted. order_pushes table (Some wanted)) (table_in e)) (table_in d)
+pushes_request (d ∷ e ∷ f ∷ rest) = None
+
 -- the request of a word and the items after it
 unfoldable pub request_of_word : List ℕ → List Data → Option PlainRequest
 request_of_word word rest =
@@ -154,7 +189,8 @@ request_of_word word rest =
     else (if bytes_eq word (codes "links") then ask_request Links rest
     else (if bytes_eq word (codes "counts") then ask_request Counts rest
     else (if bytes_eq word (codes "hops") then ask_request Hops rest
-    else None)))))))))
+    else (if bytes_eq word (codes "pushes") then pushes_request rest
+    else None))))))))))
 
 -- the request of a value
 abbrev pub request_of : Data → Option PlainRequest

@@ -1,7 +1,9 @@
 //! The lines of JSON that ask for networks and for changes to them: which line is which request. From `fr_graph` this
-//! crate uses only [`Edit`]. JSON is that of RFC 8259; docs/LINES.md has the requests.
+//! crate uses only [`Edit`], and from `fr_tables` only [`Hop`]. JSON is that of RFC 8259. docs/LINES.md lists the
+//! requests.
 //!
 //! [`Edit`]: fr_graph::Edit
+//! [`Hop`]: fr_tables::Hop
 #![tactic(auto)]
 
 mod fronts;

@@ -3,7 +3,7 @@
 ghost use Rattle.std.specs.Prelude.{◌≡◌, ◌∷◌, ◌++◌, [], List, Option, IfOk, IfErr, IfSome, true};
 ghost use Rattle.serde_json.specs.Data.{Data};
 ghost use Rattle.serde_json.specs.View.{view};
-ghost use Rattle.fr_lines.specs.Requests.{edit_in, link_in};
+ghost use Rattle.fr_lines.specs.Requests.{edit_in, hop_in, link_in};
 ghost use Rattle.json.specs.Lex.{Lexeme, token, comma};
 ghost use Rattle.json.specs.Token.{end_array};
 ghost use Rattle.fr_lines.specs.declared.requests.LineFault.TheVariants.{Memory};
@@ -11,25 +11,29 @@ ghost use Rattle.fr_lines.specs.LineLexemes.{Begins, Each, AreSmall, HasSmallEnd
 ghost use Rattle.fr_lines.specs.LineLexemes.{link_lexemes, edit_lexemes, list_lexemes, word_of, edit_ends};
 
 use crate::fronts::{behind_mark, ends_line, number_before};
-use crate::read::{edit, link};
+use crate::read::{edit, hop, link};
 use crate::requests::LineFault;
 use crate::words::{EditWord, Word, opening_word};
 use fr_graph::Edit;
+use fr_tables::Hop;
 use serde_json::Value;
 use std::alloc::Global;
 
-/// An item of a list: a link or an edit.
+/// An item of a list that is read by its bytes: a link or an edit.
 pub(crate) trait Item: Drop {
     ghost lexemes: { Self → List Lexeme };
 
     ghost IsSmall: { Self → Type 0 };
 
-    ghost in_data: { Data → Option Self };
-
     /// The item at the front, and the text after it.
     fn at_front(text: &[u8]) -> Option<(Self, &[u8])>
         ensures read { IfSome result (λ next. Begins text.now (lexemes next.0) next.1.now) }
         ensures small { IfSome result (λ next. IsSmall next.0) };
+}
+
+/// An item of a list that is read as a value of JSON: a link, an edit or a hop.
+pub(crate) trait OfValue: Drop {
+    ghost in_data: { Data → Option Self };
 
     /// The item that a value of JSON describes.
     fn of_value(value: &Value) -> Option<Self>
@@ -41,12 +45,14 @@ impl Item for (u32, u32) {
 
     ghost IsSmall = { AreSmall };
 
-    ghost in_data = { link_in };
-
     #[inline(always)]
     fn at_front(text: &[u8]) -> Option<((u32, u32), &[u8])> {
         ends(behind_mark(b'[', text)?)
     }
+}
+
+impl OfValue for (u32, u32) {
+    ghost in_data = { link_in };
 
     fn of_value(value: &Value) -> Option<(u32, u32)> {
         link(value)
@@ -58,8 +64,6 @@ impl Item for Edit {
 
     ghost IsSmall = { HasSmallEnds };
 
-    ghost in_data = { edit_in };
-
     #[inline(always)]
     fn at_front(text: &[u8]) -> Option<(Edit, &[u8])> {
         let (Word::Edit(word), rest) = opening_word(text)? else {
@@ -67,9 +71,21 @@ impl Item for Edit {
         };
         edit_after(word, rest)
     }
+}
+
+impl OfValue for Edit {
+    ghost in_data = { edit_in };
 
     fn of_value(value: &Value) -> Option<Edit> {
         edit(value)
+    }
+}
+
+impl OfValue for Hop {
+    ghost in_data = { hop_in };
+
+    fn of_value(value: &Value) -> Option<Hop> {
+        hop(value)
     }
 }
 

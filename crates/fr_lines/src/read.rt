@@ -1,7 +1,7 @@
 //! The request of a line by `serde_json`, which reads every line. `specs/Requests.antt` defines which line is which
 //! request.
 
-ghost use Rattle.std.specs.Prelude.{◌≡◌, ◌≢◌, Ok, Err, Some, None, IfOk, IfErr};
+ghost use Rattle.std.specs.Prelude.{◌≡◌, ◌≢◌, ◌∷◌, [], Ok, Err, Some, None, IfOk, IfErr};
 ghost use Rattle.std.specs.Prelude.{OnOk, map, ok_or, option_and_then, option_map};
 ghost use Rattle.serde_json.specs.View.{view};
 ghost use Rattle.fr_lines.specs.declared.requests.LineFault.TheVariants.{NotRequest, Memory};
@@ -10,10 +10,12 @@ ghost use Rattle.fr_lines.specs.Requests.{plain, reading, request_of, request_of
 ghost use Rattle.fr_lines.specs.Requests.{join_nodes, move_dest, walk_from, network_request, pair_request};
 ghost use Rattle.fr_lines.specs.Requests.{batch_request, node_request, ask_request, items_in, link_in, edit_in};
 ghost use Rattle.fr_lines.specs.Requests.{edit_of_word, number_pair, read_all, single_number, number_in};
+ghost use Rattle.fr_lines.specs.Requests.{hop_in, pushes_request};
 
-use crate::lists::Item;
+use crate::lists::OfValue;
 use crate::requests::{LineFault, Question, Request};
 use fr_graph::Edit;
+use fr_tables::Hop;
 use serde_json::Value;
 use std::alloc::Global;
 
@@ -59,6 +61,7 @@ fn request_by_word(alloc: Global, word: &str, rest: &[Value]) -> Result<Request,
         "links" => ask(Question::Links, rest),
         "counts" => ask(Question::Counts, rest),
         "hops" => ask(Question::Hops, rest),
+        "pushes" => pushes(alloc, rest),
         _ => Err(LineFault::NotRequest),
     }
 }
@@ -147,8 +150,37 @@ fn network(alloc: Global, rest: &[Value]) -> Result<Request, LineFault>
     Ok(Request::Network { nodes, dest, links })
 }
 
+/// Pushes, if exactly a table or two tables follow the word.
+fn pushes(alloc: Global, rest: &[Value]) -> Result<Request, LineFault>
+    ensures { Tells (ok_or (pushes_request (map view rest.now)) NotRequest) result }
+{
+    match rest {
+        [table] => pushes_from(alloc, table),
+        [table, wanted] => pushes_between(alloc, table, wanted),
+        _ => Err(LineFault::NotRequest),
+    }
+}
+
+/// Pushes from a table to the next hops.
+fn pushes_from(alloc: Global, table: &Value) -> Result<Request, LineFault>
+    ensures { Tells (ok_or (pushes_request (view table.now ∷ [])) NotRequest) result }
+{
+    let table = item_list(alloc, table)?;
+    let wanted = None;
+    Ok(Request::Pushes { table, wanted })
+}
+
+/// Pushes from one table to another.
+fn pushes_between(alloc: Global, table: &Value, wanted: &Value) -> Result<Request, LineFault>
+    ensures { Tells (ok_or (pushes_request (view table.now ∷ view wanted.now ∷ [])) NotRequest) result }
+{
+    let table = item_list(alloc, table)?;
+    let wanted = Some(item_list(alloc, wanted)?);
+    Ok(Request::Pushes { table, wanted })
+}
+
 /// The items of an array.
-fn item_list<T: Item>(alloc: Global, value: &Value) -> Result<Vec<T>, LineFault>
+fn item_list<T: OfValue>(alloc: Global, value: &Value) -> Result<Vec<T>, LineFault>
     ensures ok { IfOk result
         (λ items. option_and_then (read_all T.in_data) (items_in (view value.now)) ≡ Some items.items) }
     ensures refused { IfErr result (λ fault. fault ≢ Memory
@@ -166,7 +198,7 @@ fn item_list<T: Item>(alloc: Global, value: &Value) -> Result<Vec<T>, LineFault>
 
 /// Appends the item that a value describes.
 #[inline(always)]
-fn push_item<T: Item>(items: &mut Vec<T>, value: &Value) -> Result<(), LineFault>
+fn push_item<T: OfValue>(items: &mut Vec<T>, value: &Value) -> Result<(), LineFault>
     ensures ok { OnOk result (IsReadNext T.in_data items.old.items (view value.now) items.new.items) }
     ensures refused { IfErr result (λ fault. fault ≢ Memory
         → (fault ≡ NotRequest) × (T.in_data (view value.now) ≡ None)) }
@@ -193,6 +225,20 @@ pub(crate) fn edit(value: &Value) -> Option<Edit>
         return None;
     };
     edit_by_word(first.as_str()?, rest)
+}
+
+/// A hop: the number of the next node, or a word.
+pub(crate) fn hop(value: &Value) -> Option<Hop>
+    ensures { result ≡ hop_in (view value.now) }
+{
+    if let Some(next) = number(value) {
+        return Some(Hop::To(next));
+    }
+    match value.as_str()? {
+        "here" => Some(Hop::Here),
+        "cut" => Some(Hop::CutOff),
+        _ => None,
+    }
 }
 
 /// The edit of a word and the items after it, with an arm for each word.

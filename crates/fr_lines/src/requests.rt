@@ -4,6 +4,7 @@ ghost use Rattle.std.specs.Prelude.{◌≡◌};
 ghost use Rattle.fr_lines.specs.declared.requests.LineFault.TheVariants.{Memory};
 
 use fr_graph::Edit;
+use fr_tables::Hop;
 use std::alloc::{AllocError, AllocFailed};
 use thiserror::Error;
 
@@ -58,6 +59,14 @@ pub enum Request {
     },
     /// Ask a question. This changes nothing.
     Ask(Question),
+    /// Ask which hops to push, in which order, from one table of hops to another: `["pushes", table]` or
+    /// `["pushes", table, wanted]`. A node that is missing at the end of a table is cut off. This changes nothing.
+    Pushes {
+        /// The table before the pushes.
+        table: Vec<Hop>,
+        /// The table after them. Without it, they lead to the next hops of the network in use.
+        wanted: Option<Vec<Hop>>,
+    },
 }
 
 /// What can be asked about the network in use.

@@ -5,21 +5,22 @@ use Rattle.fr_graph.specs.declared.edit.Edit.{Edit}
 use Rattle.fr_graph.specs.declared.edit.Edit.TheVariants as edit
 use Rattle.fr_graph.specs.declared.fault.NetFault.{NetFault}
 use Rattle.fr_graph.specs.declared.fault.NetFault.TheVariants.{TooMany, Range, SelfLink, Twice, Cycle, NoLink, Memory}
-use Rattle.fr_lines.specs.Requests.{PlainRequest, new_network, cut_link, add_link, join_nodes, make_edits, move_dest, walk_from, ask}
+use Rattle.fr_lines.specs.Requests.{PlainRequest, new_network, cut_link, add_link, join_nodes, make_edits, move_dest, walk_from, ask, order_pushes}
 use Rattle.fr_lines.specs.declared.requests.LineFault.{LineFault}
 use Rattle.fr_lines.specs.declared.requests.LineFault.TheVariants.{NotJson, NotRequest, Memory as LineMemory}
 use Rattle.fr_lines.specs.declared.requests.Question.TheVariants.{Links, Counts, Hops}
 use Rattle.fr_graph.specs.Evidence.{evidence}
 use Rattle.fr_route.specs.Forms.{IsAnswerIn}
 use Rattle.fr_route.specs.Json.{AreChanged, AreChanges, IsBatchRefusal, IsEditRefusal, IsJsonAnswer, IsJsonReport, IsJsonText, IsJsonWalk, IsNewRefusal, IsRefusal, PlainRefusal}
-use Rattle.fr_route.specs.Json.{ends, ends_in, hops_json, refusal_for, refusal_json, report_json, walk_json}
+use Rattle.fr_route.specs.Json.{ends, ends_in, hops_json, pushes_json, refusal_for, refusal_json, report_json, walk_json}
 use Rattle.fr_route.specs.Reroutes.{AreReplaced}
 use Rattle.fr_route.specs.States.{State, net_at}
 use Rattle.fr_route.specs.declared.form.Form.{Form}
 use Rattle.fr_route.specs.declared.form.Form.TheVariants.{Text, Json}
 use Rattle.fr_route.proofs.Changed.{changes_unique}
-use Rattle.fr_route.proofs.Determined.{accepted_unique, hops_unique, line_unique, not_both, report_unique}
+use Rattle.fr_route.proofs.Determined.{accepted_unique, asked_not_accepted, asked_not_refused, hops_unique, line_unique, not_both, report_unique}
 use Rattle.fr_route.proofs.OneTelling.{replaced_unique, rerouted_unique}
+use Rattle.fr_route.proofs.TablePushes.{asked_unique, pushes_refusal_unique}
 use Rattle.fr_route.proofs.Replying.{refused_by}
 use Rattle.fr_route.proofs.Routing.{route_joined, route_unique}
 use Rattle.fr_graph.proofs.Refusing.{fault_place, no_first_fault}
@@ -67,6 +68,9 @@ batch_refusal_unique net edits a b h k =
 
 pub refusal_unique : (s : Option State) (r : PlainRequest) (a b : PlainRefusal) → IsRefusal s r a → IsRefusal s r b → a ≡ b
 refusal_unique s (new_network n d links) a b h k = new_refusal_unique n d links a b h k
+refusal_unique s (order_pushes table wanted) a b h k =
+    let same = pushes_refusal_unique hops_unique s table wanted h.0 k.0 h.1 k.1 h.2 k.2 in
+    h.3 ∙ ((λ i. record { number = same.0 i; nodes = same.1 i; edit = None }) ∙ sym k.3)
 refusal_unique None (cut_link u v) a b h k = h ∙ sym k
 refusal_unique None (add_link u v) a b h k = h ∙ sym k
 refusal_unique None (join_nodes u v) a b h k = h ∙ sym k
@@ -110,14 +114,21 @@ json_text_unique s (move_dest d) new t u h k = json_report_unique (AreChanged s 
 json_text_unique s (walk_from x) new t u h k = json_walk_unique new x t u h k
 json_text_unique s (ask Links) new t u h k = h ∙ sym k
 json_text_unique s (ask Counts) new t u h k = h ∙ sym k
+json_text_unique s (order_pushes table wanted) new t u h k = absurd h
 json_text_unique s (ask Hops) new t u h k = h.2 ∙ (ap hops_json (hops_unique new new.nodes h.0 k.0 h.1 k.1) ∙ sym k.2)
 
 json_unique : (line : ℕ) (s : Option State) (r : PlainRequest) (t u : List ℕ) (p q : Option State) → IsJsonAnswer line s r t p → IsJsonAnswer line s r u q → (t ≡ u) × (p ≡ q)
 json_unique line s r t u p q (inl (a, h, e, n)) (inl (b, k, f, m)) =
     (e ∙ (ap (λ (refusal : PlainRefusal). refusal_json refusal line) (refusal_unique s r a b h k) ∙ sym f), n ∙ sym m)
-json_unique line s r t u p q (inl (a, h, e, n)) (inr (new, k, f, m)) = absurd (not_both s r a.number new (refused_by s r a h) k)
-json_unique line s r t u p q (inr (new, h, e, n)) (inl (b, k, f, m)) = absurd (not_both s r b.number new (refused_by s r b k) h)
-json_unique line s r t u p q (inr (a, h, e, n)) (inr (b, k, f, m)) =
+json_unique line s r t u p q (inl (a, h, e, n)) (inr (inl (new, k, f, m))) = absurd (not_both s r a.number new (refused_by s r a h) k)
+json_unique line s r t u p q (inl (a, h, e, n)) (inr (inr (b, k, f, m))) = absurd (asked_not_refused s r b a.number k (refused_by s r a h))
+json_unique line s r t u p q (inr (inl (new, h, e, n))) (inl (b, k, f, m)) = absurd (not_both s r b.number new (refused_by s r b k) h)
+json_unique line s r t u p q (inr (inl (a, h, e, n))) (inr (inr (b, k, f, m))) = absurd (asked_not_accepted s r b a k h)
+json_unique line s r t u p q (inr (inr (a, h, e, n))) (inl (b, k, f, m)) = absurd (asked_not_refused s r a b.number h (refused_by s r b k))
+json_unique line s r t u p q (inr (inr (a, h, e, n))) (inr (inl (b, k, f, m))) = absurd (asked_not_accepted s r a b h k)
+json_unique line s r t u p q (inr (inr (a, h, e, n))) (inr (inr (b, k, f, m))) =
+    (e ∙ (ap pushes_json (asked_unique hops_unique s r a b h k) ∙ sym f), n ∙ sym m)
+json_unique line s r t u p q (inr (inl (a, h, e, n))) (inr (inl (b, k, f, m))) =
     let same : a ≡ b = accepted_unique s r a b h k in
     (json_text_unique s r b t u (subst (λ (z : State). IsJsonText s r z t) same e) f, n ∙ (ap (λ (z : State). Some z) same ∙ sym m))
 

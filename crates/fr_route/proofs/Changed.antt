@@ -3,7 +3,8 @@ use Rattle.std.proofs.Common.{◌≡◌, ◌∙◌, ℕ, List, [], ◌∷◌, Op
 use Rattle.std.specs.List.{AllByRecursion}
 use Rattle.std.proofs.lemmas.Bool.{cases_lt}
 use Rattle.std.proofs.lemmas.Option.{slice_get-get_or, slice_get_past}
-use Rattle.fr_route.specs.Json.{AreChanges, changes_of, hop_in}
+use Rattle.fr_route.specs.Json.{AreChanges}
+use Rattle.fr_route.specs.Pushing.{changes_of, hop_in}
 use Rattle.fr_route.specs.Routes.{AreHops, IsHop}
 use Rattle.fr_route.specs.Replies.{IsReportIn}
 use Rattle.fr_route.specs.Rooms.{report_in}

@@ -7,7 +7,7 @@ use Rattle.fr_graph.specs.Batches.{IsBatchFault, IsEditFault}
 use Rattle.fr_graph.specs.Edits.{without}
 use Rattle.fr_graph.specs.Faults.{IsFirstFault}
 use Rattle.fr_graph.specs.Network.{Network}
-use Rattle.fr_lines.specs.Requests.{PlainRequest, new_network, cut_link, add_link, join_nodes, make_edits, move_dest, walk_from, ask, reading}
+use Rattle.fr_lines.specs.Requests.{PlainRequest, new_network, cut_link, add_link, join_nodes, make_edits, move_dest, walk_from, ask, order_pushes, reading}
 use Rattle.fr_graph.specs.declared.edit.Edit.{Edit}
 use Rattle.fr_graph.specs.declared.edit.Edit.TheVariants as edit
 use Rattle.fr_graph.specs.declared.fault.EditFault.{EditFault}
@@ -22,11 +22,13 @@ use Rattle.fr_graph.proofs.Refusing.{fault_place, first_fault_place, no_first_fa
 use Rattle.fr_route.specs.Blank.{is_blank}
 use Rattle.fr_route.specs.States.{State, IsReport, IsRound, net_at}
 use Rattle.fr_route.specs.Routes.{IsHop, AreHops}
-use Rattle.fr_route.specs.Texts.{report_text, hops_text, walk_text, refusal_text}
+use Rattle.fr_route.specs.Pushing.{AreAsked}
+use Rattle.fr_route.specs.Texts.{report_text, hops_text, pushes_text, walk_text, refusal_text}
 use Rattle.fr_route.specs.Answers.{fault_number, IsRefused, IsAccepted, IsReportLine, IsWalkLine, IsText, IsAnswer, IsLineAnswer, AreAnswers}
 use Rattle.fr_tables.specs.declared.hop.Hop.{Hop}
 use Rattle.fr_tables.specs.declared.hop.Hop.TheVariants as hop
 use Rattle.fr_route.proofs.CutNodes.{cut_unique}
+use Rattle.fr_route.proofs.TablePushes.{asked_unique, pushes_not_refused, pushes_refusal_unique}
 use Rattle.fr_route.proofs.RoundEnds.{round_unique}
 use Rattle.fr_route.proofs.Routing.{hop_unique, route_joined, route_unique}
 
@@ -88,6 +90,7 @@ refused_unique s (new_network n d links) j k (inl a) (inl b) = a.2 ∙ (one_numb
 refused_unique s (new_network n d links) j k (inl a) (inr b) = absurd (no_first_fault n links a.0 b.0 a.1)
 refused_unique s (new_network n d links) j k (inr a) (inl b) = absurd (no_first_fault n links b.0 a.0 b.1)
 refused_unique s (new_network n d links) j k (inr a) (inr b) = a.2 ∙ sym b.2
+refused_unique s (order_pushes table wanted) j k a b = (pushes_refusal_unique hops_unique s table wanted j k a.0 b.0 a.1 b.1).0
 refused_unique None (cut_link u v) j k a b = a ∙ sym b
 refused_unique None (add_link u v) j k a b = a ∙ sym b
 refused_unique None (join_nodes u v) j k a b = a ∙ sym b
@@ -107,6 +110,7 @@ refused_unique (Some s) (ask q) j k a b = absurd a
 
 pub accepted_unique : (s : Option State) (r : PlainRequest) (a b : State) → IsAccepted s r a → IsAccepted s r b → a ≡ b
 accepted_unique s (new_network n d links) a b p q = round_unique n d links a b p.2 q.2
+accepted_unique s (order_pushes table wanted) a b h g = absurd h
 accepted_unique None (cut_link u v) a b h g = absurd h
 accepted_unique None (add_link u v) a b h g = absurd h
 accepted_unique None (join_nodes u v) a b h g = absurd h
@@ -129,6 +133,7 @@ accepted_unique (Some s) (ask q) a b h g = h ∙ sym g
 pub not_both : (s : Option State) (r : PlainRequest) (k : ℕ) (new : State) → IsRefused s r k → ¬ IsAccepted s r new
 not_both s (new_network n d links) k new (inl a) h = no_first_fault n links a.0 h.0 a.1
 not_both s (new_network n d links) k new (inr a) h = let l = h.1 in omega (arith, a.1, l)
+not_both s (order_pushes table wanted) k new a h = h
 not_both None (cut_link u v) k new a h = h
 not_both None (add_link u v) k new a h = h
 not_both None (join_nodes u v) k new a h = h
@@ -143,6 +148,29 @@ not_both (Some s) (make_edits edits) k new a h = batch_not_made (net_at s) edits
 not_both (Some s) (move_dest d) k new a h = omega (arith, a.0, h.0)
 not_both (Some s) (walk_from x) k new a h = omega (arith, a.0, h.0)
 not_both (Some s) (ask q) k new a h = a
+
+-- a request for pushes that has an answer is neither refused nor accepted
+pub asked_not_refused : (s : Option State) (r : PlainRequest) (pushes : List (ℕ × Hop)) (k : ℕ) → AreAsked s r pushes → ¬ IsRefused s r k
+asked_not_refused s (new_network n d links) pushes k h a = h
+asked_not_refused s (cut_link u v) pushes k h a = h
+asked_not_refused s (add_link u v) pushes k h a = h
+asked_not_refused s (join_nodes u v) pushes k h a = h
+asked_not_refused s (make_edits edits) pushes k h a = h
+asked_not_refused s (move_dest d) pushes k h a = h
+asked_not_refused s (walk_from x) pushes k h a = h
+asked_not_refused s (ask q) pushes k h a = h
+asked_not_refused s (order_pushes table wanted) pushes k h a = pushes_not_refused hops_unique s table wanted pushes k a.0 h a.1
+
+pub asked_not_accepted : (s : Option State) (r : PlainRequest) (pushes : List (ℕ × Hop)) (new : State) → AreAsked s r pushes → ¬ IsAccepted s r new
+asked_not_accepted s (new_network n d links) pushes new h a = h
+asked_not_accepted s (cut_link u v) pushes new h a = h
+asked_not_accepted s (add_link u v) pushes new h a = h
+asked_not_accepted s (join_nodes u v) pushes new h a = h
+asked_not_accepted s (make_edits edits) pushes new h a = h
+asked_not_accepted s (move_dest d) pushes new h a = h
+asked_not_accepted s (walk_from x) pushes new h a = h
+asked_not_accepted s (ask q) pushes new h a = h
+asked_not_accepted s (order_pushes table wanted) pushes new h a = a
 
 pub report_unique : (s : State) (t u k l : ℕ) → IsReport s t k → IsReport s u l → (t ≡ u) × (k ≡ l)
 report_unique s t u k l r q = (r.turns ∙ sym q.turns, cut_unique s.nodes s.dest s.links k l r.cut_off q.cut_off)
@@ -166,13 +194,20 @@ text_unique s (move_dest d) t u a b = report_line_unique s t u a b
 text_unique s (walk_from x) t u a b = walk_line_unique s x t u a b
 text_unique s (ask Links) t u a b = a ∙ sym b
 text_unique s (ask Counts) t u a b = a ∙ sym b
+text_unique s (order_pushes table wanted) t u a b = absurd a
 text_unique s (ask Hops) t u a b = a.2 ∙ (ap hops_text (hops_unique s s.nodes a.0 b.0 a.1 b.1) ∙ sym b.2)
 
 pub answer_unique : (s : Option State) (r : PlainRequest) (t u : List ℕ) (p q : Option State) → IsAnswer s r t p → IsAnswer s r u q → (t ≡ u) × (p ≡ q)
 answer_unique s r t u p q (inl (j, a, e, l)) (inl (k, b, f, m)) = (e ∙ (ap refusal_text (refused_unique s r j k a b) ∙ sym f), l ∙ sym m)
-answer_unique s r t u p q (inl (j, a, e, l)) (inr (n, b, f, m)) = absurd (not_both s r j n a b)
-answer_unique s r t u p q (inr (m, a, e, l)) (inl (k, b, f, g)) = absurd (not_both s r k m b a)
-answer_unique s r t u p q (inr (m, a, e, l)) (inr (n, b, f, k)) =
+answer_unique s r t u p q (inl (j, a, e, l)) (inr (inl (n, b, f, m))) = absurd (not_both s r j n a b)
+answer_unique s r t u p q (inl (j, a, e, l)) (inr (inr (n, b, f, m))) = absurd (asked_not_refused s r n j b a)
+answer_unique s r t u p q (inr (inl (m, a, e, l))) (inl (k, b, f, g)) = absurd (not_both s r k m b a)
+answer_unique s r t u p q (inr (inl (m, a, e, l))) (inr (inr (n, b, f, g))) = absurd (asked_not_accepted s r n m b a)
+answer_unique s r t u p q (inr (inr (m, a, e, l))) (inl (k, b, f, g)) = absurd (asked_not_refused s r m k a b)
+answer_unique s r t u p q (inr (inr (m, a, e, l))) (inr (inl (n, b, f, g))) = absurd (asked_not_accepted s r m n a b)
+answer_unique s r t u p q (inr (inr (m, a, e, l))) (inr (inr (n, b, f, g))) =
+    (e ∙ (ap pushes_text (asked_unique hops_unique s r m n a b) ∙ sym f), l ∙ sym g)
+answer_unique s r t u p q (inr (inl (m, a, e, l))) (inr (inl (n, b, f, k))) =
     let same : m ≡ n = accepted_unique s r m n a b in
     (text_unique n r t u (subst (λ (z : State). IsText z r t) same e) f, l ∙ (ap (λ (z : State). Some z) same ∙ sym k))
 

@@ -1,5 +1,5 @@
 -- Each line has an answer in each state after a round, and in the state before any.
-use Rattle.std.proofs.Common.{◌≡◌, ℕ, zero, suc, ◌+◌, ◌<◌, ◌++◌, ◌⊎◌, List, [], ◌∷◌, length, ap, arith, inl, inr, refl, subst, ⊎_elim, Option, Some}
+use Rattle.std.proofs.Common.{◌≡◌, ℕ, zero, suc, ◌+◌, ◌<◌, ◌++◌, ◌⊎◌, List, [], ◌∷◌, length, max, ap, arith, inl, inr, refl, subst, ⊎_elim, Option, Some}
 use Rattle.std.proofs.Common.{None, Result}
 use Rattle.std.specs.Prelude.{slice_get, slice_index, ok_or, sum}
 use Rattle.std.proofs.lemmas.Bool.{cases_eq, cases_lt}
@@ -18,7 +18,7 @@ use Rattle.fr_graph.specs.Limits.{most_edits}
 use Rattle.fr_graph.specs.Links.{IsAcyclic, IsNet, Points}
 use Rattle.fr_graph.specs.Network.{Network, net_of}
 use Rattle.fr_graph.specs.Order.{in_order}
-use Rattle.fr_lines.specs.Requests.{PlainRequest, new_network, cut_link, add_link, join_nodes, make_edits, move_dest, walk_from, ask, reading}
+use Rattle.fr_lines.specs.Requests.{PlainRequest, new_network, cut_link, add_link, join_nodes, make_edits, move_dest, walk_from, ask, order_pushes, reading}
 use Rattle.fr_lines.specs.Requests.{reading_of_value, request_of, value_of_line}
 use Rattle.fr_graph.specs.declared.fault.EditFault.{EditFault}
 use Rattle.fr_graph.specs.declared.fault.NetFault.{NetFault}
@@ -35,13 +35,15 @@ use Rattle.fr_core.proofs.Unique.{settled_lawful}
 use Rattle.fr_route.specs.States.{State, IsReport, IsRound, net_at}
 use Rattle.fr_route.specs.Routes.{IsHop, AreHops, is_cut_off}
 use Rattle.fr_route.specs.Answers.{fault_number, IsReportLine, IsHopsLine, IsWalkLine, IsAnswer, IsLineAnswer}
-use Rattle.fr_route.specs.Texts.{counts_text, links_text, hops_text, walk_text, no_walk_text, report_text, refusal_text}
+use Rattle.fr_route.specs.Texts.{counts_text, links_text, hops_text, walk_text, no_walk_text, pushes_text, report_text, refusal_text}
 use Rattle.fr_tables.specs.declared.hop.Hop.{Hop}
 use Rattle.fr_tables.specs.declared.hop.Hop.TheVariants.{Here, To, CutOff}
 use Rattle.std.specs.List.{count_by}
 use Rattle.fr_route.proofs.Changing.{joined_nodes, made_nodes}
 use Rattle.fr_route.proofs.CutNodes.{hops_cut_count}
 use Rattle.fr_route.proofs.FirstFaults.{faultless_or_fault}
+use Rattle.fr_route.proofs.TablePushes.{from_or_fault}
+use Rattle.fr_route.specs.Pushing.{padded}
 use Rattle.fr_route.proofs.RoundEnds.{capped_cut_off, hop_leads_on, round_within, still_cut_off}
 use Rattle.fr_graph.proofs.Neighbours.{cases_joins, cases_points}
 
@@ -150,7 +152,7 @@ network_answer s reached n d links = ⊎_elim
     (λ below.
     let new = settled_state n d links clear below in
     let line = report_line new.0 new.2 in
-    (line.0, Some new.0, inr (new.0, (clear, below, new.1), line.1, refl), new.2))
+    (line.0, Some new.0, inr (inl (new.0, (clear, below, new.1), line.1, refl)), new.2))
     (λ past. (refusal_text 4, s, inl (4, inr (clear, past, refl), refl, refl), reached))
     (cases_lt d n))
     (λ f. (refusal_text (fault_number f.0), s, inl (fault_number f.0, inl (f.0, f.1, refl), refl, refl), reached))
@@ -161,7 +163,7 @@ cut_answer s good u v = ⊎_elim
     (λ joined.
     let new = settled_state s.nodes s.dest (without u v s.links) (faultless_cut s.nodes s.links u v good.faultless) good.dest in
     let line = report_line new.0 new.2 in
-    (line.0, Some new.0, inr (new.0, (joined, new.1), line.1, refl), new.2))
+    (line.0, Some new.0, inr (inl (new.0, (joined, new.1), line.1, refl)), new.2))
     (λ none. (refusal_text (fault_number NoLink), Some s, inl (fault_number NoLink, (NoLink, none, refl), refl, refl), good))
     (cases_joins s.links u v)
 
@@ -170,7 +172,7 @@ add_answer s good u v = ⊎_elim
     (λ clear.
     let new = settled_state s.nodes s.dest (s.links ++ (u, v) ∷ []) clear good.dest in
     let line = report_line new.0 new.2 in
-    (line.0, Some new.0, inr (new.0, (clear, new.1), line.1, refl), new.2))
+    (line.0, Some new.0, inr (inl (new.0, (clear, new.1), line.1, refl)), new.2))
     (λ f. (refusal_text (fault_number f.0), Some s, inl (fault_number f.0, (f.0, f.1, refl), refl, refl), good))
     (faultless_or_fault s.nodes (s.links ++ (u, v) ∷ []))
 
@@ -206,7 +208,7 @@ join_answer s good u v = ⊎_elim
     let nodes : joined.0.nodes ≡ s.nodes = joined_nodes s.nodes s.links u v joined.0 joined.1 in
     let new = settled_state joined.0.nodes s.dest joined.0.links joined.2 (omega (arith, nodes, good.dest)) in
     let line = report_line new.0 new.2 in
-    (line.0, Some new.0, inr (new.0, (joined.0, (joined.1, new.1)), line.1, refl), new.2))
+    (line.0, Some new.0, inr (inl (new.0, (joined.0, (joined.1, new.1)), line.1, refl)), new.2))
     (λ f. (refusal_text (fault_number f.0), Some s, inl (fault_number f.0, (f.0, f.1, refl), refl, refl), good))
     (joined_or_fault s.nodes s.links u v good.faultless)
 
@@ -259,7 +261,7 @@ batch_answer s good edits = ⊎_elim
     let nodes : all.0.nodes ≡ s.nodes = made_nodes (net_at s) edits all.0 all.1 in
     let new = settled_state all.0.nodes s.dest all.0.links all.2 (omega (arith, nodes, good.dest)) in
     let line = report_line new.0 new.2 in
-    (line.0, Some new.0, inr (new.0, (few, (all.0, (all.1, new.1))), line.1, refl), new.2))
+    (line.0, Some new.0, inr (inl (new.0, (few, (all.0, (all.1, new.1))), line.1, refl)), new.2))
     (λ r.
     let refused : EditFault = record { at = r.0; fault = r.1 } in
     (refusal_text (fault_number r.1), Some s, inl (fault_number r.1, (refused, inr (few, r.2), refl), refl, refl), good))
@@ -271,23 +273,35 @@ dest_answer s good d = ⊎_elim
     (λ below.
     let new = settled_state s.nodes d s.links good.faultless below in
     let line = report_line new.0 new.2 in
-    (line.0, Some new.0, inr (new.0, (below, new.1), line.1, refl), new.2))
+    (line.0, Some new.0, inr (inl (new.0, (below, new.1), line.1, refl)), new.2))
     (λ past. (refusal_text 4, Some s, inl (4, (past, refl), refl, refl), good))
     (cases_lt d s.nodes)
 
 walk_answer : (s : State) → IsSettledState s → (x : ℕ) → HasAnswer (Some s) (walk_from x)
 walk_answer s good x = ⊎_elim
-    (λ below. let line = walk_line s good x in (line.0, Some s, inr (s, (below, refl), line.1, refl), good))
+    (λ below. let line = walk_line s good x in (line.0, Some s, inr (inl (s, (below, refl), line.1, refl)), good))
     (λ past. (refusal_text 4, Some s, inl (4, (past, refl), refl, refl), good))
     (cases_lt x s.nodes)
 
 ask_answer : (s : State) → IsSettledState s → (question : Question) → HasAnswer (Some s) (ask question)
-ask_answer s good Links = (links_text s.links, Some s, inr (s, refl, refl, refl), good)
-ask_answer s good Counts = (counts_text s.counts, Some s, inr (s, refl, refl, refl), good)
-ask_answer s good Hops = let line = hops_line s good in (line.0, Some s, inr (s, refl, line.1, refl), good)
+ask_answer s good Links = (links_text s.links, Some s, inr (inl (s, refl, refl, refl)), good)
+ask_answer s good Counts = (counts_text s.counts, Some s, inr (inl (s, refl, refl, refl)), good)
+ask_answer s good Hops = let line = hops_line s good in (line.0, Some s, inr (inl (s, refl, line.1, refl)), good)
+
+tables_answer : (s : Option State) → IsReached s → (table : List Hop) (wanted : Option (List Hop)) → HasAnswer s (order_pushes table wanted)
+tables_answer s reached table (Some new) = elim (from_or_fault table (padded (max (length table) (length new)) new)) [
+  | inl pushes ↦ (pushes_text pushes.0, s, inr (inr (pushes.0, pushes.1, refl, refl)), reached)
+  | inr fault ↦ (refusal_text fault.0, s, inl (fault.0, (fault.1, fault.2), refl, refl), reached)
+]
+tables_answer None reached table None = (refusal_text 3, None, inl (3, ([], (refl, refl)), refl, refl), tt)
+tables_answer (Some s) good table None = elim (from_or_fault table (hops_from s good s.nodes 0)) [
+  | inl pushes ↦ (pushes_text pushes.0, Some s, inr (inr (pushes.0, (_, hops s good, pushes.1), refl, refl)), good)
+  | inr fault ↦ (refusal_text fault.0, Some s, inl (fault.0, (fault.1, (_, hops s good, fault.2)), refl, refl), good)
+]
 
 each_answer : (s : Option State) → IsReached s → (r : PlainRequest) → HasAnswer s r
 each_answer s reached (new_network n d links) = network_answer s reached n d links
+each_answer s reached (order_pushes table wanted) = tables_answer s reached table wanted
 each_answer None reached (cut_link u v) = (refusal_text 3, None, inl (3, refl, refl, refl), tt)
 each_answer None reached (add_link u v) = (refusal_text 3, None, inl (3, refl, refl, refl), tt)
 each_answer None reached (join_nodes u v) = (refusal_text 3, None, inl (3, refl, refl, refl), tt)

@@ -3,7 +3,7 @@ use Rattle.std.proofs.Common.{◌≡◌, ◌∙◌, ℕ, ◌≤◌, List, [], �
 use Rattle.std.specs.List.{count_by}
 use Rattle.std.proofs.lemmas.List.{length-replicate}
 use Rattle.fr_graph.specs.declared.edit.Edit.TheVariants as edit
-use Rattle.fr_lines.specs.Requests.{PlainRequest, new_network, cut_link, add_link, join_nodes, make_edits, move_dest, walk_from, ask, reading}
+use Rattle.fr_lines.specs.Requests.{PlainRequest, new_network, cut_link, add_link, join_nodes, make_edits, move_dest, walk_from, ask, order_pushes, reading}
 use Rattle.fr_lines.specs.declared.requests.LineFault.{LineFault}
 use Rattle.fr_lines.specs.declared.requests.LineFault.TheVariants.{NotJson, NotRequest, Memory as LineMemory}
 use Rattle.fr_lines.specs.declared.requests.Question.TheVariants.{Links, Counts, Hops}
@@ -13,9 +13,10 @@ use Rattle.fr_tables.proofs.Existing.{order_exists}
 use Rattle.fr_graph.proofs.Refusing.{no_first_fault}
 use Rattle.fr_route.specs.Answers.{IsAccepted, IsAnswer, IsLineAnswer, IsRefused, IsText}
 use Rattle.fr_route.specs.Forms.{IsAnswerIn}
-use Rattle.fr_route.specs.Json.{IsJsonAnswer, IsJsonLineAnswer, IsJsonReport, IsJsonText, IsRefusal, PlainRefusal, bare_refusal, changes_of, ends, ends_in, no_node, refusal_for}
-use Rattle.fr_route.specs.Json.{counts_json, hops_json, links_json, no_walk_json, refusal_json, report_json, walk_json}
+use Rattle.fr_route.specs.Json.{IsJsonAnswer, IsJsonLineAnswer, IsJsonReport, IsJsonText, IsRefusal, PlainRefusal, bare_refusal, ends, ends_in, no_node, refusal_for}
+use Rattle.fr_route.specs.Json.{counts_json, hops_json, links_json, no_walk_json, pushes_json, refusal_json, report_json, walk_json}
 use Rattle.fr_route.specs.Outcomes.{IsSettledTable}
+use Rattle.fr_route.specs.Pushing.{changes_of}
 use Rattle.fr_route.specs.Reroutes.{AreHopsIn, AreReplaced, AreRerouted, nodes_in}
 use Rattle.fr_route.specs.Routes.{is_cut_off}
 use Rattle.fr_route.specs.States.{State, IsAfterRound, IsReport, net_at}
@@ -39,6 +40,7 @@ refusal_exists s good (new_network n d links) number (inl h) = elim (faultless_o
   | inr f ↦ (refusal_for f.0 [] None, inl (f.0, f.1, f.2, refl))
 ]
 refusal_exists s good (new_network n d links) number (inr h) = (no_node d, inr (h.0, h.1, refl))
+refusal_exists s good (order_pushes table wanted) number h = (record { number = number; nodes = h.0; edit = None }, (number, h.0, h.1, refl))
 refusal_exists None good (cut_link u v) number h = (bare_refusal 3, refl)
 refusal_exists None good (add_link u v) number h = (bare_refusal 3, refl)
 refusal_exists None good (join_nodes u v) number h = (bare_refusal 3, refl)
@@ -114,6 +116,7 @@ text_exists : (s : Option State) → IsReached s → (r : PlainRequest) (new : S
     → (text : List ℕ) → IsText new r text → (json : List ℕ) × IsJsonText s r new json
 text_exists s good (new_network n d links) new good_new h text is =
     let numbers = replaced_exist s good new good_new in report_exists (AreReplaced s new) new good_new numbers.0 numbers.1
+text_exists s good (order_pushes table wanted) new good_new h text is = absurd h
 text_exists None good (cut_link u v) new good_new h text is = absurd h
 text_exists None good (add_link u v) new good_new h text is = absurd h
 text_exists None good (join_nodes u v) new good_new h text is = absurd h
@@ -138,8 +141,9 @@ json_by : (line : ℕ) (s : Option State) → IsReached s → (r : PlainRequest)
     → (json : List ℕ) × IsJsonAnswer line s r json next
 json_by line s good r text next (inl (number, h, e, n)) good_next =
     let refusal = refusal_exists s good r number h in (refusal_json refusal.0 line, inl (refusal.0, refusal.1, refl, n))
-json_by line s good r text next (inr (new, h, is, n)) good_next =
-    let json = text_exists s good r new (subst IsReached n good_next) h text is in (json.0, inr (new, h, json.1, n))
+json_by line s good r text next (inr (inl (new, h, is, n))) good_next =
+    let json = text_exists s good r new (subst IsReached n good_next) h text is in (json.0, inr (inl (new, h, json.1, n)))
+json_by line s good r text next (inr (inr (pushes, h, is, n))) good_next = (pushes_json pushes, inr (inr (pushes, h, refl, n)))
 
 json_line_by : (line : ℕ) (s : Option State) → IsReached s → (r : Result PlainRequest LineFault) (text : List ℕ) (next : Option State)
     → IsLineAnswer s r text next → IsReached next → (json : List ℕ) × IsJsonLineAnswer line s r json next

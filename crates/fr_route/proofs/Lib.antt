@@ -5,6 +5,8 @@ pub mod CutNodes
 pub mod Walking
 pub mod Changing
 pub mod Opening
+pub mod LoopWalks  -- walks of a table back to their first node
+pub mod TablePushes
 pub mod Determined
 pub mod OneTelling
 pub mod Asking

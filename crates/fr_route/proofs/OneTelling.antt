@@ -1,6 +1,6 @@
 -- A line and the states before and after it determine the list of rerouted nodes.
 use Rattle.std.proofs.Common.{◌≡◌, ◌∙◌, ℕ, List, Option, Some, None, Result, Ok, Err, inl, inr, subst, sym}
-use Rattle.fr_lines.specs.Requests.{PlainRequest, new_network, cut_link, add_link, join_nodes, make_edits, move_dest, walk_from, ask}
+use Rattle.fr_lines.specs.Requests.{PlainRequest, new_network, cut_link, add_link, join_nodes, make_edits, move_dest, walk_from, ask, order_pushes}
 use Rattle.fr_lines.specs.declared.requests.LineFault.{LineFault}
 use Rattle.fr_tables.specs.declared.hop.Hop.{Hop}
 use Rattle.fr_tables.specs.Pushes.{IsPushOrder}
@@ -9,7 +9,7 @@ use Rattle.fr_route.specs.Reroutes.{AreHopsIn, AreReplaced, AreRerouted}
 use Rattle.fr_route.specs.Routes.{AreHops}
 use Rattle.fr_route.specs.States.{State}
 use Rattle.fr_route.specs.Told.{IsLineTold, IsTold, TellsOf}
-use Rattle.fr_route.proofs.Determined.{hops_unique, not_both}
+use Rattle.fr_route.proofs.Determined.{asked_not_accepted, hops_unique, not_both}
 
 -- equal tables have the same push order
 same_order : (old new before after : List Hop) (a b : List ℕ) → old ≡ before → new ≡ after
@@ -41,6 +41,7 @@ replaced_unique old new a b h k =
 tells_unique : (s : Option State) (r : PlainRequest) (new : State) (old a b : List ℕ)
     → TellsOf s r new old a → TellsOf s r new old b → a ≡ b
 tells_unique s (new_network n d links) new old a b h k = replaced_unique s new a b h k
+tells_unique s (order_pushes table wanted) new old a b h k = absurd h
 tells_unique None (cut_link u v) new old a b h k = absurd h
 tells_unique None (add_link u v) new old a b h k = absurd h
 tells_unique None (join_nodes u v) new old a b h k = absurd h
@@ -59,9 +60,14 @@ tells_unique (Some s) (ask question) new old a b h k = h ∙ sym k
 told_unique : (s : Option State) (r : PlainRequest) (next : Option State) (old a b : List ℕ)
     → IsTold s r next old a → IsTold s r next old b → a ≡ b
 told_unique s r next old a b (inl (j, h, e, same)) (inl (k, g, f, too)) = same ∙ sym too
-told_unique s r next old a b (inl (j, h, e, same)) (inr (n, g, f, tells)) = absurd (not_both s r j n h g)
-told_unique s r next old a b (inr (m, h, e, tells)) (inl (k, g, f, same)) = absurd (not_both s r k m g h)
-told_unique s r next old a b (inr (m, h, e, tells)) (inr (n, g, f, too)) =
+told_unique s r next old a b (inl (j, h, e, same)) (inr (inl (n, g, f, tells))) = absurd (not_both s r j n h g)
+told_unique s r next old a b (inl (j, h, e, same)) (inr (inr (n, g, f, too))) = same ∙ sym too
+told_unique s r next old a b (inr (inl (m, h, e, tells))) (inl (k, g, f, same)) = absurd (not_both s r k m g h)
+told_unique s r next old a b (inr (inl (m, h, e, tells))) (inr (inr (n, g, f, same))) = absurd (asked_not_accepted s r n m g h)
+told_unique s r next old a b (inr (inr (m, h, e, same))) (inl (k, g, f, too)) = same ∙ sym too
+told_unique s r next old a b (inr (inr (m, h, e, same))) (inr (inl (n, g, f, tells))) = absurd (asked_not_accepted s r m n h g)
+told_unique s r next old a b (inr (inr (m, h, e, same))) (inr (inr (n, g, f, too))) = same ∙ sym too
+told_unique s r next old a b (inr (inl (m, h, e, tells))) (inr (inl (n, g, f, too))) =
     let one : m ≡ n = cc (e, f) in
     tells_unique s r n old a b (subst (λ (z : State). TellsOf s r z old a) one tells) too
 

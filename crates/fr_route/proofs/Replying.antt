@@ -1,10 +1,10 @@
 -- What a session replies to a request, from the result of the call below.
-use Rattle.std.proofs.Common.{Err, IfErr, IfOk, List, [], ◌∷◌, None, Ok, Option, Result, Some, ap, arith, get_or, inl, inr, length, refl, slice_get, string_bytes, subst, sym}
+use Rattle.std.proofs.Common.{Err, IfErr, IfOk, List, [], ◌∷◌, None, Ok, Option, Result, Some, ap, arith, get_or, inl, inr, length, max, refl, slice_get, string_bytes, subst, sym}
 use Rattle.std.proofs.Common.{ℕ, ◌∙◌, ◌≡◌, ◌≢◌, ◌<◌, ◌≤◌, ◌↔◌, ◌⊎◌, IfSome, Bool, true, false, IsTrue, rules}
 use Rattle.std.proofs.lemmas.Option.{slice_get-get_or}
 use Rattle.std.specs.Prelude.{String}
 use Rattle.std.specs.declared.alloc.Global.{Global}
-use Rattle.fr_lines.specs.Requests.{PlainRequest, reading, ask, cut_link, add_link, join_nodes, make_edits, move_dest, new_network, walk_from}
+use Rattle.fr_lines.specs.Requests.{PlainRequest, reading, ask, cut_link, add_link, join_nodes, make_edits, move_dest, new_network, order_pushes, walk_from}
 use Rattle.fr_lines.specs.declared.requests.LineFault.{LineFault}
 use Rattle.fr_lines.specs.declared.requests.LineFault.TheVariants.{NotJson, NotRequest, Memory as LineMemory}
 use Rattle.fr_lines.specs.declared.requests.Question.{Question}
@@ -19,11 +19,13 @@ use Rattle.fr_route.specs.Forms.{IsAnswerIn, IsLineRefused}
 use Rattle.fr_route.specs.Json.{IsBatchRefusal, IsEditRefusal, IsNewRefusal, IsRefusal, PlainRefusal, bare_refusal, ends, ends_in, refusal_for, refusal_json}
 use Rattle.fr_route.specs.Listing.{IsListing, nodes_told}
 use Rattle.fr_route.specs.Outcomes.{IsEdited, IsPlacedFault}
+use Rattle.fr_route.specs.Pushing.{IsPushesRefused, padded}
 use Rattle.fr_route.specs.Refusals.{IsNewFault, IsRefusalOf}
-use Rattle.fr_route.specs.Replies.{HasList, IsLineRefusal, IsLineAnsweredIn, IsLineReplied, IsReplied, IsReply, IsReportIn, IsRevised, IsStillReply, IsTextIn, Refuses, RefusesBy, request_of_edit}
+use Rattle.fr_route.specs.Replies.{HasList, IsFromReply, IsLineRefusal, IsLineAnsweredIn, IsLineReplied, IsReplied, IsReply, IsReportIn, IsRevised, IsStillReply, IsTextIn, Refuses, RefusesBy, request_of_edit}
 use Rattle.fr_route.specs.Reroutes.{AreReplaced, AreRerouted}
 use Rattle.fr_route.specs.Rooms.{report_room}
 use Rattle.fr_route.specs.Sessions.{IsAnswered, IsLineAnswered}
+use Rattle.fr_route.specs.Routes.{AreHops}
 use Rattle.fr_route.specs.States.{State, net_at}
 use Rattle.fr_route.specs.Texts.{longest_report, refusal_text}
 use Rattle.fr_route.specs.Told.{IsLineTold, TellsOf}
@@ -37,8 +39,9 @@ use Rattle.fr_route.specs.declared.form.Form.TheVariants.{Text, Json}
 use Rattle.fr_route.specs.declared.form.Manner.{Manner}
 use Rattle.fr_route.specs.declared.revision.Revision.{Revision}
 use Rattle.fr_route.specs.declared.told.Told.{Told}
+use Rattle.fr_tables.specs.declared.hop.Hop.{Hop}
 use Rattle.fr_route.proofs.Changing.{add_by, cut_by, join_by, named_edit, refused_edit}
-use Rattle.fr_route.proofs.Determined.{not_both}
+use Rattle.fr_route.proofs.Determined.{asked_not_refused, not_both}
 
 -- a refusal is a reply
 refused_reply : (manner : Manner) (s : Option State) (asked : Result PlainRequest LineFault) (told : Told) (a : Answer) (next : Option State) (more : Told)
@@ -87,7 +90,7 @@ pub done : (never : Type 0) (manner : Manner) (s : Option State) (request : Plai
     → (manner.form ≡ Text → length (string_bytes answer.text) ≤ longest_report)
     → IsReplied never manner s (Ok request) told (Ok answer) next more
 done never manner s request told new answer next more accepted text by n tells short = record {
-  reply = inr (record {
+  reply = inr (inl (record {
     new = new;
     accepted = accepted;
     text = text;
@@ -95,7 +98,7 @@ done never manner s request told new answer next more accepted text by n tells s
     next_is = n;
     tells = tells;
     short = λ is. inr (short is);
-  });
+  }));
   unchanged = tt;
   start = tt;
   no_start = λ h. tt;
@@ -126,7 +129,7 @@ none_yet never manner s request told answer next here n refused by memory =
 
 -- what changes nothing leaves the list unchanged
 pub still : (never : Type 0) (manner : Manner) (s : Option State) (request : PlainRequest) (told : Told) (answer : Result Answer AnswerFault)
-    → ((new : State) → s ≡ Some new → TellsOf s request new (nodes_told told) (nodes_told told))
+    → ((new : State) → IsAccepted s request new → s ≡ Some new → TellsOf s request new (nodes_told told) (nodes_told told))
     → IfOk answer (IsStillReply manner s request) → IfErr answer (λ fault. fault ≡ Memory)
     → IsReplied never manner s (Ok request) told answer s told
 still never manner s request told (Ok a) tells (inl is) memory = record {
@@ -135,21 +138,39 @@ still never manner s request told (Ok a) tells (inl is) memory = record {
   start = tt;
   no_start = λ h. tt;
 }
-still never manner s request told (Ok a) tells (inr (new, accepted, text, by, here)) memory = record {
-  reply = inr (record {
+still never manner s request told (Ok a) tells (inr (inl (new, accepted, text, by, here))) memory = record {
+  reply = inr (inl (record {
     new = new;
     accepted = accepted;
     text = λ list. text;
     by = by;
     next_is = here;
-    tells = λ list. tells new here;
+    tells = λ list. tells new accepted here;
     short = λ is. inl (refl, refl);
-  });
+  }));
+  unchanged = tt;
+  start = tt;
+  no_start = λ h. tt;
+}
+still never manner s request told (Ok a) tells (inr (inr (pushes, asked, text, by))) memory = record {
+  reply = inr (inr (record { pushes = pushes; asked = asked; text = text; by = by; same = refl; untold = refl }));
   unchanged = tt;
   start = tt;
   no_start = λ h. tt;
 }
 still never manner s request told (Err fault) tells is memory = no_memory never manner s (Ok request) told fault s told memory refl refl
+
+-- the answer to a request for pushes, from that for two tables
+pub between_reply : (manner : Manner) (table wanted : List Hop) (a : Answer) (s : Option State)
+    → IsFromReply manner table (padded (max (length table) (length wanted)) wanted) a → IsStillReply manner s (order_pushes table (Some wanted)) a
+between_reply manner table wanted a s (inl (k, nodes, fault, by)) = inl (record { number = k; nodes = nodes; edit = None }, (k, nodes, fault, refl), by)
+between_reply manner table wanted a s (inr (pushes, lead, text, by)) = inr (inr (pushes, lead, text, by))
+
+pub settled_reply : (manner : Manner) (s : State) (table hops : List Hop) (a : Answer) → AreHops s s.nodes hops
+    → IsFromReply manner table hops a → IsStillReply manner (Some s) (order_pushes table None) a
+settled_reply manner s table hops a are (inl (k, nodes, fault, by)) =
+    inl (record { number = k; nodes = nodes; edit = None }, (k, nodes, (hops, are, fault), refl), by)
+settled_reply manner s table hops a are (inr (pushes, lead, text, by)) = inr (inr (pushes, (hops, are, lead), text, by))
 
 -- a new network is refused for this fault
 pub new_refusal : (n d : ℕ) (links : List (ℕ × ℕ)) (fault : RouteFault) → IsNewFault n d links fault
@@ -294,6 +315,8 @@ number_is refusal fault named place is = ap (λ (r : PlainRefusal). r.number) is
 pub refused_by : (s : Option State) (r : PlainRequest) (refusal : PlainRefusal) → IsRefusal s r refusal → IsRefused s r refusal.number
 refused_by s (new_network n d links) refusal (inl h) = inl (h.0, h.1, number_is refusal h.0 [] None h.3)
 refused_by s (new_network n d links) refusal (inr h) = inr (h.0, h.1, ap (λ (r : PlainRefusal). r.number) h.2)
+refused_by s (order_pushes table wanted) refusal h =
+    (h.1, subst (λ (k : ℕ). IsPushesRefused s table wanted k h.1) (sym (ap (λ (r : PlainRefusal). r.number) h.3)) h.2)
 refused_by None (cut_link u v) refusal h = ap (λ (r : PlainRefusal). r.number) h
 refused_by None (add_link u v) refusal h = ap (λ (r : PlainRefusal). r.number) h
 refused_by None (join_nodes u v) refusal h = ap (λ (r : PlainRefusal). r.number) h
@@ -320,12 +343,14 @@ module _ (number : ℕ) (s : Option State) (told : Told) (a : Answer) (next : Op
   pub answer_in : (form : Form) (asked : Result PlainRequest LineFault) → HasList form told
       → IsReply (record { form = form; number = number }) s asked told a next more → IsAnswerIn form number s asked (string_bytes a.text) next
   answer_in Text (Ok r) list (inl h) = inl (h.refusal.number, refused_by s r h.refusal h.why, h.by.0, h.same)
-  answer_in Text (Ok r) list (inr h) = inr (h.new, h.accepted, h.text list, h.next_is)
+  answer_in Text (Ok r) list (inr (inl h)) = inr (inl (h.new, h.accepted, h.text list, h.next_is))
+  answer_in Text (Ok r) list (inr (inr h)) = inr (inr (h.pushes, h.asked, h.text, h.same))
   answer_in Text (Err NotJson) list h = (h.by.0 ∙ ap (λ (r : PlainRefusal). refusal_text r.number) h.why, h.same)
   answer_in Text (Err NotRequest) list h = (h.by.0 ∙ ap (λ (r : PlainRefusal). refusal_text r.number) h.why, h.same)
   answer_in Text (Err LineMemory) list h = absurd h.why
   answer_in Json (Ok r) list (inl h) = inl (h.refusal, h.why, h.by.0, h.same)
-  answer_in Json (Ok r) list (inr h) = inr (h.new, h.accepted, h.text list, h.next_is)
+  answer_in Json (Ok r) list (inr (inl h)) = inr (inl (h.new, h.accepted, h.text list, h.next_is))
+  answer_in Json (Ok r) list (inr (inr h)) = inr (inr (h.pushes, h.asked, h.text, h.same))
   answer_in Json (Err NotJson) list h = (h.by.0 ∙ ap (λ (r : PlainRefusal). refusal_json r number) h.why, h.same)
   answer_in Json (Err NotRequest) list h = (h.by.0 ∙ ap (λ (r : PlainRefusal). refusal_json r number) h.why, h.same)
   answer_in Json (Err LineMemory) list h = absurd h.why
@@ -335,7 +360,9 @@ module _ (number : ℕ) (s : Option State) (told : Told) (a : Answer) (next : Op
     pub flag_is : (asked : Result PlainRequest LineFault) → IsReply (record { form = form; number = number }) s asked told a next more
         → IsTrue a.refused ↔ IsLineRefused s asked
     flag_is (Ok r) (inl h) = (λ _. (h.refusal.number, refused_by s r h.refusal h.why), λ _. is_true a.refused h.by.1)
-    flag_is (Ok r) (inr h) = (λ t. absurd (not_true a.refused h.by t), λ refused. absurd (not_both s r refused.0 h.new refused.1 h.accepted))
+    flag_is (Ok r) (inr (inl h)) = (λ t. absurd (not_true a.refused h.by t), λ refused. absurd (not_both s r refused.0 h.new refused.1 h.accepted))
+    flag_is (Ok r) (inr (inr h)) =
+        (λ t. absurd (not_true a.refused h.by t), λ refused. absurd (asked_not_refused s r h.pushes refused.0 h.asked refused.1))
     flag_is (Err NotJson) h = (λ _. tt, λ _. is_true a.refused h.by.1)
     flag_is (Err NotRequest) h = (λ _. tt, λ _. is_true a.refused h.by.1)
     flag_is (Err LineMemory) h = absurd h.why
@@ -344,13 +371,15 @@ module _ (number : ℕ) (s : Option State) (told : Told) (a : Answer) (next : Op
     pub told_is : (asked : Result PlainRequest LineFault) → IsListing told → IsReply (record { form = form; number = number }) s asked told a next more
         → IsLineTold s asked next (nodes_told told) (nodes_told more)
     told_is (Ok r) listing (inl h) = inl (h.refusal.number, refused_by s r h.refusal h.why, h.same, h.untold)
-    told_is (Ok r) listing (inr h) = inr (h.new, h.accepted, h.next_is, h.tells listing)
+    told_is (Ok r) listing (inr (inl h)) = inr (inl (h.new, h.accepted, h.next_is, h.tells listing))
+    told_is (Ok r) listing (inr (inr h)) = inr (inr (h.pushes, h.asked, h.same, h.untold))
     told_is (Err fault) listing h = (h.same, h.untold)
 
   pub short_is : (asked : Result PlainRequest LineFault) → IsReply (record { form = Text; number = number }) s asked told a next more
       → ((next ≡ s) × (nodes_told more ≡ nodes_told told)) ⊎ (length (string_bytes a.text) ≤ longest_report)
   short_is (Ok r) (inl h) = inl (h.same, h.untold)
-  short_is (Ok r) (inr h) = h.short refl
+  short_is (Ok r) (inr (inl h)) = h.short refl
+  short_is (Ok r) (inr (inr h)) = inl (h.same, h.untold)
   short_is (Err fault) h = inl (h.same, h.untold)
 
 no_list : (told : Told) → HasList Text told

@@ -6,7 +6,7 @@ use Rattle.fr_graph.specs.Batches.{IsBatchFault, IsEditFault}
 use Rattle.fr_graph.specs.Faults.{IsFirstFault, IsFaultless, IsNetworkOf}
 use Rattle.fr_graph.specs.Network.{Network}
 use Rattle.fr_lines.specs.Requests.{PlainRequest, new_network, cut_link, add_link, join_nodes}
-use Rattle.fr_lines.specs.Requests.{make_edits, move_dest, walk_from, ask, reading}
+use Rattle.fr_lines.specs.Requests.{make_edits, move_dest, walk_from, ask, order_pushes, reading}
 use Rattle.fr_lines.specs.declared.requests.Question.TheVariants.{Links, Counts, Hops}
 use Rattle.fr_lines.specs.declared.requests.LineFault.{LineFault}
 use Rattle.fr_lines.specs.declared.requests.LineFault.TheVariants.{NotJson, NotRequest, Memory as LineMemory}
@@ -18,7 +18,8 @@ use Rattle.fr_route.specs.Blank.{is_blank}
 use Rattle.fr_route.specs.States.{State, IsRound, IsReport, IsCutOff, net_at}
 use Rattle.fr_route.specs.Routes.{IsRoute, AreHops}
 use Rattle.fr_route.specs.Changes.{CanTurnAfter, IsBatch, IsChanged, IsMoved, IsStill, MayStart}
-use Rattle.fr_route.specs.Texts.{counts_text, links_text, hops_text, walk_text, no_walk_text, report_text, refusal_text}
+use Rattle.fr_route.specs.Pushing.{AreAsked, IsPushesRefused}
+use Rattle.fr_route.specs.Texts.{counts_text, links_text, hops_text, walk_text, no_walk_text, pushes_text, report_text, refusal_text}
 use Rattle.fr_route.specs.declared.change.Change.TheVariants.{Cut, Add, Join, Destination}
 use Rattle.fr_tables.specs.declared.hop.Hop.{Hop}
 
@@ -33,12 +34,14 @@ fault_number NoLink = 8
 fault_number Memory = 0
 
 -- The request is refused in this state, with this number. A network is refused for the first fault of its links, or for
--- a destination that is not a node. Without a network, every other request is refused. A change is refused for its
--- fault. A new destination, or the start of a route, is refused if it is not a node.
+-- a destination that is not a node. Pushes are refused for their tables. Without a network, every other request is
+-- refused. A change is refused for its fault. A new destination, or the start of a route, is refused if it is not a
+-- node.
 abbrev pub IsRefused : Option State → PlainRequest → ℕ → Type 0
 IsRefused s (new_network n d links) number =
     ((fault : NetFault) × IsFirstFault n links fault × (number ≡ fault_number fault))
     ⊎ (IsFaultless n links × (n ≤ d) × (number ≡ 4))
+IsRefused s (order_pushes table wanted) number = (nodes : List ℕ) × IsPushesRefused s table wanted number nodes
 IsRefused None request number = number ≡ 3
 IsRefused (Some s) (cut_link u v) number = (fault : NetFault) × IsEditFault (net_at s) (edit.Cut u v) fault
     × (number ≡ fault_number fault)
@@ -53,9 +56,10 @@ IsRefused (Some s) (walk_from x) number = (s.nodes ≤ x) × (number ≡ 4)
 IsRefused (Some s) (ask question) number = ⊥
 
 -- the request is accepted, and `new` is the state after it: a network or a change begins a round, and all else changes
--- nothing
+-- nothing. Requests for pushes are defined by `AreAsked`, since they need no state
 abbrev pub IsAccepted : Option State → PlainRequest → State → Type 0
 IsAccepted s (new_network n d links) new = IsFaultless n links × (d < n) × IsRound n d links new
+IsAccepted s (order_pushes table wanted) new = ⊥
 IsAccepted None request new = ⊥
 IsAccepted (Some s) (cut_link u v) new = IsChanged s (Cut u v) new
 IsAccepted (Some s) (add_link u v) new = IsChanged s (Add u v) new
@@ -91,12 +95,14 @@ IsText s (walk_from x) text = IsWalkLine s x text
 IsText s (ask Links) text = text ≡ links_text s.links
 IsText s (ask Counts) text = text ≡ counts_text s.counts
 IsText s (ask Hops) text = IsHopsLine s text
+IsText s (order_pushes table wanted) text = ⊥
 
--- the answer to a request, and the state after it: a refusal does not change the state
+-- the answer to a request, and the state after it: refusals and pushes between tables do not change the state
 abbrev pub IsAnswer : Option State → PlainRequest → List ℕ → Option State → Type 0
 IsAnswer s request text next =
     ((number : ℕ) × IsRefused s request number × (text ≡ refusal_text number) × (next ≡ s))
-    ⊎ ((new : State) × IsAccepted s request new × IsText new request text × (next ≡ Some new))
+    ⊎ (((new : State) × IsAccepted s request new × IsText new request text × (next ≡ Some new))
+    ⊎ ((pushes : List (ℕ × Hop)) × AreAsked s request pushes × (text ≡ pushes_text pushes) × (next ≡ s)))
 
 -- the answer to a line that was read with this result
 abbrev pub IsLineAnswer : Option State → Result PlainRequest LineFault → List ℕ → Option State → Type 0
@@ -121,6 +127,7 @@ MayStartNew n d links = (d < n) × ((net : Network) × (IsNetworkOf n links net 
 -- a request may need a thread: it is accepted, and a node can turn on the network that it makes
 abbrev pub MayStartFor : Option State → PlainRequest → Type 0
 MayStartFor s (new_network n d links) = MayStartNew n d links
+MayStartFor s (order_pushes table wanted) = ⊥
 MayStartFor None request = ⊥
 MayStartFor (Some s) (cut_link u v) = MayStart s (Cut u v)
 MayStartFor (Some s) (add_link u v) = MayStart s (Add u v)

@@ -13,11 +13,12 @@ use Rattle.fr_graph.specs.declared.fault.EditFault.{EditFault}
 use Rattle.fr_graph.specs.declared.fault.NetFault.{NetFault}
 use Rattle.fr_graph.specs.declared.fault.NetFault.TheVariants.{NoLink}
 use Rattle.fr_lines.specs.Requests.{PlainRequest, new_network, cut_link, add_link}
-use Rattle.fr_lines.specs.Requests.{join_nodes, make_edits, move_dest, walk_from, ask}
+use Rattle.fr_lines.specs.Requests.{join_nodes, make_edits, move_dest, walk_from, ask, order_pushes}
 use Rattle.fr_lines.specs.declared.requests.Question.TheVariants.{Links, Counts, Hops}
 use Rattle.fr_lines.specs.declared.requests.LineFault.{LineFault}
 use Rattle.fr_lines.specs.declared.requests.LineFault.TheVariants.{NotJson, NotRequest, Memory as LineMemory}
 use Rattle.fr_route.specs.Answers.{IsAccepted, fault_number}
+use Rattle.fr_route.specs.Pushing.{AreAsked, IsPushesRefused}
 use Rattle.fr_route.specs.Reroutes.{AreReplaced, AreRerouted}
 use Rattle.fr_route.specs.Routes.{AreHops, IsHop, IsRoute}
 use Rattle.fr_route.specs.States.{State, IsCutOff, IsReport, net_at}
@@ -65,6 +66,9 @@ no_walk_json = codes "{\"walk\":null}"
 -- a number whose hop has changed, with its new hop
 abbrev pub change_json : ℕ × Hop → List ℕ
 change_json change = codes "[" ++ (decimal change.0 ++ (codes "," ++ (hop_json change.1 ++ codes "]")))
+
+abbrev pub pushes_json : List (ℕ × Hop) → List ℕ
+pushes_json pushes = codes "{\"pushes\":[" ++ (listed change_json pushes ++ codes "]}")
 
 abbrev pub round_json : ℕ → ℕ → List ℕ
 round_json turned cut = codes "{\"turned\":" ++ (decimal turned ++ (codes ",\"cut_off\":" ++ decimal cut))
@@ -154,6 +158,9 @@ IsBatchRefusal net edits refusal =
 -- The request is refused in this state. It is so exactly if it is refused with the number by `IsRefused`.
 abbrev pub IsRefusal : Option State → PlainRequest → PlainRefusal → Type 0
 IsRefusal s (new_network n d links) refusal = IsNewRefusal n d links refusal
+IsRefusal s (order_pushes table wanted) refusal = (number : ℕ) × (nodes : List ℕ)
+    × IsPushesRefused s table wanted number nodes
+    × (refusal ≡ record { number = number; nodes = nodes; edit = None })
 IsRefusal None request refusal = refusal ≡ bare_refusal 3
 IsRefusal (Some s) (cut_link u v) refusal = IsEditRefusal (net_at s) (edit.Cut u v) refusal
 IsRefusal (Some s) (add_link u v) refusal = IsEditRefusal (net_at s) (edit.Add u v) refusal
@@ -203,12 +210,15 @@ IsJsonText s (walk_from x) new text = IsJsonWalk new x text
 IsJsonText s (ask Links) new text = text ≡ links_json new.links
 IsJsonText s (ask Counts) new text = text ≡ counts_json new.counts
 IsJsonText s (ask Hops) new text = IsJsonHops new text
+IsJsonText s (order_pushes table wanted) new text = ⊥
 
--- the answer to a request of the line with this number, and the state after it: a refusal does not change the state
+-- the answer to a request of the line with this number, and the state after it: refusals and pushes between tables do
+-- not change the state
 abbrev pub IsJsonAnswer : ℕ → Option State → PlainRequest → List ℕ → Option State → Type 0
 IsJsonAnswer line s request text next =
     ((refusal : PlainRefusal) × IsRefusal s request refusal × (text ≡ refusal_json refusal line) × (next ≡ s))
-    ⊎ ((new : State) × IsAccepted s request new × IsJsonText s request new text × (next ≡ Some new))
+    ⊎ (((new : State) × IsAccepted s request new × IsJsonText s request new text × (next ≡ Some new))
+    ⊎ ((pushes : List (ℕ × Hop)) × AreAsked s request pushes × (text ≡ pushes_json pushes) × (next ≡ s)))
 
 -- the answer to the line with this number, which was read with this result
 abbrev pub IsJsonLineAnswer : ℕ → Option State → Result PlainRequest LineFault → List ℕ → Option State → Type 0
@@ -216,13 +226,3 @@ IsJsonLineAnswer line s (Ok request) text next = IsJsonAnswer line s request tex
 IsJsonLineAnswer line s (Err NotJson) text next = (text ≡ refusal_json (bare_refusal 1) line) × (next ≡ s)
 IsJsonLineAnswer line s (Err NotRequest) text next = (text ≡ refusal_json (bare_refusal 2) line) × (next ≡ s)
 IsJsonLineAnswer line s (Err LineMemory) text next = ⊥
-
--- For proofs only: each of these numbers with its hop in a table
-
--- the hop at a place of a table. A number past its end is cut off
-abbrev pub hop_in : Option Hop → Hop
-hop_in None = CutOff
-hop_in (Some hop) = hop
-
-abbrev pub changes_of : List Hop → List ℕ → List (ℕ × Hop)
-changes_of hops numbers = map (λ x. (x, hop_in (slice_get hops x))) numbers

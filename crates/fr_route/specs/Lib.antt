@@ -9,6 +9,7 @@ pub mod Outcomes
 pub mod RouterInside
 pub mod Blank
 pub mod Texts
+pub mod Pushing
 pub mod Answers
 pub mod Told
 pub mod Json

@@ -1,5 +1,5 @@
 -- What a session does with a request in either form, by any way to settle networks. For proofs only.
-use Rattle.std.specs.Prelude.{◌≡◌, ◌≢◌, ℕ, ◌≤◌, ◌⊎◌, ◌↔◌, IsTrue, true, false, length, List, Option, Some}
+use Rattle.std.specs.Prelude.{◌≡◌, ◌≢◌, ℕ, ◌≤◌, ◌⊎◌, ◌↔◌, IsTrue, true, false, length, List, Option, None, Some}
 use Rattle.std.specs.Prelude.{Result, Ok, Err, String, IfOk, IfErr, IfSome, IfNone, OnErr, string_bytes}
 use Rattle.std.specs.declared.alloc.Global.{Global}
 use Rattle.fr_lines.specs.Requests.{PlainRequest, reading, cut_link, add_link, join_nodes}
@@ -10,12 +10,13 @@ use Rattle.fr_graph.specs.declared.edit.Edit.TheVariants.{Cut, Add, Join}
 use Rattle.fr_route.specs.Answers.{IsAccepted, IsReportLine, IsText, MayStartForLine}
 use Rattle.fr_route.specs.Blank.{is_blank}
 use Rattle.fr_route.specs.Forms.{IsAnswerIn, IsLineRefused}
-use Rattle.fr_route.specs.Json.{IsJsonReport, IsJsonText, IsRefusal, PlainRefusal, bare_refusal, refusal_json}
+use Rattle.fr_route.specs.Json.{IsJsonReport, IsJsonText, IsRefusal, PlainRefusal, bare_refusal, pushes_json, refusal_json}
 use Rattle.fr_route.specs.Listing.{IsListing, nodes_told}
 use Rattle.fr_route.specs.Outcomes.{IsEdited}
+use Rattle.fr_route.specs.Pushing.{AreAsked, IsFaultFrom, LeadFrom}
 use Rattle.fr_route.specs.Reroutes.{AreRerouted}
 use Rattle.fr_route.specs.States.{State}
-use Rattle.fr_route.specs.Texts.{longest_report, refusal_text}
+use Rattle.fr_route.specs.Texts.{longest_report, pushes_text, refusal_text}
 use Rattle.fr_route.specs.Told.{TellsOf}
 use Rattle.fr_route.specs.Tries.{IsPlaced}
 use Rattle.fr_route.specs.declared.fault.AnswerFault.{AnswerFault}
@@ -28,6 +29,7 @@ use Rattle.fr_route.specs.declared.form.Form.TheVariants.{Text, Json}
 use Rattle.fr_route.specs.declared.form.Manner.{Manner}
 use Rattle.fr_route.specs.declared.revision.Revision.{Revision}
 use Rattle.fr_route.specs.declared.told.Told.{Told}
+use Rattle.fr_tables.specs.declared.hop.Hop.{Hop}
 
 -- the list that JSON needs is there
 abbrev pub HasList : Form → Told → Type 0
@@ -52,6 +54,11 @@ IsReportIn Json Lists new text = IsJsonReport Lists new text
 abbrev pub IsTextIn : Form → Option State → PlainRequest → State → List ℕ → Type 0
 IsTextIn Text s request new text = IsText new request text
 IsTextIn Json s request new text = IsJsonText s request new text
+
+-- the text for pushes between tables in this form
+abbrev pub pushes_in : Form → List (ℕ × Hop) → List ℕ
+pushes_in Text pushes = pushes_text pushes
+pushes_in Json pushes = pushes_json pushes
 
 -- the request for an edit
 abbrev pub request_of_edit : Edit → PlainRequest
@@ -87,18 +94,38 @@ pub record Accepts (manner : Manner) (s : Option State) (request : PlainRequest)
   pub short : manner.form ≡ Text
       → ((next ≡ s) × (nodes_told more ≡ nodes_told told)) ⊎ (length (string_bytes answer.text) ≤ longest_report)
 
+-- the answer is that to a request for pushes between tables, and nothing changes
+pub record Orders (manner : Manner) (s : Option State) (request : PlainRequest) (told : Told) (answer : Answer)
+    (next : Option State) (more : Told) : Type 0 where
+  pub pushes : List (ℕ × Hop)
+  pub asked : AreAsked s request pushes
+  pub text : string_bytes answer.text ≡ pushes_in manner.form pushes
+  pub by : answer.refused ≡ false
+  pub same : next ≡ s
+  pub untold : nodes_told more ≡ nodes_told told
+
 abbrev pub IsReply : Manner → Option State → Result PlainRequest LineFault → Told → Answer → Option State → Told
     → Type 0
 IsReply manner s (Ok request) told answer next more = Refuses manner s (Ok request) told answer next more
-    ⊎ Accepts manner s request told answer next more
+    ⊎ (Accepts manner s request told answer next more ⊎ Orders manner s request told answer next more)
 IsReply manner s (Err fault) told answer next more = Refuses manner s (Err fault) told answer next more
 
 -- the answer to a request that changes nothing, in this state
 abbrev pub IsStillReply : Manner → Option State → PlainRequest → Answer → Type 0
 IsStillReply manner s request answer =
     ((refusal : PlainRefusal) × IsRefusal s request refusal × RefusesBy manner refusal answer)
-    ⊎ ((new : State) × IsAccepted s request new × IsTextIn manner.form s request new (string_bytes answer.text)
+    ⊎ (((new : State) × IsAccepted s request new × IsTextIn manner.form s request new (string_bytes answer.text)
     × (answer.refused ≡ false) × (s ≡ Some new))
+    ⊎ ((pushes : List (ℕ × Hop)) × AreAsked s request pushes
+    × (string_bytes answer.text ≡ pushes_in manner.form pushes) × (answer.refused ≡ false)))
+
+-- the answer to a request for the pushes from a table to these hops
+abbrev pub IsFromReply : Manner → List Hop → List Hop → Answer → Type 0
+IsFromReply manner table hops answer =
+    ((number : ℕ) × (nodes : List ℕ) × IsFaultFrom table hops number nodes
+    × RefusesBy manner (record { number = number; nodes = nodes; edit = None }) answer)
+    ⊎ ((pushes : List (ℕ × Hop)) × LeadFrom table hops pushes
+    × (string_bytes answer.text ≡ pushes_in manner.form pushes) × (answer.refused ≡ false))
 
 -- The answer to what was read of a line, the state after it, and the list of rerouted nodes. With `never`, the way to
 -- settle starts no thread.

@@ -2,7 +2,8 @@
 use Rattle.std.specs.Prelude.{ℕ, ◌<◌, ◌≤◌, ◌+◌, ◌*◌, List, Result, OnErr, OnOk, String, string_capacity, string_len}
 use Rattle.std.specs.declared.alloc.Global.{Global}
 use Rattle.std.specs.declared.alloc.AllocError.{AllocError}
-use Rattle.fr_route.specs.Json.{changes_of, report_json}
+use Rattle.fr_route.specs.Json.{report_json}
+use Rattle.fr_route.specs.Pushing.{changes_of}
 use Rattle.fr_route.specs.Texts.{longest_report, report_text}
 use Rattle.fr_route.specs.declared.change.Report.{Report}
 use Rattle.fr_route.specs.declared.form.Form.{Form}

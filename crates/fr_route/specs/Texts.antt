@@ -39,6 +39,14 @@ walk_text nodes = codes "walk" ++ spaced nodes
 abbrev pub no_walk_text : ℕ → List ℕ
 no_walk_text node = codes "walk " ++ (decimal node ++ codes " cut")
 
+-- for each push a space, its node, `>` and the word for the new hop
+abbrev pub spaced_pushes : List (ℕ × Hop) → List ℕ
+spaced_pushes [] = []
+spaced_pushes (p ∷ ps) = codes " " ++ (decimal p.0 ++ (codes ">" ++ (hop_word p.1 ++ spaced_pushes ps)))
+
+abbrev pub pushes_text : List (ℕ × Hop) → List ℕ
+pushes_text pushes = codes "pushes" ++ spaced_pushes pushes
+
 abbrev pub report_text : ℕ → ℕ → List ℕ
 report_text turned cut = codes "turned " ++ (decimal turned ++ (codes " cut " ++ decimal cut))
 

@@ -3,17 +3,20 @@ use Rattle.std.specs.Prelude.{◌≡◌, ℕ, ◌⊎◌, List, Option, Some, Non
 use Rattle.std.specs.Prelude.{Ok, Err, String, IfOk, IfSome, IfNone, OnErr}
 use Rattle.std.specs.declared.alloc.Global.{Global}
 use Rattle.fr_lines.specs.Requests.{PlainRequest, new_network, cut_link, add_link}
-use Rattle.fr_lines.specs.Requests.{join_nodes, make_edits, move_dest, walk_from, ask}
+use Rattle.fr_lines.specs.Requests.{join_nodes, make_edits, move_dest, walk_from, ask, order_pushes}
 use Rattle.fr_lines.specs.declared.requests.LineFault.{LineFault}
 use Rattle.fr_route.specs.Answers.{IsAccepted, IsRefused}
+use Rattle.fr_route.specs.Pushing.{AreAsked}
 use Rattle.fr_route.specs.Reroutes.{AreReplaced, AreRerouted}
 use Rattle.fr_route.specs.States.{State}
 use Rattle.fr_route.specs.declared.fault.AnswerFault.{AnswerFault}
+use Rattle.fr_tables.specs.declared.hop.Hop.{Hop}
 
 -- what an accepted request makes of the list: a network or a change lists the nodes that it reroutes, in push order,
 -- and any other request leaves the list unchanged
 abbrev pub TellsOf : Option State → PlainRequest → State → List ℕ → List ℕ → Type 0
 TellsOf s (new_network n d links) new before after = AreReplaced s new after
+TellsOf s (order_pushes table wanted) new before after = ⊥
 TellsOf None request new before after = ⊥
 TellsOf (Some s) (cut_link u v) new before after = AreRerouted s new after
 TellsOf (Some s) (add_link u v) new before after = AreRerouted s new after
@@ -23,11 +26,12 @@ TellsOf (Some s) (move_dest d) new before after = AreRerouted s new after
 TellsOf (Some s) (walk_from x) new before after = after ≡ before
 TellsOf (Some s) (ask question) new before after = after ≡ before
 
--- what a request makes of the list, and the state after it: a refused request leaves the list unchanged
+-- what a request makes of the list, and the state after it: refusals and pushes between tables leave the list unchanged
 abbrev pub IsTold : Option State → PlainRequest → Option State → List ℕ → List ℕ → Type 0
 IsTold s request next before after =
     ((number : ℕ) × IsRefused s request number × (next ≡ s) × (after ≡ before))
-    ⊎ ((new : State) × IsAccepted s request new × (next ≡ Some new) × TellsOf s request new before after)
+    ⊎ (((new : State) × IsAccepted s request new × (next ≡ Some new) × TellsOf s request new before after)
+    ⊎ ((pushes : List (ℕ × Hop)) × AreAsked s request pushes × (next ≡ s) × (after ≡ before)))
 
 -- the same for a line that was read with this result
 abbrev pub IsLineTold : Option State → Result PlainRequest LineFault → Option State → List ℕ → List ℕ → Type 0

@@ -3,7 +3,8 @@
 
 ghost use Rattle.std.specs.Prelude.{◌≡◌, ◌≤◌, ◌++◌, ◌+◌, ◌*◌, length, slice_get};
 ghost use Rattle.std.specs.Prelude.{IfOk, OnOk, codes, decimal, string_bytes};
-ghost use Rattle.fr_route.specs.Json.{change_json, changes_of, comma_before, counts_json, hop_in, hop_json};
+ghost use Rattle.fr_route.specs.Json.{change_json, comma_before, counts_json, hop_json, pushes_json};
+ghost use Rattle.fr_route.specs.Pushing.{changes_of, hop_in};
 ghost use Rattle.fr_route.specs.Json.{hops_json, link_json, links_json, listed, no_walk_json, place_json};
 ghost use Rattle.fr_route.specs.Json.{refusal_json, refused_json, report_json, round_json, shown_json, walk_json};
 ghost use Rattle.fr_route.specs.Refusals.{number_of, plain_refusal};
@@ -168,7 +169,7 @@ pub(crate) fn no_walk_object(alloc: Global) -> Result<String, AllocError>
 }
 
 /// The hop of a number. A number that is not a node is cut off.
-fn hop_at(hops: &[Hop], x: u32) -> Hop
+pub(crate) fn hop_at(hops: &[Hop], x: u32) -> Hop
     ensures { result ≡ hop_in (slice_get hops.now x) }
 {
     match hops.get(x as usize) {
@@ -213,6 +214,20 @@ fn push_changes(
         first = false;
     }
     Ok(())
+}
+
+/// `{"pushes":[[3,2],[4,"cut"]]}`: each of these nodes with its hop in this table.
+pub(crate) fn pushes_object(
+    alloc: Global,
+    nodes: &[u32],
+    hops: &[Hop],
+) -> Result<String, AllocError>
+    ensures { IfOk result (λ line. string_bytes line ≡ pushes_json (changes_of hops.now nodes.now)) }
+{
+    let mut line = begun(alloc, "{\"pushes\":[", nodes.len().saturating_mul(3))?;
+    push_changes(&mut line, nodes, hops, &mut Buffer::new())?;
+    line.push_str("]}")?;
+    Ok(line)
 }
 
 /// Appends how many turns a round took, and how many nodes are cut off.

@@ -26,6 +26,7 @@ mod hops;
 mod json;
 pub mod laws;
 mod outcome;
+mod pushing;
 mod questions;
 mod refusals;
 mod refusing;

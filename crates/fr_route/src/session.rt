@@ -3,7 +3,12 @@
 ghost use Rattle.std.specs.Prelude.{◌≡◌, ◌≢◌, ◌<◌, ◌≤◌, ◌⊎◌, ◌↔◌, length, true, false, slice_get, Ok, Some, None};
 ghost use Rattle.std.specs.Prelude.{IfOk, IfErr, OnErr, OnOk, IfSome, IfNone, IsTrue, MatchOption, string_bytes};
 ghost use Rattle.std.specs.Option.{option_copied};
-ghost use Rattle.fr_lines.specs.Requests.{ask, make_edits, move_dest, new_network, walk_from, plain, reading};
+ghost use Rattle.std.specs.Prelude.{option_map};
+ghost use Rattle.std.specs.declared.alloc.Global.{Global};
+ghost use Rattle.std.specs.declared.vec.Vec.{Vec};
+ghost use Rattle.fr_tables.specs.declared.hop.Hop.{Hop};
+ghost use Rattle.fr_lines.specs.Requests.{ask, make_edits, move_dest, new_network, order_pushes, walk_from};
+ghost use Rattle.fr_lines.specs.Requests.{plain, reading};
 ghost use Rattle.fr_crew.specs.Settlements.{CanBegin};
 ghost use Rattle.fr_route.specs.Ways.{Settles, NeverStarts};
 ghost use Rattle.fr_route.specs.Blank.{is_blank as is_blank_line};
@@ -26,6 +31,7 @@ use crate::blank::is_blank;
 use crate::fault::{AnswerFault, NotMade, RouteFault};
 use crate::form::{AS_TEXT, Answer, Form, Line, Manner, accepted};
 use crate::outcome::ends as ends_of;
+use crate::pushing::{pushes_between, pushes_from};
 use crate::questions::{question_in, walk_in};
 use crate::refusals::Reason;
 use crate::refusing::{refuse, refuse_for};
@@ -37,6 +43,7 @@ use crate::told::Told;
 use fr_crew::{Crew, CrewFault, Gate, Plan, settled_counts, settled_counts_alone};
 use fr_graph::{Edit, MAX_EDITS, Net, NetFault, Turns};
 use fr_lines::{LineFault, Question, Request, read_line};
+use fr_tables::Hop;
 use std::alloc::Global;
 use std::marker::Model;
 use std::sync::Wait;
@@ -392,6 +399,40 @@ impl Session {
         Ok(accepted(question_in(alloc, manner.form, router, question)?))
     }
 
+    /// The answer to a request for the pushes from a table to the wanted one, or to the next hops if none is given.
+    fn pushes(
+        &self,
+        alloc: Global,
+        manner: Manner,
+        table: &[Hop],
+        wanted: &Option<Vec<Hop>>,
+    ) -> Result<Answer, AnswerFault>
+        ensures reply { IfOk result (IsStillReply manner self.now
+            (order_pushes table.now (option_map (λ (t : Vec Hop Global). t.items) wanted.now))) }
+        ensures memory { IfErr result (λ fault. fault ≡ Memory) }
+    {
+        match wanted {
+            Some(wanted) => pushes_between(alloc, manner, table, wanted),
+            None => self.pushes_to_hops(alloc, manner, table),
+        }
+    }
+
+    /// The answer to a request for the pushes from a table to the next hops.
+    fn pushes_to_hops(
+        &self,
+        alloc: Global,
+        manner: Manner,
+        table: &[Hop],
+    ) -> Result<Answer, AnswerFault>
+        ensures reply { IfOk result (λ answer. IsStillReply manner self.now (order_pushes table.now None) answer) }
+        ensures memory { IfErr result (λ fault. fault ≡ Memory) }
+    {
+        let Some(router) = &self.router else {
+            return refuse(alloc, manner, Reason::NoNetwork, &[], None);
+        };
+        pushes_from(alloc, manner, table, router.hops())
+    }
+
     /// Answers a question, as [`Session::answer`] does. This changes nothing. Fails only with `Memory`. O(b) for b
     /// bytes of answer.
     pub fn answer_question(&self, alloc: Global, question: Question) -> Result<String, AnswerFault>
@@ -575,6 +616,7 @@ impl<'a, F: Fn(&Net, u32, Option<&[u32]>, Turns) -> Result<Turns, CrewFault>> As
             Request::Destination { dest } => self.reply_move(session, manner, *dest, told),
             Request::Walk { x } => session.walk(self.alloc, manner, *x),
             Request::Ask(question) => session.question(self.alloc, manner, *question),
+            Request::Pushes { table, wanted } => session.pushes(self.alloc, manner, table, wanted),
         }
     }
 

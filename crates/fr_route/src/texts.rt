@@ -2,11 +2,13 @@
 
 ghost use Rattle.std.specs.Prelude.{◌≡◌, ◌≤◌, ◌++◌, ◌+◌, length, IfOk, OnOk, codes, decimal, string_bytes};
 ghost use Rattle.fr_route.specs.Refusals.{number_of};
+ghost use Rattle.fr_route.specs.Pushing.{changes_of};
 ghost use Rattle.fr_route.specs.Rooms.{Fits};
 ghost use Rattle.fr_route.specs.Texts.{counts_text, links_text, hops_text, hop_word, walk_text};
-ghost use Rattle.fr_route.specs.Texts.{no_walk_text, report_text, longest_report, refusal_text};
+ghost use Rattle.fr_route.specs.Texts.{no_walk_text, pushes_text, report_text, longest_report, refusal_text};
 
 use crate::change::Report;
+use crate::json::hop_at;
 use crate::refusals::Reason;
 use fr_graph::{Links, MAX_NODES};
 use fr_tables::Hop;
@@ -105,6 +107,30 @@ pub(crate) fn hops_line(alloc: Global, hops: &[Hop]) -> Result<String, AllocErro
     let mut buffer = Buffer::new();
     for hop in hops {
         push_hop(&mut line, *hop, &mut buffer)?;
+    }
+    Ok(line)
+}
+
+/// Appends `>` and the word for the new hop of a node.
+fn push_new_hop(line: &mut String, hop: Hop, buffer: &mut Buffer) -> Result<(), AllocError>
+    ensures { OnOk result (string_bytes line.new ≡ string_bytes line.old ++ (codes ">" ++ hop_word hop)) }
+{
+    match hop {
+        Hop::Here => line.push_str(">here"),
+        Hop::To(next) => push_number(line, ">", u64::from(next), buffer),
+        Hop::CutOff => line.push_str(">cut"),
+    }
+}
+
+/// `pushes`, and then a space and `node>hop` for each of these nodes, with its hop in this table.
+pub(crate) fn pushes_line(alloc: Global, nodes: &[u32], hops: &[Hop]) -> Result<String, AllocError>
+    ensures { IfOk result (λ line. string_bytes line ≡ pushes_text (changes_of hops.now nodes.now)) }
+{
+    let mut line = begun(alloc, "pushes", nodes.len().saturating_mul(2))?;
+    let mut buffer = Buffer::new();
+    for node in nodes {
+        push_number(&mut line, " ", u64::from(*node), &mut buffer)?;
+        push_new_hop(&mut line, hop_at(hops, *node), &mut buffer)?;
     }
     Ok(line)
 }

@@ -39,6 +39,7 @@ Requests:
   [\"dest\",D]             make D the destination
   [\"walk\",X]             report the route of node X
   [\"links\"]  [\"counts\"]  [\"hops\"]  report all links, counts or next hops
+  [\"pushes\",[HOP,..]]    order the pushes from this table to the next hops, or to a second table
 
 Answers, and with --json:
   turned T cut K      {\"turned\":T,\"cut_off\":K,\"changed\":[[X,HOP],..]}  after a change
@@ -46,6 +47,7 @@ Answers, and with --json:
   links U>V ..        {\"links\":[[U,V],..]}
   counts C ..         {\"counts\":[C,..]}
   hops HOP ..         {\"hops\":[HOP,..]}; a hop is a number, here or cut
+  pushes X>HOP ..     {\"pushes\":[[X,HOP],..]}
   refused N           {\"refused\":N,\"fault\":NAME,\"nodes\":[X,..],\"line\":LINE}
 
 Examples:

@@ -8,7 +8,7 @@ use Rattle.fr_lines.specs.declared.requests.Question.TheVariants.{Links, Counts,
 use Rattle.fr_route.specs.Blank.{is_blank}
 use Rattle.fr_route.specs.States.{State}
 use Rattle.fr_graph.specs.Network.{Network}
-use Rattle.fr_route.proofs.Determined.{answer_unique, hops_unique, line_unique, not_both}
+use Rattle.fr_route.proofs.Determined.{answer_unique, asked_not_accepted, hops_unique, line_unique, not_both}
 use Rattle.fr_route.proofs.OneTelling.{line_told_unique}
 use Rattle.fr_route.specs.Told.{IsLineTold}
 use Rattle.fr_bytes.specs.Lines.{lines_of}
@@ -67,9 +67,14 @@ round_story_unique false before s rerouted a b h k = h ∙ sym k
 
 begun_unique : (s : Option State) (request : PlainRequest) (a b : Bool) → HasBegun s request a → HasBegun s request b → a ≡ b
 begun_unique s request a b (inl (j, h, e)) (inl (k, g, f)) = e ∙ sym f
-begun_unique s request a b (inl (j, h, e)) (inr (n, g, f)) = absurd (not_both s request j n h g)
-begun_unique s request a b (inr (m, h, e)) (inl (k, g, f)) = absurd (not_both s request k m g h)
-begun_unique s request a b (inr (m, h, e)) (inr (n, g, f)) = e ∙ sym f
+begun_unique s request a b (inl (j, h, e)) (inr (inl (n, g, f))) = absurd (not_both s request j n h g)
+begun_unique s request a b (inl (j, h, e)) (inr (inr (n, g, f))) = e ∙ sym f
+begun_unique s request a b (inr (inl (m, h, e))) (inl (k, g, f)) = absurd (not_both s request k m g h)
+begun_unique s request a b (inr (inl (m, h, e))) (inr (inl (n, g, f))) = e ∙ sym f
+begun_unique s request a b (inr (inl (m, h, e))) (inr (inr (n, g, f))) = absurd (asked_not_accepted s request n m g h)
+begun_unique s request a b (inr (inr (m, h, e))) (inl (k, g, f)) = e ∙ sym f
+begun_unique s request a b (inr (inr (m, h, e))) (inr (inl (n, g, f))) = absurd (asked_not_accepted s request m n h g)
+begun_unique s request a b (inr (inr (m, h, e))) (inr (inr (n, g, f))) = e ∙ sym f
 
 line_begun_unique : (s : Option State) (asked : Result PlainRequest LineFault) (a b : Bool) → HasLineBegun s asked a → HasLineBegun s asked b → a ≡ b
 line_begun_unique s (Ok request) a b h k = begun_unique s request a b h k

@@ -3,6 +3,7 @@ use Rattle.std.proofs.Common.{◌≡◌, ◌∙◌, ℕ, ◌+◌, ◌≤◌, Lis
 use Rattle.std.proofs.Common.{Bool, false, inl, inr, not, refl, rules, subst, sym, ◌&&◌}
 use Rattle.std.specs.List.{starts_with}
 use Rattle.fr_graph.specs.Network.{Network}
+use Rattle.fr_route.specs.Pushing.{AreAsked}
 use Rattle.fr_route.specs.Routes.{AreHops}
 use Rattle.fr_route.specs.States.{State}
 use Rattle.fr_tables.specs.declared.hop.Hop.{Hop}
@@ -11,7 +12,7 @@ use Rattle.fr_bytes.proofs.Ending.{few_lines}
 use Rattle.std.specs.Prelude.{Err, Ok, codes, eqb}
 use Rattle.fr_lines.specs.declared.requests.Question.TheVariants.{Links, Counts, Hops}
 use Rattle.fr_lines.specs.declared.requests.LineFault.{LineFault}
-use Rattle.fr_lines.specs.Requests.{PlainRequest, new_network, cut_link, add_link, join_nodes, make_edits, move_dest, walk_from, ask, reading}
+use Rattle.fr_lines.specs.Requests.{PlainRequest, new_network, cut_link, add_link, join_nodes, make_edits, move_dest, walk_from, ask, order_pushes, reading}
 use Rattle.fr_route.specs.Answers.{IsAnswer, IsLineAnswer, IsText}
 use Rattle.fr_route.specs.Blank.{is_blank}
 use Rattle.fr_route.specs.Texts.{refusal_text}
@@ -137,6 +138,19 @@ no_refusal s (make_edits edits) answer is = rw is.3 refl
 no_refusal s (move_dest d) answer is = rw is.3 refl
 no_refusal s (walk_from x) answer is = refl
 no_refusal s (ask question) answer is = refl
+no_refusal s (order_pushes table wanted) answer is = refl
+
+-- pushes between tables begin no round
+asked_no_round : (s : Option State) (request : PlainRequest) (pushes : List (ℕ × Hop)) → AreAsked s request pushes → makes_round request ≡ false
+asked_no_round s (new_network n d links) pushes asked = absurd asked
+asked_no_round s (cut_link u v) pushes asked = absurd asked
+asked_no_round s (add_link u v) pushes asked = absurd asked
+asked_no_round s (join_nodes u v) pushes asked = absurd asked
+asked_no_round s (make_edits edits) pushes asked = absurd asked
+asked_no_round s (move_dest d) pushes asked = absurd asked
+asked_no_round s (walk_from x) pushes asked = absurd asked
+asked_no_round s (ask question) pushes asked = absurd asked
+asked_no_round s (order_pushes table wanted) pushes asked = refl
 
 none_begun : (request : PlainRequest) → (makes_round request && false) ≡ false
 none_begun request = search rules
@@ -145,7 +159,12 @@ none_begun request = search rules
 pub begun_by : (s next : Option State) (request : PlainRequest) (answer : List ℕ) (began : Bool) → IsAnswer s request answer next
     → began ≡ (makes_round request && not (starts_with eqb answer (codes "refused"))) → HasBegun s request began
 begun_by s next request answer began (inl (number, refused, is, same)) e = inl (number, refused, e ∙ rw is (none_begun request))
-begun_by s next request answer began (inr (new, accepted, is, same)) e = inr (new, accepted, e ∙ no_refusal new request answer is)
+begun_by s next request answer began (inr (inl (new, accepted, is, same))) e = inr (inl (new, accepted, e ∙ no_refusal new request answer is))
+begun_by s next request answer began (inr (inr (pushes, asked, is, same))) e = inr (inr (
+  pushes,
+  asked,
+  e ∙ ap (λ (b : Bool). b && not (starts_with eqb answer (codes "refused"))) (asked_no_round s request pushes asked),
+))
 
 -- the answer to a request, what it asks, and its round
 pub answered_told : (s next : Option State) (number : ℕ) (request : PlainRequest) (began : Bool) (answer rerouted told old one two new : List ℕ)

@@ -1,7 +1,7 @@
 -- The line of a story that says what a request asks. This project's own.
 use Rattle.std.specs.Prelude.{ℕ, List, [], ◌∷◌, ◌++◌, Result, Ok, Err, codes, decimal}
 use Rattle.fr_lines.specs.Requests.{PlainRequest, new_network, cut_link, add_link}
-use Rattle.fr_lines.specs.Requests.{join_nodes, make_edits, move_dest, walk_from, ask}
+use Rattle.fr_lines.specs.Requests.{join_nodes, make_edits, move_dest, walk_from, ask, order_pushes}
 use Rattle.fr_graph.specs.declared.edit.Edit.{Edit}
 use Rattle.fr_graph.specs.declared.edit.Edit.TheVariants.{Cut, Add, Join}
 use Rattle.fr_lines.specs.declared.requests.LineFault.{LineFault}
@@ -28,6 +28,7 @@ question_text Links = codes "links"
 question_text Counts = codes "counts"
 question_text Hops = codes "hops"
 
+-- the words for a request. A request for pushes is named without its tables
 abbrev pub request_text : PlainRequest → List ℕ
 request_text (new_network n d links) = pair_text (codes "net") n d ++ spaced_links links
 request_text (cut_link u v) = pair_text (codes "cut") u v
@@ -37,6 +38,7 @@ request_text (make_edits edits) = codes "batch" ++ spaced_edits edits
 request_text (move_dest d) = codes "dest" ++ (codes " " ++ decimal d)
 request_text (walk_from x) = codes "walk" ++ (codes " " ++ decimal x)
 request_text (ask question) = question_text question
+request_text (order_pushes table wanted) = codes "pushes"
 
 -- the line for a request, and nothing for a line that is not a request
 abbrev pub asked_text : Result PlainRequest LineFault → List ℕ

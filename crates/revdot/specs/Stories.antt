@@ -3,12 +3,13 @@
 use Rattle.std.specs.Prelude.{◌≡◌, ℕ, ◌+◌, ◌%◌, ◌==◌, nat_le, ◌⊎◌, ◌&&◌, Bool, true, false, List, [], ◌∷◌, ◌++◌}
 use Rattle.std.specs.Prelude.{Option, Some, None, Result, Ok, Err, MatchBool, if◌then◌else◌, codes, decimal}
 use Rattle.fr_graph.specs.Network.{Network}
-use Rattle.fr_lines.specs.Requests.{PlainRequest, new_network, walk_from, ask, reading}
+use Rattle.fr_lines.specs.Requests.{PlainRequest, new_network, walk_from, ask, order_pushes, reading}
 use Rattle.fr_lines.specs.declared.requests.LineFault.{LineFault}
 use Rattle.fr_lines.specs.declared.requests.Question.{Question}
 use Rattle.fr_lines.specs.declared.requests.Question.TheVariants.{Links, Counts, Hops}
 use Rattle.fr_route.specs.Answers.{IsAccepted, IsAnswer, IsLineAnswer, IsRefused}
 use Rattle.fr_route.specs.Blank.{is_blank}
+use Rattle.fr_route.specs.Pushing.{AreAsked}
 use Rattle.fr_route.specs.Routes.{AreHops}
 use Rattle.fr_route.specs.States.{State, net_at}
 use Rattle.fr_route.specs.Texts.{spaced}
@@ -86,6 +87,7 @@ IsRoundStory false before s rerouted told = told ≡ []
 abbrev pub makes_round : PlainRequest → Bool
 makes_round (walk_from x) = false
 makes_round (ask question) = false
+makes_round (order_pushes table wanted) = false
 makes_round request = true
 
 -- the network that a request changes if it is accepted, and if it is told; a new network changes none
@@ -94,6 +96,7 @@ net_before None request = None
 net_before (Some s) (new_network n d links) = None
 net_before (Some s) (walk_from x) = None
 net_before (Some s) (ask question) = None
+net_before (Some s) (order_pushes table wanted) = None
 net_before (Some s) request = if is_told s then Some (net_at s) else None
 
 abbrev pub line_before : Option State → Result PlainRequest LineFault → Option Network
@@ -104,7 +107,8 @@ line_before s (Err fault) = None
 abbrev pub HasBegun : Option State → PlainRequest → Bool → Type 0
 HasBegun s request began =
     ((number : ℕ) × IsRefused s request number × (began ≡ false))
-    ⊎ ((new : State) × IsAccepted s request new × (began ≡ makes_round request))
+    ⊎ (((new : State) × IsAccepted s request new × (began ≡ makes_round request))
+    ⊎ ((pushes : List (ℕ × Hop)) × AreAsked s request pushes × (began ≡ false)))
 
 -- the same for a line that was read with this result
 abbrev pub HasLineBegun : Option State → Result PlainRequest LineFault → Bool → Type 0

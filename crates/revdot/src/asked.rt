@@ -32,6 +32,7 @@ fn push_request(story: &mut String, request: &Request) -> Result<(), AllocError>
         Request::Destination { dest } => push_single(story, "dest", *dest),
         Request::Walk { x } => push_single(story, "walk", *x),
         Request::Ask(question) => push_question(story, *question),
+        Request::Pushes { .. } => story.push_str("pushes"),
     }
 }
 

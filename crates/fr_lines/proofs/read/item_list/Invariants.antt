@@ -6,5 +6,5 @@ use Rattle.fr_lines.proofs.read.item_list.Given as goal
 -- the items so far, and those of the values ahead, are the items of all values
 abbrev pub invariant-loop-item : goal.invariant-loop-item
 invariant-loop-item g l =
-    read_all g.T.Item.in_data (map view l.values) ≡ option_map (λ items. l.items.items ++ items)
-    (read_all g.T.Item.in_data (map view (drop l.item-index l.values)))
+    read_all g.T.OfValue.in_data (map view l.values) ≡ option_map (λ items. l.items.items ++ items)
+    (read_all g.T.OfValue.in_data (map view (drop l.item-index l.values)))

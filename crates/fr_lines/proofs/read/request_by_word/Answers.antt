@@ -52,3 +52,7 @@ returns-in-counts c = rw c.in-counts.is (told _ _ c.ask-in-counts.ensures.ok c.a
 pub returns-in-hops : goal.returns-in-hops
 unfolding request_of_word
 returns-in-hops c = rw c.in-hops.is (told _ _ c.ask-in-hops.ensures.ok c.ask-in-hops.ensures.refused)
+
+pub returns-in-pushes : goal.returns-in-pushes
+unfolding request_of_word
+returns-in-pushes c = rw c.in-pushes.is c.pushes.ensures

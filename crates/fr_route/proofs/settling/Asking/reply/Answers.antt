@@ -23,9 +23,14 @@ returns-in-Network g c = rw c.in-Network.is (rw c.deref.ensures.value at c.reply
 pub returns-in-Walk : goal.returns-in-Walk
 returns-in-Walk g c =
     rw c.in-Walk.is (still _ c.args.manner c.args.session.now _ c.args.told.now c.walk.result
-    (walk_tells c.args.session.now c.in-Walk.x (nodes_told c.args.told.now)) c.walk.ensures.reply c.walk.ensures.memory)
+    (λ new accepted. walk_tells c.args.session.now c.in-Walk.x (nodes_told c.args.told.now) new) c.walk.ensures.reply c.walk.ensures.memory)
 
 pub returns-in-Ask : goal.returns-in-Ask
 returns-in-Ask g c =
     rw c.in-Ask.is (still _ c.args.manner c.args.session.now _ c.args.told.now c.question.result
-    (ask_tells c.args.session.now c.in-Ask.question (nodes_told c.args.told.now)) c.question.ensures.reply c.question.ensures.memory)
+    (λ new accepted. ask_tells c.args.session.now c.in-Ask.question (nodes_told c.args.told.now) new) c.question.ensures.reply c.question.ensures.memory)
+
+pub returns-in-Pushes : goal.returns-in-Pushes
+returns-in-Pushes g c =
+    rw c.in-Pushes.is (still _ c.args.manner c.args.session.now _ c.args.told.now c.pushes.result
+    (λ new accepted. absurd accepted) (rw c.deref-in-Pushes.ensures.value at c.pushes.ensures.reply) c.pushes.ensures.memory)

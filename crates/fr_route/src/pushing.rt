@@ -1,0 +1,109 @@
+//! The answers to requests for the pushes between two tables of hops.
+
+ghost use Rattle.std.specs.Prelude.{◌≡◌, ℕ, ◌<◌, ◌++◌, ◌∷◌, [], List, Option, None, Some};
+ghost use Rattle.std.specs.Prelude.{IfErr, IfOk, length, slice_index, string_bytes};
+ghost use Rattle.fr_lines.specs.Requests.{order_pushes};
+ghost use Rattle.fr_route.specs.Pushing.{IsTablesFault, changes_of};
+ghost use Rattle.fr_route.specs.Replies.{IsFromReply, IsStillReply, RefusesBy, pushes_in as text_of_pushes};
+ghost use Rattle.fr_route.specs.States.{State};
+ghost use Rattle.fr_route.specs.declared.fault.AnswerFault.TheVariants.{Memory};
+ghost use Rattle.fr_tables.specs.Faults.{IsFaultOf};
+
+use crate::fault::AnswerFault;
+use crate::form::{Answer, Form, Manner, accepted};
+use crate::hops::resized;
+use crate::json::pushes_object;
+use crate::refusals::Reason;
+use crate::refusing::refuse;
+use crate::texts::pushes_line;
+use fr_graph::MAX_NODES;
+use fr_tables::{Hop, TableFault, push_order};
+use std::alloc::{AllocError, Global};
+
+/// The answer to a request for the pushes from one table to another. A node that is missing at the end of a table is
+/// cut off.
+pub(crate) fn pushes_between(
+    alloc: Global,
+    manner: Manner,
+    table: &[Hop],
+    wanted: &[Hop],
+) -> Result<Answer, AnswerFault>
+    ensures reply { IfOk result
+        (λ answer. (s : Option State) → IsStillReply manner s (order_pushes table.now (Some wanted.now)) answer) }
+    ensures memory { IfErr result (λ fault. fault ≡ Memory) }
+{
+    let nodes = table.len().max(wanted.len());
+    if nodes > MAX_NODES as usize {
+        return refuse(alloc, manner, Reason::TooMany, &[], None);
+    }
+    let hops = resized(alloc, wanted, nodes as u32)?;
+    pushes_from(alloc, manner, table, &hops)
+}
+
+/// The answer to a request for the pushes from a table to these hops.
+pub(crate) fn pushes_from(
+    alloc: Global,
+    manner: Manner,
+    table: &[Hop],
+    hops: &[Hop],
+) -> Result<Answer, AnswerFault>
+    ensures reply { IfOk result (IsFromReply manner table.now hops.now) }
+    ensures memory { IfErr result (λ fault. fault ≡ Memory) }
+{
+    if table.len().max(hops.len()) > MAX_NODES as usize {
+        return refuse(alloc, manner, Reason::TooMany, &[], None);
+    }
+    let nodes = hops.len() as u32;
+    if table.len() > hops.len() {
+        return refuse(alloc, manner, Reason::NoNode, &[nodes], None);
+    }
+    let old = resized(alloc, table, nodes)?;
+    match push_order(alloc, &old, hops) {
+        Ok(order) => Ok(accepted(pushes_text(alloc, manner.form, &order, hops)?)),
+        Err(fault) => refuse_tables(alloc, manner, fault, &old, hops),
+    }
+}
+
+/// The text for the pushes of these nodes, each with its hop in this table.
+fn pushes_text(alloc: Global, form: Form, nodes: &[u32], hops: &[Hop]) -> Result<String, AllocError>
+    ensures { IfOk result (λ text. string_bytes text ≡ text_of_pushes form (changes_of hops.now nodes.now)) }
+{
+    match form {
+        Form::Text => pushes_line(alloc, nodes, hops),
+        Form::Json => pushes_object(alloc, nodes, hops),
+    }
+}
+
+/// The answer that refuses these tables. They have one length, so this is not the fault.
+fn refuse_tables(
+    alloc: Global,
+    manner: Manner,
+    fault: TableFault,
+    _old: &[Hop],
+    _new: &[Hop],
+) -> Result<Answer, AnswerFault>
+    requires { IsFaultOf _old.now _new.now fault }
+    ensures refuses { IfOk result (λ answer. (number : ℕ) × (nodes : List ℕ)
+        × IsTablesFault _old.now _new.now number nodes
+        × RefusesBy manner (record { number = number; nodes = nodes; edit = None }) answer) }
+    ensures memory { IfErr result (λ why. why ≡ Memory) }
+{
+    match fault {
+        TableFault::Range(x) => refuse(alloc, manner, Reason::NoNode, &[x], None),
+        TableFault::Loop(nodes) => {
+            let nodes = closed(nodes)?;
+            refuse(alloc, manner, Reason::Cycle, &nodes, None)
+        }
+        TableFault::Length | TableFault::Memory => Err(AnswerFault::Memory),
+    }
+}
+
+/// A loop with its first node again at its end, as all cycles are named.
+fn closed(mut nodes: Vec<u32>) -> Result<Vec<u32>, AllocError>
+    requires { 0 < length nodes.items }
+    ensures { IfOk result (λ named. named.items ≡ nodes.items ++ slice_index nodes.items 0 ∷ []) }
+{
+    let first = nodes[0];
+    nodes.push(first)?;
+    Ok(nodes)
+}
