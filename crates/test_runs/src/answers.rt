@@ -91,7 +91,7 @@ fn tell_beginnings<R: Threads + Wait + Sync + AllocGlobal + Print>(
     let line = case.value(1)?.to_string(rt.alloc()).ok()?;
     for end in 1..line.len() {
         let outcome = run_of(rt, &line[..end]);
-        if outcome.out != b"refused 1\n" {
+        if outcome.out.as_slice() != b"refused 1\n".as_slice() {
             tell_outcome(rt, &outcome);
             return Some(());
         }

@@ -24,7 +24,7 @@ pub fn tell_drawn<R: Threads + Wait + Sync + AllocGlobal + Print>(
 ) -> Option<()> {
     let text = text_of_play(rt.alloc(), draw, seed, line)?;
     let outcome = outcome_of(rt, Task::Play(draw), &mut line.as_bytes());
-    if outcome.out == text.as_bytes() {
+    if outcome.out.as_slice() == text.as_bytes() {
         tell(rt, "as drawn");
     } else {
         tell_outcome(rt, &outcome);
