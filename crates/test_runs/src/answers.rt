@@ -89,8 +89,9 @@ fn tell_beginnings<R: Threads + Wait + Sync + AllocGlobal + Print>(
     case: &Case<'_>,
 ) -> Option<()> {
     let line = case.value(1)?.to_string(rt.alloc()).ok()?;
-    for end in 1..line.len() {
-        let outcome = run_of(rt, &line[..end]);
+    let bytes = line.as_bytes();
+    for end in 1..bytes.len() {
+        let outcome = run_alone(rt, &mut &bytes[..end]);
         if outcome.out.as_slice() != b"refused 1\n".as_slice() {
             tell_outcome(rt, &outcome);
             return Some(());
