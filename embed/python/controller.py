@@ -39,8 +39,12 @@ class Controller:
         for node, hop in self.network.pushes(self.table):
             if interrupted():
                 return
-            # its new route, and the node itself; a node that is cut off has no route
-            if not self.unconfirmed.isdisjoint(self.network.walk(node) or [node]):
+            route = self.network.walk(node)
+            # its new route, and the node itself
+            if not self.unconfirmed.isdisjoint(route or [node]):
+                continue
+            # a node that is cut off has no route: others may still send over it until they have theirs
+            if not route and any(map(self.network.walk, self.unconfirmed)):
                 continue
             confirmed = self.push(node, hop)
             if confirmed is None:  # the router may have its old hop or the new one

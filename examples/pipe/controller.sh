@@ -27,6 +27,7 @@ while IFS= read -r change || [[ $change ]]; do
     # What counts is the routers' table: a router may have lost a hop that the engine did not change.
     ask '["hops"]'
     ask "$(jq -c '["pushes", ($ARGS.positional | map(tonumber? // .)), .hops]' --args "${table[@]}" <<<"$answer")"
+    [[ $answer != '{"refused"'* ]] || { echo "no table of routers: $answer" >&2; exit 1; }
     # All hops of a change are pushed before the next change is sent.
     while read -r router hop; do
         push "$router" "$hop"

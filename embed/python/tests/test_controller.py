@@ -51,6 +51,27 @@ class Routers:
 
 
 class TestController(unittest.TestCase):
+    def test_no_route_is_withdrawn_too_early(self):
+        """Router 3 gives no answer, and may still send over router 2, which is cut off."""
+        network = Network(5, 0, [(2, 0), (3, 2), (3, 4), (4, 0), (1, 0)])
+        silent, pushed = set(), []
+
+        def push(node, hop):
+            pushed.append(node)
+            return None if node in silent else True
+
+        controller = Controller(network, push)
+        controller.update()
+        silent.add(3)
+        pushed.clear()
+        controller.retire(2, 0)
+        controller.retire(3, 2)
+        controller.update()
+        self.assertEqual(pushed, [3])
+        controller.answered(3, 4)
+        controller.update()
+        self.assertEqual(pushed, [3, 2])
+
     def test_no_loop_and_all_pushed(self):
         for seed in range(20):
             routers = Routers(seed)
