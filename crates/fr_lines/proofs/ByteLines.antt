@@ -22,7 +22,7 @@ use Rattle.fr_graph.specs.declared.edit.Edit.{Edit}
 use Rattle.fr_graph.specs.declared.edit.Edit.TheVariants.{Add, Cut, Join}
 use Rattle.fr_lines.specs.declared.requests.LineFault.TheVariants.{NotRequest}
 use Rattle.fr_lines.specs.declared.requests.Question.{Question}
-use Rattle.fr_lines.specs.declared.requests.Question.TheVariants.{Counts, Hops, Links}
+use Rattle.fr_lines.specs.declared.requests.Question.TheVariants.{Counts, Hops, Links, Ways}
 use Rattle.fr_lines.specs.declared.words.Word.TheVariants as word
 use Rattle.fr_lines.proofs.FrontTexts.{begins_more}
 use Rattle.fr_lines.proofs.Items.{list_again}
@@ -237,6 +237,7 @@ question_reads rest question ends line opens =
     go Links = refl
     go Counts = refl
     go Hops = refl
+    go Ways = refl
 
 pub network_reads : (rest items : List ℕ) (nodes dest : ℕ) (links : List (ℕ × ℕ)) → IsSmall nodes → IsSmall dest
     → Begins rest (comma ∷ number_lexeme nodes ∷ comma ∷ number_lexeme dest ∷ comma ∷ token Token.begin_array ∷ []) items

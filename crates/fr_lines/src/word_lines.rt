@@ -81,7 +81,7 @@ fn last_number(rest: &[u8]) -> Option<u32>
     is_over(behind).then_some(n)
 }
 
-/// A question: `["links"]`, `["counts"]` or `["hops"]`.
+/// A question about all nodes: `["links"]`, `["counts"]`, `["hops"]` or `["ways"]`.
 fn ask(question: Question, rest: &[u8]) -> Option<Request>
     ensures { IfSome result (λ request. IsReadAs (letters (Ask question)) rest.now (plain request)) }
 {
