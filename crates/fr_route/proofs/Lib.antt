@@ -7,6 +7,7 @@ pub mod Changing
 pub mod Opening
 pub mod LoopWalks  -- walks of a table back to their first node
 pub mod TablePushes
+pub mod NodeWays  -- that each node has one list of ways
 pub mod Determined
 pub mod OneTelling
 pub mod Asking
