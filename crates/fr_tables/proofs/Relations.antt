@@ -15,6 +15,10 @@ pub end_append : (x : ℕ) (ys zs : List ℕ) → end_of x (ys ++ zs) ≡ end_of
 end_append x [] zs = refl
 end_append x (y ∷ ys) zs = end_append y ys zs
 
+pub Contains-end : (y : ℕ) (ys : List ℕ) → Contains (y ∷ ys) (end_of y ys)
+Contains-end y [] = Contains-head y []
+Contains-end y (z ∷ zs) = Contains-tail (end_of z zs) y (z ∷ zs) (Contains-end z zs)
+
 -- a walk that never comes back to a node
 abbrev pub IsSimple : ℕ → List ℕ → Type 0
 IsSimple x [] = Unit {0}
