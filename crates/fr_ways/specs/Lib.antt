@@ -1,0 +1,4 @@
+pub mod Ways
+pub mod Pushes
+pub mod Phases
+pub mod Laws
