@@ -1,0 +1,2 @@
+pub mod Shortest  -- which nodes have a distance
+pub mod Ranking  -- ways in order
