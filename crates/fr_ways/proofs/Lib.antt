@@ -1,3 +1,4 @@
+pub mod Rows  -- a table of ways in two lists
 pub mod Tables  -- pushes of tables of ways
 pub mod Parts  -- parts of tables, and where walks lead
 pub mod Nearest  -- first ways

@@ -1,6 +1,6 @@
 //! Forwarding tables in which a node may have several next hops, its ways.
 //!
-//! The laws of such tables, and of pushing new ones, are in [`laws`].
+//! A [`WayTable`] has the ways of each node. The laws of such tables, and of pushing new ones, are in [`laws`].
 //!
 //! RFC 6976 also updates downstream routers first. Waves, push orders, phases and their laws are this project's own.
 //!
@@ -8,3 +8,6 @@
 #![tactic(auto)]
 
 pub mod laws;
+mod table;
+
+pub use table::WayTable;
