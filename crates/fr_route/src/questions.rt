@@ -3,6 +3,7 @@
 ghost use Rattle.std.specs.Prelude.{◌≡◌, ◌==◌, ℕ, ◌<◌, None, IfErr, IfOk, string_bytes};
 ghost use Rattle.fr_lines.specs.Requests.{ask, ask_node, walk_from};
 ghost use Rattle.fr_lines.specs.declared.requests.NodeQuestion.TheVariants.{Nearest, Ways};
+ghost use Rattle.fr_lines.specs.declared.requests.Question.TheVariants.{Ways as WaysOfAll};
 ghost use Rattle.fr_route.specs.NodeWays.{AreNodeWays, IsNearest};
 ghost use Rattle.fr_route.specs.Replies.{IsTextIn};
 ghost use Rattle.fr_route.specs.Routes.{IsWalked};
@@ -33,11 +34,23 @@ pub(crate) fn question_in(
         (Form::Text, Question::Links) => links_line(alloc, router.net().links()),
         (Form::Text, Question::Counts) => counts_line(alloc, router.counts()),
         (Form::Text, Question::Hops) => hops_line(alloc, router.hops()),
-        (Form::Text, Question::Ways) => ways_line(alloc, router.dest(), &router.all_ways(alloc)?),
+        (_, Question::Ways) => all_ways_in(alloc, form, router),
         (Form::Json, Question::Links) => links_object(alloc, router.net().links()),
         (Form::Json, Question::Counts) => counts_object(alloc, router.counts()),
         (Form::Json, Question::Hops) => hops_object(alloc, router.hops()),
-        (Form::Json, Question::Ways) => ways_object(alloc, router.dest(), &router.all_ways(alloc)?),
+    }
+}
+
+/// The answer to a request for the ways of each node.
+fn all_ways_in(alloc: Global, form: Form, router: &Router) -> Result<String, AllocError>
+    ensures { IfOk result (λ text. IsTextIn form None (ask WaysOfAll) router.now (string_bytes text)) }
+{
+    // By this law, the number of nodes fits.
+    router.net().network_law();
+    let table = router.all_ways(alloc)?;
+    match form {
+        Form::Text => ways_line(alloc, router.dest(), &table),
+        Form::Json => ways_object(alloc, router.dest(), &table),
     }
 }
 

@@ -3,5 +3,5 @@ use Rattle.fr_route.specs.Json.{ways_items, ways_json}
 use Rattle.fr_route.proofs.json.ways_object.Given as goal
 
 abbrev pub invariant-loop-x : goal.invariant-loop-x
-invariant-loop-x l = string_bytes l.line ++ (ways_items l.dest l.x-index l.first (drop l.x-index l.table) ++ codes "]}")
+invariant-loop-x l = string_bytes l.line ++ (ways_items l.dest l.x l.first (drop l.x l.table) ++ codes "]}")
     ≡ ways_json l.dest l.table

@@ -3,4 +3,4 @@ use Rattle.fr_route.specs.Texts.{spaced_ways, ways_text}
 use Rattle.fr_route.proofs.texts.ways_line.Given as goal
 
 abbrev pub invariant-loop-x : goal.invariant-loop-x
-invariant-loop-x l = string_bytes l.line ++ spaced_ways l.dest l.x-index (drop l.x-index l.table) ≡ ways_text l.dest l.table
+invariant-loop-x l = string_bytes l.line ++ spaced_ways l.dest l.x (drop l.x l.table) ≡ ways_text l.dest l.table
