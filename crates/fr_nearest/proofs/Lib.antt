@@ -1,2 +1,0 @@
-pub mod Shortest  -- which nodes have a distance
-pub mod Ranking  -- ways in order
