@@ -1,5 +1,5 @@
 -- The record of what an update has changed. For proofs only.
-use Rattle.std.specs.Prelude.{◌≡◌, ◌≢◌, ℕ, ◌<◌, ◌≤◌, ◌+◌, ◌↔◌, List, [], false, true, length}
+use Rattle.std.specs.Prelude.{◌≡◌, ◌≢◌, ℕ, ◌<◌, ◌≤◌, ◌+◌, ◌↔◌, Bool, List, [], false, true, length}
 use Rattle.std.specs.Prelude.{slice_index, slice_index_or, vec_capacity}
 use Rattle.std.specs.List.{Contains}
 use Rattle.fr_nearest.specs.declared.changes.Changes.{Changes}
@@ -24,6 +24,16 @@ pub record AreAllNoted (table : List ℕ) (changes : Changes) : Type 0 where
   pub noted : AreNoted table changes
   pub all : (x : ℕ) → x < length table → slice_index table x ≢ slice_index changes.before.items x
       → Contains changes.nodes.items x
+
+-- these nodes have the number of the table before, and are not noted. The others are unchanged
+pub record IsTakenOver (table nodes before : List ℕ) (noted : List Bool) (after : List ℕ) (more : List Bool)
+    : Type 0 where
+  pub before_each : length after ≡ length table
+  pub noted_each : length more ≡ length table
+  pub these : (x : ℕ) → Contains nodes x
+      → (slice_index after x ≡ slice_index table x) × (slice_index_or more x false ≡ false)
+  pub others : (x : ℕ) → ¬ Contains nodes x
+      → (slice_index after x ≡ slice_index before x) × (slice_index_or more x false ≡ slice_index_or noted x false)
 
 -- no node is noted, and the numbers before are those of the table
 pub record IsForgotten (table : List ℕ) (changes : Changes) : Type 0 where

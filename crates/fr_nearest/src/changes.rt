@@ -1,7 +1,7 @@
 //! Which distances the last update has changed.
 
 ghost use Rattle.std.specs.Prelude.{◌≡◌, ℕ, ◌<◌, ◌≤◌, List, All, IfOk, length, vec_capacity};
-ghost use Rattle.fr_nearest.specs.Changes.{AreAllNoted, AreNoted, IsForgotten, NotesOne};
+ghost use Rattle.fr_nearest.specs.Changes.{AreAllNoted, AreNoted, IsForgotten, IsTakenOver, NotesOne};
 ghost use Rattle.fr_graph.specs.Limits.{most_nodes};
 ghost use Rattle.fr_nearest.specs.Update.{KeepsOthers};
 
@@ -15,6 +15,19 @@ pub(crate) struct Changes {
     // Whether each node is listed.
     pub(crate) noted: Vec<bool>,
     pub(crate) nodes: Vec<u16>,
+}
+
+/// Copies the distances of these nodes, and removes their notes.
+fn take_over(before: &mut [u16], noted: &mut [bool], distances: &[u16], nodes: &[u16])
+    requires before_each { length before.old ≡ length distances.now }
+    requires noted_each { length noted.old ≡ length distances.now }
+    requires nodes { All (λ (x : ℕ). x < length distances.now) nodes.now }
+    ensures { IsTakenOver distances.now nodes.now before.old noted.old before.new noted.new }
+{
+    for x in nodes {
+        before[*x as usize] = distances[*x as usize];
+        noted[*x as usize] = false;
+    }
 }
 
 impl Changes {
@@ -34,10 +47,7 @@ impl Changes {
         requires { AreAllNoted distances.now self.old }
         ensures { IsForgotten distances.now self.new }
     {
-        for x in &self.nodes {
-            self.before[*x as usize] = distances[*x as usize];
-            self.noted[*x as usize] = false;
-        }
+        take_over(&mut self.before, &mut self.noted, distances, &self.nodes);
         self.nodes.clear();
     }
 

@@ -1,4 +1,4 @@
-use Rattle.std.proofs.Common.{arith, get_or, length, rules, slice_index, sym, ◌∙◌, ◌≡◌, ◌≤◌, ◌<◌}
+use Rattle.std.proofs.Common.{arith, get_or, length, rules, slice_index, sym, ◌∙◌, ◌≡◌, ◌≤◌, ◌<◌, ℕ}
 use Rattle.std.proofs.lemmas.List.{length_push}
 use Rattle.std.proofs.lemmas.List.Elements.{All-push}
 use Rattle.fr_graph.proofs.SideRows.{entry_below}
@@ -31,7 +31,7 @@ loop-y-preserved c =
           rw w.list-is record {
             some = rw w.push_reserved.ensures.items (listed_more inv.some c.loop-y-test.true);
             listed = rw w.push_reserved.ensures.items record {
-              below = All-push _ c.loop-y.list.items entry.0 inv.listed.below low;
+              below = All-push (λ (x : ℕ). x < net.nodes) c.loop-y.list.items entry.0 inv.listed.below low;
               few = omega (arith, length_push c.loop-y.list.items entry.0, short);
             };
             room = w.push_reserved.ensures.capacity ∙ inv.room;
