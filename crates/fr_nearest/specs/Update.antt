@@ -5,7 +5,7 @@ use Rattle.fr_graph.specs.Links.{Points}
 use Rattle.fr_graph.specs.Network.{Network}
 use Rattle.fr_graph.specs.declared.first.First.{First}
 use Rattle.fr_graph.specs.declared.first.First.TheVariants.{Inward, Outward}
-use Rattle.fr_nearest.specs.Distances.{no_distance}
+use Rattle.fr_nearest.specs.Distances.{AreDistances, no_distance}
 use Rattle.fr_nearest.specs.Local.{Agrees, IsSmall, one_farther}
 
 -- a node with this number still agrees after one of its ways has got the number `new` in place of `old`
@@ -28,6 +28,17 @@ pub record IsPending (net : Network) (d : ℕ) (table list : List ℕ) (read : �
 -- only listed nodes have another number than before
 abbrev pub KeepsOthers : List ℕ → List ℕ → List ℕ → Type 0
 KeepsOthers before table list = (x : ℕ) → ¬ Contains list x → slice_index table x ≡ slice_index before x
+
+-- the table has the distances, and only listed nodes have another number than before
+pub record IsUpdated (net : Network) (d : ℕ) (before table list : List ℕ) : Type 0 where
+  pub distances : AreDistances net.nodes net.links d table
+  pub small : IsSmall net.nodes table
+  pub listed : IsListed net.nodes list
+  pub others : KeepsOthers before table list
+
+-- each node that is not touched agrees
+abbrev pub AgreeOutside : Network → ℕ → List ℕ → List ℕ → Type 0
+AgreeOutside net d touched table = (x : ℕ) → x < net.nodes → ¬ Contains touched x → Agrees net.links d table x
 
 -- `least` is the least number of the nodes to which the links before this place of a row point
 pub record IsLeast (table : List ℕ) (row : List (ℕ × First)) (place least : ℕ) : Type 0 where

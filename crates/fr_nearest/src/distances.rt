@@ -5,7 +5,7 @@ ghost use Rattle.fr_nearest.specs.Distances.{AreChanged, IsMeasureOf, IsOutOfDat
 
 use crate::changes::Changes;
 use crate::search::measure_all;
-use crate::update::{list_touched, update};
+use crate::update::update;
 use fr_graph::Net;
 use std::alloc::{AllocError, Global};
 use std::marker::Model;
@@ -101,9 +101,7 @@ impl Distances {
         net.network_law();
         self.dest = dest;
         self.changes.forget(&self.of);
-        if list_touched(touched, &self.of, &mut self.list)
-            && update(net, dest, &mut self.of, &mut self.list)
-        {
+        if update(net, dest, touched, &mut self.of, &mut self.list) {
             self.changes.note_some(&self.of, &self.list);
         } else {
             measure_all(net, dest, &mut self.of, &mut self.list);

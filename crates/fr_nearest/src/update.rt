@@ -3,15 +3,15 @@
 
 ghost use Rattle.std.specs.Prelude.{◌≡◌, ◌≢◌, ℕ, ◌<◌, ◌≤◌, length, vec_capacity, All, IsTrue};
 ghost use Rattle.fr_graph.specs.Limits.{most_nodes};
-ghost use Rattle.fr_nearest.specs.Distances.{AreDistances, no_distance};
 ghost use Rattle.fr_nearest.specs.Local.{IsByLinks, IsSmall, one_farther};
-ghost use Rattle.fr_nearest.specs.Update.{IsListed, IsPending, IsUnaffected, KeepsOthers, ListsAffected, UpdatesOne};
+ghost use Rattle.fr_nearest.specs.Update.{AgreeOutside, IsListed, IsPending, IsUnaffected, IsUpdated};
+ghost use Rattle.fr_nearest.specs.Update.{ListsAffected, UpdatesOne};
 
 use crate::distances::NONE;
 use fr_graph::{First, Net};
 
 /// Lists the touched nodes. Returns `false` if there are more than nodes of the network.
-pub(crate) fn list_touched(touched: &[u32], distances: &[u16], list: &mut Vec<u16>) -> bool
+fn list_touched(touched: &[u32], distances: &[u16], list: &mut Vec<u16>) -> bool
     requires few { length distances.now ≤ most_nodes }
     requires below { All (λ (x : ℕ). x < length distances.now) touched.now }
     requires room { length distances.now ≤ vec_capacity list.old }
@@ -29,16 +29,36 @@ pub(crate) fn list_touched(touched: &[u32], distances: &[u16], list: &mut Vec<u1
     true
 }
 
-/// Updates the distances of the listed nodes, and of all nodes that this makes wrong. Returns `false` if this takes
-/// more steps than there are nodes; then the distances have to be measured anew.
-pub(crate) fn update(net: &Net, dest: u32, distances: &mut [u16], list: &mut Vec<u16>) -> bool
+/// Updates the distances of the touched nodes, and of all nodes that this makes wrong. Lists the nodes whose distance
+/// may have changed. Returns `false` if this takes more steps than there are nodes; then the distances have to be
+/// measured anew.
+pub(crate) fn update(
+    net: &Net,
+    dest: u32,
+    touched: &[u32],
+    distances: &mut [u16],
+    list: &mut Vec<u16>,
+) -> bool
+    requires one_each { length distances.old ≡ net.now.nodes }
+    requires small { IsSmall net.now.nodes distances.old }
+    requires below { All (λ (x : ℕ). x < net.now.nodes) touched.now }
+    requires agree { AgreeOutside net.now dest touched.now distances.old }
+    requires room { net.now.nodes ≤ vec_capacity list.old }
+    ensures one_each { length distances.new ≡ length distances.old }
+    ensures updated { IsTrue result → IsUpdated net.now dest distances.old distances.new list.new.items }
+    ensures room { vec_capacity list.new ≡ vec_capacity list.old }
+{
+    net.network_law();
+    list_touched(touched, distances, list) && update_listed(net, dest, distances, list)
+}
+
+/// Updates the distances of the listed nodes, and of all nodes that this makes wrong. Returns `false` if the list gets
+/// too long.
+fn update_listed(net: &Net, dest: u32, distances: &mut [u16], list: &mut Vec<u16>) -> bool
     requires pending { IsPending net.now dest distances.old list.old.items 0 }
     requires room { net.now.nodes ≤ vec_capacity list.old }
     ensures one_each { length distances.new ≡ length distances.old }
-    ensures distances { IsTrue result → AreDistances net.now.nodes net.now.links dest distances.new }
-    ensures small { IsTrue result → IsSmall net.now.nodes distances.new }
-    ensures listed { IsTrue result → IsListed net.now.nodes list.new.items }
-    ensures others { IsTrue result → KeepsOthers distances.old distances.new list.new.items }
+    ensures updated { IsTrue result → IsUpdated net.now dest distances.old distances.new list.new.items }
     ensures room { vec_capacity list.new ≡ vec_capacity list.old }
 {
     net.network_law();

@@ -1,24 +1,12 @@
-use Rattle.std.proofs.Common.{arith, length, slice_index, sym, ◌∙◌, ◌≡◌, ◌<◌, ◌≤◌}
-use Rattle.std.proofs.lemmas.List.{get_or_read}
-use Rattle.fr_nearest.proofs.Measuring.{distances_of}
-use Rattle.fr_nearest.proofs.Updating.{keeps_others, none_pending, pending_less}
+use Rattle.std.proofs.Common.{List, arith, subst, sym, ℕ}
+use Rattle.fr_nearest.specs.Update.{IsPending}
+use Rattle.fr_nearest.proofs.Renewing.{pending_first}
 use Rattle.fr_nearest.proofs.update.update.Goals as goal
 
-pub loop-read-preserved : goal.loop-read-preserved
-loop-read-preserved c =
-    let inv = c.loop-read.invariant in
-    let left : c.loop-read.read < length c.loop-read.list.items = omega (arith, c.loop-read-test.true, c.len.ensures, c.loop-read.list.ok.0) in
-    let at : slice_index c.loop-read.list.items c.loop-read.read ≡ c.index.result.now =
-    sym (get_or_read c.loop-read.list.items c.loop-read.read c.index.result.now left c.index.ensures 0) in
-    let u = c.update_one.ensures.updated c.if-not-update_one.false in
-    record {
-      pending = pending_less c.loop-read.read c.index.result.now inv.pending left at c.update_one.ensures.one_each u;
-      others = keeps_others c.args.distances.now c.loop-read.read c.index.result.now inv.others left at u;
-      room = c.update_one.ensures.room ∙ inv.room;
-    }
-
-pub returns-clause-distances : goal.returns-clause-distances
-returns-clause-distances c =
-    let inv = c.loop-read.invariant in
-    let end : length c.loop-read.list.items ≤ c.loop-read.read = omega (arith, c.loop-read-test.false, c.len.ensures, c.loop-read.list.ok.0) in
-    λ _. distances_of _ _ _ _ (none_pending c.loop-read.read c.network_law.ensures.is_net c.network_law.ensures.limits.nodes_few inv.pending end)
+pub update_listed-requires-clause-pending : goal.update_listed-requires-clause-pending
+update_listed-requires-clause-pending c =
+    let net = c.args.net.now in
+    let r = c.requires in
+    subst (λ (xs : List ℕ). IsPending net c.args.dest c.args.distances.now xs 0) (sym (c.list_touched.ensures.listed c.if-list_touched.true))
+    (pending_first net c.args.dest c.args.touched.now c.args.distances.now r.one_each r.small r.agree r.below
+    (omega (arith, c.list_touched.ensures.few c.if-list_touched.true, r.one_each)))

@@ -1,4 +1,4 @@
-use Rattle.std.proofs.Common.{get_or, length, refl, ◌∙◌, ◌<◌, ℕ}
+use Rattle.std.proofs.Common.{arith, get_or, length, refl, ◌∙◌, ◌<◌, ℕ}
 use Rattle.std.proofs.lemmas.List.{with_items_is}
 use Rattle.std.proofs.lemmas.List.Elements.{Contains-get_or}
 use Rattle.fr_nearest.specs.Changes.{IsTakenOver}
@@ -15,6 +15,9 @@ take_over-requires-clause-nodes c =
 pub returns : goal.returns
 returns c =
     let t : IsTakenOver c.args.distances.now c.args.self.now.nodes.items c.args.self.now.before.items c.args.self.now.noted.items c.take_over.new.before c.take_over.new.noted
-    = ? in
-    forgotten c.requires t (with_items_is c.args.self.now.before c.take_over.new.before ?) (with_items_is c.args.self.now.noted c.take_over.new.noted ?) c.clear.ensures.items
-    c.clear.ensures.capacity
+    = rw (c.deref.ensures.value, c.deref_mut.ensures.value, c.deref_mut-2.ensures.value) at c.take_over.ensures in
+    let n = c.requires.noted in
+    forgotten c.requires t
+    (with_items_is c.args.self.now.before c.take_over.new.before (omega (arith, t.before_each, n.before, c.args.self.now.before.ok.0)))
+    (with_items_is c.args.self.now.noted c.take_over.new.noted (omega (arith, t.noted_each, n.noted, c.args.self.now.noted.ok.0)))
+    c.clear.ensures.items c.clear.ensures.capacity

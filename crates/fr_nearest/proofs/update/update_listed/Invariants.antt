@@ -1,6 +1,6 @@
 use Rattle.std.proofs.Common.{vec_capacity, ◌-◌, ◌≡◌}
 use Rattle.fr_nearest.specs.Update.{IsPending, KeepsOthers}
-use Rattle.fr_nearest.proofs.update.update.Given as goal
+use Rattle.fr_nearest.proofs.update.update_listed.Given as goal
 
 abbrev pub invariant-loop-read : goal.invariant-loop-read
 invariant-loop-read l = record {
