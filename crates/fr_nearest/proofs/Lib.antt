@@ -3,3 +3,4 @@ pub mod Reaching  -- the search keeps its state
 pub mod Updating  -- an update keeps its state
 pub mod Noting  -- nodes that are noted, one by one
 pub mod Renewing  -- how an update begins, and what it leaves
+pub mod Walking  -- what the definitions of distances and ways imply

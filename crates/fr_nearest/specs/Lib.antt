@@ -4,4 +4,6 @@ pub mod Local
 pub mod Search
 pub mod Update
 pub mod Changes
+pub mod Ranks
+pub mod Laws
 pub mod Inside

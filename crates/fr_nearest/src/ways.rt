@@ -1,9 +1,11 @@
 //! The ways of a node, nearest first, and the walk by first ways.
 
-ghost use Rattle.std.specs.Prelude.{◌≡◌, ◌≢◌, ℕ, ◌<◌, ◌≤◌, ◌+◌, ◌*◌, ◌^◌, List, [], ◌∷◌, ◌↔◌, length, slice_index};
-ghost use Rattle.std.specs.Prelude.{vec_capacity, All, Contains, IfOk, MatchOption, OnErr, OnOk};
+ghost use Rattle.std.specs.Prelude.{◌≡◌, ℕ, ◌<◌, ◌≤◌, List, [], ◌∷◌, length};
+ghost use Rattle.std.specs.Prelude.{vec_capacity, IfOk, MatchOption, OnErr, OnOk};
+ghost use Rattle.std.specs.List.Sorted.{IsNonDecreasingBy, IsPermutation};
 ghost use Rattle.fr_graph.specs.Links.{HasPath};
-ghost use Rattle.fr_nearest.specs.Distances.{IsMeasureOf, no_distance};
+ghost use Rattle.fr_graph.specs.Rows.{row};
+ghost use Rattle.fr_nearest.specs.Distances.{IsMeasureOf};
 ghost use Rattle.fr_nearest.specs.Ways.{AreWays, IsFirstWay, IsNearestWalk, IsWay};
 ghost use Rattle.fr_nearest.specs.Ranks.{AreListed, rank_of};
 
@@ -38,6 +40,14 @@ fn list_ways(net: &Net, x: u32, distances: &[u16], list: &mut Vec<u32>)
     }
 }
 
+/// Sorts ways: nearer ways first, and ways of the same distance by number.
+fn sort_by_rank(distances: &[u16], list: &mut [u32])
+    ensures same { IsPermutation list.old list.new }
+    ensures rising { IsNonDecreasingBy (rank_of distances.now) list.new }
+{
+    list.sort_unstable_by_key(|w| rank(distances, *w));
+}
+
 impl Distances {
     /// Lists the ways of node `x` of the network that these are the distances of, nearest first: by distance, and then
     /// by number. The list is cleared first, and gets capacity for all neighbours of the node, which it keeps.
@@ -54,7 +64,7 @@ impl Distances {
         list.reserve(net.row(x).len())?;
         let distances = self.numbers();
         list_ways(net, x, distances, list);
-        list.sort_unstable_by_key(|w| rank(distances, *w));
+        sort_by_rank(distances, list);
         Ok(())
     }
 
