@@ -5,7 +5,8 @@ use Rattle.std.proofs.lemmas.List.{get_or_append_left, get_or_push, length_push}
 use Rattle.fr_graph.specs.Links.{AreBelow, HasPath}
 use Rattle.fr_core.specs.Walks.{IsConnected}
 use Rattle.fr_core.proofs.Paths.{walk_from_path}
-use Rattle.fr_nearest.proofs.Ranking.{nearest_exists, nearest_path, ways_exist, ways_unique}
+use Rattle.fr_nearest.proofs.Walking.{one_list, walk_shortest}
+use Rattle.fr_route.proofs.WaysExist.{nearest_exists, ways_exist}
 use Rattle.fr_ways.specs.Ways.{ways}
 use Rattle.fr_route.specs.NodeWays.{AreAllWays, AreNodeWays, IsNearestRoute}
 use Rattle.fr_route.specs.States.{State}
@@ -22,14 +23,14 @@ same_lists d (x ∷ xs) (y ∷ ys) long each =
 
 pub all_ways_unique : (s : State) (a b : List (List ℕ)) → AreAllWays s a → AreAllWays s b → a ≡ b
 all_ways_unique s a b are also = same_lists [] a b (are.one_each ∙ sym also.one_each)
-    (λ x low. ways_unique s.links s.dest x (ways a x) (ways b x) (are.each x (omega (arith, low, are.one_each)))
+    (λ x low. one_list s.links s.dest x (ways a x) (ways b x) (are.each x (omega (arith, low, are.one_each)))
     (also.each x (omega (arith, low, are.one_each))))
 
 -- a node with a nearest route is connected with the destination
 pub nearest_connected : (s : State) (x : ℕ) (rest : List ℕ) → IsNearestRoute s x rest → IsConnected s.links s.dest x
 nearest_connected s x rest walk =
-    let path = nearest_path s.links s.dest x rest walk in
-    (0, walk_from_path s.links s.dest x path.0 path.1.0 path.1.1)
+    let path = walk_shortest s.links s.dest x rest walk in
+    (0, walk_from_path s.links s.dest x rest path.0 path.1)
 
 module _ (s : State) (below : AreBelow s.nodes s.links)
     (decide : (w : ℕ) → HasPath s.links w s.dest ⊎ ¬ HasPath s.links w s.dest) where

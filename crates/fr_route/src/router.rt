@@ -570,11 +570,20 @@ impl Router {
         Err(AllocError)
     }
 
-    /// STUB
+    /// The ways of each node, as [`ways`](Router::ways) lists them. Fails with `AllocError` if an allocation is refused.
+    /// O(n + m log d), where no node has more than d links.
     pub fn all_ways(&self, alloc: Global) -> Result<WayTable, AllocError>
         ensures { IfOk result (AreAllWays self.now) }
     {
-        Err(AllocError)
+        self.net.network_law();
+        let nodes = self.net.nodes();
+        let mut table = WayTable::with_capacity(alloc, nodes as usize, self.net.link_count())?;
+        let mut list = Vec::new(alloc);
+        for x in 0..nodes {
+            self.ways(x, &mut list)?;
+            table.push_row(&list)?;
+        }
+        Ok(table)
     }
 
     /// STUB
