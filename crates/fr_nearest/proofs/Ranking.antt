@@ -1,10 +1,9 @@
 -- The ways of a node are listed from its row, and sorted; the nearest is found in the row.
-use Rattle.std.proofs.Common.{Contains, IsPermutation, MatchOption, ne_eqb, List, None, Option, Some, [], arith, eq-eqb, eqb, get_or, inl, inr, length, refl, slice_index, subst, suc, sym, take, ℕ}
-use Rattle.std.proofs.Common.{⊎_elim, ◌*◌, ◌++◌, ◌+◌, ◌<◌, ◌∙◌, ◌∷◌, ◌≡◌, ◌≢◌, ◌≤◌, ◌⊎◌, ◌^◌, ap}
+use Rattle.std.proofs.Common.{Contains, IsPermutation, MatchOption, ne_eqb, List, None, Option, Some, [], arith, eq-eqb, eqb, get_or, inl, inr, length, refl, slice_index, subst, sym, take, ℕ}
+use Rattle.std.proofs.Common.{⊎_elim, ◌++◌, ◌+◌, ◌<◌, ◌∙◌, ◌∷◌, ◌≡◌, ◌≢◌, ◌≤◌, ◌⊎◌, ap}
 use Rattle.std.specs.Cmp.{nat_eq_equiv}
-use Rattle.std.specs.List.{IsDistinct}
 use Rattle.std.specs.List.Sorted.{IsNonDecreasingBy}
-use Rattle.std.proofs.lemmas.Bool.{cases_eq, cases_lt, false≢true}
+use Rattle.std.proofs.lemmas.Bool.{cases_lt, false≢true}
 use Rattle.std.proofs.lemmas.List.{get_or-take, get_or_default, length-take-le, length_push, take_all, take_more}
 use Rattle.std.proofs.lemmas.List.Elements.{Contains-append_left, Contains-get_or, Contains-push, Contains-push_cases}
 use Rattle.std.proofs.lemmas.List.Sorted.{Contains-permutation, IsPermutation-sym}
@@ -20,7 +19,7 @@ use Rattle.fr_graph.specs.Rows.{row}
 use Rattle.fr_graph.specs.declared.first.First.{First}
 use Rattle.fr_graph.specs.declared.first.First.TheVariants.{Outward}
 use Rattle.fr_nearest.specs.Distances.{AreDistances, IsMeasureOf, Measured, no_distance}
-use Rattle.fr_nearest.specs.Ranks.{AreListed, AreListedTo, IsBest, IsBestSo, rank_of}
+use Rattle.fr_nearest.specs.Ranks.{AreListed, AreListedTo, IsBestSo, rank_of}
 use Rattle.fr_nearest.specs.Ways.{AreWays, IsFirstWay, IsNearer, IsWay}
 use Rattle.fr_nearest.proofs.Walking.{has_path}
 
@@ -104,14 +103,17 @@ module _ (n : ℕ) (links : List (ℕ × ℕ)) (x : ℕ) (entries : List (ℕ ×
   -- the entry is nearer than those before
   pub best_way : (table : List ℕ) (least : ℕ) (nearest : Option ℕ) → IsBestSo table entries place least nearest → entry.1 ≡ Outward
       → slice_index table entry.0 < least → least ≤ no_distance → IsBestSo table entries (place + 1) (slice_index table entry.0) (Some entry.0)
-  best_way table least nearest so out near most = (refl, record {
-    listed = rw more (subst (λ (q : ℕ × First). Contains (take place entries ++ entry ∷ []) q) (entry_is entry Outward out) (Contains-push (take place entries) entry));
-    some = λ e. omega (arith, e, near, most);
-    best = λ k e lt outward. elim (cases_lt k place) [
-      | inl less ↦ inl (before nearest so k e less outward)
-      | inr past ↦ rw (at_place k e (λ q. omega (arith, q, past)) lt) (inr (refl, omega arith))
-    ];
-  })
+  best_way table least nearest so out near most = (
+    refl,
+    record {
+      listed = rw more (subst (λ (q : ℕ × First). Contains (take place entries ++ entry ∷ []) q) (entry_is entry Outward out) (Contains-push (take place entries) entry));
+      some = λ e. omega (arith, e, near, most);
+      best = λ k e lt outward. elim (cases_lt k place) [
+        | inl less ↦ inl (before nearest so k e less outward)
+        | inr past ↦ rw (at_place k e (λ q. omega (arith, q, past)) lt) (inr (refl, omega arith))
+      ];
+    },
+  )
     where
       before : (o : Option ℕ) → IsBestSo table entries place least o → (k : ℕ) (e : ℕ × First) → k < place → (get_or entries k e).1 ≡ Outward
           → slice_index table entry.0 < slice_index table (get_or entries k e).0
@@ -121,28 +123,34 @@ module _ (n : ℕ) (links : List (ℕ × ℕ)) (x : ℕ) (entries : List (ℕ ×
   -- the entry is not nearer, or its link does not point to it
   pub best_other : (table : List ℕ) (least : ℕ) (nearest : Option ℕ) → IsBestSo table entries place least nearest → slice_index table entry.0 ≤ no_distance
       → (entry.1 ≡ Outward → least ≤ slice_index table entry.0) → IsBestSo table entries (place + 1) least nearest
-  best_other table least None (none, all) fits far = (none, λ k e lt outward. elim (cases_lt k place) [
-    | inl less ↦ all k e less outward
-    | inr past ↦
-        let at = at_place k e (λ q. omega (arith, q, past)) lt in
-        rw at (let le = far (rw at at outward) in omega (arith, le, none, fits))
-  ])
-  best_other table least (Some w) (is, best) fits far = (is, record {
-    listed = rw more (Contains-append_left (take place entries) (entry ∷ []) (w, Outward) best.listed);
-    some = best.some;
-    best = λ k e lt outward. elim (cases_lt k place) [
-      | inl less ↦ best.best k e less outward
+  best_other table least None (none, all) fits far = (
+    none,
+    λ k e lt outward. elim (cases_lt k place) [
+      | inl less ↦ all k e less outward
       | inr past ↦
           let at = at_place k e (λ q. omega (arith, q, past)) lt in
-          let le = far (rw at at outward) in
-          let found = place_of entries place (w, Outward) (omega (arith, inside)) best.listed in
-          let same : (get_or entries found.0 (0, Outward)).0 ≡ w = ap (λ (q : ℕ × First). q.0) (found.2 (0, Outward)) in
-          let low = lower found.0 (0, Outward) found.1 in
-          rw at (⊎_elim (λ less. inl (omega (arith, less, is)))
-          (λ ge. inr (omega (arith, ge, le, is), omega (arith, low, same)))
-          (cases_lt (slice_index table w) (slice_index table entry.0)))
-    ];
-  })
+          rw at (let le = far (rw at at outward) in omega (arith, le, none, fits))
+    ],
+  )
+  best_other table least (Some w) (is, best) fits far = (
+    is,
+    record {
+      listed = rw more (Contains-append_left (take place entries) (entry ∷ []) (w, Outward) best.listed);
+      some = best.some;
+      best = λ k e lt outward. elim (cases_lt k place) [
+        | inl less ↦ best.best k e less outward
+        | inr past ↦
+            let at = at_place k e (λ q. omega (arith, q, past)) lt in
+            let le = far (rw at at outward) in
+            let found = place_of entries place (w, Outward) (omega (arith, inside)) best.listed in
+            let same : (get_or entries found.0 (0, Outward)).0 ≡ w = ap (λ (q : ℕ × First). q.0) (found.2 (0, Outward)) in
+            let low = lower found.0 (0, Outward) found.1 in
+            rw at (⊎_elim (λ less. inl (omega (arith, less, is)))
+            (λ ge. inr (omega (arith, ge, le, is), omega (arith, low, same)))
+            (cases_lt (slice_index table w) (slice_index table entry.0)))
+      ];
+    },
+  )
 
 pub listed_none : (table : List ℕ) (entries : List (ℕ × First)) → AreListedTo table entries 0 []
 listed_none table entries = record {
@@ -233,7 +241,7 @@ module _ {net : Network} {d x : ℕ} {table : List ℕ} (is_net : IsNet net.node
         first = λ u other apart.
             let (k, l, e) = row_of_out net.nodes net.links x u is_net other.link in
             let Before : ℕ × First → Type 0 = λ q. q.1 ≡ Outward
-                → (slice_index table w < slice_index table q.0) ⊎ ((slice_index table w ≡ slice_index table q.0) × (w ≤ q.0)) in
+            → (slice_index table w < slice_index table q.0) ⊎ ((slice_index table w ≡ slice_index table q.0) × (w ≤ q.0)) in
             let before : Before (u, Outward) = subst Before e (best.best k (u, Outward) (omega (arith, l, end))) in
             nearer_of w u way other (⊎_elim (λ less. inl less) (λ le. inr (le.0, omega (arith, le.1, apart))) (before refl));
       }
@@ -249,6 +257,7 @@ nearest_answer net m x is_net are least place nearest entries table is same end 
   where
     rest : length (row net.nodes net.links x) ≤ place
     rest = subst (λ (es : List (ℕ × First)). length es ≤ place) is end
+
     go : (o : Option ℕ) → IsBestSo m.table (row net.nodes net.links x) place least o → MatchOption o ((w : ℕ) → ¬ IsWay net.links m.dest x w) (IsFirstWay net.links m.dest x)
     go None best = best_none is_net are least place rest best
     go (Some w) best = best_first is_net are least place w rest best

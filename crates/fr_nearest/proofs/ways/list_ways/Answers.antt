@@ -1,9 +1,8 @@
-use Rattle.std.proofs.Common.{List, ap, arith, get_or, length, refl, rules, slice_index, subst, sym, ℕ, ◌∙◌, ◌≡◌, ◌≤◌, ◌<◌}
+use Rattle.std.proofs.Common.{List, ap, arith, get_or, length, refl, rules, subst, sym, ℕ, ◌∙◌, ◌≡◌}
 use Rattle.fr_graph.proofs.SideRows.{entry_below}
 use Rattle.fr_graph.specs.Rows.{row}
 use Rattle.fr_graph.specs.declared.first.First.{First}
 use Rattle.fr_graph.specs.declared.first.First.TheVariants.{Outward}
-use Rattle.fr_nearest.specs.Distances.{no_distance}
 use Rattle.fr_nearest.specs.Ranks.{AreListedTo}
 use Rattle.fr_nearest.proofs.Ranking.{listed_all, listed_none, listed_other, listed_way}
 use Rattle.fr_nearest.proofs.ways.list_ways.Goals as goal

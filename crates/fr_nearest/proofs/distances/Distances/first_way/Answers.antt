@@ -1,12 +1,8 @@
-use Rattle.std.proofs.Common.{List, MatchOption, None, Option, Some, ap, arith, get_or, length, refl, rules, slice_index, subst, sym, ℕ, ◌∙◌, ◌≡◌, ◌≤◌, ◌<◌}
+use Rattle.std.proofs.Common.{ap, arith, get_or, length, rules, slice_index, ◌≡◌, ◌≤◌}
 use Rattle.fr_graph.proofs.SideRows.{entry_below}
-use Rattle.fr_graph.specs.Rows.{row}
-use Rattle.fr_graph.specs.declared.first.First.{First}
 use Rattle.fr_graph.specs.declared.first.First.TheVariants.{Outward}
-use Rattle.fr_nearest.specs.Distances.{IsMeasureOf, Measured, no_distance}
-use Rattle.fr_nearest.specs.Ranks.{IsBestSo}
-use Rattle.fr_nearest.specs.Ways.{IsFirstWay, IsWay}
-use Rattle.fr_nearest.proofs.Ranking.{best_first, best_none, best_other, best_way, nearest_answer}
+use Rattle.fr_nearest.specs.Distances.{no_distance}
+use Rattle.fr_nearest.proofs.Ranking.{best_other, best_way, nearest_answer}
 use Rattle.fr_nearest.proofs.distances.Distances.first_way.Goals as goal
 use Rattle.fr_nearest.proofs.distances.Distances.first_way.Goals.{then-eq+then-distance-least, else-eq, else-eq-via-then-eq+else-distance-least, else-eq-via-else-eq}
 
