@@ -1,11 +1,11 @@
 -- Numbers that agree with the links are the distances, and the distances agree with the links.
-use Rattle.std.proofs.Common.{List, [], ap, arith, inl, inr, length, refl, slice_index, suc, sym, zero, ℕ, ⊎_elim, ◌+◌, ◌<◌, ◌∙◌, ◌∷◌, ◌≡◌, ◌≢◌, ◌≤◌, ◌⊎◌, ◌↔◌}
+use Rattle.std.proofs.Common.{List, [], ap, arith, inl, inr, length, refl, slice_index, suc, sym, zero, ℕ, ⊎_elim, ◌+◌, ◌<◌, ◌∙◌, ◌∷◌, ◌≡◌, ◌≢◌, ◌≤◌, ◌↔◌}
 use Rattle.std.proofs.lemmas.Bool.{cases_eq}
 use Rattle.fr_graph.proofs.Linking.{link_below}
 use Rattle.fr_graph.specs.Limits.{most_nodes}
 use Rattle.fr_graph.specs.Links.{HasPath, IsNet, IsPath, Points, end_of}
-use Rattle.fr_nearest.specs.Distances.{AreDistances, IsDistance, IsMeasured, no_distance}
-use Rattle.fr_nearest.specs.Local.{Agrees, IsByLinks, IsSmall, one_farther}
+use Rattle.fr_nearest.specs.Distances.{AreDistances, no_distance}
+use Rattle.fr_nearest.specs.Local.{Agrees, IsSmall, one_farther}
 
 -- the numbers of all n nodes agree
 pub record AllAgree (n : ℕ) (links : List (ℕ × ℕ)) (d : ℕ) (table : List ℕ) : Type 0 where

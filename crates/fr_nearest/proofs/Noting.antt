@@ -1,11 +1,11 @@
 -- Nodes are noted one by one.
-use Rattle.std.proofs.Common.{Bool, Contains, List, [], arith, drop, false, get_or, get_or-set_other, get_or-set_same, inl, inr, length, length-set, refl, set, slice_index, subst, sym, vec_capacity}
-use Rattle.std.proofs.Common.{take, true, ℕ, ⊎_elim, ◌++◌, ◌+◌, ◌<◌, ◌∙◌, ◌∷◌, ◌≡◌, ◌≢◌, ◌≤◌, ◌⊎◌}
-use Rattle.std.proofs.lemmas.Bool.{cases_Bool, cases_eq, cases_lt, false≢true}
-use Rattle.std.proofs.lemmas.List.{drop_all, drop_more, ext_get_or, get_or_default, get_or_past, length_push, take_all, take_more}
-use Rattle.std.proofs.lemmas.List.Elements.{Contains-append_left, Contains-get_or, Contains-push, Contains-push_cases}
+use Rattle.std.proofs.Common.{Bool, Contains, List, [], arith, false, get_or, get_or-set_other, get_or-set_same, inl, inr, length, length-set, refl, set, slice_index, subst, sym, vec_capacity}
+use Rattle.std.proofs.Common.{take, true, ℕ, ⊎_elim, ◌++◌, ◌+◌, ◌<◌, ◌∙◌, ◌∷◌, ◌≡◌, ◌≢◌, ◌⊎◌}
+use Rattle.std.proofs.lemmas.Bool.{cases_eq, false≢true}
+use Rattle.std.proofs.lemmas.List.{ext_get_or, length_push, take_more}
+use Rattle.std.proofs.lemmas.List.Elements.{Contains-append_left, Contains-push, Contains-push_cases}
 use Rattle.fr_graph.proofs.Lists.{once_more}
-use Rattle.fr_graph.proofs.Members.{Contains-cases, Contains-none, cases_some}
+use Rattle.fr_graph.proofs.Members.{Contains-none, cases_some}
 use Rattle.fr_nearest.specs.Changes.{AreAllNoted, AreNoted, IsForgotten, IsNoted, IsTakenOver, NotesOne}
 use Rattle.fr_nearest.specs.declared.changes.Changes.{Changes}
 use Rattle.fr_nearest.specs.Distances.{AreChanged}

@@ -1,6 +1,6 @@
 -- The search keeps its state when it reaches a node and when it has read a row, and ends with the distances.
-use Rattle.std.proofs.Common.{Contains, List, [], arith, count_by, eqb, eq-eqb, get_or, inl, inr, length, ne_eqb, refl, replicate, rules, set, slice_index, subst, sym, zero, ℕ, ⊎_elim}
-use Rattle.std.proofs.Common.{◌++◌, ◌+◌, ◌<◌, ◌∙◌, ◌∷◌, ◌≡◌, ◌≢◌, ◌≤◌, ◌⊎◌}
+use Rattle.std.proofs.Common.{List, [], arith, eqb, get_or, inl, inr, length, ne_eqb, refl, replicate, set, slice_index, subst, ℕ, ⊎_elim}
+use Rattle.std.proofs.Common.{◌++◌, ◌+◌, ◌<◌, ◌∙◌, ◌∷◌, ◌≡◌, ◌≢◌, ◌≤◌}
 use Rattle.std.proofs.lemmas.Bool.{cases_eq, cases_lt}
 use Rattle.std.proofs.lemmas.List.{get_or_append_left, get_or_default, get_or_past, get_or_push, get_or-replicate, get_or-set_other, get_or-set_same, length-replicate, length-set, length_push}
 use Rattle.std.proofs.lemmas.List.Elements.{Contains-append_left, Contains-push}
@@ -224,8 +224,13 @@ begins net d few low =
       rising = λ i j le l. rw (only i (omega (arith, le, l)), only j l) (omega arith);
       level = λ k l _. rw (only k l) (omega arith);
       done = λ k y lt. absurd (omega arith);
-      room = omega (arith, count_by-le-length (λ number. eqb number no_distance) old, one_fewer old d 0 (omega (arith, size))
-          (get_or-replicate n d no_distance 0 low) (λ e. omega (arith, e)), size);
+      room = omega (
+        arith,
+        count_by-le-length (λ number. eqb number no_distance) old,
+        one_fewer old d 0 (omega (arith, size))
+            (get_or-replicate n d no_distance 0 low) (λ e. omega (arith, e)),
+        size,
+      );
     }
 
 -- when all rows have been read, all numbers agree
@@ -299,8 +304,11 @@ module _ {net : Network} {before first table list : List ℕ} (d x read : ℕ) (
         search = goes_on;
         reached = reached_more (set table y (slice_index table x + 1)) x entries place (0, Outward)
             (reached_stays read x y is_net few s reading.left reading.here link none entries place reading.reached) inside
-            (λ _. omega (arith, get_or-set_same table y (slice_index table x + 1) 0 (omega (arith, (link_below net.nodes net.links y x is_net link).0, s.one_each)),
-            get_or-set_other table y x (slice_index table x + 1) 0 apart));
+            (λ _. omega (
+              arith,
+              get_or-set_same table y (slice_index table x + 1) 0 (omega (arith, (link_below net.nodes net.links y x is_net link).0, s.one_each)),
+              get_or-set_other table y x (slice_index table x + 1) 0 apart,
+            ));
       }
 
   -- if the link points to the neighbour, or the neighbour was reached before

@@ -1,5 +1,5 @@
 -- How an update begins, and what it leaves.
-use Rattle.std.proofs.Common.{All, Contains, List, inl, inr, length, refl, ℕ, ⊎_elim, ◌∙◌, ◌<◌, ◌≡◌, ◌≤◌, ◌⊎◌}
+use Rattle.std.proofs.Common.{All, List, inl, inr, length, refl, ℕ, ⊎_elim, ◌∙◌, ◌<◌, ◌≡◌, ◌≤◌}
 use Rattle.fr_graph.proofs.Linking.{link_below}
 use Rattle.fr_graph.specs.Limits.{most_nodes}
 use Rattle.fr_graph.specs.Links.{IsNet}

@@ -1,10 +1,9 @@
 -- A step of an update: a node gets the number that its links give, and the nodes that this affects are listed.
-use Rattle.std.proofs.Common.{All, Contains, List, [], ap, arith, drop, get_or, get_or-set_other, get_or-set_same, inl, inr, length, length-set, min, refl, set, slice_index}
+use Rattle.std.proofs.Common.{Contains, List, [], ap, arith, drop, get_or, get_or-set_other, get_or-set_same, inl, inr, length, min, refl, set, slice_index}
 use Rattle.std.proofs.Common.{subst, sym, ℕ, ⊎_elim, ◌++◌, ◌+◌, ◌<◌, ◌∙◌, ◌∷◌, ◌≡◌, ◌≢◌, ◌≤◌, ◌⊎◌}
 use Rattle.std.proofs.lemmas.Bool.{cases_eq, cases_lt}
-use Rattle.std.proofs.lemmas.List.{append-nil, append_assoc, drop-append-le, drop_all, drop_more, get_or_default, length_push}
-use Rattle.std.proofs.lemmas.List.Elements.{All-push, Contains-append_left, Contains-append_right, Contains-get_or, Contains-push}
-use Rattle.fr_graph.proofs.Linking.{link_below}
+use Rattle.std.proofs.lemmas.List.{append-nil, append_assoc, drop-append-le, drop_all, drop_more, get_or_default}
+use Rattle.std.proofs.lemmas.List.Elements.{Contains-append_left, Contains-append_right, Contains-get_or, Contains-push}
 use Rattle.fr_graph.proofs.Members.{Contains-cases, Contains-none}
 use Rattle.fr_graph.proofs.Neighbours.{cases_points, entry_is, out_of_row, row_of_in, row_of_out}
 use Rattle.fr_graph.specs.Limits.{most_nodes}
@@ -15,7 +14,7 @@ use Rattle.fr_graph.specs.declared.first.First.{First}
 use Rattle.fr_graph.specs.declared.first.First.TheVariants.{Inward, Outward}
 use Rattle.fr_nearest.specs.Distances.{no_distance}
 use Rattle.fr_nearest.specs.Local.{Agrees, IsByLinks, IsSmall, one_farther}
-use Rattle.fr_nearest.specs.Update.{HasListed, IsLeast, IsListed, IsPending, IsUnaffected, KeepsOthers, ListsAffected, ListsSome, UpdatesOne}
+use Rattle.fr_nearest.specs.Update.{IsLeast, IsListed, IsPending, IsUnaffected, KeepsOthers, ListsAffected, ListsSome, UpdatesOne}
 use Rattle.fr_nearest.proofs.Measuring.{AllAgree}
 
 -- The least number of the nodes to which links point

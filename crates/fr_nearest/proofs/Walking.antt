@@ -1,13 +1,14 @@
 -- What the definitions of distances and ways imply.
-use Rattle.std.proofs.Common.{Contains, List, [], ap, arith, eqb, get_or, inl, inr, length, refl, slice_index, subst, suc, sym, zero, ℕ, ⊎_elim, ◌+◌, ◌<◌, ◌∙◌, ◌∷◌, ◌≡◌, ◌≢◌, ◌≤◌, ◌⊎◌, ◌↔◌}
+use Rattle.std.proofs.Common.{Contains, List, None, Some, [], arith, eq-eqb, eqb, eqb-true, inl, inr, length, refl, slice_index, subst, suc, sym, ℕ, ⊎_elim, ◌+◌, ◌<◌, ◌∙◌, ◌∷◌, ◌≡◌, ◌≢◌, ◌≤◌, ◌++◌}
 use Rattle.std.specs.List.{IsDistinct}
-use Rattle.std.proofs.lemmas.Bool.{cases_eq, cases_lt}
-use Rattle.std.proofs.lemmas.List.{ext_get_or, get_or_default}
-use Rattle.std.proofs.lemmas.List.Elements.{Contains-get_or}
+use Rattle.std.proofs.lemmas.Bool.{cases_Bool, cases_eq, false≢true}
+use Rattle.std.proofs.lemmas.List.{append-nil, append_assoc, ext_get_or, get_or_default}
 use Rattle.fr_core.proofs.Following.{path_distinct}
 use Rattle.fr_graph.proofs.Members.{Contains-cases, Contains-head, Contains-tail}
-use Rattle.fr_graph.specs.Links.{HasPath, IsAcyclic, IsPath, Points, end_of}
-use Rattle.fr_nearest.specs.Distances.{AreDistances, IsDistance, IsMeasured, no_distance}
+use Rattle.fr_graph.proofs.Linking.{link_below}
+use Rattle.fr_graph.specs.Network.{Network}
+use Rattle.fr_graph.specs.Links.{HasPath, IsAcyclic, IsNet, IsPath, Points, end_of}
+use Rattle.fr_nearest.specs.Distances.{AreDistances, IsDistance, IsMeasured, IsMeasureOf, Measured, distance_of, no_distance}
 use Rattle.fr_nearest.specs.Laws.{IsWalkByWays}
 use Rattle.fr_nearest.specs.Ways.{AreWays, IsFirstWay, IsNearer, IsNearestWalk, IsWay}
 
@@ -88,13 +89,21 @@ second {links} {d} {x} {k} apart h = go h.nodes h.path h.leads h.long
   where
     go : (vs : List ℕ) → IsPath links x vs → end_of x vs ≡ d → length vs ≡ k → (w : ℕ) × Points links x w × ((j : ℕ) × IsDistance links d w j × (k ≡ j + 1))
     go [] path leads long = absurd (apart leads)
-    go (w ∷ ws) path leads long = (w, path.0, (length ws, record {
-      nodes = ws;
-      path = path.1;
-      leads = leads;
-      long = refl;
-      least = λ others other there. let whole = h.least (w ∷ others) (path.0, other) there in omega (arith, whole, long);
-    }, omega (arith, long)))
+    go (w ∷ ws) path leads long = (
+      w,
+      path.0,
+      (
+        length ws,
+        record {
+          nodes = ws;
+          path = path.1;
+          leads = leads;
+          long = refl;
+          least = λ others other there. let whole = h.least (w ∷ others) (path.0, other) there in omega (arith, whole, long);
+        },
+        omega (arith, long),
+      ),
+    )
 
 pub first_nearer : (links : List (ℕ × ℕ)) (d x y k : ℕ) → ¬ (x ≡ d) → IsFirstWay links d x y → IsDistance links d x k
     → (j : ℕ) × IsDistance links d y j × (k ≡ j + 1)
@@ -151,3 +160,66 @@ ways_distinct links d x rest acyclic walk = path_distinct links acyclic x rest (
 -- without a cycle, no way leads from the destination
 pub no_way_home : {links : List (ℕ × ℕ)} {d w : ℕ} → IsAcyclic links → ¬ IsWay links d d w
 no_way_home {links} {d} {w} acyclic way = acyclic d (w ∷ way.leads.0) ((way.link, way.leads.1.0), way.leads.1.1)
+
+-- The walk by first ways, step by step
+
+pub distance_none : (v : ℕ) → distance_of v ≡ None → v ≡ no_distance
+distance_none v e = elim (cases_Bool (eqb v no_distance)) [
+  | inl t ↦ eqb-true v no_distance t
+  | inr f ↦ let some : distance_of v ≡ Some v = rw f refl in cc
+]
+
+pub distance_some : (v k : ℕ) → distance_of v ≡ Some k → (k ≡ v) × (v ≢ no_distance)
+distance_some v k e = elim (cases_Bool (eqb v no_distance)) [
+  | inl t ↦ let none : distance_of v ≡ None = rw t refl in cc
+  | inr f ↦ let some : distance_of v ≡ Some v = rw f refl in (cc, λ is. false≢true (sym f ∙ eq-eqb v no_distance is))
+]
+
+module _ (net : Network) (m : Measured) (at : ℕ) (is_net : IsNet net.nodes net.links) (are : IsMeasureOf net m) (low : at < net.nodes)
+    (some : slice_index m.table at ≢ no_distance) where
+  own : IsDistance net.links m.dest at (slice_index m.table at)
+  own = (are.each at low).some some
+
+  pub not_home : (next : ℕ) → IsFirstWay net.links m.dest at next → ¬ (at ≡ m.dest)
+  not_home next first e = no_way_home is_net.acyclic (subst (λ (z : ℕ). IsWay net.links m.dest z next) e first.way)
+
+  pub next_low : (next : ℕ) → IsFirstWay net.links m.dest at next → next < net.nodes
+  next_low next first = (link_below net.nodes net.links at next is_net first.way.link).1
+
+  pub next_some : (next : ℕ) → IsFirstWay net.links m.dest at next → slice_index m.table next ≢ no_distance
+  next_some next first none = (are.each next (next_low next first)).none none first.way.leads
+
+  pub next_nearer : (next : ℕ) → IsFirstWay net.links m.dest at next → slice_index m.table at ≡ slice_index m.table next + 1
+  next_nearer next first =
+      let (j, there, is) = first_nearer net.links m.dest at next (slice_index m.table at) (not_home next first) first own in
+      let same = one_distance net.links m.dest next j (slice_index m.table next) there ((are.each next (next_low next first)).some (next_some next first)) in
+      omega (arith, is, same)
+
+  pub home : ((w : ℕ) → ¬ IsWay net.links m.dest at w) → at ≡ m.dest
+  home none = elim (cases_eq at m.dest) [
+    | inl e ↦ e
+    | inr apart ↦
+        let (w, link, (j, there, is)) = second apart own in
+        absurd (none w record { link = link; leads = has_path there })
+  ]
+
+-- the walk so far goes on to a whole walk
+pub record GoesOn (links : List (ℕ × ℕ)) (d x at : ℕ) (walk : List ℕ) : Type 0 where
+  pub whole : (rest : List ℕ) → IsNearestWalk links d at rest → (all : List ℕ) × IsNearestWalk links d x all × (walk ++ rest ≡ x ∷ all)
+
+pub goes_first : (links : List (ℕ × ℕ)) (d x : ℕ) → GoesOn links d x x (x ∷ [])
+goes_first links d x = record { whole = λ rest walk. (rest, walk, refl) }
+
+pub goes_next : {links : List (ℕ × ℕ)} {d x at : ℕ} {walk : List ℕ} (next : ℕ) → ¬ (at ≡ d) → IsFirstWay links d at next → GoesOn links d x at walk
+    → GoesOn links d x next (walk ++ next ∷ [])
+goes_next {links} {d} {x} {at} {walk} next apart first g = record {
+  whole = λ rest there.
+      let (all, is, same) = g.whole (next ∷ rest) (apart, first, there) in
+      (all, is, append_assoc walk (next ∷ []) rest ∙ same);
+}
+
+pub goes_home : {links : List (ℕ × ℕ)} {d x at : ℕ} {walk : List ℕ} → at ≡ d → GoesOn links d x at walk
+    → (rest : List ℕ) × IsNearestWalk links d x rest × (walk ≡ x ∷ rest)
+goes_home {links} {d} {x} {at} {walk} e g =
+    let (all, is, same) = g.whole [] e in
+    (all, is, sym (append-nil walk) ∙ same)

@@ -1,5 +1,5 @@
 -- The value of a `Distances` in contracts. For proofs only.
-use Rattle.std.specs.Prelude.{◌≡◌, ℕ, ◌<◌, ◌≤◌, length, vec_capacity}
+use Rattle.std.specs.Prelude.{◌≤◌, length, vec_capacity}
 use Rattle.fr_graph.specs.Limits.{most_nodes}
 use Rattle.fr_nearest.specs.Changes.{AreAllNoted}
 use Rattle.fr_nearest.specs.Distances.{Measured}

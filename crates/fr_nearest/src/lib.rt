@@ -16,8 +16,6 @@ mod distances;
 pub mod laws;
 mod search;
 mod update;
-#[cfg(test)]
-mod tests;
 mod ways;
 
 pub use distances::Distances;

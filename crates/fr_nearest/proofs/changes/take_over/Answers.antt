@@ -1,4 +1,4 @@
-use Rattle.std.proofs.Common.{arith, length, subst, List, ℕ, ◌≤◌}
+use Rattle.std.proofs.Common.{arith, subst, List, ℕ}
 use Rattle.std.proofs.lemmas.List.{take_all}
 use Rattle.fr_nearest.specs.Changes.{IsTakenOver}
 use Rattle.fr_nearest.proofs.Noting.{taken_more, taken_none}

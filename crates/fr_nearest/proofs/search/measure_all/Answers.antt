@@ -1,6 +1,6 @@
-use Rattle.std.proofs.Common.{List, ap, arith, length, refl, replicate, set, sym, ◌++◌, ◌∙◌, ◌∷◌, ◌≡◌, [], ℕ}
+use Rattle.std.proofs.Common.{List, ap, arith, replicate, ◌++◌, ◌∙◌, ◌∷◌, ◌≡◌, [], ℕ}
 use Rattle.fr_nearest.specs.Distances.{no_distance}
-use Rattle.fr_nearest.proofs.Measuring.{AllAgree, distances_of}
+use Rattle.fr_nearest.proofs.Measuring.{distances_of}
 use Rattle.fr_nearest.proofs.Reaching.{all_reached, begins}
 use Rattle.fr_nearest.proofs.search.measure_all.Goals as goal
 

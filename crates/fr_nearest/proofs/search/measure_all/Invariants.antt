@@ -1,4 +1,4 @@
-use Rattle.std.proofs.Common.{length, vec_capacity, vec_len, ◌-◌, ◌≡◌}
+use Rattle.std.proofs.Common.{vec_capacity, ◌-◌, ◌≡◌}
 use Rattle.fr_nearest.specs.Search.{IsSearch}
 use Rattle.fr_nearest.proofs.search.measure_all.Given as goal
 

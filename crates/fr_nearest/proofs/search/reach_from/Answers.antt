@@ -1,9 +1,8 @@
-use Rattle.std.proofs.Common.{arith, get_or, length, refl, rules, slice_index, subst, sym, ◌++◌, ◌∙◌, ◌∷◌, ◌≡◌, [], List, ℕ}
-use Rattle.std.proofs.lemmas.List.{get_or_read}
+use Rattle.std.proofs.Common.{arith, get_or, length, refl, rules, ◌∙◌, ◌≡◌}
 use Rattle.fr_graph.proofs.SideRows.{entry_below}
 use Rattle.fr_graph.specs.Rows.{row}
 use Rattle.fr_graph.specs.declared.first.First.TheVariants.{Inward, Outward}
-use Rattle.fr_nearest.specs.Search.{HasReached, IsReading}
+use Rattle.fr_nearest.specs.Search.{HasReached}
 use Rattle.fr_nearest.proofs.Reaching.{has_room, reading_passed, reading_reached, row_read}
 use Rattle.fr_nearest.proofs.search.reach_from.Goals as goal
 use Rattle.fr_nearest.proofs.search.reach_from.Goals.{then-eq+then-distances-y, else-eq, else-eq-via-then-eq+else-distances-y, else-eq-via-else-eq}

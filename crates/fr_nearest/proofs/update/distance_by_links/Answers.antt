@@ -1,7 +1,7 @@
-use Rattle.std.proofs.Common.{arith, get_or, length, min, rules, slice_index, sym, ◌∙◌, ◌≡◌, ◌≤◌}
+use Rattle.std.proofs.Common.{arith, get_or, length, min, rules, slice_index, ◌≡◌}
 use Rattle.fr_graph.proofs.SideRows.{entry_below}
 use Rattle.fr_graph.specs.Rows.{row}
-use Rattle.fr_graph.specs.declared.first.First.TheVariants.{Inward, Outward}
+use Rattle.fr_graph.specs.declared.first.First.TheVariants.{Outward}
 use Rattle.fr_nearest.specs.Update.{IsLeast}
 use Rattle.fr_nearest.proofs.Updating.{by_least, least_in, least_out}
 use Rattle.fr_nearest.proofs.update.distance_by_links.Goals as goal

@@ -1,10 +1,10 @@
-use Rattle.std.proofs.Common.{arith, get_or, length, rules, slice_index, sym, ◌∙◌, ◌≡◌, ◌≤◌, ◌<◌, ℕ}
+use Rattle.std.proofs.Common.{arith, get_or, length, rules, slice_index, ◌∙◌, ◌≡◌, ◌<◌, ℕ}
 use Rattle.std.proofs.lemmas.List.{length_push}
 use Rattle.std.proofs.lemmas.List.Elements.{All-push}
 use Rattle.fr_graph.proofs.SideRows.{entry_below}
 use Rattle.fr_graph.specs.Rows.{row}
 use Rattle.fr_graph.specs.declared.first.First.TheVariants.{Inward, Outward}
-use Rattle.fr_nearest.specs.Update.{IsUnaffected, ListsSome}
+use Rattle.fr_nearest.specs.Update.{ListsSome}
 use Rattle.fr_nearest.proofs.Updating.{affected_all, listed_more, listed_none}
 use Rattle.fr_nearest.proofs.update.list_affected.Goals as goal
 use Rattle.fr_nearest.proofs.update.list_affected.Goals.{then-eq+then-is_affected+else-len-distances, else-eq}

@@ -1,4 +1,4 @@
-use Rattle.std.proofs.Common.{arith, get_or, length, refl, ◌∙◌, ◌<◌, ℕ}
+use Rattle.std.proofs.Common.{arith, get_or, length, ◌<◌, ℕ}
 use Rattle.std.proofs.lemmas.List.{with_items_is}
 use Rattle.std.proofs.lemmas.List.Elements.{Contains-get_or}
 use Rattle.fr_nearest.specs.Changes.{IsTakenOver}

@@ -1,4 +1,4 @@
-use Rattle.std.proofs.Common.{arith, false, get_or, length, refl, slice_index, sym, true, ◌<◌, ◌∙◌, ◌≡◌, ◌≢◌}
+use Rattle.std.proofs.Common.{arith, false, get_or, refl, slice_index, sym, ◌∙◌, ◌≡◌, ◌≢◌}
 use Rattle.std.proofs.lemmas.Bool.{false≢true}
 use Rattle.std.proofs.lemmas.List.{get_or_read}
 use Rattle.fr_nearest.specs.Changes.{IsNoted}

@@ -1,6 +1,6 @@
-use Rattle.std.proofs.Common.{arith, length, subst, take, List, ℕ, ◌∙◌, ◌≤◌, ◌<◌}
+use Rattle.std.proofs.Common.{arith, subst, List, ℕ, ◌∙◌}
 use Rattle.std.proofs.lemmas.List.{take_all}
-use Rattle.fr_nearest.proofs.Noting.{HasNoted, all_noted, noted_first, noted_more}
+use Rattle.fr_nearest.proofs.Noting.{HasNoted, all_noted, noted_more}
 use Rattle.fr_nearest.proofs.changes.Changes.note_some.Goals as goal
 
 pub loop-x-preserved : goal.loop-x-preserved

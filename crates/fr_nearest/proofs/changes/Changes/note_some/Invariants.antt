@@ -1,4 +1,4 @@
-use Rattle.std.proofs.Common.{length, take, ◌≡◌, ◌≤◌, vec_capacity}
+use Rattle.std.proofs.Common.{length, take, ◌≡◌, ◌≤◌}
 use Rattle.fr_nearest.specs.Changes.{AreNoted}
 use Rattle.fr_nearest.proofs.Noting.{HasNoted}
 use Rattle.fr_nearest.proofs.changes.Changes.note_some.Given as goal

@@ -1,4 +1,4 @@
-use Rattle.std.proofs.Common.{List, ap, arith, length, refl, rules, subst, sym, ℕ, ◌∙◌, ◌≡◌, ◌≤◌}
+use Rattle.std.proofs.Common.{List, ap, arith, length, subst, sym, ℕ, ◌∙◌, ◌≡◌}
 use Rattle.std.proofs.lemmas.List.{with_items_is}
 use Rattle.std.specs.Vec.{with_items}
 use Rattle.fr_nearest.specs.Changes.{AreAllNoted, IsForgotten}
@@ -49,9 +49,12 @@ note_some-requires-clause-noted c =
     let others : KeepsOthers was now c.update.new.list.items = subst (λ (xs : List ℕ). KeepsOthers xs now c.update.new.list.items) c.deref_mut.ensures.value
     (c.update.ensures.updated c.if-update.true).others in
     let read : KeepsOthers was c.deref-then-update.result.now c.update.new.list.items =
-    subst (λ (xs : List ℕ). KeepsOthers was xs c.update.new.list.items) (sym (read_is then)) others in
-    (was, forgotten at, omega (arith, ap length (read_is then), c.update.ensures.one_each, ap length c.deref_mut.ensures.value),
-    subst (λ (xs : List ℕ). KeepsOthers was c.deref-then-update.result.now xs) (sym c.deref-then-update-2.ensures.value) read)
+    subst (λ (xs : List ℕ). KeepsOthers was xs c.update.new.list.items) (sym (read_is then)) others in (
+      was,
+      forgotten at,
+      omega (arith, ap length (read_is then), c.update.ensures.one_each, ap length c.deref_mut.ensures.value),
+      subst (λ (xs : List ℕ). KeepsOthers was c.deref-then-update.result.now xs) (sym c.deref-then-update-2.ensures.value) read,
+    )
 
 pub returns-then-update : goal.returns-then-update
 returns-then-update c =
@@ -61,7 +64,7 @@ returns-then-update c =
     let noted : AreAllNoted c.update.new.distances changes = subst (λ (xs : List ℕ). AreAllNoted xs changes) (read_is then) c.note_some.ensures.noted in
     let before : changes.before.items ≡ c.self.inside.of.items = rw c.note_some.ensures.before (forgotten at).before in
     subst (λ (xs : List ℕ). IsRenewed c.args.net.now c.args.dest c.args.self.now
-        (record { dest = c.args.dest; table = xs; before = changes.before.items; changed = changes.nodes.items })) (sym (table_is then))
+    (record { dest = c.args.dest; table = xs; before = changes.before.items; changed = changes.nodes.items })) (sym (table_is then))
     (renewed c.args.net.now c.args.dest c.args.self.now (was at) (c.update.ensures.updated c.if-update.true).distances noted before)
 
 pub returns-else-update : goal.returns-else-update
@@ -74,5 +77,5 @@ returns-else-update c =
     let noted : AreAllNoted c.measure_all.new.distances changes = subst (λ (xs : List ℕ). AreAllNoted xs changes) (c.deref-else-update.ensures.value ∙ table) c.note_all.ensures.noted in
     let before : changes.before.items ≡ c.self.inside.of.items = rw c.note_all.ensures.before (forgotten at).before in
     subst (λ (xs : List ℕ). IsRenewed c.args.net.now c.args.dest c.args.self.now
-        (record { dest = c.args.dest; table = xs; before = changes.before.items; changed = changes.nodes.items })) (sym table)
+    (record { dest = c.args.dest; table = xs; before = changes.before.items; changed = changes.nodes.items })) (sym table)
     (renewed c.args.net.now c.args.dest c.args.self.now (was at) are noted before)
