@@ -26,6 +26,19 @@ all_ways_unique s a b are also = same_lists [] a b (are.one_each ∙ sym also.on
     (λ x low. one_list s.links s.dest x (ways a x) (ways b x) (are.each x (omega (arith, low, are.one_each)))
     (also.each x (omega (arith, low, are.one_each))))
 
+-- a table with one more row
+pub ways_pushed : (P : ℕ → List ℕ → Type 0) (table : List (List ℕ)) (list : List ℕ) (n : ℕ) → length table ≡ n
+    → ((x : ℕ) → x < n → P x (ways table x)) → P n list
+    → (length (table ++ list ∷ []) ≡ n + 1) × ((x : ℕ) → x < n + 1 → P x (ways (table ++ list ∷ []) x))
+ways_pushed P table list n long each is = (
+  omega (arith, length_push table list, long),
+  λ x low. elim (cases_eq x n) [
+    | inl e ↦ rw (e, get_or_push table list [] n long) is
+    | inr apart ↦ rw (get_or_append_left table (list ∷ []) [] x (omega (arith, low, apart, long)))
+        (each x (omega (arith, low, apart)))
+  ],
+)
+
 -- a node with a nearest route is connected with the destination
 pub nearest_connected : (s : State) (x : ℕ) (rest : List ℕ) → IsNearestRoute s x rest → IsConnected s.links s.dest x
 nearest_connected s x rest walk =
@@ -42,15 +55,9 @@ module _ (s : State) (below : AreBelow s.nodes s.links)
   ways_below zero = ([], refl, λ x low. absurd (omega (arith, low)))
   ways_below (suc n) =
       let (table, long, each) = ways_below n in
-      let (list, are) = node_ways_exist n in (
-        table ++ list ∷ [],
-        omega (arith, length_push table list, long),
-        λ x low. elim (cases_eq x n) [
-          | inl e ↦ rw (e, get_or_push table list [] n long) are
-          | inr apart ↦ rw (get_or_append_left table (list ∷ []) [] x (omega (arith, low, apart, long)))
-              (each x (omega (arith, low, apart)))
-        ],
-      )
+      let (list, are) = node_ways_exist n in
+      let more = ways_pushed (AreNodeWays s) table list n long each are in
+      (table ++ list ∷ [], omega (arith, more.0), λ x low. more.1 x (omega (arith, low)))
 
   pub all_ways_exist : (table : List (List ℕ)) × AreAllWays s table
   all_ways_exist = let (table, long, each) = ways_below s.nodes in (table, record { one_each = long; each = each })
