@@ -1,11 +1,13 @@
 -- The steps of an update of distances. For proofs only.
 use Rattle.std.specs.Prelude.{◌≡◌, ◌≢◌, ℕ, ◌<◌, ◌≤◌, ◌++◌, ◌⊎◌, List, drop, length, slice_index, slice_index_or}
 use Rattle.std.specs.List.{All, Contains}
-use Rattle.fr_graph.specs.Links.{Points}
+use Rattle.fr_graph.specs.Links.{Joins, Points}
 use Rattle.fr_graph.specs.Network.{Network}
 use Rattle.fr_graph.specs.declared.first.First.{First}
 use Rattle.fr_graph.specs.declared.first.First.TheVariants.{Inward, Outward}
 use Rattle.fr_nearest.specs.Distances.{AreDistances, no_distance}
+use Rattle.fr_nearest.specs.Touched.{IsTouched}
+use Rattle.fr_nearest.specs.declared.update.Touched.{Touched}
 use Rattle.fr_nearest.specs.Local.{Agrees, IsSmall, one_farther}
 
 -- a node with this number still agrees after one of its ways has got the number `new` in place of `old`
@@ -37,8 +39,21 @@ pub record IsUpdated (net : Network) (d : ℕ) (before table list : List ℕ) : 
   pub others : KeepsOthers before table list
 
 -- each node that is not touched agrees
-abbrev pub AgreeOutside : Network → ℕ → List ℕ → List ℕ → Type 0
-AgreeOutside net d touched table = (x : ℕ) → x < net.nodes → ¬ Contains touched x → Agrees net.links d table x
+abbrev pub AgreeOutside : Network → ℕ → Touched → List ℕ → Type 0
+AgreeOutside net d touched table =
+    (x : ℕ) → x < net.nodes → ¬ IsTouched net.links touched x → Agrees net.links d table x
+
+-- x and its neighbours are listed, and nothing is removed
+pub record ListsNear (net : Network) (x : ℕ) (list more : List ℕ) : Type 0 where
+  pub listed : IsListed net.nodes more
+  pub keeps : (y : ℕ) → Contains list y → Contains more y
+  pub near : (y : ℕ) → (y ≡ x) ⊎ Joins net.links y x → Contains more y
+
+-- the same for several nodes
+pub record ListsTurned (net : Network) (turned list more : List ℕ) : Type 0 where
+  pub listed : IsListed net.nodes more
+  pub keeps : (y : ℕ) → Contains list y → Contains more y
+  pub near : (x y : ℕ) → Contains turned x → (y ≡ x) ⊎ Joins net.links y x → Contains more y
 
 -- `least` is the least number of the nodes to which the links before this place of a row point
 pub record IsLeast (table : List ℕ) (row : List (ℕ × First)) (place least : ℕ) : Type 0 where

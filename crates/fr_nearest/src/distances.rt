@@ -1,11 +1,12 @@
 //! The distance of each node from the destination, kept while links change.
 
 ghost use Rattle.std.specs.Prelude.{◌≡◌, ◌<◌, [], IfOk, length, slice_index};
-ghost use Rattle.fr_nearest.specs.Distances.{AreChanged, IsMeasureOf, IsOutOfDate, IsRenewed, distance_of};
+ghost use Rattle.fr_nearest.specs.Distances.{AreChanged, IsMeasureOf, IsRenewed, distance_of};
+ghost use Rattle.fr_nearest.specs.Touched.{IsOutOfDate};
 
 use crate::changes::Changes;
 use crate::search::measure_all;
-use crate::update::update;
+use crate::update::{Touched, update};
 use fr_graph::Net;
 use std::alloc::{AllocError, Global};
 use std::marker::Model;
@@ -88,12 +89,12 @@ impl Distances {
     }
 
     /// Updates the distances after a change of the links or of the destination. Each node whose outgoing links have
-    /// changed must be in `touched`, and so must the old and the new destination if they differ. The number of nodes
-    /// must be the same as before. It cannot fail and does not allocate.
+    /// changed must be touched, and so must the old and the new destination if they differ. The number of nodes must be
+    /// the same as before. It cannot fail and does not allocate.
     ///
     /// O(t d + c d) for t touched nodes and c changes of distances, at most O(n + m): a change that takes more than n
     /// steps is measured anew.
-    pub fn renew(&mut self, net: &Net, dest: u32, touched: &[u32])
+    pub fn renew(&mut self, net: &Net, dest: u32, touched: &Touched<'_>)
         requires node { dest < net.now.nodes }
         requires old { IsOutOfDate net.now dest touched.now self.old }
         ensures { IsRenewed net.now dest self.old self.new }

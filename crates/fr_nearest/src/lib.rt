@@ -19,3 +19,4 @@ mod update;
 mod ways;
 
 pub use distances::Distances;
+pub use update::Touched;

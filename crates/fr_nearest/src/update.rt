@@ -1,32 +1,91 @@
 //! The update of distances after a change of the links. It takes up nodes whose distance may be wrong, first in, first
 //! out. When none is left, the distance of each node agrees with its links, so all distances are right.
 
-ghost use Rattle.std.specs.Prelude.{◌≡◌, ◌≢◌, ℕ, ◌<◌, ◌≤◌, length, vec_capacity, All, IsTrue};
+ghost use Rattle.std.specs.Prelude.{◌≡◌, ◌≢◌, ℕ, ◌<◌, ◌≤◌, length, vec_capacity, All, Contains, IsTrue};
 ghost use Rattle.fr_graph.specs.Limits.{most_nodes};
 ghost use Rattle.fr_nearest.specs.Local.{IsByLinks, IsSmall, one_farther};
 ghost use Rattle.fr_nearest.specs.Update.{AgreeOutside, IsListed, IsPending, IsUnaffected, IsUpdated};
+ghost use Rattle.fr_nearest.specs.Update.{ListsNear, ListsTurned};
+ghost use Rattle.fr_nearest.specs.Touched.{AreTouchedBelow, IsTouched};
 ghost use Rattle.fr_nearest.specs.Update.{ListsAffected, UpdatesOne};
 
 use crate::distances::NONE;
 use fr_graph::{First, Net};
 
-/// Lists the touched nodes. Returns `false` if there are more than nodes of the network.
-fn list_touched(touched: &[u32], distances: &[u16], list: &mut Vec<u16>) -> bool
-    requires few { length distances.now ≤ most_nodes }
-    requires below { All (λ (x : ℕ). x < length distances.now) touched.now }
-    requires room { length distances.now ≤ vec_capacity list.old }
-    ensures listed { IsTrue result → list.new.items ≡ touched.now }
-    ensures few { IsTrue result → length touched.now ≤ length distances.now }
+/// Nodes whose outgoing links may have changed since the last update.
+#[derive(Clone, Copy)]
+pub struct Touched<'a> {
+    /// Single nodes.
+    pub nodes: &'a [u32],
+    /// Nodes that have turned. They and all their neighbours are touched.
+    pub turned: &'a [u32],
+}
+
+/// Lists single nodes. Returns `false` if there are more than nodes of the network.
+fn list_nodes(nodes: &[u32], most: usize, list: &mut Vec<u16>) -> bool
+    requires few { most ≤ most_nodes }
+    requires below { All (λ (x : ℕ). x < most) nodes.now }
+    requires room { most ≤ vec_capacity list.old }
+    ensures listed { IsTrue result → list.new.items ≡ nodes.now }
+    ensures few { IsTrue result → length nodes.now ≤ most }
     ensures room { vec_capacity list.new ≡ vec_capacity list.old }
 {
     list.clear();
-    if touched.len() > distances.len() {
+    if nodes.len() > most {
         return false;
     }
-    for x in touched {
+    for x in nodes {
         list.push_reserved(*x as u16);
     }
     true
+}
+
+/// Appends node `x` and its neighbours. Returns `false` if the list has no capacity for all of them.
+fn list_near(net: &Net, x: u32, list: &mut Vec<u16>) -> bool
+    requires node { x < net.now.nodes }
+    requires listed { IsListed net.now.nodes list.old.items }
+    requires room { net.now.nodes ≤ vec_capacity list.old }
+    ensures near { IsTrue result → ListsNear net.now x list.old.items list.new.items }
+    ensures room { vec_capacity list.new ≡ vec_capacity list.old }
+{
+    net.network_law();
+    let row = net.row(x);
+    if list.len() + row.len() >= net.nodes() as usize {
+        return false;
+    }
+    list.push_reserved(x as u16);
+    for (w, _) in row {
+        list.push_reserved(*w);
+    }
+    true
+}
+
+/// Appends nodes that have turned, and their neighbours. Returns `false` if the list has no capacity for all of them.
+fn list_turned(net: &Net, turned: &[u32], list: &mut Vec<u16>) -> bool
+    requires below { All (λ (x : ℕ). x < net.now.nodes) turned.now }
+    requires listed { IsListed net.now.nodes list.old.items }
+    requires room { net.now.nodes ≤ vec_capacity list.old }
+    ensures near { IsTrue result → ListsTurned net.now turned.now list.old.items list.new.items }
+    ensures room { vec_capacity list.new ≡ vec_capacity list.old }
+{
+    for x in turned {
+        if !list_near(net, *x, list) {
+            return false;
+        }
+    }
+    true
+}
+
+/// Lists all touched nodes. Returns `false` if there are more than nodes of the network.
+fn list_touched(net: &Net, touched: &Touched<'_>, list: &mut Vec<u16>) -> bool
+    requires touched { AreTouchedBelow net.now.nodes touched.now }
+    requires room { net.now.nodes ≤ vec_capacity list.old }
+    ensures listed { IsTrue result → IsListed net.now.nodes list.new.items }
+    ensures all { IsTrue result → (x : ℕ) → IsTouched net.now.links touched.now x → Contains list.new.items x }
+    ensures room { vec_capacity list.new ≡ vec_capacity list.old }
+{
+    net.network_law();
+    list_nodes(touched.nodes, net.nodes() as usize, list) && list_turned(net, touched.turned, list)
 }
 
 /// Updates the distances of the touched nodes, and of all nodes that this makes wrong. Lists the nodes whose distance
@@ -35,13 +94,13 @@ fn list_touched(touched: &[u32], distances: &[u16], list: &mut Vec<u16>) -> bool
 pub(crate) fn update(
     net: &Net,
     dest: u32,
-    touched: &[u32],
+    touched: &Touched<'_>,
     distances: &mut [u16],
     list: &mut Vec<u16>,
 ) -> bool
     requires one_each { length distances.old ≡ net.now.nodes }
     requires small { IsSmall net.now.nodes distances.old }
-    requires below { All (λ (x : ℕ). x < net.now.nodes) touched.now }
+    requires touched { AreTouchedBelow net.now.nodes touched.now }
     requires agree { AgreeOutside net.now dest touched.now distances.old }
     requires room { net.now.nodes ≤ vec_capacity list.old }
     ensures one_each { length distances.new ≡ length distances.old }
@@ -49,7 +108,7 @@ pub(crate) fn update(
     ensures room { vec_capacity list.new ≡ vec_capacity list.old }
 {
     net.network_law();
-    list_touched(touched, distances, list) && update_listed(net, dest, distances, list)
+    list_touched(net, touched, list) && update_listed(net, dest, distances, list)
 }
 
 /// Updates the distances of the listed nodes, and of all nodes that this makes wrong. Returns `false` if the list gets

@@ -2,7 +2,8 @@ use Rattle.std.proofs.Common.{List, ap, arith, length, subst, sym, ℕ, ◌∙�
 use Rattle.std.proofs.lemmas.List.{with_items_is}
 use Rattle.std.specs.Vec.{with_items}
 use Rattle.fr_nearest.specs.Changes.{AreAllNoted, IsForgotten}
-use Rattle.fr_nearest.specs.Distances.{IsOutOfDate, IsRenewed, Measured}
+use Rattle.fr_nearest.specs.Distances.{IsRenewed, Measured}
+use Rattle.fr_nearest.specs.Touched.{IsOutOfDate}
 use Rattle.fr_nearest.specs.Inside.{measured_in}
 use Rattle.fr_nearest.specs.Local.{IsSmall}
 use Rattle.fr_nearest.specs.Update.{AgreeOutside, KeepsOthers}
