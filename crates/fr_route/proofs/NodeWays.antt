@@ -1,6 +1,7 @@
 -- Each node of a settled network has exactly one list of ways, and a connected one exactly one nearest route.
-use Rattle.std.proofs.Common.{[], List, ap, get_or, arith, inl, inr, length, refl, subst, suc, sym, zero, ℕ, ◌+◌, ◌++◌, ◌<◌, ◌∙◌, ◌∷◌, ◌≡◌, ◌≤◌, ◌⊎◌}
-use Rattle.std.proofs.lemmas.Bool.{cases_eq}
+use Rattle.std.proofs.Common.{[], Bool, List, Option, ap, false, get_or, slice_index, true, ◌==◌, arith, inl, inr, length, refl, subst, suc, sym, zero, ℕ, ◌+◌, ◌++◌, ◌<◌, ◌∙◌, ◌∷◌, ◌≡◌, ◌≤◌, ◌⊎◌}
+use Rattle.std.specs.Prelude.{MatchOption}
+use Rattle.std.proofs.lemmas.Bool.{cases_eq, eqb-true, false≢true}
 use Rattle.std.proofs.lemmas.List.{get_or_append_left, get_or_push, length_push}
 use Rattle.fr_graph.specs.Links.{AreBelow, HasPath}
 use Rattle.fr_core.specs.Walks.{IsConnected}
@@ -8,8 +9,32 @@ use Rattle.fr_core.proofs.Paths.{walk_from_path}
 use Rattle.fr_nearest.proofs.Walking.{one_list, walk_shortest}
 use Rattle.fr_route.proofs.WaysExist.{nearest_exists, ways_exist}
 use Rattle.fr_ways.specs.Ways.{ways}
-use Rattle.fr_route.specs.NodeWays.{AreAllWays, AreNodeWays, IsNearestRoute}
-use Rattle.fr_route.specs.States.{State}
+use Rattle.fr_nearest.specs.Distances.{IsDistance, IsMeasured, Measured, distance_of, no_distance}
+use Rattle.fr_route.specs.NodeWays.{AreAllWays, AreNodeWays, HasDistances, IsNearestRoute}
+use Rattle.fr_route.specs.States.{State, IsAfterRound, IsCutOff}
+use Rattle.fr_route.proofs.RoundEnds.{route_home}
+use Rattle.fr_route.proofs.Routing.{route_end, route_path}
+
+-- a node without a path is cut off
+pub cut_without : (s : State) → IsAfterRound s → (x : ℕ) → ¬ HasPath s.links x s.dest → IsCutOff s.dest s.links x
+cut_without s after x none = (
+  (λ e. none ([], (tt, e))),
+  (λ connected.
+      let r = route_home s.nodes s.dest after.first s after.is_net after.dest after.round x connected in
+      none (r.0, (route_path s.links s.dest x r.0 r.1, route_end s.links s.dest x r.0 r.1))),
+)
+
+-- the distance of a node, by the table
+pub distance_is : (s : State) → IsAfterRound s → (m : Measured) → HasDistances s m → (x : ℕ) → x < s.nodes
+    → (distance : Option ℕ) → distance ≡ distance_of (slice_index m.table x)
+    → MatchOption distance (IsCutOff s.dest s.links x) (IsDistance s.links s.dest x)
+distance_is s after m has x low distance is =
+    rw is (go (slice_index m.table x) (has.table.each x low) (slice_index m.table x == no_distance) refl)
+  where
+    go : (number : ℕ) → IsMeasured s.links s.dest x number → (none : Bool) → (number == no_distance) ≡ none
+        → MatchOption (distance_of number) (IsCutOff s.dest s.links x) (IsDistance s.links s.dest x)
+    go number measured true e = rw e (cut_without s after x (measured.none (eqb-true number no_distance e)))
+    go number measured false e = rw e (measured.some (λ same. false≢true (sym e ∙ rw same refl)))
 
 -- lists of the same length with the same elements are equal
 same_lists : {X : Type 0} (d : X) (a b : List X) → length a ≡ length b
