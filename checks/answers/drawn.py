@@ -33,13 +33,14 @@ NOT_REQUESTS = [
     b'["batch",{}]', b"[" * 127 + b"]" * 127, b'{"a":' * 127 + b"1" + b"}" * 127,
     b'["[[[[",' + b"[" * 126 + b"]" * 127, b'["pushes"]', b'["pushes",0]', b'["pushes",{}]', b'["pushes",[],[],[]]',
     b'["pushes",["fly"]]', b'["pushes",["Here"]]', b'["pushes",[-1]]', b'["pushes",[0.0]]', b'["pushes",[[0]]]',
+    b'["ways",[0]]', b'["ways",0,1]', b'["ways",-1]', b'["nearest"]', b'["nearest",0,1]', b'["nearest","0"]',
     b'["pushes",[],null]', b'["pushes",[0],["cut",null]]', b'["pushes",["here",4294967296]]', b'["pushes","here"]',
 ]  # fmt: skip
-QUESTIONS = (["links"], ["counts"], ["hops"])
+QUESTIONS = (["links"], ["counts"], ["hops"], ["ways"])
 # A session begins with one of these, before there is a network.
 WITHOUT_NETWORK = (
     *(["cut", 0, 1], ["add", 0, 1], ["join", 0, 1], ["batch", []], ["dest", 0], ["walk", 0], *QUESTIONS),
-    *(["pushes", []], ["pushes", [0], ["here", 0]], ["pushes", ["here", 2, 0], ["here", 0, 1]]),
+    *(["ways", 0], ["nearest", 0], ["pushes", []], ["pushes", [0], ["here", 0]], ["pushes", ["here", 2, 0], ["here", 0, 1]]),
 )
 
 
@@ -62,7 +63,7 @@ def full():
 
 # The methods of Drawn that draw a line, and how often each is taken.
 NETWORKS = {"net": 2, "wild_net": 2, "double_net": 1, "cyclic_net": 4}
-ALL_KINDS = {"edit": 8, "batch": 6, "question": 5, "walk": 3, "move": 2, "pushes": 4, "no_request": 3, **NETWORKS}
+ALL_KINDS = {"edit": 8, "batch": 6, "question": 6, "walk": 3, "about_a_node": 4, "move": 2, "pushes": 4, "no_request": 3, **NETWORKS}
 CHANGES = {"edit": 6, "batch": 3, "move": 1, "net": 1}
 
 
@@ -119,6 +120,9 @@ class Drawn:
 
     def walk(self):
         self.ask(["walk", self.by.choice([self.node(), self.node(), self.node(), LARGEST])])
+
+    def about_a_node(self):
+        self.ask([self.by.choice(["ways", "nearest"]), self.by.choice([self.node(), self.node(), self.node(), LARGEST])])
 
     def move(self):
         self.ask(["dest", self.node()])

@@ -79,13 +79,13 @@ def is_hop(it):
 
 def is_request(value):
     match value:
-        case ["links"] | ["counts"] | ["hops"]:
+        case ["links"] | ["counts"] | ["hops"] | ["ways"]:
             return True
         case ["pushes", [*table]] | ["pushes", [*table], []]:
             return all(map(is_hop, table))
         case ["pushes", [*table], [*wanted]]:
             return all(map(is_hop, table + wanted))
-        case ["walk" | "dest", x]:
+        case ["walk" | "ways" | "nearest" | "dest", x]:
             return is_number(x)
         case ["batch", [*edits]]:
             return all(map(is_edit, edits))
@@ -228,6 +228,31 @@ class Network:
         return {x: HERE if x == self.dest else lowest[x] if x in joined else CUT for x in range(self.size)}
 
 
+    def distances(self):
+        """The fewest links that lead down from a node to the destination, for each node from which they do."""
+        found, count = {self.dest: 0}, 0
+        while more := {u for u, v in self.links if v in found} - {*found}:
+            count += 1
+            found |= dict.fromkeys(more, count)
+        return found
+
+    def ways(self, x):
+        """The ways of a node, nearest first."""
+        near = self.distances()
+        return sorted((v for u, v in self.links if u == x and v in near), key=lambda v: (near[v], v))
+
+    def ways_in_words(self, x):
+        """The ways of a node as an answer shows them."""
+        return HERE if x == self.dest else self.ways(x) or CUT
+
+    def nearest(self, x):
+        """The nodes of the walk by first ways, with x first."""
+        way = [x]
+        while ways := self.ways(way[-1]):
+            way.append(ways[0])
+        return way
+
+
 # Tables of next hops. A number that is missing from a table is cut off
 
 
@@ -303,6 +328,19 @@ class Session:
                     return f"walk {x} cut", {word: None}
                 way = route(self.table, x)
                 return listed(word, way), {word: way}
+            case ["ways"]:
+                ways = [self.network.ways_in_words(x) for x in range(self.network.size)]
+                return listed(word, map(with_commas, ways)), {word: ways}
+            case ["ways", x]:
+                self.network.test_node(x)
+                ways = self.network.ways_in_words(x)
+                return listed(word, [with_commas(ways)]), {word: ways}
+            case ["nearest", x]:
+                self.network.test_node(x)
+                if self.table[x] == CUT:
+                    return f"nearest {x} cut", {word: None}
+                way = self.network.nearest(x)
+                return listed(word, way), {word: way}
         return self.round(changed(copy.copy(self.network), request))
 
     def pushed(self, table, wanted=None):
@@ -330,6 +368,10 @@ class Session:
         turned, cut_off, differ = sum(network.counts.values()), [*hops.values()].count(CUT), pushes(self.table, hops)
         self.network, self.table = network, hops
         return f"turned {turned} cut {cut_off}", {"turned": turned, "cut_off": cut_off, "changed": differ}
+
+
+def with_commas(ways):
+    return ways if isinstance(ways, str) else ",".join(map(str, ways))
 
 
 def listed(word, items):

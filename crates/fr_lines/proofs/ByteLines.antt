@@ -23,7 +23,7 @@ use Rattle.fr_graph.specs.declared.edit.Edit.{Edit}
 use Rattle.fr_graph.specs.declared.edit.Edit.TheVariants.{Add, Cut, Join}
 use Rattle.fr_lines.specs.declared.requests.LineFault.TheVariants.{NotRequest}
 use Rattle.fr_lines.specs.declared.requests.Question.{Question}
-use Rattle.fr_lines.specs.declared.requests.Question.TheVariants.{Counts, Hops, Links}
+use Rattle.fr_lines.specs.declared.requests.Question.TheVariants.{Counts, Hops, Links, Ways}
 use Rattle.fr_lines.specs.declared.words.Word.TheVariants as word
 use Rattle.fr_lines.proofs.FrontTexts.{begins_more}
 use Rattle.fr_lines.proofs.Items.{list_again}
@@ -238,6 +238,7 @@ question_reads rest question ends line opens =
     go Links = refl
     go Counts = refl
     go Hops = refl
+    go Ways = refl
 
 pub network_reads : (rest items : List ℕ) (nodes dest : ℕ) (links : List (ℕ × ℕ)) → IsSmall nodes → IsSmall dest
     → Begins rest (comma ∷ number_lexeme nodes ∷ comma ∷ number_lexeme dest ∷ comma ∷ token Token.begin_array ∷ []) items
@@ -284,13 +285,13 @@ word_is_none line items opens is =
 
 -- no request but a question consists of its word alone
 pub asks_nothing : (word : List ℕ) → bytes_eq word (codes "links") ≡ false → bytes_eq word (codes "counts") ≡ false
-    → bytes_eq word (codes "hops") ≡ false → request_of_word word [] ≡ None
+    → bytes_eq word (codes "hops") ≡ false → bytes_eq word (codes "ways") ≡ false → request_of_word word [] ≡ None
 unfolding request_of_word
-asks_nothing word links counts hops =
-    rw (links, counts, hops)
+asks_nothing word links counts hops ways =
+    rw (links, counts, hops, ways)
     (none_of (bytes_eq word (codes "net")) _ (none_of (bytes_eq word (codes "cut")) _ (none_of (bytes_eq word (codes "add")) _
     (none_of (bytes_eq word (codes "join")) _ (none_of (bytes_eq word (codes "batch")) _ (none_of (bytes_eq word (codes "dest")) _
-    (none_of (bytes_eq word (codes "walk")) _ (none_of (bytes_eq word (codes "pushes")) _ refl))))))))
+    (none_of (bytes_eq word (codes "walk")) _ (none_of (bytes_eq word (codes "nearest")) _ (none_of (bytes_eq word (codes "pushes")) _ refl)))))))))
   where
     none_of : (test : Bool) (other : Option PlainRequest) → other ≡ None → (if test then None else other) ≡ None
     none_of true other is = refl

@@ -14,7 +14,7 @@ use Rattle.json.specs.Text.{content, plain}
 use Rattle.json.specs.Token.{Token}
 use Rattle.json.specs.Word.{ends_word, is_operator, is_space}
 use Rattle.fr_lines.specs.LineLexemes.{Begins, is_small_word, letters, number_lexeme, opening, unspaced}
-use Rattle.fr_lines.specs.declared.requests.Question.TheVariants.{Counts, Hops, Links}
+use Rattle.fr_lines.specs.declared.requests.Question.TheVariants.{Counts, Hops, Links, Ways}
 use Rattle.fr_lines.specs.declared.words.EditWord.TheVariants as edit_word
 use Rattle.fr_lines.specs.declared.words.Word.{Word}
 use Rattle.fr_lines.specs.declared.words.Word.TheVariants as word
@@ -158,6 +158,7 @@ letters_plain word.Walk = refl
 letters_plain (word.Ask Links) = refl
 letters_plain (word.Ask Counts) = refl
 letters_plain (word.Ask Hops) = refl
+letters_plain (word.Ask Ways) = refl
 
 pub letters_ascii : (word : Word) → are_ascii (34 ∷ (letters word ++ 34 ∷ [])) ≡ true
 letters_ascii word.Network = refl
@@ -170,6 +171,7 @@ letters_ascii word.Walk = refl
 letters_ascii (word.Ask Links) = refl
 letters_ascii (word.Ask Counts) = refl
 letters_ascii (word.Ask Hops) = refl
+letters_ascii (word.Ask Ways) = refl
 
 -- a word of small letters has no escapes
 pub small_plain : (word : List ℕ) → is_small_word word ≡ true → escape word ≡ word

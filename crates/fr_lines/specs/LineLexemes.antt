@@ -7,7 +7,7 @@ use Rattle.json.specs.Token.{Token}
 use Rattle.json.specs.Word.{is_space}
 use Rattle.fr_graph.specs.declared.edit.Edit.{Edit}
 use Rattle.fr_graph.specs.declared.edit.Edit.TheVariants.{Cut, Add, Join}
-use Rattle.fr_lines.specs.declared.requests.Question.TheVariants.{Links, Counts, Hops}
+use Rattle.fr_lines.specs.declared.requests.Question.TheVariants.{Links, Counts, Hops, Ways}
 use Rattle.fr_lines.specs.declared.words.EditWord.{EditWord}
 use Rattle.fr_lines.specs.declared.words.EditWord.TheVariants as edit_word
 use Rattle.fr_lines.specs.declared.words.Word.{Word}
@@ -40,6 +40,7 @@ letters word.Walk = codes "walk"
 letters (word.Ask Links) = codes "links"
 letters (word.Ask Counts) = codes "counts"
 letters (word.Ask Hops) = codes "hops"
+letters (word.Ask Ways) = codes "ways"
 
 -- the start of an array whose first item is this word, written without escapes
 abbrev pub opening : List ℕ → List Lexeme

@@ -11,6 +11,9 @@
 --     ["links"]                      ask for the links
 --     ["counts"]                     ask how often each node has turned
 --     ["hops"]                       ask for the next hop of each node
+--     ["ways"]                       ask for the ways of each node: all nodes to which it may send on
+--     ["ways", x]                    ask for the ways of x
+--     ["nearest", x]                 ask for a route of the fewest links from x to the destination along the ways
 --     ["pushes", TABLE]              ask for the pushes from this table to the next hops
 --     ["pushes", TABLE, TABLE]       ask for the pushes from the first table to the second
 -- A table is an array of hops: a number, "here" or "cut".
@@ -23,11 +26,14 @@ use Rattle.serde_json.specs.Read.{read}
 use Rattle.fr_lines.specs.declared.requests.LineFault.{LineFault}
 use Rattle.fr_lines.specs.declared.requests.LineFault.TheVariants.{NotJson, NotRequest}
 use Rattle.fr_lines.specs.declared.requests.Question.{Question}
-use Rattle.fr_lines.specs.declared.requests.Question.TheVariants.{Links, Counts, Hops}
+use Rattle.fr_lines.specs.declared.requests.Question.TheVariants.{Links, Counts, Hops, Ways}
+use Rattle.fr_lines.specs.declared.requests.NodeQuestion.{NodeQuestion}
+use Rattle.fr_lines.specs.declared.requests.NodeQuestion.TheVariants as node
 use Rattle.fr_graph.specs.declared.edit.Edit.{Edit}
 use Rattle.fr_graph.specs.declared.edit.Edit.TheVariants as edit
 use Rattle.fr_lines.specs.declared.requests.Request.{Request}
-use Rattle.fr_lines.specs.declared.requests.Request.TheVariants.{Network, Cut, Add, Join, Batch, Destination, Walk, Ask, Pushes}
+use Rattle.fr_lines.specs.declared.requests.Request.TheVariants.{Network, Cut, Add, Join, Batch, Destination}
+use Rattle.fr_lines.specs.declared.requests.Request.TheVariants.{Walk, Ask, AskNode, Pushes}
 use Rattle.fr_tables.specs.declared.hop.Hop.{Hop}
 use Rattle.fr_tables.specs.declared.hop.Hop.TheVariants.{Here, To, CutOff}
 use Rattle.std.specs.declared.alloc.Global.{Global}
@@ -43,6 +49,7 @@ pub data PlainRequest : Type 0 where
   move_dest : ℕ → PlainRequest
   walk_from : ℕ → PlainRequest
   ask : Question → PlainRequest
+  ask_node : NodeQuestion → ℕ → PlainRequest
   order_pushes : List Hop → Option (List Hop) → PlainRequest
 
 -- a request of the code, without the capacity of its `Vec`
@@ -55,6 +62,7 @@ plain (Batch edits) = make_edits edits.items
 plain (Destination d) = move_dest d
 plain (Walk x) = walk_from x
 plain (Ask question) = ask question
+plain (AskNode question x) = ask_node question x
 plain (Pushes table wanted) = order_pushes table.items (option_map (λ (t : Vec Hop Global). t.items) wanted)
 
 -- the items as a list
@@ -150,6 +158,11 @@ abbrev pub ask_request : Question → List Data → Option PlainRequest
 ask_request question [] = Some (ask question)
 ask_request question (d ∷ rest) = None
 
+-- the ways of all nodes, if no item is left, or those of one node, if exactly this is left
+abbrev pub ways_request : List Data → Option PlainRequest
+ways_request [] = Some (ask Ways)
+ways_request (d ∷ rest) = node_request (ask_node node.Ways) (d ∷ rest)
+
 -- the hop of a word
 abbrev pub hop_of_word : List ℕ → Option Hop
 hop_of_word word =
@@ -189,8 +202,10 @@ request_of_word word rest =
     else (if bytes_eq word (codes "links") then ask_request Links rest
     else (if bytes_eq word (codes "counts") then ask_request Counts rest
     else (if bytes_eq word (codes "hops") then ask_request Hops rest
+    else (if bytes_eq word (codes "ways") then ways_request rest
+    else (if bytes_eq word (codes "nearest") then node_request (ask_node node.Nearest) rest
     else (if bytes_eq word (codes "pushes") then pushes_request rest
-    else None))))))))))
+    else None))))))))))))
 
 -- the request of a value
 abbrev pub request_of : Data → Option PlainRequest

@@ -16,4 +16,4 @@ mod word_lines;
 mod words;
 
 pub use lines::read_line;
-pub use requests::{LineFault, Question, Request};
+pub use requests::{LineFault, NodeQuestion, Question, Request};

@@ -64,7 +64,11 @@ fn first_quote(text: &[u8]) -> Option<usize>
 fn asks_nothing(word: &[u8]) -> bool
     ensures { result ≡ true → AsksNothing word.now }
 {
-    if is_same(word, "links") || is_same(word, "counts") || is_same(word, "hops") {
+    if is_same(word, "links")
+        || is_same(word, "counts")
+        || is_same(word, "hops")
+        || is_same(word, "ways")
+    {
         return false;
     }
     is_small(word)

@@ -10,10 +10,10 @@ ghost use Rattle.fr_lines.specs.Requests.{plain, reading, request_of, request_of
 ghost use Rattle.fr_lines.specs.Requests.{join_nodes, move_dest, walk_from, network_request, pair_request};
 ghost use Rattle.fr_lines.specs.Requests.{batch_request, node_request, ask_request, items_in, link_in, edit_in};
 ghost use Rattle.fr_lines.specs.Requests.{edit_of_word, number_pair, read_all, single_number, number_in};
-ghost use Rattle.fr_lines.specs.Requests.{hop_in, pushes_request};
+ghost use Rattle.fr_lines.specs.Requests.{ask_node, hop_in, pushes_request, ways_request};
 
 use crate::lists::OfValue;
-use crate::requests::{LineFault, Question, Request};
+use crate::requests::{LineFault, NodeQuestion, Question, Request};
 use fr_graph::Edit;
 use fr_tables::Hop;
 use serde_json::Value;
@@ -61,6 +61,8 @@ fn request_by_word(alloc: Global, word: &str, rest: &[Value]) -> Result<Request,
         "links" => ask(Question::Links, rest),
         "counts" => ask(Question::Counts, rest),
         "hops" => ask(Question::Hops, rest),
+        "ways" => ways(rest),
+        "nearest" => ask_node(NodeQuestion::Nearest, rest),
         "pushes" => pushes(alloc, rest),
         _ => Err(LineFault::NotRequest),
     }
@@ -134,6 +136,28 @@ fn ask(question: Question, rest: &[Value]) -> Result<Request, LineFault>
         [] => Ok(Request::Ask(question)),
         _ => Err(LineFault::NotRequest),
     }
+}
+
+/// A question about one node, if exactly this node follows its word.
+fn ask_node(question: NodeQuestion, rest: &[Value]) -> Result<Request, LineFault>
+    ensures ok { IfOk result
+        (λ request. node_request (ask_node question) (map view rest.now) ≡ Some (plain request)) }
+    ensures refused { IfErr result
+        (λ fault. ok_or (node_request (ask_node question) (map view rest.now)) NotRequest ≡ Err fault) }
+{
+    let x = one_number(rest).ok_or(LineFault::NotRequest)?;
+    Ok(Request::AskNode { question, x })
+}
+
+/// The ways of all nodes, if nothing follows the word, or those of the node that follows it.
+fn ways(rest: &[Value]) -> Result<Request, LineFault>
+    ensures ok { IfOk result (λ request. ways_request (map view rest.now) ≡ Some (plain request)) }
+    ensures refused { IfErr result (λ fault. ok_or (ways_request (map view rest.now)) NotRequest ≡ Err fault) }
+{
+    if rest.is_empty() {
+        return Ok(Request::Ask(Question::Ways));
+    }
+    ask_node(NodeQuestion::Ways, rest)
 }
 
 /// A network, if exactly three items follow the word: the number of nodes, the destination, the links.

@@ -59,6 +59,13 @@ pub enum Request {
     },
     /// Ask a question. This changes nothing.
     Ask(Question),
+    /// Ask a question about one node: `["ways", x]` or `["nearest", x]`. This changes nothing.
+    AskNode {
+        /// What is asked.
+        question: NodeQuestion,
+        /// The node.
+        x: u32,
+    },
     /// Ask which hops to push, in which order, from one table of hops to another: `["pushes", table]` or
     /// `["pushes", table, wanted]`. A node that is missing at the end of a table is cut off. This changes nothing.
     Pushes {
@@ -78,6 +85,17 @@ pub enum Question {
     Counts,
     /// The next hop of each node on its way to the destination: `["hops"]`.
     Hops,
+    /// All nodes to which each node may send on, nearest first: `["ways"]`.
+    Ways,
+}
+
+/// What can be asked about one node of the network in use.
+#[derive(Clone, Copy, Debug, PartialEq, Eq)]
+pub enum NodeQuestion {
+    /// All nodes to which the node may send on, nearest first: `["ways", x]`.
+    Ways,
+    /// A route of the fewest links along the ways: `["nearest", x]`.
+    Nearest,
 }
 
 /// Why a line is not a request.

@@ -107,7 +107,7 @@ fn last_number(rest: &[u8]) -> Option<u32>
     is_over(behind).then_some(n)
 }
 
-/// A question: `["links"]`, `["counts"]` or `["hops"]`.
+/// A question about all nodes: `["links"]`, `["counts"]`, `["hops"]` or `["ways"]`.
 #[inline(always)]
 fn ask(question: Question, rest: &[u8]) -> Option<Brief>
     ensures { IfSome result (λ brief. IsReadAs (letters (Ask question)) rest.now (plain_brief brief)) }

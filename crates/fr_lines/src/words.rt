@@ -55,6 +55,7 @@ fn word_at_front(text: &[u8]) -> Option<(Word, &[u8])>
             Word::Ask(Question::Counts),
             rest,
         )),
+        [b'"', b'w', b'a', b'y', b's', b'"', rest @ ..] => Some((Word::Ask(Question::Ways), rest)),
         [b'"', b'b', b'a', b't', b'c', b'h', b'"', rest @ ..] => Some((Word::Batch, rest)),
         [b'"', b'n', b'e', b't', b'"', rest @ ..] => Some((Word::Network, rest)),
         _ => None,

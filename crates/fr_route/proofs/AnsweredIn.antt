@@ -5,13 +5,18 @@ use Rattle.fr_graph.specs.declared.edit.Edit.{Edit}
 use Rattle.fr_graph.specs.declared.edit.Edit.TheVariants as edit
 use Rattle.fr_graph.specs.declared.fault.NetFault.{NetFault}
 use Rattle.fr_graph.specs.declared.fault.NetFault.TheVariants.{TooMany, Range, SelfLink, Twice, Cycle, NoLink, Memory}
-use Rattle.fr_lines.specs.Requests.{PlainRequest, new_network, cut_link, add_link, join_nodes, make_edits, move_dest, walk_from, ask, order_pushes}
+use Rattle.fr_lines.specs.Requests.{PlainRequest, new_network, cut_link, add_link, join_nodes, make_edits, move_dest, walk_from, ask, ask_node, order_pushes}
 use Rattle.fr_lines.specs.declared.requests.LineFault.{LineFault}
 use Rattle.fr_lines.specs.declared.requests.LineFault.TheVariants.{NotJson, NotRequest, Memory as LineMemory}
-use Rattle.fr_lines.specs.declared.requests.Question.TheVariants.{Links, Counts, Hops}
+use Rattle.fr_lines.specs.declared.requests.Question.TheVariants.{Links, Counts, Hops, Ways}
+use Rattle.fr_lines.specs.declared.requests.NodeQuestion.TheVariants as node
 use Rattle.fr_graph.specs.Evidence.{evidence}
 use Rattle.fr_route.specs.Forms.{IsAnswerIn}
 use Rattle.fr_route.specs.Json.{AreChanged, AreChanges, IsBatchRefusal, IsEditRefusal, IsJsonAnswer, IsJsonReport, IsJsonText, IsJsonWalk, IsNewRefusal, IsRefusal, PlainRefusal}
+use Rattle.fr_route.specs.Json.{IsJsonNearest, IsJsonNodeWays, IsJsonWays, nearest_json, node_ways_json, ways_json}
+use Rattle.fr_nearest.proofs.Walking.{one_list}
+use Rattle.fr_route.proofs.WaysExist.{nearest_unique}
+use Rattle.fr_route.proofs.NodeWays.{all_ways_unique, nearest_connected}
 use Rattle.fr_route.specs.Json.{ends, ends_in, hops_json, pushes_json, refusal_for, refusal_json, report_json, walk_json}
 use Rattle.fr_route.specs.Reroutes.{AreReplaced}
 use Rattle.fr_route.specs.States.{State, net_at}
@@ -78,6 +83,7 @@ refusal_unique None (make_edits edits) a b h k = h ∙ sym k
 refusal_unique None (move_dest d) a b h k = h ∙ sym k
 refusal_unique None (walk_from x) a b h k = h ∙ sym k
 refusal_unique None (ask question) a b h k = h ∙ sym k
+refusal_unique None (ask_node question x) a b h k = h ∙ sym k
 refusal_unique (Some s) (cut_link u v) a b h k = edit_refusal_unique (net_at s) (edit.Cut u v) a b h k
 refusal_unique (Some s) (add_link u v) a b h k = edit_refusal_unique (net_at s) (edit.Add u v) a b h k
 refusal_unique (Some s) (join_nodes u v) a b h k = edit_refusal_unique (net_at s) (edit.Join u v) a b h k
@@ -85,6 +91,7 @@ refusal_unique (Some s) (make_edits edits) a b h k = batch_refusal_unique (net_a
 refusal_unique (Some s) (move_dest d) a b h k = h.1 ∙ sym k.1
 refusal_unique (Some s) (walk_from x) a b h k = h.1 ∙ sym k.1
 refusal_unique (Some s) (ask question) a b h k = absurd h
+refusal_unique (Some s) (ask_node question x) a b h k = h.1 ∙ sym k.1
 
 json_report_unique : (Lists : List ℕ → Type 0) → ((a b : List ℕ) → Lists a → Lists b → a ≡ b) → (new : State) (t u : List ℕ)
     → IsJsonReport Lists new t → IsJsonReport Lists new u → t ≡ u
@@ -104,6 +111,20 @@ json_walk_unique s x t u (inl a) (inr b) = absurd (b.0.1 (route_joined s.links s
 json_walk_unique s x t u (inr a) (inl b) = absurd (a.0.1 (route_joined s.links s.dest x b.0 b.1))
 json_walk_unique s x t u (inr a) (inr b) = a.1 ∙ sym b.1
 
+json_ways_unique : (s : State) (t u : List ℕ) → IsJsonWays s t → IsJsonWays s u → t ≡ u
+json_ways_unique s t u a b = a.2 ∙ (ap (ways_json s.dest) (all_ways_unique s a.0 b.0 a.1 b.1) ∙ sym b.2)
+
+json_node_ways_unique : (s : State) (x : ℕ) (t u : List ℕ) → IsJsonNodeWays s x t → IsJsonNodeWays s x u → t ≡ u
+json_node_ways_unique s x t u a b =
+    a.2 ∙ (ap (node_ways_json (x == s.dest)) (one_list s.links s.dest x a.0 b.0 a.1 b.1) ∙ sym b.2)
+
+json_nearest_unique : (s : State) (x : ℕ) (t u : List ℕ) → IsJsonNearest s x t → IsJsonNearest s x u → t ≡ u
+json_nearest_unique s x t u (inl a) (inl b) =
+    a.2 ∙ (ap (λ (rest : List ℕ). nearest_json (x ∷ rest)) (nearest_unique s.links s.dest x a.0 b.0 a.1 b.1) ∙ sym b.2)
+json_nearest_unique s x t u (inl a) (inr b) = absurd (b.0.1 (nearest_connected s x a.0 a.1))
+json_nearest_unique s x t u (inr a) (inl b) = absurd (a.0.1 (nearest_connected s x b.0 b.1))
+json_nearest_unique s x t u (inr a) (inr b) = a.1 ∙ sym b.1
+
 json_text_unique : (s : Option State) (r : PlainRequest) (new : State) (t u : List ℕ) → IsJsonText s r new t → IsJsonText s r new u → t ≡ u
 json_text_unique s (new_network n d links) new t u h k = json_report_unique (AreReplaced s new) (replaced_unique s new) new t u h k
 json_text_unique s (cut_link v w) new t u h k = json_report_unique (AreChanged s new) (changed_unique s new) new t u h k
@@ -115,6 +136,9 @@ json_text_unique s (walk_from x) new t u h k = json_walk_unique new x t u h k
 json_text_unique s (ask Links) new t u h k = h ∙ sym k
 json_text_unique s (ask Counts) new t u h k = h ∙ sym k
 json_text_unique s (order_pushes table wanted) new t u h k = absurd h
+json_text_unique s (ask Ways) new t u h k = json_ways_unique new t u h k
+json_text_unique s (ask_node node.Ways x) new t u h k = json_node_ways_unique new x t u h k
+json_text_unique s (ask_node node.Nearest x) new t u h k = json_nearest_unique new x t u h k
 json_text_unique s (ask Hops) new t u h k = h.2 ∙ (ap hops_json (hops_unique new new.nodes h.0 k.0 h.1 k.1) ∙ sym k.2)
 
 json_unique : (line : ℕ) (s : Option State) (r : PlainRequest) (t u : List ℕ) (p q : Option State) → IsJsonAnswer line s r t p → IsJsonAnswer line s r u q → (t ≡ u) × (p ≡ q)

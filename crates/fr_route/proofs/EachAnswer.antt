@@ -1,5 +1,5 @@
 -- Each line has an answer in each state after a round, and in the state before any.
-use Rattle.std.proofs.Common.{◌≡◌, ℕ, zero, suc, ◌+◌, ◌<◌, ◌++◌, ◌⊎◌, List, [], ◌∷◌, length, max, ap, arith, inl, inr, refl, subst, ⊎_elim, Option, Some}
+use Rattle.std.proofs.Common.{◌≡◌, ◌==◌, ℕ, zero, suc, ◌+◌, ◌<◌, ◌++◌, ◌⊎◌, List, [], ◌∷◌, length, max, ap, arith, inl, inr, refl, subst, ⊎_elim, Option, Some}
 use Rattle.std.proofs.Common.{None, Result}
 use Rattle.std.specs.Prelude.{slice_get, slice_index, ok_or, sum}
 use Rattle.std.proofs.lemmas.Bool.{cases_eq, cases_lt}
@@ -15,10 +15,10 @@ use Rattle.fr_graph.specs.Edits.{IsJoined, IsJoinFault, without}
 use Rattle.fr_graph.specs.Batches.{AreMade, IsEditFault, IsMade, IsRefusedAt}
 use Rattle.fr_graph.specs.Faults.{IsFaultless, IsFirstFault, IsNetworkOf}
 use Rattle.fr_graph.specs.Limits.{most_edits}
-use Rattle.fr_graph.specs.Links.{IsAcyclic, IsNet, Points}
+use Rattle.fr_graph.specs.Links.{HasPath, IsAcyclic, IsNet, Points}
 use Rattle.fr_graph.specs.Network.{Network, net_of}
 use Rattle.fr_graph.specs.Order.{in_order}
-use Rattle.fr_lines.specs.Requests.{PlainRequest, new_network, cut_link, add_link, join_nodes, make_edits, move_dest, walk_from, ask, order_pushes, reading}
+use Rattle.fr_lines.specs.Requests.{PlainRequest, new_network, cut_link, add_link, join_nodes, make_edits, move_dest, walk_from, ask, ask_node, order_pushes, reading}
 use Rattle.fr_lines.specs.Requests.{reading_of_value, request_of, value_of_line}
 use Rattle.fr_graph.specs.declared.fault.EditFault.{EditFault}
 use Rattle.fr_graph.specs.declared.fault.NetFault.{NetFault}
@@ -28,20 +28,26 @@ use Rattle.fr_graph.specs.declared.edit.Edit.TheVariants.{Cut, Add, Join}
 use Rattle.fr_lines.specs.declared.requests.LineFault.{LineFault}
 use Rattle.fr_lines.specs.declared.requests.LineFault.TheVariants.{NotRequest}
 use Rattle.fr_lines.specs.declared.requests.Question.{Question}
-use Rattle.fr_lines.specs.declared.requests.Question.TheVariants.{Links, Counts, Hops}
+use Rattle.fr_lines.specs.declared.requests.Question.TheVariants.{Links, Counts, Hops, Ways}
+use Rattle.fr_lines.specs.declared.requests.NodeQuestion.{NodeQuestion}
+use Rattle.fr_lines.specs.declared.requests.NodeQuestion.TheVariants as node
 use Rattle.fr_core.proofs.Finishing.{settled_exists}
+use Rattle.fr_core.proofs.Paths.{walk_from_path}
 use Rattle.fr_core.proofs.Searching.{cases_below}
 use Rattle.fr_core.proofs.Unique.{settled_lawful}
-use Rattle.fr_route.specs.States.{State, IsReport, IsRound, net_at}
+use Rattle.fr_route.specs.States.{State, IsCutOff, IsReport, IsRound, net_at}
 use Rattle.fr_route.specs.Routes.{IsHop, AreHops, is_cut_off}
-use Rattle.fr_route.specs.Answers.{fault_number, IsReportLine, IsHopsLine, IsWalkLine, IsAnswer, IsLineAnswer}
+use Rattle.fr_route.specs.Answers.{fault_number, IsReportLine, IsHopsLine, IsWalkLine, IsAnswer, IsLineAnswer, IsText}
 use Rattle.fr_route.specs.Texts.{counts_text, links_text, hops_text, walk_text, no_walk_text, pushes_text, report_text, refusal_text}
+use Rattle.fr_route.specs.Texts.{nearest_text, no_nearest_text, node_ways_text, ways_text}
 use Rattle.fr_tables.specs.declared.hop.Hop.{Hop}
 use Rattle.fr_tables.specs.declared.hop.Hop.TheVariants.{Here, To, CutOff}
 use Rattle.std.specs.List.{count_by}
 use Rattle.fr_route.proofs.Changing.{joined_nodes, made_nodes}
 use Rattle.fr_route.proofs.CutNodes.{hops_cut_count}
 use Rattle.fr_route.proofs.FirstFaults.{faultless_or_fault}
+use Rattle.fr_route.proofs.NodeWays.{all_ways_exist, nearest_route_exists, node_ways_exist}
+use Rattle.fr_route.proofs.Routing.{route_end, route_path}
 use Rattle.fr_route.proofs.TablePushes.{from_or_fault}
 use Rattle.fr_route.specs.Pushing.{padded}
 use Rattle.fr_route.proofs.RoundEnds.{capped_cut_off, hop_leads_on, round_within, still_cut_off}
@@ -283,10 +289,45 @@ walk_answer s good x = ⊎_elim
     (λ past. (refusal_text 4, Some s, inl (4, (past, refl), refl, refl), good))
     (cases_lt x s.nodes)
 
+-- which nodes have a path to the destination
+decide : (s : State) → IsSettledState s → (w : ℕ) → HasPath s.links w s.dest ⊎ ¬ HasPath s.links w s.dest
+decide s good w = elim ((walk_line s good w).1) [
+  | inl route ↦ inl (route.0, (route_path s.links s.dest w route.0 route.1, route_end s.links s.dest w route.0 route.1))
+  | inr cut ↦ inr (λ path. cut.0.1 (0, walk_from_path s.links s.dest w path.0 path.1.0 path.1.1))
+]
+
 ask_answer : (s : State) → IsSettledState s → (question : Question) → HasAnswer (Some s) (ask question)
 ask_answer s good Links = (links_text s.links, Some s, inr (inl (s, refl, refl, refl)), good)
 ask_answer s good Counts = (counts_text s.counts, Some s, inr (inl (s, refl, refl, refl)), good)
+ask_answer s good Ways =
+    let (table, are) = all_ways_exist s good.faultless.is_net.in_range (decide s good) in
+    (ways_text s.dest table, Some s, inr (inl (s, refl, (table, are, refl), refl)), good)
 ask_answer s good Hops = let line = hops_line s good in (line.0, Some s, inr (inl (s, refl, line.1, refl)), good)
+
+-- a node has one list of ways, and one nearest route if it has a path
+node_text : (s : State) → IsSettledState s → (question : NodeQuestion) (x : ℕ)
+    → (text : List ℕ) × IsText s (ask_node question x) text
+node_text s good node.Ways x =
+    let (list, are) = node_ways_exist s good.faultless.is_net.in_range (decide s good) x in
+    (node_ways_text (x == s.dest) list, (list, are, refl))
+node_text s good node.Nearest x = elim (decide s good x) [
+  | inl path ↦
+      let (rest, walk) = nearest_route_exists s good.faultless.is_net.in_range (decide s good) x path in
+      (nearest_text (x ∷ rest), inl (rest, walk, refl))
+  | inr none ↦ (no_nearest_text x, inr (cut_without s good x none, refl))
+]
+  where
+    cut_without : (s : State) → IsSettledState s → (x : ℕ) → ¬ HasPath s.links x s.dest → IsCutOff s.dest s.links x
+    cut_without s good x none = elim ((walk_line s good x).1) [
+      | inl route ↦ absurd (none (route.0, (route_path s.links s.dest x route.0 route.1, route_end s.links s.dest x route.0 route.1)))
+      | inr cut ↦ cut.0
+    ]
+
+node_answer : (s : State) → IsSettledState s → (question : NodeQuestion) (x : ℕ) → HasAnswer (Some s) (ask_node question x)
+node_answer s good question x = ⊎_elim
+    (λ below. let line = node_text s good question x in (line.0, Some s, inr (inl (s, (below, refl), line.1, refl)), good))
+    (λ past. (refusal_text 4, Some s, inl (4, (past, refl), refl, refl), good))
+    (cases_lt x s.nodes)
 
 tables_answer : (s : Option State) → IsReached s → (table : List Hop) (wanted : Option (List Hop)) → HasAnswer s (order_pushes table wanted)
 tables_answer s reached table (Some new) = elim (from_or_fault table (padded (max (length table) (length new)) new)) [
@@ -309,6 +350,7 @@ each_answer None reached (make_edits edits) = (refusal_text 3, None, inl (3, ref
 each_answer None reached (move_dest d) = (refusal_text 3, None, inl (3, refl, refl, refl), tt)
 each_answer None reached (walk_from x) = (refusal_text 3, None, inl (3, refl, refl, refl), tt)
 each_answer None reached (ask question) = (refusal_text 3, None, inl (3, refl, refl, refl), tt)
+each_answer None reached (ask_node question x) = (refusal_text 3, None, inl (3, refl, refl, refl), tt)
 each_answer (Some s) good (cut_link u v) = cut_answer s good u v
 each_answer (Some s) good (add_link u v) = add_answer s good u v
 each_answer (Some s) good (join_nodes u v) = join_answer s good u v
@@ -316,6 +358,7 @@ each_answer (Some s) good (make_edits edits) = batch_answer s good edits
 each_answer (Some s) good (move_dest d) = dest_answer s good d
 each_answer (Some s) good (walk_from x) = walk_answer s good x
 each_answer (Some s) good (ask question) = ask_answer s good question
+each_answer (Some s) good (ask_node question x) = node_answer s good question x
 
 abbrev pub HasLineAnswer : Option State → Result PlainRequest LineFault → Type 0
 HasLineAnswer s line = (text : List ℕ) × (next : Option State) × IsLineAnswer s line text next × IsReached next

@@ -1,12 +1,13 @@
 -- Each line has an answer in either form, in each state after a round, and in the state before any.
-use Rattle.std.proofs.Common.{◌≡◌, ◌∙◌, ℕ, ◌≤◌, List, [], ◌∷◌, length, max, replicate, arith, inl, inr, refl, slice_get, subst, sym, Option, Some, None, Result, Ok, Err, sum}
+use Rattle.std.proofs.Common.{◌≡◌, ◌==◌, ◌∙◌, ℕ, ◌≤◌, List, [], ◌∷◌, length, max, replicate, arith, inl, inr, refl, slice_get, subst, sym, Option, Some, None, Result, Ok, Err, sum}
 use Rattle.std.specs.List.{count_by}
 use Rattle.std.proofs.lemmas.List.{length-replicate}
 use Rattle.fr_graph.specs.declared.edit.Edit.TheVariants as edit
-use Rattle.fr_lines.specs.Requests.{PlainRequest, new_network, cut_link, add_link, join_nodes, make_edits, move_dest, walk_from, ask, order_pushes, reading}
+use Rattle.fr_lines.specs.Requests.{PlainRequest, new_network, cut_link, add_link, join_nodes, make_edits, move_dest, walk_from, ask, ask_node, order_pushes, reading}
 use Rattle.fr_lines.specs.declared.requests.LineFault.{LineFault}
 use Rattle.fr_lines.specs.declared.requests.LineFault.TheVariants.{NotJson, NotRequest, Memory as LineMemory}
-use Rattle.fr_lines.specs.declared.requests.Question.TheVariants.{Links, Counts, Hops}
+use Rattle.fr_lines.specs.declared.requests.Question.TheVariants.{Links, Counts, Hops, Ways}
+use Rattle.fr_lines.specs.declared.requests.NodeQuestion.TheVariants as node
 use Rattle.fr_tables.specs.declared.hop.Hop.{Hop}
 use Rattle.fr_tables.specs.declared.hop.Hop.TheVariants.{CutOff}
 use Rattle.fr_tables.proofs.Existing.{order_exists}
@@ -14,6 +15,7 @@ use Rattle.fr_graph.proofs.Refusing.{no_first_fault}
 use Rattle.fr_route.specs.Answers.{IsAccepted, IsAnswer, IsLineAnswer, IsRefused, IsText}
 use Rattle.fr_route.specs.Forms.{IsAnswerIn}
 use Rattle.fr_route.specs.Json.{IsJsonAnswer, IsJsonLineAnswer, IsJsonReport, IsJsonText, IsRefusal, PlainRefusal, bare_refusal, ends, ends_in, no_node, refusal_for}
+use Rattle.fr_route.specs.Json.{nearest_json, no_nearest_json, node_ways_json, ways_json}
 use Rattle.fr_route.specs.Json.{counts_json, hops_json, links_json, no_walk_json, pushes_json, refusal_json, report_json, walk_json}
 use Rattle.fr_route.specs.Outcomes.{IsSettledTable}
 use Rattle.fr_route.specs.Pushing.{changes_of}
@@ -48,6 +50,7 @@ refusal_exists None good (make_edits edits) number h = (bare_refusal 3, refl)
 refusal_exists None good (move_dest d) number h = (bare_refusal 3, refl)
 refusal_exists None good (walk_from x) number h = (bare_refusal 3, refl)
 refusal_exists None good (ask question) number h = (bare_refusal 3, refl)
+refusal_exists None good (ask_node question x) number h = (bare_refusal 3, refl)
 refusal_exists (Some s) good (cut_link u v) number h =
     let f = edit_named (net_at s) (edit.Cut u v) h.0 good.faultless h.1 in
     (refusal_for f.0 (ends (edit.Cut u v)) None, (f.0, f.1, f.2, refl))
@@ -63,6 +66,7 @@ refusal_exists (Some s) good (make_edits edits) number h =
 refusal_exists (Some s) good (move_dest d) number h = (no_node d, (h.0, refl))
 refusal_exists (Some s) good (walk_from x) number h = (no_node x, (h.0, refl))
 refusal_exists (Some s) good (ask question) number h = absurd h
+refusal_exists (Some s) good (ask_node question x) number h = (no_node x, (h.0, refl))
 
 -- the hops of the numbers below n, in order
 table_of : (s : State) → IsSettledState s → (n : ℕ) → s.nodes ≤ n → (table : List Hop) × IsSettledTable s n table
@@ -124,6 +128,7 @@ text_exists None good (make_edits edits) new good_new h text is = absurd h
 text_exists None good (move_dest d) new good_new h text is = absurd h
 text_exists None good (walk_from x) new good_new h text is = absurd h
 text_exists None good (ask question) new good_new h text is = absurd h
+text_exists None good (ask_node question x) new good_new h text is = absurd h
 text_exists (Some s) good (cut_link u v) new good_new h text is = change_text s new good good_new h.1.nodes
 text_exists (Some s) good (add_link u v) new good_new h text is = change_text s new good good_new h.1.nodes
 text_exists (Some s) good (join_nodes u v) new good_new h text is =
@@ -136,6 +141,12 @@ text_exists (Some s) good (walk_from x) new good_new h text (inr is) = (no_walk_
 text_exists (Some s) good (ask Links) new good_new h text is = (links_json new.links, refl)
 text_exists (Some s) good (ask Counts) new good_new h text is = (counts_json new.counts, refl)
 text_exists (Some s) good (ask Hops) new good_new h text is = (hops_json is.0, (is.0, is.1, refl))
+text_exists (Some s) good (ask Ways) new good_new h text is = (ways_json new.dest is.0, (is.0, is.1, refl))
+text_exists (Some s) good (ask_node node.Ways x) new good_new h text is =
+    (node_ways_json (x == new.dest) is.0, (is.0, is.1, refl))
+text_exists (Some s) good (ask_node node.Nearest x) new good_new h text (inl is) =
+    (nearest_json (x ∷ is.0), inl (is.0, is.1, refl))
+text_exists (Some s) good (ask_node node.Nearest x) new good_new h text (inr is) = (no_nearest_json, inr (is.0, refl))
 
 json_by : (line : ℕ) (s : Option State) → IsReached s → (r : PlainRequest) (text : List ℕ) (next : Option State) → IsAnswer s r text next → IsReached next
     → (json : List ℕ) × IsJsonAnswer line s r json next

@@ -13,7 +13,8 @@ use Rattle.fr_tables.specs.Faults.{IsLowestLoop}
 use Rattle.fr_tables.specs.Tables.{IsInRange, IsLoop, IsLoopFree, IsWalk, SendsOn, end_of}
 use Rattle.fr_tables.specs.declared.hop.Hop.{Hop}
 use Rattle.fr_tables.proofs.Members.{Contains-cases, Contains-head, Contains-none, Contains-tail}
-use Rattle.fr_tables.proofs.Walks.{cases_sends, sends_one, walk_append, walk_below, whole_no_loop}
+use Rattle.fr_tables.proofs.Relations.{walk_append, walk_below}
+use Rattle.fr_tables.proofs.Walks.{cases_sends, sends_one, whole_no_loop}
 
 -- a walk from x that comes back to x, and not before
 abbrev IsRoundFrom : List Hop → ℕ → Type 0
@@ -79,8 +80,8 @@ module _ (table : List Hop) (x : ℕ) where
   return_short : (rest : List ℕ) → IsInRange table → IsWalk table x (rest ++ x ∷ []) → ¬ Contains rest x → length rest < length table
   return_short rest range goes out =
       let low : (q : ℕ) → Contains (x ∷ rest) q → q < length table = λ q c. elim (Contains-cases q x rest c) [
-        | inl e ↦ subst (λ (w : ℕ). w < length table) e (walk_below table x (rest ++ x ∷ []) x range goes (Contains-push rest x))
-        | inr later ↦ walk_below table x (rest ++ x ∷ []) q range goes (Contains-left rest q later)
+        | inl e ↦ subst (λ (w : ℕ). w < length table) e (walk_below (SendsOn table) (length table) range x (rest ++ x ∷ []) x goes (Contains-push rest x))
+        | inr later ↦ walk_below (SendsOn table) (length table) range x (rest ++ x ∷ []) q goes (Contains-left rest q later)
       ] in
       let few : length (x ∷ rest) ≤ length table = distinct_length (length table) (x ∷ rest) (once_with x rest out (return_distinct x rest goes out)) low in
       omega (arith, few)
@@ -126,8 +127,8 @@ module _ (table : List Hop) (x : ℕ) where
       go (suc fuel) done goes out long = elim (cases_sends table (end_of x done)) [
         | inr none ↦ inr (no_round (λ xs. whole_no_loop table x xs done (record { goes = goes; ends = none })))
         | inl sent ↦ elim (cases_eq sent.0 x) [
-          | inl e ↦ inl (done, walk_append table x done (x ∷ []) goes (subst (SendsOn table (end_of x done)) e sent.1, tt), out)
-          | inr apart ↦ go fuel (done ++ sent.0 ∷ []) (walk_append table x done (sent.0 ∷ []) goes (sent.1, tt))
+          | inl e ↦ inl (done, walk_append (SendsOn table) x done (x ∷ []) goes (subst (SendsOn table (end_of x done)) e sent.1, tt), out)
+          | inr apart ↦ go fuel (done ++ sent.0 ∷ []) (walk_append (SendsOn table) x done (sent.0 ∷ []) goes (sent.1, tt))
               (λ c. ⊎_elim out apart (Contains-push_cases done sent.0 x c)) (omega (arith, length_push done sent.0, long))
         ]
       ]
@@ -145,7 +146,7 @@ loop_or_free table range = elim (cases_below (IsRoundFrom table) (λ x. round_or
     free : ((x : ℕ) → x < length table → ¬ IsRoundFrom table x) → (nodes : List ℕ) → ¬ IsLoop table nodes
     free none [] loop = loop
     free none (y ∷ ys) loop =
-        none y (walk_below table y (ys ++ y ∷ []) y range loop (Contains-push ys y)) (round_of_loop table y ys loop)
+        none y (walk_below (SendsOn table) (length table) range y (ys ++ y ∷ []) y loop (Contains-push ys y)) (round_of_loop table y ys loop)
 
 pub lowest_unique : (table : List Hop) (a b : List ℕ) → IsLowestLoop table a → IsLowestLoop table b → a ≡ b
 lowest_unique table [] b h k = absurd h.is_loop

@@ -4,10 +4,11 @@ use Rattle.std.proofs.Common.{ℕ, ◌∙◌, ◌≡◌, ◌≢◌, ◌<◌, ◌
 use Rattle.std.proofs.lemmas.Option.{slice_get-get_or}
 use Rattle.std.specs.Prelude.{String}
 use Rattle.std.specs.declared.alloc.Global.{Global}
-use Rattle.fr_lines.specs.Requests.{PlainRequest, reading, ask, cut_link, add_link, join_nodes, make_edits, move_dest, new_network, order_pushes, walk_from}
+use Rattle.fr_lines.specs.Requests.{PlainRequest, reading, ask, ask_node, cut_link, add_link, join_nodes, make_edits, move_dest, new_network, order_pushes, walk_from}
 use Rattle.fr_lines.specs.declared.requests.LineFault.{LineFault}
 use Rattle.fr_lines.specs.declared.requests.LineFault.TheVariants.{NotJson, NotRequest, Memory as LineMemory}
 use Rattle.fr_lines.specs.declared.requests.Question.{Question}
+use Rattle.fr_lines.specs.declared.requests.NodeQuestion.{NodeQuestion}
 use Rattle.fr_graph.specs.Batches.{IsBatchFault}
 use Rattle.fr_graph.specs.declared.edit.Edit.{Edit}
 use Rattle.fr_graph.specs.declared.edit.Edit.TheVariants as edit
@@ -296,6 +297,11 @@ pub ask_tells : (s : Option State) (question : Question) (nodes : List ℕ) (new
 ask_tells None question nodes new e = let no : ⊥ = cc in absurd no
 ask_tells (Some s) question nodes new e = refl
 
+pub ask_node_tells : (s : Option State) (question : NodeQuestion) (x : ℕ) (nodes : List ℕ) (new : State) → s ≡ Some new
+    → TellsOf s (ask_node question x) new nodes nodes
+ask_node_tells None question x nodes new e = let no : ⊥ = cc in absurd no
+ask_node_tells (Some s) question x nodes new e = refl
+
 -- Answers in each form, from replies
 
 -- the number of a refusal
@@ -324,6 +330,7 @@ refused_by None (make_edits edits) refusal h = ap (λ (r : PlainRefusal). r.numb
 refused_by None (move_dest d) refusal h = ap (λ (r : PlainRefusal). r.number) h
 refused_by None (walk_from x) refusal h = ap (λ (r : PlainRefusal). r.number) h
 refused_by None (ask question) refusal h = ap (λ (r : PlainRefusal). r.number) h
+refused_by None (ask_node question x) refusal h = ap (λ (r : PlainRefusal). r.number) h
 refused_by (Some s) (cut_link u v) refusal h = (h.0, h.1, number_is refusal h.0 (u ∷ v ∷ []) None h.3)
 refused_by (Some s) (add_link u v) refusal h = (h.0, h.1, number_is refusal h.0 (u ∷ v ∷ []) None h.3)
 refused_by (Some s) (join_nodes u v) refusal h = (h.0, h.1, number_is refusal h.0 (u ∷ v ∷ []) None h.3)
@@ -331,6 +338,7 @@ refused_by (Some s) (make_edits edits) refusal h = (h.0, h.1, number_is refusal 
 refused_by (Some s) (move_dest d) refusal h = (h.0, ap (λ (r : PlainRefusal). r.number) h.1)
 refused_by (Some s) (walk_from x) refusal h = (h.0, ap (λ (r : PlainRefusal). r.number) h.1)
 refused_by (Some s) (ask question) refusal h = h
+refused_by (Some s) (ask_node question x) refusal h = (h.0, ap (λ (r : PlainRefusal). r.number) h.1)
 
 is_true : (b : Bool) → b ≡ true → IsTrue b
 is_true b e = search rules

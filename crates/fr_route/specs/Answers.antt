@@ -1,13 +1,14 @@
 -- The answer to each request and to each line, from the state before it: the definition of docs/LINES.md. This
 -- project's own.
-use Rattle.std.specs.Prelude.{◌≡◌, ℕ, ◌<◌, ◌≤◌, ◌⊎◌, List, [], ◌∷◌, ◌++◌}
+use Rattle.std.specs.Prelude.{◌≡◌, ◌==◌, ℕ, ◌<◌, ◌≤◌, ◌⊎◌, List, [], ◌∷◌, ◌++◌}
 use Rattle.std.specs.Prelude.{MatchBool, Option, Some, None, Result, Ok, Err}
 use Rattle.fr_graph.specs.Batches.{IsBatchFault, IsEditFault}
 use Rattle.fr_graph.specs.Faults.{IsFirstFault, IsFaultless, IsNetworkOf}
 use Rattle.fr_graph.specs.Network.{Network}
 use Rattle.fr_lines.specs.Requests.{PlainRequest, new_network, cut_link, add_link, join_nodes}
-use Rattle.fr_lines.specs.Requests.{make_edits, move_dest, walk_from, ask, order_pushes, reading}
-use Rattle.fr_lines.specs.declared.requests.Question.TheVariants.{Links, Counts, Hops}
+use Rattle.fr_lines.specs.Requests.{make_edits, move_dest, walk_from, ask, ask_node, order_pushes, reading}
+use Rattle.fr_lines.specs.declared.requests.Question.TheVariants.{Links, Counts, Hops, Ways}
+use Rattle.fr_lines.specs.declared.requests.NodeQuestion.TheVariants as node
 use Rattle.fr_lines.specs.declared.requests.LineFault.{LineFault}
 use Rattle.fr_lines.specs.declared.requests.LineFault.TheVariants.{NotJson, NotRequest, Memory as LineMemory}
 use Rattle.fr_graph.specs.declared.edit.Edit.TheVariants as edit
@@ -16,10 +17,12 @@ use Rattle.fr_graph.specs.declared.fault.NetFault.{NetFault}
 use Rattle.fr_graph.specs.declared.fault.NetFault.TheVariants.{TooMany, Range, SelfLink, Twice, Cycle, NoLink, Memory}
 use Rattle.fr_route.specs.Blank.{is_blank}
 use Rattle.fr_route.specs.States.{State, IsRound, IsReport, IsCutOff, net_at}
+use Rattle.fr_route.specs.NodeWays.{AreAllWays, AreNodeWays, IsNearestRoute}
 use Rattle.fr_route.specs.Routes.{IsRoute, AreHops}
 use Rattle.fr_route.specs.Changes.{CanTurnAfter, IsBatch, IsChanged, IsMoved, IsStill, MayStart}
 use Rattle.fr_route.specs.Pushing.{AreAsked, IsPushesRefused}
-use Rattle.fr_route.specs.Texts.{counts_text, links_text, hops_text, walk_text, no_walk_text, pushes_text, report_text, refusal_text}
+use Rattle.fr_route.specs.Texts.{counts_text, links_text, hops_text, walk_text, no_walk_text, ways_text}
+use Rattle.fr_route.specs.Texts.{node_ways_text, nearest_text, no_nearest_text, pushes_text, report_text, refusal_text}
 use Rattle.fr_route.specs.declared.change.Change.TheVariants.{Cut, Add, Join, Destination}
 use Rattle.fr_tables.specs.declared.hop.Hop.{Hop}
 
@@ -54,6 +57,7 @@ IsRefused (Some s) (make_edits edits) number = (refused : EditFault) × IsBatchF
 IsRefused (Some s) (move_dest d) number = (s.nodes ≤ d) × (number ≡ 4)
 IsRefused (Some s) (walk_from x) number = (s.nodes ≤ x) × (number ≡ 4)
 IsRefused (Some s) (ask question) number = ⊥
+IsRefused (Some s) (ask_node question x) number = (s.nodes ≤ x) × (number ≡ 4)
 
 -- the request is accepted, and `new` is the state after it: a network or a change begins a round, and all else changes
 -- nothing. Requests for pushes are defined by `AreAsked`, since they need no state
@@ -68,6 +72,7 @@ IsAccepted (Some s) (make_edits edits) new = IsBatch s edits new
 IsAccepted (Some s) (move_dest d) new = IsMoved s d new
 IsAccepted (Some s) (walk_from x) new = (x < s.nodes) × (new ≡ s)
 IsAccepted (Some s) (ask question) new = new ≡ s
+IsAccepted (Some s) (ask_node question x) new = (x < s.nodes) × (new ≡ s)
 
 -- the line that reports a round, from the state after it
 abbrev pub IsReportLine : State → List ℕ → Type 0
@@ -83,6 +88,20 @@ IsWalkLine s x text =
     ((rest : List ℕ) × IsRoute s.links s.dest x rest × (text ≡ walk_text (x ∷ rest)))
     ⊎ (IsCutOff s.dest s.links x × (text ≡ no_walk_text x))
 
+-- the line with the ways of each node
+abbrev pub IsWaysLine : State → List ℕ → Type 0
+IsWaysLine s text = (table : List (List ℕ)) × AreAllWays s table × (text ≡ ways_text s.dest table)
+
+-- the line with the ways of x
+abbrev pub IsNodeWaysLine : State → ℕ → List ℕ → Type 0
+IsNodeWaysLine s x text = (list : List ℕ) × AreNodeWays s x list × (text ≡ node_ways_text (x == s.dest) list)
+
+-- the line with a route of the fewest links from x, or that there is none
+abbrev pub IsNearestLine : State → ℕ → List ℕ → Type 0
+IsNearestLine s x text =
+    ((rest : List ℕ) × IsNearestRoute s x rest × (text ≡ nearest_text (x ∷ rest)))
+    ⊎ (IsCutOff s.dest s.links x × (text ≡ no_nearest_text x))
+
 -- the answer to an accepted request, from the state after it
 abbrev pub IsText : State → PlainRequest → List ℕ → Type 0
 IsText s (new_network n d links) text = IsReportLine s text
@@ -95,6 +114,9 @@ IsText s (walk_from x) text = IsWalkLine s x text
 IsText s (ask Links) text = text ≡ links_text s.links
 IsText s (ask Counts) text = text ≡ counts_text s.counts
 IsText s (ask Hops) text = IsHopsLine s text
+IsText s (ask Ways) text = IsWaysLine s text
+IsText s (ask_node node.Ways x) text = IsNodeWaysLine s x text
+IsText s (ask_node node.Nearest x) text = IsNearestLine s x text
 IsText s (order_pushes table wanted) text = ⊥
 
 -- the answer to a request, and the state after it: refusals and pushes between tables do not change the state
@@ -136,6 +158,7 @@ MayStartFor (Some s) (make_edits edits) = CanTurnAfter s edits s.dest
 MayStartFor (Some s) (move_dest d) = MayStart s (Destination d)
 MayStartFor (Some s) (walk_from x) = ⊥
 MayStartFor (Some s) (ask question) = ⊥
+MayStartFor (Some s) (ask_node question x) = ⊥
 
 -- the same for a line that was read with this result
 abbrev pub MayStartForLine : Option State → Result PlainRequest LineFault → Type 0

@@ -1,6 +1,6 @@
 -- The answers in JSON, to each request and to each line: the definition of docs/LINES.md. This project's own; JSON is
 -- that of RFC 8259.
-use Rattle.std.specs.Prelude.{◌≡◌, ℕ, ◌≤◌, ◌==◌, ◌⊎◌, Bool, true, false, List, [], ◌∷◌, ◌++◌, Option}
+use Rattle.std.specs.Prelude.{◌≡◌, ℕ, ◌+◌, ◌≤◌, ◌==◌, ◌⊎◌, Bool, true, false, List, [], ◌∷◌, ◌++◌, Option}
 use Rattle.std.specs.Prelude.{Some, None, Result, Ok, Err, codes, decimal, map, slice_get, if◌then◌else◌}
 use Rattle.std.specs.List.{AllByRecursion}
 use Rattle.fr_graph.specs.Batches.{IsBatchFault, IsEditFault}
@@ -13,32 +13,22 @@ use Rattle.fr_graph.specs.declared.fault.EditFault.{EditFault}
 use Rattle.fr_graph.specs.declared.fault.NetFault.{NetFault}
 use Rattle.fr_graph.specs.declared.fault.NetFault.TheVariants.{NoLink}
 use Rattle.fr_lines.specs.Requests.{PlainRequest, new_network, cut_link, add_link}
-use Rattle.fr_lines.specs.Requests.{join_nodes, make_edits, move_dest, walk_from, ask, order_pushes}
-use Rattle.fr_lines.specs.declared.requests.Question.TheVariants.{Links, Counts, Hops}
+use Rattle.fr_lines.specs.Requests.{join_nodes, make_edits, move_dest, walk_from, ask, ask_node, order_pushes}
+use Rattle.fr_lines.specs.declared.requests.Question.TheVariants.{Links, Counts, Hops, Ways}
+use Rattle.fr_lines.specs.declared.requests.NodeQuestion.TheVariants as node
 use Rattle.fr_lines.specs.declared.requests.LineFault.{LineFault}
 use Rattle.fr_lines.specs.declared.requests.LineFault.TheVariants.{NotJson, NotRequest, Memory as LineMemory}
 use Rattle.fr_route.specs.Answers.{IsAccepted, fault_number}
 use Rattle.fr_route.specs.Pushing.{AreAsked, IsPushesRefused}
 use Rattle.fr_route.specs.Reroutes.{AreReplaced, AreRerouted}
+use Rattle.fr_route.specs.NodeWays.{AreAllWays, AreNodeWays, IsNearestRoute}
 use Rattle.fr_route.specs.Routes.{AreHops, IsHop, IsRoute}
+use Rattle.fr_route.specs.Separated.{comma_before, listed}
 use Rattle.fr_route.specs.States.{State, IsCutOff, IsReport, net_at}
 use Rattle.fr_tables.specs.declared.hop.Hop.{Hop}
 use Rattle.fr_tables.specs.declared.hop.Hop.TheVariants.{Here, To, CutOff}
 
 -- Texts
-
--- nothing before the first item, and a comma before each other one
-abbrev pub comma_before : Bool → List ℕ
-comma_before true = []
-comma_before false = codes ","
-
--- the texts of the items, with commas between them. `first` says whether no item comes before these
-abbrev pub separated : {X : Type 0} → (X → List ℕ) → Bool → List X → List ℕ
-separated text first [] = []
-separated text first (x ∷ xs) = comma_before first ++ (text x ++ separated text false xs)
-
-abbrev pub listed : {X : Type 0} → (X → List ℕ) → List X → List ℕ
-listed text xs = separated text true xs
 
 abbrev pub link_json : ℕ × ℕ → List ℕ
 link_json l = codes "[" ++ (decimal l.0 ++ (codes "," ++ (decimal l.1 ++ codes "]")))
@@ -62,6 +52,29 @@ walk_json nodes = codes "{\"walk\":[" ++ (listed decimal nodes ++ codes "]}")
 
 abbrev pub no_walk_json : List ℕ
 no_walk_json = codes "{\"walk\":null}"
+
+-- the item for the ways of a node. `home` says whether it is the destination. Any other node without ways is cut off
+abbrev pub ways_item : Bool → List ℕ → List ℕ
+ways_item true list = codes "\"here\""
+ways_item false [] = codes "\"cut\""
+ways_item false (w ∷ ws) = codes "[" ++ (listed decimal (w ∷ ws) ++ codes "]")
+
+-- the items of the nodes from x on; d is the destination. `first` says whether no item comes before these
+abbrev pub ways_items : ℕ → ℕ → Bool → List (List ℕ) → List ℕ
+ways_items d x first [] = []
+ways_items d x first (row ∷ rows) = comma_before first ++ (ways_item (x == d) row ++ ways_items d (x + 1) false rows)
+
+abbrev pub ways_json : ℕ → List (List ℕ) → List ℕ
+ways_json d table = codes "{\"ways\":[" ++ (ways_items d 0 true table ++ codes "]}")
+
+abbrev pub node_ways_json : Bool → List ℕ → List ℕ
+node_ways_json home list = codes "{\"ways\":" ++ (ways_item home list ++ codes "}")
+
+abbrev pub nearest_json : List ℕ → List ℕ
+nearest_json nodes = codes "{\"nearest\":[" ++ (listed decimal nodes ++ codes "]}")
+
+abbrev pub no_nearest_json : List ℕ
+no_nearest_json = codes "{\"nearest\":null}"
 
 -- a number whose hop has changed, with its new hop
 abbrev pub change_json : ℕ × Hop → List ℕ
@@ -169,6 +182,7 @@ IsRefusal (Some s) (make_edits edits) refusal = IsBatchRefusal (net_at s) edits 
 IsRefusal (Some s) (move_dest d) refusal = (s.nodes ≤ d) × (refusal ≡ no_node d)
 IsRefusal (Some s) (walk_from x) refusal = (s.nodes ≤ x) × (refusal ≡ no_node x)
 IsRefusal (Some s) (ask question) refusal = ⊥
+IsRefusal (Some s) (ask_node question x) refusal = (s.nodes ≤ x) × (refusal ≡ no_node x)
 
 -- Answers
 
@@ -193,6 +207,20 @@ IsJsonWalk s x text =
     ((rest : List ℕ) × IsRoute s.links s.dest x rest × (text ≡ walk_json (x ∷ rest)))
     ⊎ (IsCutOff s.dest s.links x × (text ≡ no_walk_json))
 
+-- the ways of each node
+abbrev pub IsJsonWays : State → List ℕ → Type 0
+IsJsonWays s text = (table : List (List ℕ)) × AreAllWays s table × (text ≡ ways_json s.dest table)
+
+-- the ways of x
+abbrev pub IsJsonNodeWays : State → ℕ → List ℕ → Type 0
+IsJsonNodeWays s x text = (list : List ℕ) × AreNodeWays s x list × (text ≡ node_ways_json (x == s.dest) list)
+
+-- a route of the fewest links from x, or that there is none
+abbrev pub IsJsonNearest : State → ℕ → List ℕ → Type 0
+IsJsonNearest s x text =
+    ((rest : List ℕ) × IsNearestRoute s x rest × (text ≡ nearest_json (x ∷ rest)))
+    ⊎ (IsCutOff s.dest s.links x × (text ≡ no_nearest_json))
+
 -- which numbers have a new hop after an accepted request, in push order
 abbrev pub AreChanged : Option State → State → List ℕ → Type 0
 AreChanged None new numbers = ⊥
@@ -210,6 +238,9 @@ IsJsonText s (walk_from x) new text = IsJsonWalk new x text
 IsJsonText s (ask Links) new text = text ≡ links_json new.links
 IsJsonText s (ask Counts) new text = text ≡ counts_json new.counts
 IsJsonText s (ask Hops) new text = IsJsonHops new text
+IsJsonText s (ask Ways) new text = IsJsonWays new text
+IsJsonText s (ask_node node.Ways x) new text = IsJsonNodeWays new x text
+IsJsonText s (ask_node node.Nearest x) new text = IsJsonNearest new x text
 IsJsonText s (order_pushes table wanted) new text = ⊥
 
 -- the answer to a request of the line with this number, and the state after it: refusals and pushes between tables do

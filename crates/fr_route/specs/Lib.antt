@@ -8,6 +8,8 @@ pub mod Ways
 pub mod Outcomes
 pub mod RouterInside
 pub mod Blank
+pub mod NodeWays
+pub mod Separated
 pub mod Texts
 pub mod Pushing
 pub mod Answers

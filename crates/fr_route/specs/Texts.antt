@@ -1,5 +1,6 @@
 -- The texts of answers: the definition of docs/LINES.md. This project's own.
-use Rattle.std.specs.Prelude.{ℕ, List, [], ◌∷◌, ◌++◌, codes, decimal}
+use Rattle.std.specs.Prelude.{Bool, true, false, ℕ, ◌+◌, ◌==◌, List, [], ◌∷◌, ◌++◌, codes, decimal}
+use Rattle.fr_route.specs.Separated.{listed}
 use Rattle.fr_tables.specs.declared.hop.Hop.{Hop}
 use Rattle.fr_tables.specs.declared.hop.Hop.TheVariants.{Here, To, CutOff}
 
@@ -38,6 +39,29 @@ walk_text nodes = codes "walk" ++ spaced nodes
 
 abbrev pub no_walk_text : ℕ → List ℕ
 no_walk_text node = codes "walk " ++ (decimal node ++ codes " cut")
+
+-- the word for the ways of a node. `home` says whether it is the destination. Any other node without ways is cut off
+abbrev pub ways_word : Bool → List ℕ → List ℕ
+ways_word true list = codes "here"
+ways_word false [] = codes "cut"
+ways_word false (w ∷ ws) = listed decimal (w ∷ ws)
+
+-- for each node from x on a space and the word for its ways; d is the destination
+abbrev pub spaced_ways : ℕ → ℕ → List (List ℕ) → List ℕ
+spaced_ways d x [] = []
+spaced_ways d x (row ∷ rows) = codes " " ++ (ways_word (x == d) row ++ spaced_ways d (x + 1) rows)
+
+abbrev pub ways_text : ℕ → List (List ℕ) → List ℕ
+ways_text d table = codes "ways" ++ spaced_ways d 0 table
+
+abbrev pub node_ways_text : Bool → List ℕ → List ℕ
+node_ways_text home list = codes "ways " ++ ways_word home list
+
+abbrev pub nearest_text : List ℕ → List ℕ
+nearest_text nodes = codes "nearest" ++ spaced nodes
+
+abbrev pub no_nearest_text : ℕ → List ℕ
+no_nearest_text node = codes "nearest " ++ (decimal node ++ codes " cut")
 
 -- for each push a space, its node, `>` and the word for the new hop
 abbrev pub spaced_pushes : List (ℕ × Hop) → List ℕ

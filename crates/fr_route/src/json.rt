@@ -1,19 +1,22 @@
 //! The answers in JSON. The functions that other modules call are not inlined, so that answers in text do not pay for
 //! their local variables.
 
-ghost use Rattle.std.specs.Prelude.{◌≡◌, ◌≤◌, ◌++◌, ◌+◌, ◌*◌, length, slice_get};
+ghost use Rattle.std.specs.Prelude.{◌≡◌, ◌<◌, ◌≤◌, ◌++◌, ◌+◌, ◌*◌, ◌^◌, length, slice_get};
 ghost use Rattle.std.specs.Prelude.{IfOk, OnOk, codes, decimal, string_bytes};
-ghost use Rattle.fr_route.specs.Json.{change_json, comma_before, counts_json, hop_json, pushes_json};
+ghost use Rattle.fr_route.specs.Json.{change_json, counts_json, hop_json, pushes_json};
+ghost use Rattle.fr_route.specs.Json.{nearest_json, no_nearest_json, node_ways_json, ways_item, ways_json};
 ghost use Rattle.fr_route.specs.Pushing.{changes_of, hop_in};
-ghost use Rattle.fr_route.specs.Json.{hops_json, link_json, links_json, listed, no_walk_json, place_json};
+ghost use Rattle.fr_route.specs.Json.{hops_json, link_json, links_json, no_walk_json, place_json};
 ghost use Rattle.fr_route.specs.Json.{refusal_json, refused_json, report_json, round_json, shown_json, walk_json};
 ghost use Rattle.fr_route.specs.Refusals.{number_of, plain_refusal};
 ghost use Rattle.fr_route.specs.Rooms.{Fits};
+ghost use Rattle.fr_route.specs.Separated.{comma_before, listed};
 
 use crate::change::Report;
 use crate::refusals::Refusal;
 use fr_graph::Links;
 use fr_tables::Hop;
+use fr_ways::WayTable;
 use itoa::Buffer;
 use std::alloc::{AllocError, Global};
 
@@ -70,7 +73,7 @@ fn push_comma(line: &mut String, first: bool) -> Result<(), AllocError>
 }
 
 /// Appends the numbers of nodes, with commas between them.
-fn push_nodes(line: &mut String, nodes: &[u32], buffer: &mut Buffer) -> Result<(), AllocError>
+pub(crate) fn push_nodes(line: &mut String, nodes: &[u32], buffer: &mut Buffer) -> Result<(), AllocError>
     ensures { OnOk result (string_bytes line.new ≡ string_bytes line.old ++ listed decimal nodes.now) }
 {
     let mut first = true;
@@ -166,6 +169,78 @@ pub(crate) fn no_walk_object(alloc: Global) -> Result<String, AllocError>
     ensures { IfOk result (λ line. string_bytes line ≡ no_walk_json) }
 {
     begun(alloc, "{\"walk\":null}", 0)
+}
+
+/// Appends the ways of a node: `"here"` for the destination, `"cut"` without a way, or the ways in brackets.
+fn push_ways(
+    line: &mut String,
+    home: bool,
+    ways: &[u32],
+    buffer: &mut Buffer,
+) -> Result<(), AllocError>
+    ensures { OnOk result (string_bytes line.new ≡ string_bytes line.old ++ ways_item home ways.now) }
+{
+    if home {
+        return line.push_str("\"here\"");
+    }
+    if ways.is_empty() {
+        return line.push_str("\"cut\"");
+    }
+    line.push_str("[")?;
+    push_nodes(line, ways, buffer)?;
+    line.push_str("]")
+}
+
+/// `{"ways":["here",[0],[0,1],"cut"]}`: the ways of each node.
+#[inline(never)]
+pub(crate) fn ways_object(alloc: Global, dest: u32, table: &WayTable) -> Result<String, AllocError>
+    requires { length table.now < 2 ^ 32 }
+    ensures { IfOk result (λ line. string_bytes line ≡ ways_json dest table.now) }
+{
+    let mut line = begun(alloc, "{\"ways\":[", table.list().len())?;
+    let mut buffer = Buffer::new();
+    let mut first = true;
+    for x in 0..table.len() as u32 {
+        push_comma(&mut line, first)?;
+        push_ways(&mut line, x == dest, table.row(x), &mut buffer)?;
+        first = false;
+    }
+    line.push_str("]}")?;
+    Ok(line)
+}
+
+/// `{"ways":[0,1]}`: these ways of one node. `home` says whether it is the destination.
+#[inline(never)]
+pub(crate) fn node_ways_object(
+    alloc: Global,
+    home: bool,
+    ways: &[u32],
+) -> Result<String, AllocError>
+    ensures { IfOk result (λ line. string_bytes line ≡ node_ways_json home ways.now) }
+{
+    let mut line = begun(alloc, "{\"ways\":", ways.len())?;
+    push_ways(&mut line, home, ways, &mut Buffer::new())?;
+    line.push_str("}")?;
+    Ok(line)
+}
+
+/// `{"nearest":[3,1,0]}`: the nodes of a nearest route.
+#[inline(never)]
+pub(crate) fn nearest_object(alloc: Global, nodes: &[u32]) -> Result<String, AllocError>
+    ensures { IfOk result (λ line. string_bytes line ≡ nearest_json nodes.now) }
+{
+    let mut line = begun(alloc, "{\"nearest\":[", nodes.len())?;
+    push_nodes(&mut line, nodes, &mut Buffer::new())?;
+    line.push_str("]}")?;
+    Ok(line)
+}
+
+/// The answer for a nearest route from a node that is cut off.
+#[inline(never)]
+pub(crate) fn no_nearest_object(alloc: Global) -> Result<String, AllocError>
+    ensures { IfOk result (λ line. string_bytes line ≡ no_nearest_json) }
+{
+    begun(alloc, "{\"nearest\":null}", 0)
 }
 
 /// The hop of a number. A number that is not a node is cut off.

@@ -8,6 +8,7 @@ ghost use Rattle.fr_crew.specs.Settlements.{CanBegin, HoldsSinks, IsCounted};
 ghost use Rattle.fr_route.specs.Ways.{Settles, NeverStarts};
 ghost use Rattle.fr_route.specs.declared.fault.RouteFault.TheVariants.{Start, Memory};
 ghost use Rattle.fr_route.specs.Listing.{nodes_told};
+ghost use Rattle.fr_route.specs.NodeWays.{AreAllWays, AreNodeWays, IsNearest};
 ghost use Rattle.fr_route.specs.States.{IsAfterRound, IsRound, IsReport};
 ghost use Rattle.fr_route.specs.Routes.{IsHop, AreHops, IsWalked};
 ghost use Rattle.fr_route.specs.Changes.{IsOpenFault, IsChanged, IsRouteFault, IsStill};
@@ -27,6 +28,7 @@ use crate::told::Told;
 use fr_crew::{Crew, CrewFault, Gate, Plan, settled_counts, settled_counts_alone};
 use fr_graph::{Edit, MAX_EDITS, Net, NetFault, Turns};
 use fr_tables::{Hop, PushRoom, TableFault, first_outside, known_push_order};
+use fr_ways::WayTable;
 use std::alloc::{AllocError, Global};
 use std::marker::Model;
 use std::mem;
@@ -557,6 +559,40 @@ impl Router {
         ensures { IsHop self.now x result }
     {
         self.hops[x as usize]
+    }
+
+    /// STUB
+    pub fn ways(&self, x: u32, list: &mut Vec<u32>) -> Result<(), AllocError>
+        requires { x < self.now.nodes }
+        ensures { OnOk result (AreNodeWays self.now x list.new.items) }
+    {
+        list.clear();
+        Err(AllocError)
+    }
+
+    /// The ways of each node, as [`ways`](Router::ways) lists them. Fails with `AllocError` if an allocation is refused.
+    /// O(n + m log d), where no node has more than d links.
+    pub fn all_ways(&self, alloc: Global) -> Result<WayTable, AllocError>
+        ensures { IfOk result (AreAllWays self.now) }
+    {
+        self.net.network_law();
+        let nodes = self.net.nodes();
+        let mut table = WayTable::with_capacity(alloc, nodes as usize, self.net.link_count())?;
+        let mut list = Vec::new(alloc);
+        for x in 0..nodes {
+            self.ways(x, &mut list)?;
+            table.push_row(&list)?;
+        }
+        Ok(table)
+    }
+
+    /// STUB
+    pub fn nearest(&self, alloc: Global, x: u32) -> Result<Walked, RouteFault>
+        requires { x < self.now.nodes }
+        ensures walked { IfOk result (IsNearest self.now x) }
+        ensures memory { IfErr result (λ fault. fault ≡ Memory) }
+    {
+        Err(RouteFault::Memory)
     }
 
     /// The route from node `x` to the destination, hop by hop. The node must be in the network. Fails only with

@@ -7,7 +7,7 @@ ghost use Rattle.std.specs.Prelude.{option_map};
 ghost use Rattle.std.specs.declared.alloc.Global.{Global};
 ghost use Rattle.std.specs.declared.vec.Vec.{Vec};
 ghost use Rattle.fr_tables.specs.declared.hop.Hop.{Hop};
-ghost use Rattle.fr_lines.specs.Requests.{ask, make_edits, move_dest, new_network, order_pushes, walk_from};
+ghost use Rattle.fr_lines.specs.Requests.{ask, ask_node, make_edits, move_dest, new_network, order_pushes, walk_from};
 ghost use Rattle.fr_lines.specs.Requests.{plain, reading};
 ghost use Rattle.fr_crew.specs.Settlements.{CanBegin};
 ghost use Rattle.fr_route.specs.Ways.{Settles, NeverStarts};
@@ -32,7 +32,7 @@ use crate::fault::{AnswerFault, NotMade, RouteFault};
 use crate::form::{AS_TEXT, Answer, Form, Line, Manner, accepted};
 use crate::outcome::ends as ends_of;
 use crate::pushing::{pushes_between, pushes_from};
-use crate::questions::{question_in, walk_in};
+use crate::questions::{node_question_in, question_in, walk_in};
 use crate::refusals::Reason;
 use crate::refusing::{refuse, refuse_for};
 use crate::reports::{push_report_in, report_begun};
@@ -42,7 +42,7 @@ use crate::settling::Asking;
 use crate::told::Told;
 use fr_crew::{Crew, CrewFault, Gate, Plan, settled_counts, settled_counts_alone};
 use fr_graph::{Edit, MAX_EDITS, Net, NetFault, Turns};
-use fr_lines::{LineFault, Question, Request, read_line};
+use fr_lines::{LineFault, NodeQuestion, Question, Request, read_line};
 use fr_tables::Hop;
 use std::alloc::Global;
 use std::marker::Model;
@@ -399,6 +399,26 @@ impl Session {
         Ok(accepted(question_in(alloc, manner.form, router, question)?))
     }
 
+    /// The answer to a question about one node.
+    fn node_question(
+        &self,
+        alloc: Global,
+        manner: Manner,
+        question: NodeQuestion,
+        x: u32,
+    ) -> Result<Answer, AnswerFault>
+        ensures reply { IfOk result (λ answer. IsStillReply manner self.now (ask_node question x) answer) }
+        ensures memory { IfErr result (λ fault. fault ≡ Memory) }
+    {
+        let Some(router) = &self.router else {
+            return refuse(alloc, manner, Reason::NoNetwork, &[], None);
+        };
+        if x >= router.net().nodes() {
+            return refuse(alloc, manner, Reason::NoNode, &[x], None);
+        }
+        Ok(accepted(node_question_in(alloc, manner.form, router, question, x)?))
+    }
+
     /// The answer to a request for the pushes from a table to the wanted one, or to the next hops if none is given.
     fn pushes(
         &self,
@@ -616,6 +636,9 @@ impl<'a, F: Fn(&Net, u32, Option<&[u32]>, Turns) -> Result<Turns, CrewFault>> As
             Request::Destination { dest } => self.reply_move(session, manner, *dest, told),
             Request::Walk { x } => session.walk(self.alloc, manner, *x),
             Request::Ask(question) => session.question(self.alloc, manner, *question),
+            Request::AskNode { question, x } => {
+                session.node_question(self.alloc, manner, *question, *x)
+            }
             Request::Pushes { table, wanted } => session.pushes(self.alloc, manner, table, wanted),
         }
     }

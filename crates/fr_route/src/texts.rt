@@ -1,17 +1,19 @@
 //! The texts of answers.
 
-ghost use Rattle.std.specs.Prelude.{◌≡◌, ◌≤◌, ◌++◌, ◌+◌, length, IfOk, OnOk, codes, decimal, string_bytes};
+ghost use Rattle.std.specs.Prelude.{◌≡◌, ◌<◌, ◌≤◌, ◌++◌, ◌+◌, ◌^◌, ◌∷◌, length, IfOk, OnOk, codes, decimal, string_bytes};
 ghost use Rattle.fr_route.specs.Refusals.{number_of};
 ghost use Rattle.fr_route.specs.Pushing.{changes_of};
 ghost use Rattle.fr_route.specs.Rooms.{Fits};
 ghost use Rattle.fr_route.specs.Texts.{counts_text, links_text, hops_text, hop_word, walk_text};
 ghost use Rattle.fr_route.specs.Texts.{no_walk_text, pushes_text, report_text, longest_report, refusal_text};
+ghost use Rattle.fr_route.specs.Texts.{nearest_text, no_nearest_text, node_ways_text, ways_text, ways_word};
 
 use crate::change::Report;
-use crate::json::hop_at;
+use crate::json::{hop_at, push_nodes};
 use crate::refusals::Reason;
 use fr_graph::{Links, MAX_NODES};
 use fr_tables::Hop;
+use fr_ways::WayTable;
 use itoa::Buffer;
 use std::alloc::{AllocError, Global};
 
@@ -152,6 +154,74 @@ pub(crate) fn no_walk_line(alloc: Global, node: u32) -> Result<String, AllocErro
     ensures { IfOk result (λ line. string_bytes line ≡ no_walk_text node) }
 {
     format!(in alloc; "walk {node} cut")
+}
+
+/// Appends the word for the ways of a node: `here` for the destination, `cut` without a way, or the ways.
+fn push_ways(
+    line: &mut String,
+    home: bool,
+    ways: &[u32],
+    buffer: &mut Buffer,
+) -> Result<(), AllocError>
+    ensures { OnOk result (string_bytes line.new ≡ string_bytes line.old ++ ways_word home ways.now) }
+{
+    if home {
+        return line.push_str("here");
+    }
+    if ways.is_empty() {
+        return line.push_str("cut");
+    }
+    push_nodes(line, ways, buffer)
+}
+
+/// `ways`, and then a space and the word for the ways of each node.
+#[inline(never)]
+pub(crate) fn ways_line(alloc: Global, dest: u32, table: &WayTable) -> Result<String, AllocError>
+    requires { length table.now < 2 ^ 32 }
+    ensures { IfOk result (λ line. string_bytes line ≡ ways_text dest table.now) }
+{
+    let mut line = begun(alloc, "ways", table.list().len())?;
+    let mut buffer = Buffer::new();
+    for x in 0..table.len() as u32 {
+        line.push_str(" ")?;
+        push_ways(&mut line, x == dest, table.row(x), &mut buffer)?;
+    }
+    Ok(line)
+}
+
+/// `ways`, and then a space and the word for these ways of one node. `home` says whether it is the destination.
+#[inline(never)]
+pub(crate) fn node_ways_line(
+    alloc: Global,
+    home: bool,
+    ways: &[u32],
+) -> Result<String, AllocError>
+    ensures { IfOk result (λ line. string_bytes line ≡ node_ways_text home ways.now) }
+{
+    let mut line = begun(alloc, "ways ", ways.len())?;
+    push_ways(&mut line, home, ways, &mut Buffer::new())?;
+    Ok(line)
+}
+
+/// `nearest`, and then a space and the number of each node.
+#[inline(never)]
+pub(crate) fn nearest_line(alloc: Global, nodes: &[u32]) -> Result<String, AllocError>
+    ensures { IfOk result (λ line. string_bytes line ≡ nearest_text nodes.now) }
+{
+    let mut line = begun(alloc, "nearest", nodes.len())?;
+    let mut buffer = Buffer::new();
+    for node in nodes {
+        push_number(&mut line, " ", u64::from(*node), &mut buffer)?;
+    }
+    Ok(line)
+}
+
+/// The answer for a nearest route from a node that is cut off.
+#[inline(never)]
+pub(crate) fn no_nearest_line(alloc: Global, node: u32) -> Result<String, AllocError>
+    ensures { IfOk result (λ line. string_bytes line ≡ no_nearest_text node) }
+{
+    format!(in alloc; "nearest {node} cut")
 }
 
 /// Appends the report of a round: how many turns it took, and how many nodes are cut off.

@@ -1,6 +1,6 @@
 -- Push orders: their beginnings and whole groups are closed downstream, they end with the new table, and the tables
 -- determine them.
-use Rattle.std.proofs.Common.{Contains, List, [], arith, get_or, inl, inr, length, refl, slice_get, subst, suc, sym, ℕ, ⊎_elim, ◌++◌, ◌-◌, ◌≤◌}
+use Rattle.std.proofs.Common.{Contains, List, [], arith, get_or, inl, inr, length, refl, slice_get, subst, sym, ℕ, ⊎_elim, ◌++◌, ◌-◌, ◌≤◌}
 use Rattle.std.proofs.Common.{◌<◌, ◌∙◌, ◌∷◌, ◌≡◌, ap, Some, length-set, set}
 use Rattle.std.proofs.lemmas.List.Elements.{Contains-append_left, Contains-push, Contains-push_cases}
 use Rattle.std.proofs.lemmas.Bool.{cases_lt, cases_eq}
@@ -13,7 +13,8 @@ use Rattle.fr_tables.specs.declared.hop.Hop.{Hop}
 use Rattle.fr_tables.specs.declared.hop.Hop.TheVariants.{Here}
 use Rattle.fr_tables.proofs.Arriving.{alike_downstream, cases_arrives}
 use Rattle.fr_tables.proofs.Counts.{cases_differ, wave_falls, wave_unique}
-use Rattle.fr_tables.proofs.Members.{Contains-cases, Contains-head, Contains-none, Contains-tail, cases_member}
+use Rattle.fr_tables.proofs.Sorted.{sorted_from, sorted_unique}
+use Rattle.fr_tables.proofs.Members.{Contains-none, cases_member}
 
 pub groups_closed : (old new : List Hop) (nodes : List ℕ) → IsUpToGroup old new nodes → IsClosedDownstream old new nodes
 groups_closed old new nodes up x y inside down differs =
@@ -120,37 +121,6 @@ push_is_one_more old new nodes table x hop same is pushed =
           let apart : ¬ (y ≡ x) = λ e. out (subst (Contains (nodes ++ x ∷ [])) (sym e) (Contains-push nodes x)) in
           set_there table x hop y apart ∙ pushed.others y (λ found. out (Contains-append_left nodes (x ∷ []) y found));
     }
-
--- lists with the same elements that are sorted by an asymmetric relation are equal
-
-IsSorted : (ℕ → ℕ → Type 0) → List ℕ → Type 0
-IsSorted R [] = Unit {0}
-IsSorted R (x ∷ xs) = ((y : ℕ) → Contains xs y → R x y) × IsSorted R xs
-
-sorted_from : (R : ℕ → ℕ → Type 0) (xs : List ℕ) → ((i j : ℕ) → i < j → j < length xs → R (get_or xs i 0) (get_or xs j 0)) → IsSorted R xs
-unfolding IsSorted
-sorted_from R [] at = tt
-sorted_from R (x ∷ xs) at = (
-  λ y (k, low, is). subst (R x) (get_or_default xs k 0 y low ∙ is) (at 0 (suc k) (omega arith) (omega arith)),
-  sorted_from R xs (λ i j lt low. at (suc i) (suc j) (omega arith) (omega arith)),
-)
-
-sorted_unique : (R : ℕ → ℕ → Type 0) → ((x y : ℕ) → R x y → ¬ R y x) → (xs ys : List ℕ) → IsSorted R xs → IsSorted R ys
-    → ((z : ℕ) → Contains xs z → Contains ys z) → ((z : ℕ) → Contains ys z → Contains xs z) → xs ≡ ys
-unfolding IsSorted
-sorted_unique R one [] [] s t to from = refl
-sorted_unique R one [] (y ∷ ys) s t to from = absurd (Contains-none y (from y (Contains-head y ys)))
-sorted_unique R one (x ∷ xs) [] s t to from = absurd (Contains-none x (to x (Contains-head x xs)))
-sorted_unique R one (x ∷ xs) (y ∷ ys) s t to from =
-    let same : x ≡ y = ⊎_elim (λ e. sym e)
-    (λ in_ys. ⊎_elim (λ e. e) (λ in_xs. absurd (one x y (s.0 y in_xs) (t.0 x in_ys))) (Contains-cases y x xs (from y (Contains-head y ys))))
-    (Contains-cases x y ys (to x (Contains-head x xs))) in
-    let tails : xs ≡ ys = sorted_unique R one xs ys s.1 t.1
-    (λ z in_xs. ⊎_elim (λ e. absurd (let r : R x z = s.0 z in_xs in let q : R x x = subst (R x) (sym (same ∙ e)) r in
-    one x x q q)) (λ h. h) (Contains-cases z y ys (to z (Contains-tail z x xs in_xs))))
-    (λ z in_ys. ⊎_elim (λ e. absurd (let r : R y z = t.0 z in_ys in let q : R y y = subst (R y) (sym (sym same ∙ e)) r in
-    one y y q q)) (λ h. h) (Contains-cases z x xs (from z (Contains-tail z y ys in_ys)))) in
-    ap (λ (w : ℕ). w ∷ xs) same ∙ ap (λ (ws : List ℕ). y ∷ ws) tails
 
 one_before : (old new : List Hop) (x y : ℕ) → IsBefore old new x y → ¬ IsBefore old new y x
 one_before old new x y a b =

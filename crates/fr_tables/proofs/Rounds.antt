@@ -19,20 +19,10 @@ use Rattle.fr_tables.specs.declared.hop.Hop.TheVariants.{To}
 use Rattle.fr_tables.specs.declared.loops.Mark.{Mark}
 use Rattle.fr_tables.specs.declared.loops.Mark.TheVariants.{OffLoop, OnLoop, OnWalk, Unmet}
 use Rattle.fr_tables.proofs.Members.{Contains-cases, Contains-head, Contains-none, Contains-tail, cases_member, not_any}
-use Rattle.fr_tables.proofs.Trails.{loop_from, trail_push, walk_tail}
-use Rattle.fr_tables.proofs.Walks.{end_append, sends_one, walk_append, walk_to}
+use Rattle.fr_tables.proofs.Relations.{cycle_from, downstream_trans, end_append, here_downstream, trail_push, walk_append, walk_tail, walk_to}
+use Rattle.fr_tables.proofs.Walks.{sends_one}
 
 module _ (table : List Hop) where
-  downstream_trans : (x y z : ℕ) → IsDownstream table x y → IsDownstream table y z → IsDownstream table x z
-  downstream_trans x y z a b = record {
-    by = a.by ++ b.by;
-    goes = walk_append table x a.by b.by a.goes (subst (λ (w : ℕ). IsWalk table w b.by) (sym a.ends) b.goes);
-    ends = end_append x a.by b.by ∙ (ap (λ (w : ℕ). end_of w b.by) a.ends ∙ b.ends);
-  }
-
-  here : (x : ℕ) → IsDownstream table x x
-  here x = record { by = []; goes = tt; ends = refl }
-
   -- the next node of one on a loop is on the loop too, and leads back
   on_next : (x y : ℕ) → IsOnLoop table x → SendsOn table x y → IsOnLoop table y × IsDownstream table y x
   on_next x y (xs, is) sends = go xs is
@@ -40,22 +30,22 @@ module _ (table : List Hop) where
       go : (xs : List ℕ) → IsWalk table x (xs ++ x ∷ []) → IsOnLoop table y × IsDownstream table y x
       go [] goes =
           let same : x ≡ y = sends_one table x x y goes.0 sends in
-          (subst (IsOnLoop table) same ([], goes), subst (λ (z : ℕ). IsDownstream table z x) same (here x))
+          (subst (IsOnLoop table) same ([], goes), subst (λ (z : ℕ). IsDownstream table z x) same (here_downstream (SendsOn table) x))
       go (z ∷ zs) goes =
           let same : z ≡ y = sends_one table x z y goes.0 sends in
           let ends = end_append z zs (x ∷ []) in
           let round : IsWalk table z ((zs ++ x ∷ []) ++ z ∷ []) =
-          walk_append table z (zs ++ x ∷ []) (z ∷ []) goes.1 (subst (λ (w : ℕ). IsWalk table w (z ∷ [])) (sym ends) (goes.0, tt)) in (
+          walk_append (SendsOn table) z (zs ++ x ∷ []) (z ∷ []) goes.1 (subst (λ (w : ℕ). IsWalk table w (z ∷ [])) (sym ends) (goes.0, tt)) in (
             subst (IsOnLoop table) same (zs ++ x ∷ [], round),
             subst (λ (w : ℕ). IsDownstream table w x) same (record { by = zs ++ x ∷ []; goes = goes.1; ends = ends }),
           )
 
   on_along : (x : ℕ) (ys : List ℕ) → IsOnLoop table x → IsWalk table x ys → IsOnLoop table (end_of x ys) × IsDownstream table (end_of x ys) x
-  on_along x [] on goes = (on, here x)
+  on_along x [] on goes = (on, here_downstream (SendsOn table) x)
   on_along x (y ∷ ys) on goes =
       let (next, back) = on_next x y on goes.0 in
       let (last, far) = on_along y ys next goes.1 in
-      (last, downstream_trans (end_of y ys) y x far back)
+      (last, downstream_trans (SendsOn table) (end_of y ys) y x far back)
 
   pub on_downstream : (x y : ℕ) → IsOnLoop table x → IsDownstream table x y → IsOnLoop table y × IsDownstream table y x
   on_downstream x y on down = subst (λ (z : ℕ). IsOnLoop table z × IsDownstream table z x) down.ends (on_along x down.by on down.goes)
@@ -66,7 +56,7 @@ module _ (table : List Hop) where
   member_on_loop (x ∷ xs) y is found = ⊎_elim
       (λ e. subst (IsOnLoop table) e (xs, is))
       (λ later.
-      let (zs, goes) = walk_to table x (xs ++ x ∷ []) y is (Contains-append_left xs (x ∷ []) y later) in
+      let (zs, goes) = walk_to (SendsOn table) x (xs ++ x ∷ []) y is (Contains-append_left xs (x ∷ []) y later) in
       (on_downstream x y (xs, is) (record { by = zs ++ y ∷ []; goes = goes; ends = end_append x zs (y ∷ []) })).0)
       (Contains-cases y x xs found)
 
@@ -91,14 +81,14 @@ module _ (table : List Hop) where
   trail_leads [] y z trail found = absurd (Contains-none z found)
   trail_leads (x ∷ xs) y z trail found = ⊎_elim
       (λ e. subst (λ (w : ℕ). IsDownstream table w y) e (record { by = xs ++ y ∷ []; goes = trail; ends = end_append x xs (y ∷ []) }))
-      (trail_leads xs y z (walk_tail table x (xs ++ y ∷ []) trail))
+      (trail_leads xs y z (walk_tail (SendsOn table) x (xs ++ y ∷ []) trail))
       (Contains-cases z x xs found)
 
   trail_next : (xs : List ℕ) (y a b : ℕ) → IsTrail table (xs ++ y ∷ []) → Contains xs a → SendsOn table a b → Contains (xs ++ y ∷ []) b
   trail_next [] y a b trail found sends = absurd (Contains-none a found)
   trail_next (x ∷ xs) y a b trail found sends = ⊎_elim
       (λ e. first xs trail (subst (λ (w : ℕ). SendsOn table w b) (sym e) sends))
-      (λ later. Contains-tail b x (xs ++ y ∷ []) (trail_next xs y a b (walk_tail table x (xs ++ y ∷ []) trail) later sends))
+      (λ later. Contains-tail b x (xs ++ y ∷ []) (trail_next xs y a b (walk_tail (SendsOn table) x (xs ++ y ∷ []) trail) later sends))
       (Contains-cases a x xs found)
     where
       first : (xs : List ℕ) → IsWalk table x (xs ++ y ∷ []) → SendsOn table x b → Contains (x ∷ (xs ++ y ∷ [])) b
@@ -109,7 +99,7 @@ module _ (table : List Hop) where
   trail_drop : (xs : List ℕ) (k y : ℕ) → IsTrail table (xs ++ y ∷ []) → IsTrail table (drop k xs ++ y ∷ [])
   trail_drop xs zero y trail = trail
   trail_drop [] (suc k) y trail = trail
-  trail_drop (x ∷ xs) (suc k) y trail = trail_drop xs k y (walk_tail table x (xs ++ y ∷ []) trail)
+  trail_drop (x ∷ xs) (suc k) y trail = trail_drop xs k y (walk_tail (SendsOn table) x (xs ++ y ∷ []) trail)
 
 cases_unmet : (mark : Mark) → (mark ≡ Unmet) ⊎ ¬ (mark ≡ Unmet)
 cases_unmet Unmet = inl refl
@@ -214,7 +204,7 @@ module _ (table : List Hop) (before marks : List Mark) (walk : List ℕ) (x at :
   tracing_push next unmet sends = record {
     held = held_push table before marks walk tracing.held at tracing.low unmet;
     low = decided.range at next sends;
-    trail = trail_push table walk at next tracing.trail sends;
+    trail = trail_push (SendsOn table) walk at next tracing.trail sends;
     begins = let (rest, is) = tracing.begins in (rest ++ next ∷ [], ap (λ (ws : List ℕ). ws ++ next ∷ []) is);
   }
 
@@ -261,7 +251,7 @@ module _ (table : List Hop) (before marks : List Mark) (walk : List ℕ) (x at :
             let y : ℕ = get_or (walk ++ at ∷ []) i 0 in
             let leads : IsDownstream table y at = ⊎_elim
             (trail_leads table walk at y tracing.trail)
-            (λ e. subst (λ (w : ℕ). IsDownstream table w at) e (here table at))
+            (λ e. subst (λ (w : ℕ). IsDownstream table w at) e (here_downstream (SendsOn table) at))
             (Contains-push_cases walk at y (Contains-get_or (walk ++ at ∷ []) i 0 low)) in
             let (z, sends) = on_sends table at (on_downstream table y at on leads).0 in
             ends z sends;
@@ -291,7 +281,7 @@ module _ (table : List Hop) (before marks : List Mark) (walk : List ℕ) (x at :
         let apart : eqb y (get_or walk (k + j) 0) ≡ false =
         apart_from_distinct eqb walk i (k + j) 0 tracing.held.once (omega (arith, before_k)) (omega (arith, in_part, length-drop k walk)) in
         false≢true (sym apart ∙ subst (λ (w : ℕ). eqb y w ≡ true) (sym at_j) (nat_eq_equiv.refl y));
-    on = λ _. loop_from table walk k at low is tracing.trail;
+    on = λ _. cycle_from (SendsOn table) walk k at low is tracing.trail;
     begins = λ _. ⊎_elim
         (λ none. absurd (omega (arith, low, ap length none.0)))
         (λ rest. rest)

@@ -1,6 +1,8 @@
 -- Forwarding tables of next hops. A walk follows the hops from node to node, and a loop is a walk that comes back to
 -- its first node. Next hops and forwarding loops are those of RFC 6976; downstream means towards the destination.
-use Rattle.std.specs.Prelude.{◌≡◌, ℕ, ◌<◌, ◌≤◌, ◌++◌, List, [], ◌∷◌, length, slice_get, Some}
+use Rattle.std.specs.Prelude.{◌≡◌, ℕ, ◌<◌, ◌≤◌, List, ◌∷◌, length, slice_get, Some}
+pub use Rattle.fr_tables.specs.Walks.{end_of}
+use Rattle.fr_tables.specs.Walks.{IsCycle, IsCycleFree, IsDownstream as IsDownstreamBy, IsWalk as IsWalkBy}
 use Rattle.fr_tables.specs.declared.hop.Hop.{Hop}
 use Rattle.fr_tables.specs.declared.hop.Hop.TheVariants.{Here, To}
 
@@ -10,13 +12,7 @@ SendsOn table x y = slice_get table x ≡ Some (To y)
 
 -- a walk from x along these nodes, each the next hop of the one before
 abbrev pub IsWalk : List Hop → ℕ → List ℕ → Type 0
-IsWalk table x [] = Unit {0}
-IsWalk table x (y ∷ ys) = SendsOn table x y × IsWalk table y ys
-
--- the last node of the walk from x along these nodes
-abbrev pub end_of : ℕ → List ℕ → ℕ
-end_of x [] = x
-end_of x (y ∷ ys) = end_of y ys
+IsWalk table x ys = IsWalkBy (SendsOn table) x ys
 
 -- a walk whose last node sends on to no node
 pub record IsWholeWalk (table : List Hop) (x : ℕ) (ys : List ℕ) : Type 0 where
@@ -25,8 +21,7 @@ pub record IsWholeWalk (table : List Hop) (x : ℕ) (ys : List ℕ) : Type 0 whe
 
 -- a loop: each of these nodes sends on to the next, and the last to the first
 abbrev pub IsLoop : List Hop → List ℕ → Type 0
-IsLoop table [] = ⊥
-IsLoop table (x ∷ xs) = IsWalk table x (xs ++ x ∷ [])
+IsLoop table nodes = IsCycle (SendsOn table) nodes
 
 -- the walk from x comes back to x
 abbrev pub IsOnLoop : List Hop → ℕ → Type 0
@@ -34,13 +29,11 @@ IsOnLoop table x = (xs : List ℕ) × IsLoop table (x ∷ xs)
 
 -- the table has no loop
 abbrev pub IsLoopFree : List Hop → Type 0
-IsLoopFree table = (nodes : List ℕ) → ¬ IsLoop table nodes
+IsLoopFree table = IsCycleFree (SendsOn table)
 
 -- y is downstream of x: the walk from x leads to it. Each node is downstream of itself
-pub record IsDownstream (table : List Hop) (x y : ℕ) : Type 0 where
-  pub by : List ℕ
-  pub goes : IsWalk table x by
-  pub ends : end_of x by ≡ y
+abbrev pub IsDownstream : List Hop → ℕ → ℕ → Type 0
+IsDownstream table x y = IsDownstreamBy (SendsOn table) x y
 
 -- x has a route: the walk from x leads to the destination
 pub record Arrives (table : List Hop) (x : ℕ) : Type 0 where

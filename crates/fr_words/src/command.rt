@@ -39,6 +39,8 @@ Requests:
   [\"dest\",D]             make D the destination
   [\"walk\",X]             report the route of node X
   [\"links\"]  [\"counts\"]  [\"hops\"]  report all links, counts or next hops
+  [\"ways\"]  [\"ways\",X]   report all ways of each node or of X, nearest first
+  [\"nearest\",X]         report a route of the fewest links from X along the ways
   [\"pushes\",[HOP,..]]    order the pushes from this table to the next hops, or to a second table
 
 Answers, and with --json:
@@ -47,6 +49,8 @@ Answers, and with --json:
   links U>V ..        {\"links\":[[U,V],..]}
   counts C ..         {\"counts\":[C,..]}
   hops HOP ..         {\"hops\":[HOP,..]}; a hop is a number, here or cut
+  ways W,W W ..       {\"ways\":[[W,W],[W],..]}; or here or cut in place of a list
+  nearest X Y ..      {\"nearest\":[X,Y,..]}, or {\"nearest\":null} if X is cut off
   pushes X>HOP ..     {\"pushes\":[[X,HOP],..]}
   refused N           {\"refused\":N,\"fault\":NAME,\"nodes\":[X,..],\"line\":LINE}
 

@@ -12,7 +12,7 @@ use Rattle.fr_bytes.proofs.Ending.{few_lines}
 use Rattle.std.specs.Prelude.{Err, Ok, codes, eqb}
 use Rattle.fr_lines.specs.declared.requests.Question.TheVariants.{Links, Counts, Hops}
 use Rattle.fr_lines.specs.declared.requests.LineFault.{LineFault}
-use Rattle.fr_lines.specs.Requests.{PlainRequest, new_network, cut_link, add_link, join_nodes, make_edits, move_dest, walk_from, ask, order_pushes, reading}
+use Rattle.fr_lines.specs.Requests.{PlainRequest, new_network, cut_link, add_link, join_nodes, make_edits, move_dest, walk_from, ask, ask_node, order_pushes, reading}
 use Rattle.fr_route.specs.Answers.{IsAnswer, IsLineAnswer, IsText}
 use Rattle.fr_route.specs.Blank.{is_blank}
 use Rattle.fr_route.specs.Texts.{refusal_text}
@@ -138,6 +138,7 @@ no_refusal s (make_edits edits) answer is = rw is.3 refl
 no_refusal s (move_dest d) answer is = rw is.3 refl
 no_refusal s (walk_from x) answer is = refl
 no_refusal s (ask question) answer is = refl
+no_refusal s (ask_node question x) answer is = refl
 no_refusal s (order_pushes table wanted) answer is = refl
 
 -- pushes between tables begin no round
@@ -150,6 +151,7 @@ asked_no_round s (make_edits edits) pushes asked = absurd asked
 asked_no_round s (move_dest d) pushes asked = absurd asked
 asked_no_round s (walk_from x) pushes asked = absurd asked
 asked_no_round s (ask question) pushes asked = absurd asked
+asked_no_round s (ask_node question x) pushes asked = absurd asked
 asked_no_round s (order_pushes table wanted) pushes asked = refl
 
 none_begun : (request : PlainRequest) → (makes_round request && false) ≡ false

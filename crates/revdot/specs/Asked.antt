@@ -1,12 +1,14 @@
 -- The line of a story that says what a request asks. This project's own.
 use Rattle.std.specs.Prelude.{ℕ, List, [], ◌∷◌, ◌++◌, Result, Ok, Err, codes, decimal}
 use Rattle.fr_lines.specs.Requests.{PlainRequest, new_network, cut_link, add_link}
-use Rattle.fr_lines.specs.Requests.{join_nodes, make_edits, move_dest, walk_from, ask, order_pushes}
+use Rattle.fr_lines.specs.Requests.{join_nodes, make_edits, move_dest, walk_from, ask, ask_node, order_pushes}
 use Rattle.fr_graph.specs.declared.edit.Edit.{Edit}
 use Rattle.fr_graph.specs.declared.edit.Edit.TheVariants.{Cut, Add, Join}
 use Rattle.fr_lines.specs.declared.requests.LineFault.{LineFault}
 use Rattle.fr_lines.specs.declared.requests.Question.{Question}
-use Rattle.fr_lines.specs.declared.requests.Question.TheVariants.{Links, Counts, Hops}
+use Rattle.fr_lines.specs.declared.requests.Question.TheVariants.{Links, Counts, Hops, Ways}
+use Rattle.fr_lines.specs.declared.requests.NodeQuestion.{NodeQuestion}
+use Rattle.fr_lines.specs.declared.requests.NodeQuestion.TheVariants as node
 use Rattle.fr_route.specs.Texts.{spaced_links}
 
 -- a word and two numbers
@@ -27,6 +29,11 @@ abbrev pub question_text : Question → List ℕ
 question_text Links = codes "links"
 question_text Counts = codes "counts"
 question_text Hops = codes "hops"
+question_text Ways = codes "ways"
+
+abbrev pub node_question_text : NodeQuestion → List ℕ
+node_question_text node.Ways = codes "ways"
+node_question_text node.Nearest = codes "nearest"
 
 -- the words for a request. A request for pushes is named without its tables
 abbrev pub request_text : PlainRequest → List ℕ
@@ -38,6 +45,7 @@ request_text (make_edits edits) = codes "batch" ++ spaced_edits edits
 request_text (move_dest d) = codes "dest" ++ (codes " " ++ decimal d)
 request_text (walk_from x) = codes "walk" ++ (codes " " ++ decimal x)
 request_text (ask question) = question_text question
+request_text (ask_node question x) = node_question_text question ++ (codes " " ++ decimal x)
 request_text (order_pushes table wanted) = codes "pushes"
 
 -- the line for a request, and nothing for a line that is not a request

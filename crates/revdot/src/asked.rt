@@ -3,11 +3,12 @@
 ghost use Rattle.std.specs.Prelude.{◌≡◌, ◌++◌, Ok, OnOk, codes, decimal, string_bytes};
 ghost use Rattle.fr_lines.specs.Requests.{plain};
 ghost use Rattle.fr_route.specs.Texts.{spaced_links};
-ghost use Rattle.revdot.specs.Asked.{asked_text, edit_text, pair_text, question_text, request_text, spaced_edits};
+ghost use Rattle.revdot.specs.Asked.{asked_text, edit_text, node_question_text, pair_text, question_text};
+ghost use Rattle.revdot.specs.Asked.{request_text, spaced_edits};
 
 use crate::links::push_links;
 use fr_graph::Edit;
-use fr_lines::{Question, Request};
+use fr_lines::{NodeQuestion, Question, Request};
 use std::alloc::AllocError;
 use std::fmt::Write;
 
@@ -32,6 +33,7 @@ fn push_request(story: &mut String, request: &Request) -> Result<(), AllocError>
         Request::Destination { dest } => push_single(story, "dest", *dest),
         Request::Walk { x } => push_single(story, "walk", *x),
         Request::Ask(question) => push_question(story, *question),
+        Request::AskNode { question, x } => push_node_question(story, *question, *x),
         Request::Pushes { .. } => story.push_str("pushes"),
     }
 }
@@ -111,5 +113,20 @@ fn push_question(story: &mut String, question: Question) -> Result<(), AllocErro
         Question::Links => story.push_str("links"),
         Question::Counts => story.push_str("counts"),
         Question::Hops => story.push_str("hops"),
+        Question::Ways => story.push_str("ways"),
+    }
+}
+
+fn push_node_question(
+    story: &mut String,
+    question: NodeQuestion,
+    x: u32,
+) -> Result<(), AllocError>
+    ensures { OnOk result (string_bytes story.new
+        ≡ string_bytes story.old ++ (node_question_text question ++ (codes " " ++ decimal x))) }
+{
+    match question {
+        NodeQuestion::Ways => push_single(story, "ways", x),
+        NodeQuestion::Nearest => push_single(story, "nearest", x),
     }
 }

@@ -138,7 +138,10 @@ fn has_begun(request: &Request, answer: &str) -> bool
     ensures { result ≡ (makes_round (plain request.now) && not (starts_with eqb answer.now (codes "refused"))) }
 {
     match request {
-        Request::Walk { .. } | Request::Ask(_) | Request::Pushes { .. } => false,
+        Request::Walk { .. }
+        | Request::Ask(_)
+        | Request::AskNode { .. }
+        | Request::Pushes { .. } => false,
         _ => !answer.starts_with("refused"),
     }
 }
@@ -166,7 +169,11 @@ fn net_before(alloc: Global, session: &Session, request: &Request) -> Result<Bef
     };
     if matches!(
         request,
-        Request::Network { .. } | Request::Walk { .. } | Request::Ask(_) | Request::Pushes { .. }
+        Request::Network { .. }
+            | Request::Walk { .. }
+            | Request::Ask(_)
+            | Request::AskNode { .. }
+            | Request::Pushes { .. }
     ) || !is_told(router)
     {
         return Ok(Before { net: None });

@@ -53,6 +53,14 @@ pub returns-in-hops : goal.returns-in-hops
 unfolding request_of_word
 returns-in-hops c = rw c.in-hops.is (told _ _ c.ask-in-hops.ensures.ok c.ask-in-hops.ensures.refused)
 
+pub returns-in-ways : goal.returns-in-ways
+unfolding request_of_word
+returns-in-ways c = rw c.in-ways.is (told _ _ c.ways.ensures.ok c.ways.ensures.refused)
+
+pub returns-in-nearest : goal.returns-in-nearest
+unfolding request_of_word
+returns-in-nearest c = rw c.in-nearest.is (told _ _ c.ask_node.ensures.ok c.ask_node.ensures.refused)
+
 pub returns-in-pushes : goal.returns-in-pushes
 unfolding request_of_word
 returns-in-pushes c = rw c.in-pushes.is c.pushes.ensures

@@ -1,5 +1,6 @@
 use Rattle.std.proofs.Common.{◌≡◌, ◌++◌, codes, drop, string_bytes}
-use Rattle.fr_route.specs.Json.{hop_json, hops_json, separated}
+use Rattle.fr_route.specs.Json.{hop_json, hops_json}
+use Rattle.fr_route.specs.Separated.{separated}
 use Rattle.fr_route.proofs.json.hops_object.Given as goal
 
 abbrev pub invariant-loop-hop : goal.invariant-loop-hop

@@ -1,5 +1,6 @@
 use Rattle.std.proofs.Common.{◌≡◌, ◌++◌, codes, string_bytes}
-use Rattle.fr_route.specs.Json.{link_json, links_json, separated}
+use Rattle.fr_route.specs.Json.{link_json, links_json}
+use Rattle.fr_route.specs.Separated.{separated}
 use Rattle.fr_route.proofs.json.links_object.Given as goal
 
 abbrev pub invariant-loop-link : goal.invariant-loop-link

@@ -1,6 +1,7 @@
 use Rattle.std.proofs.Common.{◌≡◌, ◌≤◌, ◌+◌, ◌*◌, ◌++◌, drop, string_bytes}
 use Rattle.std.specs.Prelude.{string_capacity, string_len}
-use Rattle.fr_route.specs.Json.{change_json, listed, separated}
+use Rattle.fr_route.specs.Json.{change_json}
+use Rattle.fr_route.specs.Separated.{listed, separated}
 use Rattle.fr_route.specs.Pushing.{changes_of}
 use Rattle.fr_route.proofs.json.push_changes.Given as goal
 

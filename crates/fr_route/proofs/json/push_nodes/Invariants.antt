@@ -1,5 +1,5 @@
 use Rattle.std.proofs.Common.{◌≡◌, ◌++◌, decimal, drop, string_bytes}
-use Rattle.fr_route.specs.Json.{listed, separated}
+use Rattle.fr_route.specs.Separated.{listed, separated}
 use Rattle.fr_route.proofs.json.push_nodes.Given as goal
 
 abbrev pub invariant-loop-node : goal.invariant-loop-node

@@ -1,5 +1,6 @@
 use Rattle.std.proofs.Common.{codes, decimal, string_bytes, ◌++◌}
-use Rattle.fr_route.specs.Json.{listed, place_json}
+use Rattle.fr_route.specs.Json.{place_json}
+use Rattle.fr_route.specs.Separated.{listed}
 use Rattle.fr_route.proofs.Glued.{glued3}
 use Rattle.fr_route.proofs.json.push_shown.Goals as goal
 

@@ -4,9 +4,11 @@ use Rattle.std.proofs.lemmas.List.Elements.{All-contains, Contains-push}
 use Rattle.fr_tables.specs.Inside.{IsGroup, IsMet, IsStop, IsTrail, changed_at}
 use Rattle.fr_tables.specs.declared.waves.Group.{Group}
 use Rattle.fr_tables.proofs.Changes.{marked_differs, marked_step}
+use Rattle.fr_tables.specs.Tables.{SendsOn}
 use Rattle.fr_tables.proofs.Counts.{after, step, step_differs, wave_low}
 use Rattle.fr_tables.proofs.Marks.{given_known, given_met, given_stop, top_group}
-use Rattle.fr_tables.proofs.Trails.{all_front, trail_front}
+use Rattle.fr_tables.proofs.Members.{all_front}
+use Rattle.fr_tables.proofs.Relations.{trail_front}
 use Rattle.fr_tables.proofs.waves.give_groups.Goals as goal
 
 popped_low : (n : ℕ) (walk rest : List ℕ) (x : ℕ) → All (λ (y : ℕ). y < n) walk → walk ≡ rest ++ x ∷ [] → x < n
@@ -74,7 +76,7 @@ loop-x-preserved c =
           range = walking.range;
           free = walking.free;
           room = omega (arith, walking.room, c.in-Some.ensures.capacity);
-          trail = trail_front new rest x trail;
+          trail = trail_front (SendsOn new) rest x trail;
           inside = all_front (λ (y : ℕ). y < length new) rest x (subst (All (λ (y : ℕ). y < length new)) items walking.inside);
         };
         known = given_known old new marks rest x k inside known stop l is;

@@ -1,4 +1,4 @@
-use Rattle.fr_route.proofs.Replying.{still, walk_tells, ask_tells}
+use Rattle.fr_route.proofs.Replying.{still, walk_tells, ask_node_tells, ask_tells}
 use Rattle.fr_route.specs.Listing.{nodes_told}
 use Rattle.fr_route.proofs.settling.Asking.reply.Goals as goal
 
@@ -29,6 +29,12 @@ pub returns-in-Ask : goal.returns-in-Ask
 returns-in-Ask g c =
     rw c.in-Ask.is (still _ c.args.manner c.args.session.now _ c.args.told.now c.question.result
     (λ new accepted. ask_tells c.args.session.now c.in-Ask.question (nodes_told c.args.told.now) new) c.question.ensures.reply c.question.ensures.memory)
+
+pub returns-in-AskNode : goal.returns-in-AskNode
+returns-in-AskNode g c =
+    rw c.in-AskNode.is (still _ c.args.manner c.args.session.now _ c.args.told.now c.node_question.result
+    (λ new accepted. ask_node_tells c.args.session.now c.in-AskNode.question c.in-AskNode.x (nodes_told c.args.told.now) new)
+    c.node_question.ensures.reply c.node_question.ensures.memory)
 
 pub returns-in-Pushes : goal.returns-in-Pushes
 returns-in-Pushes g c =

@@ -1,0 +1,263 @@
+-- The ways of a node are listed from its row, and sorted; the nearest is found in the row.
+use Rattle.std.proofs.Common.{Contains, IsPermutation, MatchOption, ne_eqb, List, None, Option, Some, [], arith, eq-eqb, eqb, get_or, inl, inr, length, refl, slice_index, subst, sym, take, ℕ}
+use Rattle.std.proofs.Common.{⊎_elim, ◌++◌, ◌+◌, ◌<◌, ◌∙◌, ◌∷◌, ◌≡◌, ◌≢◌, ◌≤◌, ◌⊎◌, ap}
+use Rattle.std.specs.Cmp.{nat_eq_equiv}
+use Rattle.std.specs.List.Sorted.{IsNonDecreasingBy}
+use Rattle.std.proofs.lemmas.Bool.{cases_lt, false≢true}
+use Rattle.std.proofs.lemmas.List.{get_or-take, get_or_default, length-take-le, length_push, take_all, take_more}
+use Rattle.std.proofs.lemmas.List.Elements.{Contains-append_left, Contains-get_or, Contains-push, Contains-push_cases}
+use Rattle.std.proofs.lemmas.List.Sorted.{Contains-permutation, IsPermutation-sym}
+use Rattle.std.proofs.lemmas.Map.Keys.{IsDistinct-IsPermutation, IsDistinct-from_apart, apart_from_distinct}
+use Rattle.fr_graph.proofs.Lists.{once_more}
+use Rattle.fr_graph.proofs.Linking.{link_below}
+use Rattle.fr_graph.proofs.Members.{Contains-none}
+use Rattle.fr_graph.proofs.Neighbours.{entry_is, out_of_row, row_of_out, row_rises}
+use Rattle.fr_graph.specs.Limits.{most_nodes}
+use Rattle.fr_graph.specs.Links.{IsNet, Points}
+use Rattle.fr_graph.specs.Network.{Network}
+use Rattle.fr_graph.specs.Rows.{row}
+use Rattle.fr_graph.specs.declared.first.First.{First}
+use Rattle.fr_graph.specs.declared.first.First.TheVariants.{Outward}
+use Rattle.fr_nearest.specs.Distances.{AreDistances, IsMeasureOf, Measured, no_distance}
+use Rattle.fr_nearest.specs.Ranks.{AreListed, AreListedTo, IsBestSo, rank_of}
+use Rattle.fr_nearest.specs.Ways.{AreWays, IsFirstWay, IsNearer, IsWay}
+use Rattle.fr_nearest.proofs.Walking.{has_path}
+
+-- The row up to a place
+
+-- an entry is in the row before a place
+up_to : (entries : List (ℕ × First)) (place k : ℕ) (e : ℕ × First) → k < place → place ≤ length entries → Contains (take place entries) (get_or entries k e)
+up_to entries place k e lt le =
+    let here : length (take place entries) ≡ place = length-take-le place entries le in
+    (k, omega (arith, here, lt), get_or-take place entries k (get_or entries k e) lt ∙ get_or_default entries k (get_or entries k e) e (omega (arith, lt, le)))
+
+-- where it is
+place_of : (entries : List (ℕ × First)) (place : ℕ) (e : ℕ × First) → place ≤ length entries → Contains (take place entries) e
+    → (k : ℕ) × (k < place) × ((d : ℕ × First) → get_or entries k d ≡ e)
+place_of entries place e le (k, l, is) =
+    let lt : k < place = omega (arith, l, length-take-le place entries le) in
+    (k, lt, λ d. get_or_default entries k d e (omega (arith, lt, le)) ∙ (sym (get_or-take place entries k e lt) ∙ is))
+
+module _ (n : ℕ) (links : List (ℕ × ℕ)) (x : ℕ) (entries : List (ℕ × First)) (place : ℕ) (are : entries ≡ row n links x) (inside : place < length entries) where
+  abbrev entry : ℕ × First
+  entry = get_or entries place (0, Outward)
+
+  -- the neighbours before have lower numbers
+  lower : (k : ℕ) (d : ℕ × First) → k < place → (get_or entries k d).0 < entry.0
+  lower k d lt =
+      let rises = row_rises n links x k place (0, Outward) lt (subst (λ (es : List (ℕ × First)). place < length es) are inside) in
+      let here : (get_or entries k (0, Outward)).0 < entry.0 =
+      subst (λ (es : List (ℕ × First)). (get_or es k (0, Outward)).0 < (get_or es place (0, Outward)).0) (sym are) rises in
+      subst (λ (e : ℕ × First). e.0 < entry.0) (get_or_default entries k (0, Outward) d (omega (arith, lt, inside))) here
+
+  more : take (place + 1) entries ≡ take place entries ++ entry ∷ []
+  more = take_more entries place (0, Outward) inside
+
+  -- a way at this place
+  pub listed_way : {table list : List ℕ} → AreListedTo table entries place list → entry.1 ≡ Outward → slice_index table entry.0 ≢ no_distance
+      → AreListedTo table entries (place + 1) (list ++ entry.0 ∷ [])
+  listed_way {table} {list} l out some =
+      let whole : entry ≡ (entry.0, Outward) = entry_is entry Outward out in
+      let fresh : ¬ Contains list entry.0 = λ h.
+      let at = place_of entries place (entry.0, Outward) (omega (arith, inside)) ((l.just entry.0).0 h).0 in
+      let low = lower at.0 (0, Outward) at.1 in
+      let same : (get_or entries at.0 (0, Outward)).0 ≡ entry.0 = ap (λ (e : ℕ × First). e.0) (at.2 (0, Outward)) in
+      omega (arith, low, same) in
+      record {
+        few = omega (arith, length_push list entry.0, l.few);
+        just = λ w. (
+          λ h. elim (Contains-push_cases list entry.0 w h) [
+            | inl old ↦ let was = (l.just w).0 old in (rw more (Contains-append_left (take place entries) (entry ∷ []) (w, Outward) was.0), was.1)
+            | inr e ↦ rw (sym e) (rw more (subst (λ (q : ℕ × First). Contains (take place entries ++ entry ∷ []) q) whole (Contains-push (take place entries) entry)), some)
+          ],
+          λ (h, has). elim (Contains-push_cases (take place entries) entry (w, Outward) (rw more at h)) [
+            | inl old ↦ Contains-append_left list (entry.0 ∷ []) w ((l.just w).1 (old, has))
+            | inr e ↦ let same : entry.0 ≡ w = ap (λ (q : ℕ × First). q.0) e in subst (Contains (list ++ entry.0 ∷ [])) same (Contains-push list entry.0)
+          ],
+        );
+        once = once_more list entry.0 l.once fresh;
+      }
+
+  -- no way at this place
+  pub listed_other : {table list : List ℕ} → AreListedTo table entries place list → (entry.1 ≡ Outward → slice_index table entry.0 ≡ no_distance)
+      → AreListedTo table entries (place + 1) list
+  listed_other {table} {list} l none = record {
+    few = omega (arith, l.few);
+    just = λ w. (
+      λ h. let was = (l.just w).0 h in (rw more (Contains-append_left (take place entries) (entry ∷ []) (w, Outward) was.0), was.1),
+      λ (h, has). elim (Contains-push_cases (take place entries) entry (w, Outward) (rw more at h)) [
+        | inl old ↦ (l.just w).1 (old, has)
+        | inr e ↦
+            let out : entry.1 ≡ Outward = ap (λ (q : ℕ × First). q.1) e in
+            let same : entry.0 ≡ w = ap (λ (q : ℕ × First). q.0) e in
+            absurd (has (subst (λ (q : ℕ). slice_index table q ≡ no_distance) same (none out)))
+      ],
+    );
+    once = l.once;
+  }
+
+  -- the entry at an earlier place or at this one
+  at_place : (k : ℕ) (e : ℕ × First) → ¬ (k < place) → k < place + 1 → get_or entries k e ≡ entry
+  at_place k e past lt = let is : k ≡ place = omega (arith, past, lt) in rw is (get_or_default entries place e (0, Outward) inside)
+
+  -- the entry is nearer than those before
+  pub best_way : (table : List ℕ) (least : ℕ) (nearest : Option ℕ) → IsBestSo table entries place least nearest → entry.1 ≡ Outward
+      → slice_index table entry.0 < least → least ≤ no_distance → IsBestSo table entries (place + 1) (slice_index table entry.0) (Some entry.0)
+  best_way table least nearest so out near most = (
+    refl,
+    record {
+      listed = rw more (subst (λ (q : ℕ × First). Contains (take place entries ++ entry ∷ []) q) (entry_is entry Outward out) (Contains-push (take place entries) entry));
+      some = λ e. omega (arith, e, near, most);
+      best = λ k e lt outward. elim (cases_lt k place) [
+        | inl less ↦ inl (before nearest so k e less outward)
+        | inr past ↦ rw (at_place k e (λ q. omega (arith, q, past)) lt) (inr (refl, omega arith))
+      ];
+    },
+  )
+    where
+      before : (o : Option ℕ) → IsBestSo table entries place least o → (k : ℕ) (e : ℕ × First) → k < place → (get_or entries k e).1 ≡ Outward
+          → slice_index table entry.0 < slice_index table (get_or entries k e).0
+      before None (none, all) k e lt outward = omega (arith, near, most, all k e lt outward)
+      before (Some w) (is, best) k e lt outward = ⊎_elim (λ l. omega (arith, l, near, is)) (λ l. omega (arith, l.0, near, is)) (best.best k e lt outward)
+
+  -- the entry is not nearer, or its link does not point to it
+  pub best_other : (table : List ℕ) (least : ℕ) (nearest : Option ℕ) → IsBestSo table entries place least nearest → slice_index table entry.0 ≤ no_distance
+      → (entry.1 ≡ Outward → least ≤ slice_index table entry.0) → IsBestSo table entries (place + 1) least nearest
+  best_other table least None (none, all) fits far = (
+    none,
+    λ k e lt outward. elim (cases_lt k place) [
+      | inl less ↦ all k e less outward
+      | inr past ↦
+          let at = at_place k e (λ q. omega (arith, q, past)) lt in
+          rw at (let le = far (rw at at outward) in omega (arith, le, none, fits))
+    ],
+  )
+  best_other table least (Some w) (is, best) fits far = (
+    is,
+    record {
+      listed = rw more (Contains-append_left (take place entries) (entry ∷ []) (w, Outward) best.listed);
+      some = best.some;
+      best = λ k e lt outward. elim (cases_lt k place) [
+        | inl less ↦ best.best k e less outward
+        | inr past ↦
+            let at = at_place k e (λ q. omega (arith, q, past)) lt in
+            let le = far (rw at at outward) in
+            let found = place_of entries place (w, Outward) (omega (arith, inside)) best.listed in
+            let same : (get_or entries found.0 (0, Outward)).0 ≡ w = ap (λ (q : ℕ × First). q.0) (found.2 (0, Outward)) in
+            let low = lower found.0 (0, Outward) found.1 in
+            rw at (⊎_elim (λ less. inl (omega (arith, less, is)))
+            (λ ge. inr (omega (arith, ge, le, is), omega (arith, low, same)))
+            (cases_lt (slice_index table w) (slice_index table entry.0)))
+      ];
+    },
+  )
+
+pub listed_none : (table : List ℕ) (entries : List (ℕ × First)) → AreListedTo table entries 0 []
+listed_none table entries = record {
+  few = omega arith;
+  just = λ w. (λ h. absurd (Contains-none w h), λ (h, has). absurd (Contains-none (w, Outward) h));
+  once = λ i j lt l. absurd (omega (arith, l));
+}
+
+-- The whole row
+
+pub listed_all : {net : Network} {x : ℕ} {table list : List ℕ} (place : ℕ) → IsNet net.nodes net.links → length (row net.nodes net.links x) ≤ place
+    → AreListedTo table (row net.nodes net.links x) place list → AreListed net.links table x list
+listed_all {net} {x} {table} {list} place is_net end l =
+    let entries = row net.nodes net.links x in
+    let whole : take place entries ≡ entries = take_all place entries end in
+    record {
+      just = λ w. (
+        λ h. let was = (l.just w).0 h in (out_of_row net.nodes net.links x w (rw whole at was.0), was.1),
+        λ (h, has). (l.just w).1 (rw whole (row_of_out net.nodes net.links x w is_net h), has),
+      );
+      once = IsDistinct-from_apart eqb list (λ i j d lt inside. ne_eqb _ _ (λ same. l.once i j lt inside
+          (sym (get_or_default list i d 0 (omega (arith, lt, inside))) ∙ same ∙ get_or_default list j d 0 inside)));
+    }
+
+module _ {net : Network} {d x : ℕ} {table : List ℕ} (is_net : IsNet net.nodes net.links) (are : AreDistances net.nodes net.links d table) where
+  -- the nodes with a distance to which links point are the ways
+  way_of : (w : ℕ) → Points net.links x w → slice_index table w ≢ no_distance → IsWay net.links d x w
+  way_of w link some = record {
+    link = link;
+    leads = has_path ((are.each w (link_below net.nodes net.links x w is_net link).1).some some);
+  }
+
+  some_of : (w : ℕ) → IsWay net.links d x w → slice_index table w ≢ no_distance
+  some_of w way none = (are.each w (link_below net.nodes net.links x w is_net way.link).1).none none way.leads
+
+  nearer_of : (w u : ℕ) → IsWay net.links d x w → IsWay net.links d x u
+      → (slice_index table w < slice_index table u) ⊎ ((slice_index table w ≡ slice_index table u) × (w < u)) → IsNearer net.links d w u
+  nearer_of w u way other before = record {
+    near = slice_index table w;
+    far = slice_index table u;
+    this = (are.each w (link_below net.nodes net.links x w is_net way.link).1).some (some_of w way);
+    other = (are.each u (link_below net.nodes net.links x u is_net other.link).1).some (some_of u other);
+    before = before;
+  }
+
+  -- once they are sorted
+  pub ways_of : {list sorted : List ℕ} → net.nodes ≤ most_nodes → AreListed net.links table x list → IsPermutation list sorted
+      → IsNonDecreasingBy (rank_of table) sorted → AreWays net.links d x sorted
+  ways_of {list} {sorted} few l same rises =
+      let just : (w : ℕ) → Contains sorted w → IsWay net.links d x w = λ w h.
+      let was = (l.just w).0 (Contains-permutation sorted list w (IsPermutation-sym list sorted same) h) in way_of w was.0 was.1 in
+      record {
+        just = λ w. (just w, λ way. Contains-permutation list sorted w same ((l.just w).1 (way.link, some_of w way)));
+        order = λ i j lt inside.
+            let w = slice_index sorted i in
+            let u = slice_index sorted j in
+            let way = just w (Contains-get_or sorted i 0 (omega (arith, lt, inside))) in
+            let other = just u (Contains-get_or sorted j 0 inside) in
+            let low = (link_below net.nodes net.links x w is_net way.link).1 in
+            let high = (link_below net.nodes net.links x u is_net other.link).1 in
+            let rank = rises i j 0 (omega (arith, lt)) inside in
+            let once = IsDistinct-IsPermutation eqb nat_eq_equiv.symm list sorted same l.once in
+            let apart : w ≢ u = λ e. false≢true (sym (apart_from_distinct eqb sorted i j 0 once lt inside) ∙ eq-eqb w u e) in
+            nearer_of w u way other (elim (cases_lt (slice_index table w) (slice_index table u)) [
+              | inl less ↦ inl less
+              | inr past ↦ inr (omega (arith, rank, past, low, high, few), omega (arith, rank, past, low, high, few, apart))
+            ]);
+      }
+
+  pub best_none : (least place : ℕ) → length (row net.nodes net.links x) ≤ place → IsBestSo table (row net.nodes net.links x) place least None
+      → (w : ℕ) → ¬ IsWay net.links d x w
+  best_none least place end so w way =
+      let (k, l, e) = row_of_out net.nodes net.links x w is_net way.link in
+      let Far : ℕ × First → Type 0 = λ q. q.1 ≡ Outward → slice_index table q.0 ≡ no_distance in
+      let far : Far (w, Outward) = subst Far e (so.1 k (w, Outward) (omega (arith, l, end))) in
+      some_of w way (far refl)
+
+  pub best_first : (least place w : ℕ) → length (row net.nodes net.links x) ≤ place → IsBestSo table (row net.nodes net.links x) place least (Some w)
+      → IsFirstWay net.links d x w
+  best_first least place w end so =
+      let entries = row net.nodes net.links x in
+      let best = so.1 in
+      let link : Points net.links x w = out_of_row net.nodes net.links x w
+      (subst (λ (es : List (ℕ × First)). Contains es (w, Outward)) (take_all place entries end) best.listed) in
+      let way = way_of w link best.some in
+      record {
+        way = way;
+        first = λ u other apart.
+            let (k, l, e) = row_of_out net.nodes net.links x u is_net other.link in
+            let Before : ℕ × First → Type 0 = λ q. q.1 ≡ Outward
+            → (slice_index table w < slice_index table q.0) ⊎ ((slice_index table w ≡ slice_index table q.0) × (w ≤ q.0)) in
+            let before : Before (u, Outward) = subst Before e (best.best k (u, Outward) (omega (arith, l, end))) in
+            nearer_of w u way other (⊎_elim (λ less. inl less) (λ le. inr (le.0, omega (arith, le.1, apart))) (before refl));
+      }
+
+-- the nearest way, if there is one
+pub nearest_answer : (net : Network) (m : Measured) (x : ℕ) → IsNet net.nodes net.links → IsMeasureOf net m → (least place : ℕ) (nearest : Option ℕ)
+    (entries : List (ℕ × First)) (table : List ℕ) → entries ≡ row net.nodes net.links x → table ≡ m.table → length entries ≤ place
+    → IsBestSo table entries place least nearest
+    → MatchOption nearest ((w : ℕ) → ¬ IsWay net.links m.dest x w) (IsFirstWay net.links m.dest x)
+nearest_answer net m x is_net are least place nearest entries table is same end so =
+    go nearest
+    (subst (λ (es : List (ℕ × First)). IsBestSo m.table es place least nearest) is (subst (λ (xs : List ℕ). IsBestSo xs entries place least nearest) same so))
+  where
+    rest : length (row net.nodes net.links x) ≤ place
+    rest = subst (λ (es : List (ℕ × First)). length es ≤ place) is end
+
+    go : (o : Option ℕ) → IsBestSo m.table (row net.nodes net.links x) place least o → MatchOption o ((w : ℕ) → ¬ IsWay net.links m.dest x w) (IsFirstWay net.links m.dest x)
+    go None best = best_none is_net are least place rest best
+    go (Some w) best = best_first is_net are least place w rest best

@@ -1,0 +1,66 @@
+-- Each node of a settled network has exactly one list of ways, and a connected one exactly one nearest route.
+use Rattle.std.proofs.Common.{[], List, ap, get_or, arith, inl, inr, length, refl, subst, suc, sym, zero, ℕ, ◌+◌, ◌++◌, ◌<◌, ◌∙◌, ◌∷◌, ◌≡◌, ◌≤◌, ◌⊎◌}
+use Rattle.std.proofs.lemmas.Bool.{cases_eq}
+use Rattle.std.proofs.lemmas.List.{get_or_append_left, get_or_push, length_push}
+use Rattle.fr_graph.specs.Links.{AreBelow, HasPath}
+use Rattle.fr_core.specs.Walks.{IsConnected}
+use Rattle.fr_core.proofs.Paths.{walk_from_path}
+use Rattle.fr_nearest.proofs.Walking.{one_list, walk_shortest}
+use Rattle.fr_route.proofs.WaysExist.{nearest_exists, ways_exist}
+use Rattle.fr_ways.specs.Ways.{ways}
+use Rattle.fr_route.specs.NodeWays.{AreAllWays, AreNodeWays, IsNearestRoute}
+use Rattle.fr_route.specs.States.{State}
+
+-- lists of the same length with the same elements are equal
+same_lists : {X : Type 0} (d : X) (a b : List X) → length a ≡ length b
+    → ((k : ℕ) → k < length a → get_or a k d ≡ get_or b k d) → a ≡ b
+same_lists d [] [] long each = refl
+same_lists d [] (y ∷ ys) long each = absurd (omega (arith, long))
+same_lists d (x ∷ xs) [] long each = absurd (omega (arith, long))
+same_lists d (x ∷ xs) (y ∷ ys) long each =
+    ap (λ z. z ∷ xs) (each 0 (omega arith))
+    ∙ ap (λ zs. y ∷ zs) (same_lists d xs ys (omega (arith, long)) (λ k low. each (suc k) (omega (arith, low))))
+
+pub all_ways_unique : (s : State) (a b : List (List ℕ)) → AreAllWays s a → AreAllWays s b → a ≡ b
+all_ways_unique s a b are also = same_lists [] a b (are.one_each ∙ sym also.one_each)
+    (λ x low. one_list s.links s.dest x (ways a x) (ways b x) (are.each x (omega (arith, low, are.one_each)))
+    (also.each x (omega (arith, low, are.one_each))))
+
+-- a table with one more row
+pub ways_pushed : (P : ℕ → List ℕ → Type 0) (table : List (List ℕ)) (list : List ℕ) (n : ℕ) → length table ≡ n
+    → ((x : ℕ) → x < n → P x (ways table x)) → P n list
+    → (length (table ++ list ∷ []) ≡ n + 1) × ((x : ℕ) → x < n + 1 → P x (ways (table ++ list ∷ []) x))
+ways_pushed P table list n long each is = (
+  omega (arith, length_push table list, long),
+  λ x low. elim (cases_eq x n) [
+    | inl e ↦ rw (e, get_or_push table list [] n long) is
+    | inr apart ↦ rw (get_or_append_left table (list ∷ []) [] x (omega (arith, low, apart, long)))
+        (each x (omega (arith, low, apart)))
+  ],
+)
+
+-- a node with a nearest route is connected with the destination
+pub nearest_connected : (s : State) (x : ℕ) (rest : List ℕ) → IsNearestRoute s x rest → IsConnected s.links s.dest x
+nearest_connected s x rest walk =
+    let path = walk_shortest s.links s.dest x rest walk in
+    (0, walk_from_path s.links s.dest x rest path.0 path.1)
+
+module _ (s : State) (below : AreBelow s.nodes s.links)
+    (decide : (w : ℕ) → HasPath s.links w s.dest ⊎ ¬ HasPath s.links w s.dest) where
+  pub node_ways_exist : (x : ℕ) → (list : List ℕ) × AreNodeWays s x list
+  node_ways_exist x = ways_exist s.links s.dest decide x s.nodes below
+
+  -- the ways of the nodes below n
+  ways_below : (n : ℕ) → (table : List (List ℕ)) × (length table ≡ n) × ((x : ℕ) → x < n → AreNodeWays s x (ways table x))
+  ways_below zero = ([], refl, λ x low. absurd (omega (arith, low)))
+  ways_below (suc n) =
+      let (table, long, each) = ways_below n in
+      let (list, are) = node_ways_exist n in
+      let more = ways_pushed (AreNodeWays s) table list n long each are in
+      (table ++ list ∷ [], omega (arith, more.0), λ x low. more.1 x (omega (arith, low)))
+
+  pub all_ways_exist : (table : List (List ℕ)) × AreAllWays s table
+  all_ways_exist = let (table, long, each) = ways_below s.nodes in (table, record { one_each = long; each = each })
+
+  pub nearest_route_exists : (x : ℕ) → HasPath s.links x s.dest → (rest : List ℕ) × IsNearestRoute s x rest
+  nearest_route_exists x path = nearest_exists s.links s.dest s.nodes below decide x path

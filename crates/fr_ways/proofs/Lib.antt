@@ -1,0 +1,8 @@
+pub mod Rows  -- a table of ways in two lists
+pub mod Tables  -- pushes of tables of ways
+pub mod Parts  -- parts of tables, and where walks lead
+pub mod Nearest  -- first ways
+pub mod Waves  -- waves: that they exist, and fall downstream
+pub mod Orders  -- in which sense push orders are closed, and that the tables determine them
+pub mod Existing  -- that a push order exists
+pub mod Phases  -- what nodes have after each phase

@@ -1,0 +1,5 @@
+pub mod Ways
+pub mod Rows
+pub mod Pushes
+pub mod Phases
+pub mod Laws

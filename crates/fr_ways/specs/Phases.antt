@@ -1,0 +1,33 @@
+-- New ways in two phases. In the first, routers lose the ways that are none of the new table (they shrink); in the
+-- second they get their new lists (they grow). This project's own.
+use Rattle.std.specs.Prelude.{◌≡◌, ℕ, ◌⊎◌, Bool, not, cond, List, filter, nat_eq}
+use Rattle.std.specs.List.{list_any}
+use Rattle.fr_ways.specs.Ways.{ways}
+
+-- whether y is one of these ways
+abbrev pub is_way : List ℕ → ℕ → Bool
+is_way list y = list_any (nat_eq y) list
+
+-- the ways of x in the new table that it had in the old one too, in the order of the new table
+abbrev pub kept : List (List ℕ) → List (List ℕ) → ℕ → List ℕ
+kept old new x = filter (is_way (ways old x)) (ways new x)
+
+-- whether x loses a way: one of the old table that is none of the new one
+abbrev pub loses : List (List ℕ) → List (List ℕ) → ℕ → Bool
+loses old new x = list_any (λ y. not (is_way (ways new x) y)) (ways old x)
+
+-- the ways of x after the first phase
+abbrev pub shrunk : List (List ℕ) → List (List ℕ) → ℕ → List ℕ
+shrunk old new x = cond (loses old new x) (kept old new x) (ways old x)
+
+-- a moment of the first phase: any nodes have shrunk, and the others have their old ways
+abbrev pub IsShrinking : List (List ℕ) → List (List ℕ) → List (List ℕ) → Type 0
+IsShrinking old new table = (x : ℕ) → (ways table x ≡ ways old x) ⊎ (ways table x ≡ shrunk old new x)
+
+-- a moment of the second phase: all nodes have shrunk, and any have their new ways
+abbrev pub IsGrowing : List (List ℕ) → List (List ℕ) → List (List ℕ) → Type 0
+IsGrowing old new table = (x : ℕ) → (ways table x ≡ shrunk old new x) ⊎ (ways table x ≡ ways new x)
+
+-- any nodes have their new ways, and the others their old ones
+abbrev pub IsMixed : List (List ℕ) → List (List ℕ) → List (List ℕ) → Type 0
+IsMixed old new table = (x : ℕ) → (ways table x ≡ ways old x) ⊎ (ways table x ≡ ways new x)
