@@ -77,30 +77,53 @@ module _ (links : List (ℕ × ℕ)) (d : ℕ) where
 
   insert : (w : ℕ) → HasPath links w d → (list : List ℕ) → IsSorted Near list
       → ((u : ℕ) → Contains list u → HasPath links u d × ¬ (w ≡ u)) → (more : List ℕ) × IsMore w list more
-  insert w path [] sorted others = (w ∷ [], (((λ u has. absurd (Contains-none u has)), tt), λ u. (
-    (λ has. ⊎_elim (λ e. inl (sym e)) inr (Contains-cases u w [] has)),
-    (λ h. ⊎_elim (λ e. subst (Contains (w ∷ [])) (sym e) (Contains-head w [])) (λ has. absurd (Contains-none u has)) h),
-  )))
+  insert w path [] sorted others = (
+    w ∷ [],
+    (
+      ((λ u has. absurd (Contains-none u has)), tt),
+      λ u. (
+        (λ has. ⊎_elim (λ e. inl (sym e)) inr (Contains-cases u w [] has)),
+        (λ h. ⊎_elim (λ e. subst (Contains (w ∷ [])) (sym e) (Contains-head w [])) (λ has. absurd (Contains-none u has)) h),
+      ),
+    ),
+  )
   insert w path (v ∷ vs) sorted others =
       let at_v = others v (Contains-head v vs) in
       elim (nearer_cases w v path at_v.0 at_v.1) [
-        | inl near ↦ (w ∷ (v ∷ vs), (((λ u has. ⊎_elim (λ e. subst (Near w) e near)
-            (λ in_vs. transitive w v u near (sorted.0 u in_vs)) (Contains-cases u v vs has)), sorted), λ u. (
-          (λ has. ⊎_elim (λ e. inl (sym e)) inr (Contains-cases u w (v ∷ vs) has)),
-          (λ h. ⊎_elim (λ e. subst (Contains (w ∷ (v ∷ vs))) (sym e) (Contains-head w (v ∷ vs)))
-              (λ has. Contains-tail u w (v ∷ vs) has) h),
-        )))
+        | inl near ↦ (
+          w ∷ (v ∷ vs),
+          (
+            (
+              (λ u has. ⊎_elim (λ e. subst (Near w) e near)
+                  (λ in_vs. transitive w v u near (sorted.0 u in_vs)) (Contains-cases u v vs has)),
+              sorted,
+            ),
+            λ u. (
+              (λ has. ⊎_elim (λ e. inl (sym e)) inr (Contains-cases u w (v ∷ vs) has)),
+              (λ h. ⊎_elim (λ e. subst (Contains (w ∷ (v ∷ vs))) (sym e) (Contains-head w (v ∷ vs)))
+                  (λ has. Contains-tail u w (v ∷ vs) has) h),
+            ),
+          ),
+        )
         | inr far ↦
-            let (more, (rest, just)) = insert w path vs sorted.1 (λ u has. others u (Contains-tail u v vs has)) in
-            (v ∷ more, (((λ u has. ⊎_elim (λ e. subst (Near v) (sym e) far) (λ in_vs. sorted.0 u in_vs)
-                ((just u).0 has)), rest), λ u. (
-              (λ has. ⊎_elim (λ e. inr (subst (Contains (v ∷ vs)) e (Contains-head v vs)))
-                  (λ in_more. ⊎_elim inl (λ in_vs. inr (Contains-tail u v vs in_vs)) ((just u).0 in_more))
-                  (Contains-cases u v more has)),
-              (λ h. ⊎_elim (λ e. Contains-tail u v more ((just u).1 (inl e)))
-                  (λ has. ⊎_elim (λ e. subst (Contains (v ∷ more)) e (Contains-head v more))
-                  (λ in_vs. Contains-tail u v more ((just u).1 (inr in_vs))) (Contains-cases u v vs has)) h),
-            )))
+            let (more, (rest, just)) = insert w path vs sorted.1 (λ u has. others u (Contains-tail u v vs has)) in (
+              v ∷ more,
+              (
+                (
+                  (λ u has. ⊎_elim (λ e. subst (Near v) (sym e) far) (λ in_vs. sorted.0 u in_vs)
+                      ((just u).0 has)),
+                  rest,
+                ),
+                λ u. (
+                  (λ has. ⊎_elim (λ e. inr (subst (Contains (v ∷ vs)) e (Contains-head v vs)))
+                      (λ in_more. ⊎_elim inl (λ in_vs. inr (Contains-tail u v vs in_vs)) ((just u).0 in_more))
+                      (Contains-cases u v more has)),
+                  (λ h. ⊎_elim (λ e. Contains-tail u v more ((just u).1 (inl e)))
+                      (λ has. ⊎_elim (λ e. subst (Contains (v ∷ more)) e (Contains-head v more))
+                      (λ in_vs. Contains-tail u v more ((just u).1 (inr in_vs))) (Contains-cases u v vs has)) h),
+                ),
+              ),
+            )
       ]
 
   module _ (decide : (w : ℕ) → HasPath links w d ⊎ ¬ HasPath links w d) (x : ℕ) where
@@ -130,31 +153,40 @@ module _ (links : List (ℕ × ℕ)) (d : ℕ) where
           | inl way ↦
               let others : (u : ℕ) → Contains list u → HasPath links u d × ¬ (m ≡ u) =
               λ u has. let h = (just u).0 has in (h.0.leads, λ e. omega (arith, e, h.1)) in
-              let (more, (is, each)) = insert m way.leads list sorted others in
-              (more, is, λ w. (
-                (λ has. ⊎_elim (λ e. (subst (IsWay links d x) (sym e) way, omega (arith, e)))
-                    (λ old. let h = (just w).0 old in (h.0, omega (arith, h.1))) ((each w).0 has)),
-                (λ h. elim (cases_eq w m) [
-                  | inl e ↦ (each w).1 (inl e)
-                  | inr apart ↦ (each w).1 (inr ((just w).1 (h.0, omega (arith, h.1, apart))))
-                ]),
-              ))
-          | inr none ↦ (list, sorted, λ w. (
-            (λ has. let h = (just w).0 has in (h.0, omega (arith, h.1))),
-            (λ h. elim (cases_eq w m) [
-              | inl e ↦ absurd (none (subst (IsWay links d x) e h.0))
-              | inr apart ↦ (just w).1 (h.0, omega (arith, h.1, apart))
-            ]),
-          ))
+              let (more, (is, each)) = insert m way.leads list sorted others in (
+                more,
+                is,
+                λ w. (
+                  (λ has. ⊎_elim (λ e. (subst (IsWay links d x) (sym e) way, omega (arith, e)))
+                      (λ old. let h = (just w).0 old in (h.0, omega (arith, h.1))) ((each w).0 has)),
+                  (λ h. elim (cases_eq w m) [
+                    | inl e ↦ (each w).1 (inl e)
+                    | inr apart ↦ (each w).1 (inr ((just w).1 (h.0, omega (arith, h.1, apart))))
+                  ]),
+                ),
+              )
+          | inr none ↦ (
+            list,
+            sorted,
+            λ w. (
+              (λ has. let h = (just w).0 has in (h.0, omega (arith, h.1))),
+              (λ h. elim (cases_eq w m) [
+                | inl e ↦ absurd (none (subst (IsWay links d x) e h.0))
+                | inr apart ↦ (just w).1 (h.0, omega (arith, h.1, apart))
+              ]),
+            ),
+          )
         ]
 
     pub ways_exist : (n : ℕ) → AreBelow n links → (list : List ℕ) × AreWays links d x list
     ways_exist n below =
-        let (list, sorted, just) = some_ways n in
-        (list, record {
-          just = λ w. ((λ has. ((just w).0 has).0), (λ way. (just w).1 (way, head_below w way.link)));
-          order = sorted_at Near list sorted;
-        })
+        let (list, sorted, just) = some_ways n in (
+          list,
+          record {
+            just = λ w. ((λ has. ((just w).0 has).0), (λ way. (just w).1 (way, head_below w way.link)));
+            order = sorted_at Near list sorted;
+          },
+        )
       where
         head_below : (w : ℕ) → Points links x w → w < n
         head_below w (k, low, is) = subst (λ (l : ℕ × ℕ). l.1 < n) is (below k (x, w) low).1

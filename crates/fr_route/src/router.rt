@@ -21,8 +21,9 @@ ghost use Rattle.fr_route.specs.Outcomes.{IsSettledTable, cut_off_nodes, movable
 use crate::change::{Change, Report};
 use crate::fault::{NotMade, RouteFault, placeless};
 use crate::hops::{AfterRound, Walked, hop_table, resized};
-use crate::outcome::{alone_nodes, push_capped, put_in_place, renew_distances, report_of};
-use crate::outcome::touched_nodes;
+use crate::outcome::{
+    alone_nodes, push_capped, put_in_place, renew_distances, report_of, touched_nodes,
+};
 use crate::revision::Revision;
 use crate::settling::Asking;
 use crate::spare::Spare;
