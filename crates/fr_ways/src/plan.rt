@@ -104,7 +104,10 @@ pub fn known_phases(alloc: Global, old: &WayTable, new: &WayTable) -> Result<Two
     for x in 0..new.len() as u32 {
         plan.add(old, new, x, &mut spare)?;
     }
-    let Plan { mut phases, emptied } = plan;
+    let Plan {
+        mut phases,
+        emptied,
+    } = plan;
     add_emptied(&mut phases.shrink, &emptied)?;
     Ok(phases)
 }
@@ -119,7 +122,13 @@ struct Plan {
 
 impl Plan {
     /// Adds what has to be pushed to node `x`.
-    fn add(&mut self, old: &WayTable, new: &WayTable, x: u32, spare: &mut Spare) -> Result<(), AllocError>
+    fn add(
+        &mut self,
+        old: &WayTable,
+        new: &WayTable,
+        x: u32,
+        spare: &mut Spare,
+    ) -> Result<(), AllocError>
         requires range { IsInRange new.now }
         requires plan { IsPlan old.now new.now x self.old }
         requires spare { IsClear (length new.now) spare.old }

@@ -11,7 +11,9 @@ fn table(alloc: Global, rows: &[&[u32]]) -> Result<WayTable, AllocError> {
 }
 
 fn are(pushes: &Pushes, nodes: &[u32], starts: &[usize], list: &[u32]) -> bool {
-    pushes.nodes.as_slice() == nodes && pushes.lists.starts() == starts && pushes.lists.list() == list
+    pushes.nodes.as_slice() == nodes
+        && pushes.lists.starts() == starts
+        && pushes.lists.list() == list
 }
 
 /// Node 3 had ways to 5 and 2, and now has 5 and 7. Node 5 keeps its way to 2 and loses 7. Node 6 loses all. Node 7
@@ -19,7 +21,10 @@ fn are(pushes: &Pushes, nodes: &[u32], starts: &[usize], list: &[u32]) -> bool {
 #[test]
 fn shrinks_before_it_grows(rt: HostRuntime) -> Result<(), Fail> {
     let alloc = rt.alloc();
-    let old = table(alloc, &[&[], &[0, 2], &[0], &[5, 2], &[1, 2], &[7, 2], &[1], &[]])?;
+    let old = table(
+        alloc,
+        &[&[], &[0, 2], &[0], &[5, 2], &[1, 2], &[7, 2], &[1], &[]],
+    )?;
     let new = table(alloc, &[&[], &[0], &[0], &[5, 7], &[2, 1], &[2], &[], &[0]])?;
     let plan = phases(alloc, &old, &new).expect(&rt, "phases");
     assert!(rt; are(&plan.shrink, &[1, 3, 5, 6], &[0, 1, 2, 3, 3], &[0, 5, 2]));
