@@ -55,8 +55,8 @@ grows old new x = differs (shrunk old new x) (ways new x)
 abbrev pub nodes_of : List (List ℕ) → List ℕ
 nodes_of table = range_with_len 0 (length table)
 
--- the nodes that shrink: by number those that keep a way, and then those that keep none. So no node is left without a
--- way while another may still send to it, and has a way to keep
+-- the nodes that shrink: by number those that keep a way, and then those that keep none. So a node is left without a way
+-- only once each node that keeps one has lost the others
 abbrev pub shrinking_nodes : List (List ℕ) → List (List ℕ) → List ℕ
 shrinking_nodes old new = filter (sheds old new) (nodes_of new) ++ filter (empties old new) (nodes_of new)
 
