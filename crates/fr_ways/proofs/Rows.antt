@@ -1,10 +1,12 @@
 -- A table of ways in two lists: where each row lies, and what one more row adds.
-use Rattle.std.proofs.Common.{List, [], ap, arith, drop, get_or, length, length-append, length-drop, refl, subst, suc, sym, take, zero, ℕ}
+use Rattle.std.proofs.Common.{Contains, List, [], ap, arith, drop, get_or, length, length-append, length-drop, refl, subst, suc, sym, take, zero, ℕ}
 use Rattle.std.proofs.Common.{◌++◌, ◌+◌, ◌-◌, ◌<◌, ◌∙◌, ◌∷◌, ◌≡◌, ◌≤◌}
 use Rattle.std.specs.List.{concat}
 use Rattle.std.proofs.lemmas.List.{drop-append-le, drop-drop, drop_all, drop_at, length-take-le, take-append-drop, take-append-le, take_all}
+use Rattle.std.proofs.lemmas.List.Elements.{Contains-append_left, Contains-append_right}
+use Rattle.fr_tables.proofs.Members.{Contains-none}
 use Rattle.fr_ways.specs.Rows.{AreRows, AreStarts, DoNotFall, rows_from, rows_of}
-use Rattle.fr_ways.specs.Ways.{ways}
+use Rattle.fr_ways.specs.Ways.{Sends, ways}
 
 length_from : (list : List ℕ) (start : ℕ) (ends : List ℕ) → length (rows_from list start ends) ≡ length ends
 length_from list start [] = refl
@@ -107,3 +109,9 @@ pub still_rows : (list starts row : List ℕ) → AreRows list starts → AreRow
 still_rows list [] row are = absurd are
 still_rows list (start ∷ ends) row are =
     (are.0, one_more_place (length list) (length (list ++ row)) start ends (omega (arith, length-append list row)) are.1)
+
+-- each way is in the list of all ways
+pub way_listed : (table : List (List ℕ)) (x y : ℕ) → Sends table x y → Contains (concat table) y
+way_listed [] x y sends = absurd (Contains-none y sends)
+way_listed (row ∷ rows) zero y sends = Contains-append_left row (concat rows) y sends
+way_listed (row ∷ rows) (suc x) y sends = Contains-append_right row (concat rows) y (way_listed rows x y sends)
