@@ -4,13 +4,23 @@ use Rattle.std.specs.List.{concat}
 use Rattle.fr_route.specs.NodeWays.{AreAllWays, AreNodeWays, IsNearestRoute}
 use Rattle.fr_route.specs.States.{State, IsCutOff}
 use Rattle.fr_ways.specs.Rows.{AreStarts}
+use Rattle.revroute_c.specs.Questions.{HasNoRoute}
 use Rattle.revroute_c.specs.Replies.{IsWritten, Outcome}
-use Rattle.revroute_c.specs.Statuses.{REVROUTE_ANSWERED, REVROUTE_TOO_SHORT}
+use Rattle.revroute_c.specs.Statuses.{REVROUTE_ANSWERED, REVROUTE_TOO_SHORT, REVROUTE_NO_NETWORK, REVROUTE_NO_ROUTE}
 
--- the ways of x, nearest first. x is a node and not cut off
+-- x has a route to the destination: it is a node, and not cut off
+abbrev pub HasRoute : State → ℕ → Type 0
+HasRoute s x = (x < s.nodes) × ¬ IsCutOff s.dest s.links x
+
+-- the status says why there is no route from x
+abbrev pub SaysWhyNone : Option State → ℕ → ℕ → Type 0
+SaysWhyNone None x status = status ≡ REVROUTE_NO_NETWORK
+SaysWhyNone (Some s) x status = (status ≡ REVROUTE_NO_ROUTE) × HasNoRoute s x
+
+-- the ways of x, nearest first
 abbrev pub AreWaysFrom : Option State → ℕ → List ℕ → Type 0
 AreWaysFrom None x list = ⊥
-AreWaysFrom (Some s) x list = (x < s.nodes) × ¬ IsCutOff s.dest s.links x × AreNodeWays s x list
+AreWaysFrom (Some s) x list = HasRoute s x × AreNodeWays s x list
 
 -- these nodes are a route from x along nearest ways, beginning with x
 abbrev pub IsNearestFrom : Option State → ℕ → List ℕ → Type 0

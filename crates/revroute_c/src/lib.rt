@@ -27,7 +27,7 @@ ghost use Rattle.revroute_c.specs.Statuses.{REVROUTE_ANSWERED, REVROUTE_BLANK, R
 ghost use Rattle.revroute_c.specs.Statuses.{REVROUTE_NO_MEMORY, REVROUTE_NO_NETWORK, REVROUTE_NO_ROUTE};
 ghost use Rattle.revroute_c.specs.Statuses.{REVROUTE_REFUSED, REVROUTE_NO_WALK, REVROUTE_BEGUN, REVROUTE_NO_TABLE};
 ghost use Rattle.revroute_c.specs.Tables.{ArePushesOf, IsNoTable};
-ghost use Rattle.revroute_c.specs.Ways.{AreWaysFrom, GivesAllWays, IsNearestFrom};
+ghost use Rattle.revroute_c.specs.Ways.{AreWaysFrom, GivesAllWays, HasRoute, IsNearestFrom};
 
 mod closed_walks;
 mod engine;
@@ -492,8 +492,7 @@ pub extern "C" fn revroute_walk(
 
 /// Writes the ways of a node, nearest first, to the front of `ways`, and their number to `size`. The ways are the nodes
 /// to which its links point. They are ordered by their distance, the fewest links down to the destination, and then by
-/// number. The destination has none. Returns as [`revroute_walk`] does; `NO_ROUTE` means that the node is cut off, and
-/// so has no ways, or that the number is not a node.
+/// number. The destination has none. Returns as [`revroute_walk`] does, and `NO_MEMORY` only for a node with a route.
 ///
 /// It puts the ways together in a list that the session keeps, so it allocates only if no node asked about before had
 /// as many. The cost is that of [`Router::ways`](fr_route::Router::ways).
@@ -508,7 +507,7 @@ pub extern "C" fn revroute_ways(
     ensures gives { GivesList (AreWaysFrom handle.old.session node) (outcome result ways.old ways.new size.new) }
     ensures no_network { (result ≡ REVROUTE_NO_NETWORK) ↔ (handle.old.session ≡ None) }
     ensures no_route { result ≡ REVROUTE_NO_ROUTE → IfSome handle.old.session (λ s. HasNoRoute s node) }
-    ensures no_memory { result ≡ REVROUTE_NO_MEMORY → IfSome handle.old.session (λ s. node < s.nodes) }
+    ensures no_memory { result ≡ REVROUTE_NO_MEMORY → IfSome handle.old.session (λ s. HasRoute s node) }
     ensures status { (result ≡ REVROUTE_ANSWERED) ⊎ ((REVROUTE_TOO_SHORT ≤ result) × (result ≤ REVROUTE_NO_ROUTE)) }
 {
     *size = 0;
@@ -526,7 +525,7 @@ pub extern "C" fn revroute_ways(
 
 /// Writes the nodes of the nearest route from a node to the destination, both included, to the front of `nodes`, and
 /// their number to `size`. Each node is the first way of the one before, so the route has the fewest links. Returns as
-/// [`revroute_walk`] does. The cost is that of [`Router::nearest`](fr_route::Router::nearest).
+/// [`revroute_ways`] does. The cost is that of [`Router::nearest`](fr_route::Router::nearest).
 #[unsafe(no_mangle)]
 pub extern "C" fn revroute_nearest(
     alloc: Global,
@@ -539,7 +538,7 @@ pub extern "C" fn revroute_nearest(
     ensures gives { GivesList (IsNearestFrom handle.old.session node) (outcome result nodes.old nodes.new size.new) }
     ensures no_network { (result ≡ REVROUTE_NO_NETWORK) ↔ (handle.old.session ≡ None) }
     ensures no_route { result ≡ REVROUTE_NO_ROUTE → IfSome handle.old.session (λ s. HasNoRoute s node) }
-    ensures no_memory { result ≡ REVROUTE_NO_MEMORY → IfSome handle.old.session (λ s. node < s.nodes) }
+    ensures no_memory { result ≡ REVROUTE_NO_MEMORY → IfSome handle.old.session (λ s. HasRoute s node) }
     ensures status { (result ≡ REVROUTE_ANSWERED) ⊎ ((REVROUTE_TOO_SHORT ≤ result) × (result ≤ REVROUTE_NO_ROUTE)) }
 {
     *size = 0;

@@ -1,20 +1,38 @@
 //! Questions about the ways of nodes. They change nothing.
 
-ghost use Rattle.std.specs.Prelude.{◌≡◌, ◌<◌, ◌≤◌, ◌⊎◌, ◌↔◌, length, None, IfSome};
+ghost use Rattle.std.specs.Prelude.{◌≡◌, ◌<◌, ◌≤◌, ◌⊎◌, ◌↔◌, length, None, Some, IfErr, IfOk, IfSome};
 ghost use Rattle.std.specs.List.{concat};
 ghost use Rattle.revroute_c.specs.Questions.{HasNoRoute};
 ghost use Rattle.revroute_c.specs.Replies.{outcome, GivesList};
-ghost use Rattle.revroute_c.specs.Ways.{AreRowsWritten, AreWaysFrom, GivesAllWays, IsNearestFrom, IsTooLong};
+ghost use Rattle.revroute_c.specs.Ways.{AreRowsWritten, AreWaysFrom, GivesAllWays, HasRoute};
+ghost use Rattle.revroute_c.specs.Ways.{IsNearestFrom, IsTooLong, SaysWhyNone};
 
 use crate::replies::hand_out;
 use crate::statuses::{ANSWERED, NO_MEMORY, NO_NETWORK, NO_ROUTE, TOO_SHORT};
-use fr_route::{Hop, Session, Walked};
+use fr_route::{Hop, Router, Session, Walked};
 use fr_ways::WayTable;
 use std::alloc::Global;
 
-/// Writes the ways of a node, nearest first, if it has a route. `list` is any list; its room is used again, so that an
-/// answer seldom allocates. `size` must be 0.
+/// The router of a session, if a node has a route in it. Otherwise the status that says why not.
 #[tactic(auto, using(crate::proofs::Connected::not_cut_off))]
+fn router_from(session: &Session, node: u32) -> Result<&Router, u32>
+    ensures some { IfOk result (λ router. (session.now ≡ Some router.now) × HasRoute router.now node) }
+    ensures none { IfErr result (SaysWhyNone session.now node) }
+{
+    let Some(router) = session.router() else {
+        return Err(NO_NETWORK);
+    };
+    if node >= router.net().nodes() {
+        return Err(NO_ROUTE);
+    }
+    if router.next_hop(node) == Hop::CutOff {
+        return Err(NO_ROUTE);
+    }
+    Ok(router)
+}
+
+/// Writes the ways of a node, nearest first, if it has a route. The content of `list` is lost; its room is used again,
+/// so that few answers allocate. `size` must be 0.
 pub(crate) fn ways_in(
     session: &Session,
     list: &mut Vec<u32>,
@@ -26,18 +44,13 @@ pub(crate) fn ways_in(
     ensures gives { GivesList (AreWaysFrom session.now node) (outcome result ways.old ways.new size.new) }
     ensures no_network { (result ≡ NO_NETWORK) ↔ (session.now ≡ None) }
     ensures no_route { result ≡ NO_ROUTE → IfSome session.now (λ s. HasNoRoute s node) }
-    ensures no_memory { result ≡ NO_MEMORY → IfSome session.now (λ s. node < s.nodes) }
+    ensures no_memory { result ≡ NO_MEMORY → IfSome session.now (λ s. HasRoute s node) }
     ensures status { (result ≡ ANSWERED) ⊎ ((TOO_SHORT ≤ result) × (result ≤ NO_ROUTE)) }
 {
-    let Some(router) = session.router() else {
-        return NO_NETWORK;
+    let router = match router_from(session, node) {
+        Ok(router) => router,
+        Err(status) => return status,
     };
-    if node >= router.net().nodes() {
-        return NO_ROUTE;
-    }
-    if router.next_hop(node) == Hop::CutOff {
-        return NO_ROUTE;
-    }
     match router.ways(node, list) {
         Ok(()) => hand_out(list, ways, size),
         Err(_memory) => NO_MEMORY,
@@ -56,18 +69,16 @@ pub(crate) fn nearest_in(
     ensures gives { GivesList (IsNearestFrom session.now node) (outcome result nodes.old nodes.new size.new) }
     ensures no_network { (result ≡ NO_NETWORK) ↔ (session.now ≡ None) }
     ensures no_route { result ≡ NO_ROUTE → IfSome session.now (λ s. HasNoRoute s node) }
-    ensures no_memory { result ≡ NO_MEMORY → IfSome session.now (λ s. node < s.nodes) }
+    ensures no_memory { result ≡ NO_MEMORY → IfSome session.now (λ s. HasRoute s node) }
     ensures status { (result ≡ ANSWERED) ⊎ ((TOO_SHORT ≤ result) × (result ≤ NO_ROUTE)) }
 {
-    let Some(router) = session.router() else {
-        return NO_NETWORK;
+    let router = match router_from(session, node) {
+        Ok(router) => router,
+        Err(status) => return status,
     };
-    if node >= router.net().nodes() {
-        return NO_ROUTE;
-    }
     match router.nearest(alloc, node) {
         Ok(Walked::Route(route)) => hand_out(&route, nodes, size),
-        Ok(Walked::CutOff) => NO_ROUTE,
+        Ok(Walked::CutOff) => unreachable!(),
         Err(_memory) => NO_MEMORY,
     }
 }
