@@ -85,12 +85,7 @@ pub(crate) fn nearest_in(
 
 /// Writes the lists of a table: where each begins, and one list after the other. If a place is too short, it writes to
 /// none.
-fn hand_out_rows(
-    table: &WayTable,
-    starts: &mut [usize],
-    ways: &mut [u32],
-    size: &mut usize,
-) -> u32
+fn hand_out_rows(table: &WayTable, starts: &mut [usize], ways: &mut [u32], size: &mut usize) -> u32
     ensures written { result ≡ ANSWERED
         → AreRowsWritten table.now (outcome result starts.old starts.new size.new)
         (outcome result ways.old ways.new size.new) }
