@@ -137,6 +137,26 @@ static void tell_tables(revroute *session) {
     kept = table[nodes - 1];
 }
 
+/* Asks for the ways of each node. */
+static void ask_ways(revroute *session) {
+    size_t length, sum = 0;
+    for (int round = 0; round < ROUNDS; round++)
+        for (uint32_t at = 0; at < nodes; at++) {
+            revroute_ways(session, order[at], pushed, NODES, &length);
+            sum += length;
+        }
+    kept = (uint32_t)sum;
+}
+
+static void tell_all_ways(revroute *session) {
+    static size_t starts[NODES + 1];
+    static uint32_t ways[LINKS];
+    size_t length;
+    for (int at = 0; at < TABLES; at++)
+        if (revroute_all_ways(session, starts, NODES + 1, ways, LINKS, &length) != REVROUTE_ANSWERED) stop("there are no ways");
+    kept = ways[length - 1];
+}
+
 /* Fills the table with the settled hops, or with hops that all differ from them. */
 static void fill_table(revroute *session, uint32_t count, bool differs) {
     size_t length;
@@ -266,6 +286,8 @@ int main(void) {
     printf("reader-busy %.3f\n", best_read(1, true));
     printf("reader3-busy %.3f\n", best_read(THREADS - 1, true));
     printf("hops %.0f\n", best(tell_tables) / TABLES);
+    printf("ways %.3f\n", best(ask_ways) / count);
+    printf("all-ways %.0f\n", best(tell_all_ways) / TABLES);
     printf("pushes-none %.0f\n", best_pushes(nodes, false));
     printf("pushes %.0f\n", best_pushes(nodes, true));
     printf("pushes-half %.0f\n", best_pushes(nodes / 2, true));

@@ -64,9 +64,15 @@ def tell_hops(nodes, dest, links):
             for _ in order:
                 pass
 
+    def ask_ways():
+        for _ in range(ROUNDS):
+            for node in order:
+                network.ways(node)
+
     loop = best(pass_by)
     tell("hop", best(ask) - loop, nodes * ROUNDS)
     tell("reader", best(read) - loop, nodes * ROUNDS)
+    tell("ways", best(ask_ways) - loop, nodes * ROUNDS)
     tell("ctypes", best(call_numbers) - loop, nodes * ROUNDS)
     buffer = array("I", bytes(4 * nodes))
     tell("hops", best(lambda: [network.hops_into(buffer) for _ in range(TABLES)]), TABLES)

@@ -5,7 +5,7 @@ import re
 from pathlib import Path
 
 TOP = Path(__file__).resolve().parents[2]
-# Each row has a word, and the names in C, Rust and Python that have it. The first eleven words are those of lines.
+# Each row has a word, and the names in C, Rust and Python that have it. The first 13 words are those of lines.
 TABLE = """
 cut      | REVROUTE_CUT | Network::cut Edit::Cut | Network.cut
 add      | REVROUTE_ADD | Network::add Edit::Add | Network.add
@@ -16,8 +16,11 @@ links    | revroute_links | Network::links Session::links | Network.links Sessio
 counts   | revroute_counts | Network::counts Session::counts | Network.counts Session.counts
 hops     | revroute_hops | Network::hops Session::hops | Network.hops Network.hops_into Session.hops
 walk     | revroute_walk revroute_reader_walk | Network::walk Session::walk Reader::walk | Network.walk Session.walk Reader.walk
+ways     | revroute_ways revroute_all_ways | Network::ways Session::ways | Network.ways Session.ways
+nearest  | revroute_nearest | Network::nearest Session::nearest | Network.nearest Session.nearest
 net      | revroute_open | Network::new | Network
 pushes   | revroute_pushes | Network::pushes Session::pushes | Network.pushes Session.pushes
+distance | | Network::distance Session::distance | Network.distance Session.distance
 next_hop | revroute_next_hop revroute_reader_next_hop | Network::next_hop Network::try_next_hop Session::next_hop Reader::next_hop Reader::try_next_hop | Network.next_hop Session.next_hop Reader.next_hop
 changed  | revroute_changed | Network::changed Session::changed | Network.changed Session.changed
 push_order | revroute_push_order | push_order | push_order
@@ -38,7 +41,7 @@ networkx | | | Network.from_networkx Network.to_networkx
 # Names that do not have the word of their row.
 OF_THEIR_OWN = {"revroute_change", "revroute_open", "Network::new", "Session::new", "Network", "Network::try_clone", "Reader::try_clone"}
 OF_THEIR_OWN |= {"revroute_closed_walk", "revroute_closed_walk_of", "Refused::ClosedWalk"}
-WORDS_OF_LINES = 11
+WORDS_OF_LINES = 13
 
 
 def rows():

@@ -299,8 +299,8 @@ revroute_status revroute_finish(revroute *session, uint8_t *answer, size_t room,
  * O(1). */
 void revroute_close(revroute *session);
 
-/* Questions. They change nothing. revroute_walk, revroute_links and revroute_pushes need memory; the others do not.
- * Like every call, a question has the session for itself while it runs.
+/* Questions. They change nothing. revroute_walk, revroute_ways, revroute_nearest, revroute_all_ways, revroute_links and
+ * revroute_pushes need memory; the others do not. Like every call, a question has the session for itself while it runs.
  *
  * Some questions fill an array of `room` places. They write to its front, leave the rest unchanged, and write the
  * number of elements to *length. With REVROUTE_TOO_SHORT *length is that number too. After any result but
@@ -363,6 +363,34 @@ revroute_status revroute_counts(revroute *session, uint64_t *counts, size_t room
 /* Writes the nodes on the route from a node to the destination, both included. REVROUTE_NO_ROUTE if there is no route.
  * REVROUTE_NO_MEMORY if memory ran out. O(r) for r nodes on the route. */
 revroute_status revroute_walk(revroute *session, uint32_t node, uint32_t *nodes, size_t room, size_t *length);
+
+/* Writes the ways of a node: the nodes to which its links point, nearest first. They are ordered by their distance, the
+ * fewest links that lead from a node down to the destination, and then by number. The destination has no ways.
+ *
+ * A router may hold all its ways, and send each packet to any of them. Whichever ways routers take, and whatever links
+ * fail, no packet visits a node twice. The next hop of the node is the way with the lowest number.
+ *
+ * REVROUTE_NO_ROUTE if the node is cut off, and so has no ways, or if there is no such node. REVROUTE_NO_MEMORY if
+ * memory ran out: the session keeps room for the longest list so far, so only a longer one needs memory. O(d log d) for
+ * d links at the node. */
+revroute_status revroute_ways(revroute *session, uint32_t node, uint32_t *ways, size_t room, size_t *length);
+
+/* Writes the nodes on the nearest route from a node to the destination, both included: each is the first way of the one
+ * before. No route along the links is shorter, so the distance of the node is *length - 1. With a room of 0 the call
+ * only reports this length. REVROUTE_NO_ROUTE if there is no route. REVROUTE_NO_MEMORY if memory ran out. O(r d) for r
+ * nodes on the route with at most d links each. */
+revroute_status revroute_nearest(revroute *session, uint32_t node, uint32_t *nodes, size_t room, size_t *length);
+
+/* Writes the ways of all nodes to two arrays. `ways` gets the lists of revroute_ways, one after the other in the order
+ * of the nodes, and *length is their length in all. `starts` gets the index in `ways` at which the list of each node
+ * begins, and at its end *length: one number more than there are nodes. So the ways of node x are those from starts[x]
+ * up to, but without, starts[x + 1]. The destination, and a node that is cut off, have none.
+ *
+ * There are at most as many ways as links, so a room of the number of links is enough for `ways`. REVROUTE_TOO_SHORT if
+ * one of the arrays is too short; *length is then the length of `ways` that is needed. REVROUTE_NO_MEMORY if memory ran
+ * out. After any result but REVROUTE_ANSWERED both arrays are unchanged. O(n + m log m). */
+revroute_status revroute_all_ways(revroute *session, size_t *starts, size_t starts_room, uint32_t *ways,
+                                  size_t ways_room, size_t *length);
 
 /* Writes the links, ordered by tail and then by head. REVROUTE_NO_MEMORY if memory ran out. O(n + m). */
 revroute_status revroute_links(revroute *session, revroute_link *links, size_t room, size_t *length);
@@ -564,6 +592,28 @@ static inline revroute_status revroute_walk_(revroute *session_, uint32_t node_,
     return revroute_walk(session_, node_, REVROUTE_SOME(uint32_t, nodes_, length_), room_, length_);
 }
 #define revroute_walk revroute_walk_
+
+static inline revroute_status revroute_ways_(revroute *session_, uint32_t node_, uint32_t *ways_, size_t room_,
+                                             size_t *length_) {
+    if (REVROUTE_IS_MISSING(ways_, room_)) return REVROUTE_NULL_ARRAY;
+    return revroute_ways(session_, node_, REVROUTE_SOME(uint32_t, ways_, length_), room_, length_);
+}
+#define revroute_ways revroute_ways_
+
+static inline revroute_status revroute_nearest_(revroute *session_, uint32_t node_, uint32_t *nodes_, size_t room_,
+                                                size_t *length_) {
+    if (REVROUTE_IS_MISSING(nodes_, room_)) return REVROUTE_NULL_ARRAY;
+    return revroute_nearest(session_, node_, REVROUTE_SOME(uint32_t, nodes_, length_), room_, length_);
+}
+#define revroute_nearest revroute_nearest_
+
+static inline revroute_status revroute_all_ways_(revroute *session_, size_t *starts_, size_t starts_room_,
+                                                 uint32_t *ways_, size_t ways_room_, size_t *length_) {
+    if (REVROUTE_IS_MISSING(starts_, starts_room_) || REVROUTE_IS_MISSING(ways_, ways_room_)) return REVROUTE_NULL_ARRAY;
+    return revroute_all_ways(session_, REVROUTE_SOME(size_t, starts_, length_), starts_room_,
+                             REVROUTE_SOME(uint32_t, ways_, length_), ways_room_, length_);
+}
+#define revroute_all_ways revroute_all_ways_
 
 static inline revroute_status revroute_links_(revroute *session_, revroute_link *links_, size_t room_,
                                               size_t *length_) {

@@ -8,7 +8,7 @@
 typedef struct places {
     revroute_round round;
     revroute_refusal why;
-    size_t length, taken;
+    size_t length, taken, starts[8];
     uint32_t nodes[8];
     uint8_t bytes[REVROUTE_LEAST_ROOM];
     uint8_t beyond[256];
@@ -58,6 +58,10 @@ static void pass_null(void) {
     LOOK(push_order(table, 3, table, 3, NULL, 8, &at->length, &at->why));
     LOOK(counts(&session, NULL, 8, &at->length));
     LOOK(walk(&session, 2, NULL, 10, &at->length));
+    LOOK(ways(&session, 2, NULL, 8, &at->length));
+    LOOK(nearest(&session, 2, NULL, 8, &at->length));
+    LOOK(all_ways(&session, NULL, 8, at->nodes, 8, &at->length));
+    LOOK(all_ways(&session, at->starts, 8, NULL, 8, &at->length));
     LOOK(links(&session, NULL, 8, &at->length));
     LOOK(reader_walk(&reader, 2, NULL, 8, &at->length));
     LOOK(version(NULL, 16, &at->length));

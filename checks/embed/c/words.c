@@ -48,6 +48,9 @@ static void pass_null(revroute *session, revroute_reader *reader) {
     expect(revroute_hops(session, NULL, 0, &length) == REVROUTE_TOO_SHORT && length == 2, "hops fit into null");
     expect(revroute_counts(session, NULL, 0, &length) == REVROUTE_TOO_SHORT && length == 2, "counts fit into null");
     expect(revroute_walk(session, 1, NULL, 0, &length) == REVROUTE_TOO_SHORT && length == 1, "a route fits into null");
+    expect(revroute_ways(session, 1, NULL, 0, &length) == REVROUTE_ANSWERED && !length, "the destination has a way");
+    expect(revroute_nearest(session, 1, NULL, 0, &length) == REVROUTE_TOO_SHORT && length == 1, "a nearest route fits into null");
+    expect(revroute_all_ways(session, NULL, 0, NULL, 0, &length) == REVROUTE_TOO_SHORT && !length, "starts fit into null");
     expect(revroute_links(session, NULL, 0, &length) == REVROUTE_ANSWERED && !length, "there are links");
     expect(revroute_reader_open(session, reader) == REVROUTE_ANSWERED, "there is no reader");
     expect(revroute_reader_walk(reader, 1, NULL, 0, &length) == REVROUTE_TOO_SHORT && length == 1, "a walk fits into null");

@@ -6,6 +6,7 @@
 #include <stdlib.h>
 #include <string.h>
 
+revroute_status engine_all_ways(revroute *, size_t *, size_t, uint32_t *, size_t, size_t *);
 revroute_status engine_answer(revroute *, const uint8_t *, size_t, uint8_t *, size_t, size_t *);
 revroute_status engine_change(revroute *, const revroute_edit *, size_t, revroute_round *, revroute_refusal *);
 void engine_close(revroute *);
@@ -15,6 +16,7 @@ uint32_t engine_dest(revroute *);
 revroute_status engine_finish(revroute *, uint8_t *, size_t, size_t *);
 revroute_status engine_links(revroute *, revroute_link *, size_t, size_t *);
 revroute_status engine_move_dest(revroute *, uint32_t, revroute_round *, revroute_refusal *);
+revroute_status engine_nearest(revroute *, uint32_t, uint32_t *, size_t, size_t *);
 revroute_status engine_open(revroute *, uint32_t, uint32_t, const revroute_link *, size_t, revroute_round *, revroute_refusal *);
 revroute_status engine_push_order(const uint32_t *, size_t, const uint32_t *, size_t, uint32_t *, size_t, size_t *, revroute_refusal *);
 revroute_status engine_pushes(revroute *, const uint32_t *, size_t, uint32_t *, size_t, size_t *);
@@ -26,6 +28,7 @@ revroute_status engine_reader_walk(revroute_reader *, uint32_t, uint32_t *, size
 revroute_status engine_report(revroute *, revroute_round *);
 revroute_status engine_changed(revroute *, uint32_t *, size_t, size_t *);
 revroute_status engine_walk(revroute *, uint32_t, uint32_t *, size_t, size_t *);
+revroute_status engine_ways(revroute *, uint32_t, uint32_t *, size_t, size_t *);
 revroute_status engine_size(revroute *, uint32_t *, size_t *);
 revroute_status engine_take(revroute *, const uint8_t *, size_t, uint8_t *, size_t, size_t *, size_t *);
 revroute_status engine_version(uint8_t *, size_t, size_t *);
@@ -57,6 +60,11 @@ enum {
     an_answer_that_ends_what_has_begun,
     a_route_without_the_destination,
     a_route_of_a_node_that_is_none,
+    farthest_way_first,
+    ways_of_a_node_that_is_cut_off,
+    a_way_too_few,
+    the_route_for_the_nearest,
+    starts_without_the_end,
     a_report_of_another_round,
     a_destination_of_its_own,
     a_link_too_few,
@@ -197,6 +205,31 @@ revroute_status revroute_walk(revroute *session, uint32_t node, uint32_t *nodes,
         engine_size(session, &nodes_before, &links);
         return node < nodes_before ? status : engine_walk(session, nodes_before - 1, nodes, room, length);
     }
+    return status;
+}
+
+revroute_status revroute_ways(revroute *session, uint32_t node, uint32_t *ways, size_t room, size_t *length) {
+    uint32_t status = engine_ways(session, node, ways, room, length);
+    if (FAULT == a_way_too_few && status == REVROUTE_ANSWERED && *length > 1) --*length;
+    if (FAULT == ways_of_a_node_that_is_cut_off && status == REVROUTE_NO_ROUTE) return REVROUTE_ANSWERED;
+    if (FAULT == farthest_way_first && status == REVROUTE_ANSWERED && *length > 1) {
+        uint32_t last = ways[*length - 1];
+        ways[*length - 1] = ways[0];
+        ways[0] = last;
+    }
+    return status;
+}
+
+revroute_status revroute_nearest(revroute *session, uint32_t node, uint32_t *nodes, size_t room, size_t *length) {
+    if (FAULT == the_route_for_the_nearest) return engine_walk(session, node, nodes, room, length);
+    return engine_nearest(session, node, nodes, room, length);
+}
+
+revroute_status revroute_all_ways(revroute *session, size_t *starts, size_t starts_room, uint32_t *ways, size_t ways_room,
+                                  size_t *length) {
+    size_t last = starts_room ? starts[starts_room - 1] : 0;
+    uint32_t status = engine_all_ways(session, starts, starts_room, ways, ways_room, length);
+    if (FAULT == starts_without_the_end && status == REVROUTE_ANSWERED) starts[starts_room - 1] = last;
     return status;
 }
 

@@ -9,11 +9,13 @@ use std::alloc::Global;
 use std::marker::Model;
 
 /// What the handle of a session points to: the session, the nodes that its last accepted round rerouted, the table of
-/// its readers, and the bytes of a line that has begun.
+/// its readers, and the bytes of a line that has begun. The list of ways belongs to no value: it is the room in which a
+/// question puts the ways of a node together, so that the next question does not allocate.
 #[derive(Drop)]
 pub(crate) struct Engine {
     pub(crate) published: PublishedSession,
     pub(crate) begun: Vec<u8>,
+    pub(crate) ways: Vec<u32>,
 }
 
 impl Model for Engine {
@@ -34,6 +36,7 @@ impl Engine {
         Engine {
             published: PublishedSession::new(alloc),
             begun: Vec::new(alloc),
+            ways: Vec::new(alloc),
         }
     }
 

@@ -27,6 +27,7 @@ ghost use Rattle.revroute_c.specs.Statuses.{REVROUTE_ANSWERED, REVROUTE_BLANK, R
 ghost use Rattle.revroute_c.specs.Statuses.{REVROUTE_NO_MEMORY, REVROUTE_NO_NETWORK, REVROUTE_NO_ROUTE};
 ghost use Rattle.revroute_c.specs.Statuses.{REVROUTE_REFUSED, REVROUTE_NO_WALK, REVROUTE_BEGUN, REVROUTE_NO_TABLE};
 ghost use Rattle.revroute_c.specs.Tables.{ArePushesOf, IsNoTable};
+ghost use Rattle.revroute_c.specs.Ways.{AreWaysFrom, GivesAllWays, HasRoute, IsNearestFrom};
 
 mod closed_walks;
 mod engine;
@@ -43,6 +44,7 @@ mod replies;
 mod rounds;
 mod statuses;
 mod tables;
+mod ways;
 
 use closed_walks::{walk_of_change, walk_of_network};
 use fr_route::{VERSION, is_blank};
@@ -61,6 +63,7 @@ use rounds::{NewNetwork, change_in, is_too_large, move_dest_in, open_anew, open_
 use statuses::{ANSWERED, BLANK, NO_MEMORY, NO_NETWORK, REFUSED, TOO_SHORT};
 use std::alloc::Global;
 use tables::pushes_in;
+use ways::{all_ways_in, nearest_in, ways_in};
 
 /// Answers a line, given without its newline. A null handle is a session without a network. Writes the answer, without
 /// a newline, to the front of the buffer, and its length to `size`. Returns `ANSWERED`, or:
@@ -483,6 +486,95 @@ pub extern "C" fn revroute_walk(
     *size = 0;
     match handle.engine_mut() {
         Some(engine) => walk_in(engine.session(), alloc, node, nodes, size),
+        None => NO_NETWORK,
+    }
+}
+
+/// Writes the ways of a node, nearest first, to the front of `ways`, and their number to `size`. The ways are the nodes
+/// to which its links point. They are ordered by their distance, the fewest links down to the destination, and then by
+/// number. The destination has none. Returns as [`revroute_walk`] does, and `NO_MEMORY` only for a node with a route.
+///
+/// It puts the ways together in a list that the session keeps, so it allocates only if no node asked about before had
+/// as many. The cost is that of [`Router::ways`](fr_route::Router::ways).
+#[unsafe(no_mangle)]
+pub extern "C" fn revroute_ways(
+    handle: &mut Handle,
+    node: u32,
+    ways: &mut [u32],
+    size: &mut usize,
+) -> u32
+    ensures same { IsUnchanged handle.old handle.new }
+    ensures gives { GivesList (AreWaysFrom handle.old.session node) (outcome result ways.old ways.new size.new) }
+    ensures no_network { (result ≡ REVROUTE_NO_NETWORK) ↔ (handle.old.session ≡ None) }
+    ensures no_route { result ≡ REVROUTE_NO_ROUTE → IfSome handle.old.session (λ s. HasNoRoute s node) }
+    ensures no_memory { result ≡ REVROUTE_NO_MEMORY → IfSome handle.old.session (λ s. HasRoute s node) }
+    ensures status { (result ≡ REVROUTE_ANSWERED) ⊎ ((REVROUTE_TOO_SHORT ≤ result) × (result ≤ REVROUTE_NO_ROUTE)) }
+{
+    *size = 0;
+    match handle.engine_mut() {
+        Some(engine) => ways_in(
+            engine.published.session(),
+            &mut engine.ways,
+            node,
+            ways,
+            size,
+        ),
+        None => NO_NETWORK,
+    }
+}
+
+/// Writes the nodes of the nearest route from a node to the destination, both included, to the front of `nodes`, and
+/// their number to `size`. Each node is the first way of the one before, so the route has the fewest links. Returns as
+/// [`revroute_ways`] does. The cost is that of [`Router::nearest`](fr_route::Router::nearest).
+#[unsafe(no_mangle)]
+pub extern "C" fn revroute_nearest(
+    alloc: Global,
+    handle: &mut Handle,
+    node: u32,
+    nodes: &mut [u32],
+    size: &mut usize,
+) -> u32
+    ensures same { IsUnchanged handle.old handle.new }
+    ensures gives { GivesList (IsNearestFrom handle.old.session node) (outcome result nodes.old nodes.new size.new) }
+    ensures no_network { (result ≡ REVROUTE_NO_NETWORK) ↔ (handle.old.session ≡ None) }
+    ensures no_route { result ≡ REVROUTE_NO_ROUTE → IfSome handle.old.session (λ s. HasNoRoute s node) }
+    ensures no_memory { result ≡ REVROUTE_NO_MEMORY → IfSome handle.old.session (λ s. HasRoute s node) }
+    ensures status { (result ≡ REVROUTE_ANSWERED) ⊎ ((REVROUTE_TOO_SHORT ≤ result) × (result ≤ REVROUTE_NO_ROUTE)) }
+{
+    *size = 0;
+    match handle.engine_mut() {
+        Some(engine) => nearest_in(engine.session(), alloc, node, nodes, size),
+        None => NO_NETWORK,
+    }
+}
+
+/// Writes the ways of each node. The lists, as [`revroute_ways`] writes them, come one after the other to the front of
+/// `ways`, in the order of the nodes, and their length in all to `size`. Where each list begins comes to the front of
+/// `starts`, with the end of the last list: one more number than there are nodes. Returns `ANSWERED`, or:
+///
+/// - `TOO_SHORT`: there is too little room in one of the two places.
+/// - `NO_NETWORK`: there is no network yet.
+/// - `NO_MEMORY`: an allocation was refused.
+///
+/// `size` is 0 in the last two cases. In all three cases both places are unchanged. There are at most as many ways as
+/// links. The cost is that of [`Router::all_ways`](fr_route::Router::all_ways).
+#[unsafe(no_mangle)]
+pub extern "C" fn revroute_all_ways(
+    alloc: Global,
+    handle: &mut Handle,
+    starts: &mut [usize],
+    ways: &mut [u32],
+    size: &mut usize,
+) -> u32
+    ensures same { IsUnchanged handle.old handle.new }
+    ensures gives { GivesAllWays handle.old.session (outcome result starts.old starts.new size.new)
+        (outcome result ways.old ways.new size.new) }
+    ensures no_network { (result ≡ REVROUTE_NO_NETWORK) ↔ (handle.old.session ≡ None) }
+    ensures status { (result ≡ REVROUTE_ANSWERED) ⊎ ((REVROUTE_TOO_SHORT ≤ result) × (result ≤ REVROUTE_NO_NETWORK)) }
+{
+    *size = 0;
+    match handle.engine_mut() {
+        Some(engine) => all_ways_in(engine.session(), alloc, starts, ways, size),
         None => NO_NETWORK,
     }
 }

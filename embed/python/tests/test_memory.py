@@ -89,6 +89,20 @@ class MemoryTest(unittest.TestCase):
             left.value = 0
             self.assertEqual(session.walk(3), [3, 2, 1, 0])
 
+    def test_ways_without_memory_change_nothing(self):
+        left = ctypes.c_long.in_dll(library, "refusing_left")
+        with revroute.Session() as session:
+            session.answer(CHAIN)
+            for question, wanted in ((session.nearest, [3, 2, 1, 0]), (session.distance, 3), (session.ways, [2])):
+                left.value = 1
+                self.assertRaises(MemoryError, question, 3)
+                left.value = 0
+                self.assertEqual(question(3), wanted)
+            # The session keeps the room for a list of this length.
+            left.value = 1
+            self.assertEqual(session.ways(2), [1])
+            left.value = 0
+
     def test_pieces_go_on_where_memory_was_missing(self):
         left = ctypes.c_long.in_dll(library, "refusing_left")
         given, number, wanted = "\n".join(LINES).encode() + b"\n", 0, ["turned 6 cut 0", "turned 12 cut 3", "turned 3 cut 0", "walk 1 2 3 0"]

@@ -116,6 +116,24 @@ def push_order(before, hops):
     return sorted((x for x in nodes if new[x] != old[x]), key=lambda x: (group(x), x))
 
 
+def distances(nodes, dest, links):
+    """The distance of each node, by a breadth-first search from the destination against the links."""
+    found, reached = [None] * nodes, [dest]
+    found[dest] = 0
+    for node in reached:
+        for tail, head in links:
+            if head == node and found[tail] is None:
+                found[tail] = found[node] + 1
+                reached.append(tail)
+    return found
+
+
+def ways(node, far, links):
+    """The heads of the links of a node that have a distance, by distance and then by number."""
+    heads = [head for tail, head in links if tail == node and far[head] is not None]
+    return sorted(heads, key=lambda head: (far[head], head))
+
+
 def drawn_table(draw, hops):
     """A table with some of these hops, and some random ones, often with loops."""
     kept = draw.choice((0, 0.25, 0.5, 0.75, 1))
@@ -145,7 +163,20 @@ class NetworkTests(unittest.TestCase):
         self.assertEqual([network.walk(x) for x in range(lines.nodes)], [lines.walk(x) for x in range(lines.nodes)])
         self.assertEqual(network.changed(), [(x, hops[x]) for x in push_order(before, hops)])
         self.assertEqual(network.table(), dict(enumerate(hops)))
+        self.look_at_ways(network)
         return hops
+
+    def look_at_ways(self, network):
+        """Compares the ways, the nearest routes and the distances with those of a search of the links."""
+        links = network.links()
+        far = distances(len(network), network.dest, links)
+        for x in range(len(network)):
+            self.assertEqual(network.ways(x), ways(x, far, links))
+            self.assertEqual(network.distance(x), far[x])
+            route = None if far[x] is None else [x]
+            while route and route[-1] != network.dest:
+                route.append(ways(route[-1], far, links)[0])
+            self.assertEqual(network.nearest(x), route)
 
     def push_drawn(self, network, draw, hops):
         """Makes the pushes of a random table. A new loop would contain the node that was pushed."""
@@ -445,8 +476,13 @@ class NetworkTests(unittest.TestCase):
         self.assertRaises(IndexError, network.next_hop, 2)
         self.assertRaises(IndexError, network.walk, -1)
         self.assertRaises(TypeError, network.walk, "1")
+        for question in (network.ways, network.nearest, network.distance):
+            self.assertRaises(IndexError, question, 2)
+            self.assertRaises(IndexError, question, -1)
+            self.assertRaises(TypeError, question, "1")
         named = Network(2, "a", [("b", "a")], names=["a", "b"])
-        self.assertRaises(KeyError, named.walk, 1)
+        for question in (named.walk, named.ways, named.nearest, named.distance):
+            self.assertRaises(KeyError, question, 1)
         self.assertRaises(KeyError, named.cut, "a", "c")
         self.assertRaises(ValueError, named.batch, [("turn", "a", "b")])
         self.assertRaises(ValueError, Network, 2, "a", [], names=["a"])
@@ -459,6 +495,8 @@ class NetworkTests(unittest.TestCase):
         self.assertEqual(network.join(7, None).cut_off, 0)
         self.assertEqual(network.changed(), [(7, None)])
         self.assertEqual(network.links(), [("x", ("home", 1)), (None, "x"), (7, None)])
+        self.assertEqual((network.ways(7), network.ways(("home", 1))), ([None], []))
+        self.assertEqual((network.nearest(7), network.distance(7)), ([7, None, "x", ("home", 1)], 3))
 
     def test_a_table_can_be_changed_while_its_pushes_are_made(self):
         network = Network(5, "a", [("b", "a"), ("c", "a"), ("d", "b"), ("d", "c"), ("e", "d")], names="abcde")
@@ -580,6 +618,11 @@ class NetworkTests(unittest.TestCase):
             steps = networkx.single_source_shortest_path_length(graph, "node 3")
             self.assertEqual([*links], sorted(graph, key=lambda node: steps.get(node, 40)))
             self.assertEqual({node: len(network.walk(node)) - 1 for node in near}, dict(steps))
+            self.assertEqual({node: network.distance(node) for node in near}, dict(steps))
+            self.assertEqual(networkx.get_node_attributes(links, "distance"), dict(steps))
+            for node in near:
+                self.assertEqual([*links.successors(node)], network.ways(node))
+                self.assertEqual([steps[it] for it in network.nearest(node)], [*range(steps[node], -1, -1)])
         edges = networkx.DiGraph([("b", "a"), ("c", "b")])
         self.assertEqual(Network.from_networkx(edges, "a").walk("c"), ["c", "b", "a"])
         both, parallel = networkx.DiGraph([(1, 2), (2, 1)]), networkx.MultiGraph([(1, 2), (1, 2), (2, 3)])

@@ -192,7 +192,16 @@ class SessionTest(unittest.TestCase):
                     for x in range(len(after)):
                         told = " ".join(map(str, session.walk(x) or [x, "cut"]))
                         self.assertEqual(f"walk {told}", session.answer(f'["walk",{x}]'))
+                        self.look_at_ways(session, x)
         self.assertGreater(accepted, 10)
+
+    def look_at_ways(self, session, x):
+        """Compares the ways of a node and its nearest route with those that lines give."""
+        route = session.nearest(x)
+        self.assertEqual(" ".join(map(str, ["nearest", *(route or [x, "cut"])])), session.answer(f'["nearest",{x}]'))
+        self.assertEqual(session.distance(x), None if route is None else len(route) - 1)
+        told = ",".join(map(str, session.ways(x))) or ("here" if x == session.dest else "cut")
+        self.assertEqual(f"ways {told}", session.answer(f'["ways",{x}]'))
 
     def test_pieces_of_any_length_have_the_answers_of_their_lines(self):
         for name, lines, wanted in examples():
@@ -241,19 +250,23 @@ class SessionTest(unittest.TestCase):
             self.assertEqual([session.changed(), session.links()], [[], []])
             self.assertEqual([session.report, session.size, session.dest], [None, None, None])
             self.assertRaises(IndexError, session.next_hop, 0)
-            self.assertRaises(IndexError, session.walk, 0)
+            for question in (session.walk, session.ways, session.nearest, session.distance):
+                self.assertRaises(IndexError, question, 0)
 
     def test_what_is_no_node_has_no_hop(self):
         with revroute.Session() as session:
             session.answer(CHAIN)
             for node in (-1, 4, 1 << 32, (1 << 32) - 1, (1 << 32) + 1, 1 << 70):
                 self.assertRaises(IndexError, session.next_hop, node)
-                self.assertRaises(IndexError, session.walk, node)
+                for question in (session.walk, session.ways, session.nearest, session.distance):
+                    self.assertRaises(IndexError, question, node)
             self.assertRaises(TypeError, session.next_hop, "1")
             self.assertRaises(TypeError, session.walk, 1.0)
+            self.assertRaises(TypeError, session.ways, 1.0)
         numbers = (lambda: session.report), (lambda: session.size), (lambda: session.dest)
         lists = session.hops, session.changed, session.counts, session.links
-        for question in (*numbers, *lists, lambda: session.next_hop(1), lambda: session.walk(1)):
+        of_nodes = (lambda: session.next_hop(1)), (lambda: session.walk(1)), (lambda: session.ways(1)), (lambda: session.nearest(1))
+        for question in (*numbers, *lists, *of_nodes):
             self.assertRaises(ValueError, question)
         self.assertRaises(ValueError, session.pushes, {})
 

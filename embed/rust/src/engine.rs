@@ -2,6 +2,7 @@
 
 use crate::{Hop, NoMemory, Reader, Report, Size, TableFault, listed, sys, table};
 use std::cell::UnsafeCell;
+use std::ptr::NonNull;
 
 /// The owner of a handle. A question changes nothing, but the library needs exclusive access to the handle for it. So
 /// the handle is in a cell, and no two threads can ask at once.
@@ -81,6 +82,35 @@ impl Engine {
         filled(|nodes, room, length| unsafe {
             sys::revroute_walk(self.handle.get(), node, nodes, room, length)
         })
+    }
+
+    pub fn ways(&self, node: u32) -> Result<Option<Vec<u32>>, NoMemory> {
+        // SAFETY: as in `all_of`.
+        filled(|ways, room, length| unsafe {
+            sys::revroute_ways(self.handle.get(), node, ways, room, length)
+        })
+    }
+
+    pub fn nearest(&self, node: u32) -> Result<Option<Vec<u32>>, NoMemory> {
+        // SAFETY: as in `all_of`.
+        filled(|nodes, room, length| unsafe {
+            sys::revroute_nearest(self.handle.get(), node, nodes, room, length)
+        })
+    }
+
+    /// The number of links of the nearest route. A route has at least one node, so without room the call only reports
+    /// how many nodes it has.
+    pub fn distance(&self, node: u32) -> Result<Option<u32>, NoMemory> {
+        let (nowhere, mut length) = (NonNull::dangling().as_ptr(), 0);
+        // SAFETY: the handle is new or the library's own, no other call has it, and there are no places.
+        let status =
+            unsafe { sys::revroute_nearest(self.handle.get(), node, nowhere, 0, &mut length) };
+        match status {
+            sys::TOO_SHORT => Ok(Some(length as u32 - 1)),
+            sys::NO_MEMORY => Err(NoMemory),
+            sys::NO_NETWORK | sys::NO_ROUTE => Ok(None),
+            _ => unreachable!("no route fits into no room"),
+        }
     }
 
     pub fn report(&self) -> Option<Report> {

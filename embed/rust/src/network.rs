@@ -310,6 +310,90 @@ impl Network {
         }
     }
 
+    /// The ways of a node: the nodes to which its links point, nearest first. They are ordered by their
+    /// [`distance`](Network::distance), and then by number. The destination has none, and neither has a node that is
+    /// cut off. `O(d log d)`.
+    ///
+    /// A router may hold all its ways, and send each packet to any of them. Whichever ways routers take, and whatever
+    /// links fail, no packet visits a node twice.
+    ///
+    /// ```
+    /// use revroute::{Hop, Network};
+    ///
+    /// let network = Network::new(5, 0, &[(2, 0), (1, 2), (3, 0), (4, 1), (4, 3)])?;
+    /// assert_eq!(network.ways(4)?, [3, 1]);
+    /// assert_eq!(network.next_hop(4), Hop::To(1)); // the way with the lowest number
+    /// # Ok::<(), revroute::Refused>(())
+    /// ```
+    ///
+    /// # Errors
+    ///
+    /// If memory for the list runs out.
+    ///
+    /// # Panics
+    ///
+    /// If there is no such node.
+    #[track_caller]
+    pub fn ways(&self, node: u32) -> Result<Vec<u32>, NoMemory> {
+        let ways = self.engine.ways(node)?;
+        Ok(self.found_of(node, ways).unwrap_or_default())
+    }
+
+    /// The nodes on the nearest route from a node to the destination, both included: each is the first of the
+    /// [`ways`](Network::ways) of the one before. No route along the links is shorter. `None` if the node is cut off.
+    /// `O(k d)` for k nodes.
+    ///
+    /// ```
+    /// let network = revroute::Network::new(5, 0, &[(2, 0), (1, 2), (3, 0), (4, 1), (4, 3)])?;
+    /// assert_eq!(network.nearest(4)?, Some(vec![4, 3, 0]));
+    /// assert!(network.walk(4).eq([4, 1, 2, 0]));
+    /// # Ok::<(), revroute::Refused>(())
+    /// ```
+    ///
+    /// # Errors
+    ///
+    /// If memory for the list runs out.
+    ///
+    /// # Panics
+    ///
+    /// If there is no such node.
+    #[track_caller]
+    pub fn nearest(&self, node: u32) -> Result<Option<Vec<u32>>, NoMemory> {
+        let route = self.engine.nearest(node)?;
+        Ok(self.found_of(node, route))
+    }
+
+    /// The distance of a node: the fewest links that lead from it down to the destination. `None` if the node is cut
+    /// off. It costs what [`nearest`](Network::nearest) costs.
+    ///
+    /// ```
+    /// let network = revroute::Network::new(4, 0, &[(1, 0), (2, 1)])?;
+    /// assert_eq!([network.distance(0)?, network.distance(2)?, network.distance(3)?], [Some(0), Some(2), None]);
+    /// # Ok::<(), revroute::Refused>(())
+    /// ```
+    ///
+    /// # Errors
+    ///
+    /// If memory runs out.
+    ///
+    /// # Panics
+    ///
+    /// If there is no such node.
+    #[track_caller]
+    pub fn distance(&self, node: u32) -> Result<Option<u32>, NoMemory> {
+        let distance = self.engine.distance(node)?;
+        Ok(self.found_of(node, distance))
+    }
+
+    /// What was found of a node. Panics if nothing was found because there is no such node.
+    #[track_caller]
+    fn found_of<T>(&self, node: u32, found: Option<T>) -> Option<T> {
+        if found.is_none() {
+            self.next_hop(node);
+        }
+        found
+    }
+
     /// The nodes whose next hop the last change changed, each with its new next hop. They are in push order: each node
     /// after the changed nodes on its new route.
     ///

@@ -157,6 +157,60 @@ impl Session {
         self.walk(node)
     }
 
+    /// The ways of a node, nearest first, as for [`Network::ways`](crate::Network::ways). The destination has none.
+    /// `None` if the node is cut off, or if there is no such node. `O(d log d)`.
+    ///
+    /// ```
+    /// let mut session = revroute::Session::new();
+    /// session.answer(r#"["net",5,0,[[2,0],[1,2],[3,0],[4,1],[4,3]]]"#)?;
+    /// assert_eq!(session.ways(4)?, Some(vec![3, 1]));
+    /// assert_eq!(session.ways(0)?, Some(vec![]));
+    /// assert_eq!(session.ways(5)?, None);
+    /// # Ok::<(), revroute::NoMemory>(())
+    /// ```
+    ///
+    /// # Errors
+    ///
+    /// If memory for the list runs out.
+    pub fn ways(&mut self, node: u32) -> Result<Option<Vec<u32>>, NoMemory> {
+        self.engine.ways(node)
+    }
+
+    /// The nodes on the nearest route from a node to the destination, both included, as for
+    /// [`Network::nearest`](crate::Network::nearest). `None` if the node is cut off, or if there is no such node.
+    /// `O(k d)` for k nodes.
+    ///
+    /// ```
+    /// let mut session = revroute::Session::new();
+    /// session.answer(r#"["net",5,0,[[2,0],[1,2],[3,0],[4,1],[4,3]]]"#)?;
+    /// assert_eq!(session.nearest(4)?, Some(vec![4, 3, 0]));
+    /// # Ok::<(), revroute::NoMemory>(())
+    /// ```
+    ///
+    /// # Errors
+    ///
+    /// If memory for the list runs out.
+    pub fn nearest(&mut self, node: u32) -> Result<Option<Vec<u32>>, NoMemory> {
+        self.engine.nearest(node)
+    }
+
+    /// The distance of a node: the fewest links that lead from it down to the destination. `None` if the node is cut
+    /// off, or if there is no such node. It costs what [`nearest`](Session::nearest) costs.
+    ///
+    /// ```
+    /// let mut session = revroute::Session::new();
+    /// session.answer(r#"["net",3,0,[[1,0],[2,1]]]"#)?;
+    /// assert_eq!([session.distance(2)?, session.distance(3)?], [Some(2), None]);
+    /// # Ok::<(), revroute::NoMemory>(())
+    /// ```
+    ///
+    /// # Errors
+    ///
+    /// If memory runs out.
+    pub fn distance(&mut self, node: u32) -> Result<Option<u32>, NoMemory> {
+        self.engine.distance(node)
+    }
+
     /// The links as (tail, head), in rising order. Empty before the first network. `O(n + m)`.
     ///
     /// ```

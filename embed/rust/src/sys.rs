@@ -236,6 +236,22 @@ unsafe extern "C" {
         length: *mut usize,
     ) -> u32;
 
+    pub fn revroute_ways(
+        session: *mut Handle,
+        node: u32,
+        ways: *mut u32,
+        room: usize,
+        length: *mut usize,
+    ) -> u32;
+
+    pub fn revroute_nearest(
+        session: *mut Handle,
+        node: u32,
+        nodes: *mut u32,
+        room: usize,
+        length: *mut usize,
+    ) -> u32;
+
     pub fn revroute_links(
         session: *mut Handle,
         links: *mut Link,

@@ -129,6 +129,46 @@ fn compare(network: &Network, lines: &mut Lines, before: &[Hop]) -> Result<(), B
         assert!(network.walk(x).map(|it| it.to_string()).eq(told));
     }
     assert_eq!(network.changed()?, pushes_of(before, &hops));
+    compare_ways(network)
+}
+
+/// The distance of each node, by a breadth-first search from the destination against the links.
+fn distances(nodes: u32, dest: u32, links: &[(u32, u32)]) -> Vec<Option<u32>> {
+    let mut found = vec![None; nodes as usize];
+    let mut reached = vec![dest];
+    for distance in 0..nodes {
+        for &node in &reached {
+            found[node as usize] = Some(distance);
+        }
+        let tails = links.iter().filter(|link| reached.contains(&link.1));
+        reached = tails
+            .map(|link| link.0)
+            .filter(|&tail| found[tail as usize].is_none())
+            .collect();
+    }
+    found
+}
+
+/// Checks the ways, the nearest route and the distance of each node by a search of the links.
+fn compare_ways(network: &Network) -> Result<(), Box<dyn Error>> {
+    let (nodes, links) = (network.size().nodes, network.links()?);
+    let distances = distances(nodes, network.dest(), &links);
+    let distance = |node: u32| distances[node as usize];
+    for x in 0..nodes {
+        let heads = links.iter().filter(|link| link.0 == x).map(|link| link.1);
+        let mut ways: Vec<u32> = heads.filter(|&head| distance(head).is_some()).collect();
+        ways.sort_by_key(|&way| (distance(way), way));
+        assert_eq!(network.ways(x)?, ways);
+        assert_eq!(network.distance(x)?, distance(x));
+        let route = network.nearest(x)?;
+        assert_eq!(route.as_ref().map(|it| it.len() as u32 - 1), distance(x));
+        let route = route.unwrap_or_default();
+        assert!(route.first().is_none_or(|&first| first == x));
+        assert!(route.last().is_none_or(|&last| last == network.dest()));
+        for step in route.windows(2) {
+            assert_eq!(network.ways(step[0])?.first(), Some(&step[1]));
+        }
+    }
     Ok(())
 }
 
@@ -472,6 +512,19 @@ fn what_is_no_node_panics() -> Result<(), Box<dyn Error>> {
                 .join()
                 .is_err()
         );
+        let questions: [fn(&Network, u32) -> bool; 3] = [
+            |network, node| network.ways(node).is_ok(),
+            |network, node| network.nearest(node).is_ok(),
+            |network, node| network.distance(node).is_ok(),
+        ];
+        for question in questions {
+            let network = Network::new(2, 0, &[(1, 0)])?;
+            assert!(
+                thread::spawn(move || question(&network, node))
+                    .join()
+                    .is_err()
+            );
+        }
     }
     Ok(())
 }

@@ -188,8 +188,37 @@ fn tells_routes(session: &mut Session, nodes: u32) -> Result<(), NoMemory> {
         };
         let line = format!("[\"walk\",{x}]");
         assert_eq!(session.answer(line)?, Some(&*format!("walk{told}")));
+        tells_nearest(session, x)?;
     }
     assert_eq!(session.walk(nodes)?, None);
+    assert_eq!(session.ways(nodes)?, None);
+    assert_eq!(session.nearest(nodes)?, None);
+    assert_eq!(session.distance(nodes)?, None);
+    Ok(())
+}
+
+/// Checks that the nearest route of a node and its ways are those that lines give.
+fn tells_nearest(session: &mut Session, x: u32) -> Result<(), NoMemory> {
+    let route = session.nearest(x)?;
+    let told = match &route {
+        Some(route) => route.iter().map(|it| format!(" {it}")).collect(),
+        None => format!(" {x} cut"),
+    };
+    let line = format!("[\"nearest\",{x}]");
+    assert_eq!(session.answer(line)?, Some(&*format!("nearest{told}")));
+    let distance = route.map(|it| it.len() as u32 - 1);
+    assert_eq!(session.distance(x)?, distance);
+    let ways = match session.ways(x)? {
+        None => String::from("cut"),
+        Some(ways) if ways.is_empty() => String::from("here"),
+        Some(ways) => ways
+            .iter()
+            .map(u32::to_string)
+            .collect::<Vec<_>>()
+            .join(","),
+    };
+    let line = format!("[\"ways\",{x}]");
+    assert_eq!(session.answer(line)?, Some(&*format!("ways {ways}")));
     Ok(())
 }
 
@@ -287,6 +316,8 @@ fn before_the_first_network_there_is_nothing_to_tell() -> Result<(), NoMemory> {
     assert_eq!(session.counts()?, []);
     assert_eq!(session.links()?, []);
     assert_eq!(session.walk(0)?, None);
+    assert_eq!((session.ways(0)?, session.nearest(0)?), (None, None));
+    assert_eq!(session.distance(0)?, None);
     assert_eq!((session.report(), session.size()), (None, None));
     assert_eq!(session.dest(), None);
     assert_eq!(Hop::To(7).node(), Some(7));

@@ -69,6 +69,8 @@ _WORDS: dict[str, list[Any]] = {
     "counts": [_handle, ctypes.POINTER(_wide), _size, _length],
     "links": [_handle, ctypes.POINTER(Link), _size, _length],
     "walk": [_handle, _number, _numbers, _size, _length],
+    "ways": [_handle, _number, _numbers, _size, _length],
+    "nearest": [_handle, _number, _numbers, _size, _length],
     "report": [_handle, ctypes.POINTER(Round)],
     "dest": [_handle],
     "size": [_handle, _numbers, _length],

@@ -98,6 +98,7 @@ class Network(Generic[Name]):
     - `next_hop`, `dest`, `size` and `report`: O(1).
     - `reader`: O(4,096) for the first reader, and O(1) for each later one.
     - `walk` and `changed`: linear in the length of the result.
+    - `ways`: O(d log d) for d links at the node. `nearest` and `distance`: O(k d) for a nearest route of k nodes.
     - `hops`, `hops_into`, `table`, `pushes` and `counts`: O(n).
     - `links` and `copy`: O(n + m).
     - `move_dest` and a new network: O(n + m), plus the round.
@@ -160,12 +161,23 @@ class Network(Generic[Name]):
             raise
 
     def to_networkx(self) -> networkx.DiGraph:
-        """The links as they point now, as a directed networkx graph."""
+        """The links as they point now, as a directed networkx graph.
+
+        Each node that is not cut off has its distance as the attribute `distance`, and `graph.successors(node)` has its
+        ways in their order: nearest first.
+        """
         import networkx
 
         graph = networkx.DiGraph()
-        graph.add_nodes_from(self._name(node) for node in range(self.size.nodes))
-        graph.add_edges_from(self.links())
+        with self._session._lock:
+            graph.add_nodes_from(self._nodes)
+            for node in self._nodes:
+                graph.add_edges_from((node, way) for way in self.ways(node))
+            # What is added here are the links of nodes that are cut off.
+            graph.add_edges_from(self.links())
+            dest = self.dest
+        distances = networkx.single_source_shortest_path_length(graph.reverse(copy=False), dest)
+        networkx.set_node_attributes(graph, dict(distances), "distance")
         return graph
 
     def cut(self, u: Name, v: Name) -> Report:
@@ -287,8 +299,32 @@ class Network(Generic[Name]):
 
     def walk(self, node: Name) -> Optional[list[Name]]:
         """The nodes on the route from a node to the destination, both included. None if the node is cut off."""
-        route = self._session.walk(self._number(node))
-        return None if route is None else [self._name(it) for it in route]
+        return self._named(self._session.walk(self._number(node)))
+
+    def ways(self, node: Name) -> list[Name]:
+        """The ways of a node: the nodes to which its links point, nearest first. They are ordered by their distance,
+        and then by number. The destination has none, and neither has a node that is cut off.
+
+        A router may hold all its ways, and send each packet to any of them. Whichever ways routers take, and whatever
+        links fail, no packet visits a node twice.
+
+        >>> network = Network(5, 0, [(2, 0), (1, 2), (3, 0), (4, 1), (4, 3)])
+        >>> network.ways(4), network.nearest(4), network.distance(4)
+        ([3, 1], [4, 3, 0], 2)
+        >>> network.next_hop(4), network.walk(4)
+        (1, [4, 1, 2, 0])
+        """
+        return [self._name(it) for it in self._session.ways(self._number(node))]
+
+    def nearest(self, node: Name) -> Optional[list[Name]]:
+        """The nodes on the nearest route from a node to the destination, both included: each is the first way of the
+        one before. No route along the links is shorter. None if the node is cut off."""
+        return self._named(self._session.nearest(self._number(node)))
+
+    def distance(self, node: Name) -> Optional[int]:
+        """The distance of a node: the fewest links that lead from it down to the destination. None if the node is cut
+        off."""
+        return self._session.distance(self._number(node))
 
     @property
     def report(self) -> Report:
@@ -388,6 +424,10 @@ class Network(Generic[Name]):
 
     def _name(self, number: int) -> Name:
         return self._names[number] if self._names is not None else number  # type: ignore[return-value]
+
+    def _named(self, route: Optional[list[int]]) -> Optional[list[Name]]:
+        """A route by the names of its nodes, if they have names."""
+        return None if route is None else [self._name(it) for it in route]
 
     def _told(self, hops: list[tuple[int, int]]) -> list[tuple[Name, Union[Name, NoHop]]]:
         """Nodes with their hops, by their names if they have names."""

@@ -176,6 +176,7 @@ class Session:
     - `next_hop`, `dest`, `size` and `report`: O(1).
     - `reader`: O(4,096) for the first reader, and O(1) for each later one.
     - `walk` and `changed`: linear in the length of the result.
+    - `ways`: O(d log d) for d links at the node. `nearest` and `distance`: O(k d) for a nearest route of k nodes.
     - `hops`, `pushes` and `counts`: O(n).
     - `links`: O(n + m).
     - `answer`, `take` and `finish`: O(b) for b bytes of lines and answers, plus the same calls of a Network.
@@ -515,17 +516,52 @@ class Session:
 
         Raises NoSuchNode if there is no such node. Before the first network there are none.
         """
+        return self._of_node(questions.revroute_walk, node) or None
+
+    def _of_node(self, question: Any, node: int) -> list[int]:
+        """The nodes that a question about a node writes. It writes none for a node that is cut off."""
         number = index(node)
-        found = self._filled(questions.revroute_walk, ctypes.c_uint32, number) if 0 <= number < _calls.NO_HOP else []
+        found = self._filled(question, ctypes.c_uint32, number) if 0 <= number < _calls.NO_HOP else []
         if not found:
             # This raises NoSuchNode if there is no such node.
             self.next_hop(number)
-        return found or None
+        return found
 
     def route(self, node: int) -> Optional[list[int]]:
         """Deprecated: use `walk`."""
         _deprecate("route", "walk")
         return self.walk(node)
+
+    def ways(self, node: int) -> list[int]:
+        """The ways of a node: the nodes to which its links point, nearest first. They are ordered by their distance,
+        and then by number. The destination has none, and neither has a node that is cut off.
+
+        >>> with Session() as session:
+        ...     session.answer('["net",5,0,[[2,0],[1,2],[3,0],[4,1],[4,3]]]')
+        ...     session.ways(4), session.nearest(4), session.distance(4)
+        'turned 0 cut 0'
+        ([3, 1], [4, 3, 0], 2)
+
+        Raises NoSuchNode if there is no such node. Before the first network there are none.
+        """
+        return self._of_node(questions.revroute_ways, node)
+
+    def nearest(self, node: int) -> Optional[list[int]]:
+        """The nodes on the nearest route from a node to the destination, both included: each is the first way of the
+        one before. No route along the links is shorter. None if the node is cut off.
+
+        Raises NoSuchNode if there is no such node.
+        """
+        return self._of_node(questions.revroute_nearest, node) or None
+
+    def distance(self, node: int) -> Optional[int]:
+        """The distance of a node: the fewest links that lead from it down to the destination. None if the node is cut
+        off.
+
+        Raises NoSuchNode if there is no such node.
+        """
+        route = self.nearest(node)
+        return None if route is None else len(route) - 1
 
     @property
     def report(self) -> Optional[Report]:
