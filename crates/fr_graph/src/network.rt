@@ -18,7 +18,7 @@ ghost use Rattle.fr_graph.specs.declared.fault.NetFault.TheVariants.{Memory, Too
 ghost use Rattle.fr_graph.specs.Faults.{IsFaultless, IsFirstFault, IsInRange, IsNetworkOf, PassFirstTests};
 ghost use Rattle.fr_graph.specs.Edits.{IsCutFault, IsJoined, IsJoinFault, without};
 ghost use Rattle.fr_graph.specs.Evidence.{NamesFirst, NamesIfRefused, NamesInBatch, NamesOfEdit};
-ghost use Rattle.fr_graph.specs.Batches.{AreMade, IsBatchFault, IsEditFault, IsMade, IsNotEdited, MayLackMemory};
+ghost use Rattle.fr_graph.specs.Batches.{AreMade, IsBatchFault, IsEditFault, IsMade, IsNotEdited, AreFewIfMemory};
 ghost use Rattle.fr_graph.specs.Limits.{IsWithinLimits, most_edits};
 ghost use Rattle.fr_graph.specs.declared.edit.Edit.TheVariants.{Add, Join};
 
@@ -325,7 +325,7 @@ impl Net {
         ensures ok { IfOk result (λ answer. AreMade self.old edits.now self.new
             × FnOnceReturnsAt F.FnOnce accept self.new (Ok answer)) }
         ensures refused { IfErr result (IsNotEdited self.old edits.now (FnOnceReturnsAt F.FnOnce accept)) }
-        ensures memory { IfErr result (MayLackMemory edits.now) }
+        ensures memory { IfErr result (AreFewIfMemory edits.now) }
         ensures names { IfErr result (NamesIfRefused self.old edits.now) }
         ensures unchanged { OnErr result (self.new ≡ self.old) }
     {
