@@ -35,9 +35,9 @@ AreWaysOfAll (Some s) table = AreAllWays s table
 -- the lists of a table are in two places: in one where each list begins, in the other one list after the other
 pub record AreRowsWritten (table : List (List ℕ)) (starts ways : Outcome ℕ) : Type 0 where
   pub numbers : List ℕ
-  pub are_starts : AreStarts table numbers
-  pub starts : IsWritten numbers starts.before starts.after
-  pub ways : IsWritten (concat table) ways.before ways.after
+  pub are : AreStarts table numbers
+  pub begins : IsWritten numbers starts.before starts.after
+  pub lists : IsWritten (concat table) ways.before ways.after
 
 -- one of the places is too short for the table
 abbrev pub IsTooLong : List (List ℕ) → Outcome ℕ → Outcome ℕ → Type 0
