@@ -1,268 +1,263 @@
--- Each node has exactly one list of its ways, nearest first, and exactly one walk by first ways.
-use Rattle.std.proofs.Common.{[], Bool, List, arith, false, get_or, true, inl, inr, length, refl, slice_index, subst, suc, sym, zero, ℕ, ⊎_elim, ap}
-use Rattle.std.proofs.Common.{Contains, ◌+◌, ◌<◌, ◌∙◌, ◌∷◌, ◌≡◌, ◌≤◌, ◌⊎◌}
-use Rattle.std.proofs.lemmas.Bool.{cases_eq, cases_lt, false≢true}
-use Rattle.std.proofs.lemmas.List.{get_or_default}
-use Rattle.std.proofs.lemmas.List.Elements.{Contains-get_or}
-use Rattle.fr_tables.proofs.Members.{Contains-cases, Contains-head, Contains-none, Contains-tail}
-use Rattle.fr_tables.proofs.Sorted.{sorted_from, sorted_unique}
-use Rattle.fr_graph.specs.Links.{AreBelow, HasPath, IsPath, Points, end_of}
-use Rattle.fr_graph.specs.Rows.{has_link}
-use Rattle.fr_graph.proofs.Neighbours.{Points-has_link, has_link_true}
-use Rattle.fr_nearest.specs.Distances.{IsDistance}
-use Rattle.fr_nearest.specs.Ways.{AreWays, IsFirstWay, IsNearer, IsNearestWalk, IsWay}
-use Rattle.fr_nearest.proofs.Shortest.{distance_exists, distance_unique}
+-- The ways of a node are listed from its row, and sorted; the nearest is found in the row.
+use Rattle.std.proofs.Common.{Contains, IsPermutation, MatchOption, ne_eqb, List, None, Option, Some, [], arith, eq-eqb, eqb, get_or, inl, inr, length, refl, slice_index, subst, sym, take, ℕ}
+use Rattle.std.proofs.Common.{⊎_elim, ◌++◌, ◌+◌, ◌<◌, ◌∙◌, ◌∷◌, ◌≡◌, ◌≢◌, ◌≤◌, ◌⊎◌, ap}
+use Rattle.std.specs.Cmp.{nat_eq_equiv}
+use Rattle.std.specs.List.Sorted.{IsNonDecreasingBy}
+use Rattle.std.proofs.lemmas.Bool.{cases_lt, false≢true}
+use Rattle.std.proofs.lemmas.List.{get_or-take, get_or_default, length-take-le, length_push, take_all, take_more}
+use Rattle.std.proofs.lemmas.List.Elements.{Contains-append_left, Contains-get_or, Contains-push, Contains-push_cases}
+use Rattle.std.proofs.lemmas.List.Sorted.{Contains-permutation, IsPermutation-sym}
+use Rattle.std.proofs.lemmas.Map.Keys.{IsDistinct-IsPermutation, IsDistinct-from_apart, apart_from_distinct}
+use Rattle.fr_graph.proofs.Lists.{once_more}
+use Rattle.fr_graph.proofs.Linking.{link_below}
+use Rattle.fr_graph.proofs.Members.{Contains-none}
+use Rattle.fr_graph.proofs.Neighbours.{entry_is, out_of_row, row_of_out, row_rises}
+use Rattle.fr_graph.specs.Limits.{most_nodes}
+use Rattle.fr_graph.specs.Links.{IsNet, Points}
+use Rattle.fr_graph.specs.Network.{Network}
+use Rattle.fr_graph.specs.Rows.{row}
+use Rattle.fr_graph.specs.declared.first.First.{First}
+use Rattle.fr_graph.specs.declared.first.First.TheVariants.{Outward}
+use Rattle.fr_nearest.specs.Distances.{AreDistances, IsMeasureOf, Measured, no_distance}
+use Rattle.fr_nearest.specs.Ranks.{AreListed, AreListedTo, IsBestSo, rank_of}
+use Rattle.fr_nearest.specs.Ways.{AreWays, IsFirstWay, IsNearer, IsWay}
+use Rattle.fr_nearest.proofs.Walking.{has_path}
 
--- each element comes before all later ones
-abbrev IsSorted : (ℕ → ℕ → Type 0) → List ℕ → Type 0
-IsSorted R [] = Unit {0}
-IsSorted R (x ∷ xs) = ((y : ℕ) → Contains xs y → R x y) × IsSorted R xs
+-- The row up to a place
 
--- from one index of a sorted list to a later one
-sorted_at : (R : ℕ → ℕ → Type 0) (xs : List ℕ) → IsSorted R xs → (i j : ℕ) → i < j → j < length xs
-    → R (slice_index xs i) (slice_index xs j)
-sorted_at R [] sorted i j lt low = absurd (omega (arith, low))
-sorted_at R (x ∷ xs) sorted zero zero lt low = absurd (omega (arith, lt))
-sorted_at R (x ∷ xs) sorted zero (suc j) lt low = sorted.0 (get_or xs j 0) (Contains-get_or xs j 0 (omega (arith, low)))
-sorted_at R (x ∷ xs) sorted (suc i) zero lt low = absurd (omega (arith, lt))
-sorted_at R (x ∷ xs) sorted (suc i) (suc j) lt low = sorted_at R xs sorted.1 i j (omega (arith, lt)) (omega (arith, low))
+-- an entry is in the row before a place
+up_to : (entries : List (ℕ × First)) (place k : ℕ) (e : ℕ × First) → k < place → place ≤ length entries → Contains (take place entries) (get_or entries k e)
+up_to entries place k e lt le =
+    let here : length (take place entries) ≡ place = length-take-le place entries le in
+    (k, omega (arith, here, lt), get_or-take place entries k (get_or entries k e) lt ∙ get_or_default entries k (get_or entries k e) e (omega (arith, lt, le)))
 
-module _ (links : List (ℕ × ℕ)) (d : ℕ) where
-  -- w comes before u
-  abbrev Near : ℕ → ℕ → Type 0
-  Near = IsNearer links d
+-- where it is
+place_of : (entries : List (ℕ × First)) (place : ℕ) (e : ℕ × First) → place ≤ length entries → Contains (take place entries) e
+    → (k : ℕ) × (k < place) × ((d : ℕ × First) → get_or entries k d ≡ e)
+place_of entries place e le (k, l, is) =
+    let lt : k < place = omega (arith, l, length-take-le place entries le) in
+    (k, lt, λ d. get_or_default entries k d e (omega (arith, lt, le)) ∙ (sym (get_or-take place entries k e lt) ∙ is))
 
-  -- one of them comes before the other
-  nearer_cases : (w u : ℕ) → HasPath links w d → HasPath links u d → ¬ (w ≡ u) → Near w u ⊎ Near u w
-  nearer_cases w u from_w from_u apart =
-      let (near, this) = distance_exists links d w from_w in
-      let (far, other) = distance_exists links d u from_u in
-      elim (cases_lt near far) [
-        | inl lt ↦ inl (record { near = near; far = far; this = this; other = other; before = inl lt })
-        | inr le ↦ elim (cases_eq near far) [
-          | inl e ↦ elim (cases_lt w u) [
-            | inl lt ↦ inl (record { near = near; far = far; this = this; other = other; before = inr (e, lt) })
-            | inr high ↦
-                let before = inr (sym e, omega (arith, high, apart)) in
-                inr (record { near = far; far = near; this = other; other = this; before = before })
-          ]
-          | inr differ ↦
-              let before = inl (omega (arith, le, differ)) in
-              inr (record { near = far; far = near; this = other; other = this; before = before })
-        ]
-      ]
+module _ (n : ℕ) (links : List (ℕ × ℕ)) (x : ℕ) (entries : List (ℕ × First)) (place : ℕ) (are : entries ≡ row n links x) (inside : place < length entries) where
+  abbrev entry : ℕ × First
+  entry = get_or entries place (0, Outward)
 
-  asymmetric : (w u : ℕ) → Near w u → ¬ Near u w
-  asymmetric w u a b =
-      let same_w = distance_unique links d w a.near b.far a.this b.other in
-      let same_u = distance_unique links d u a.far b.near a.other b.this in
-      grind (arith, same_w, same_u, a.before, b.before)
+  -- the neighbours before have lower numbers
+  lower : (k : ℕ) (d : ℕ × First) → k < place → (get_or entries k d).0 < entry.0
+  lower k d lt =
+      let rises = row_rises n links x k place (0, Outward) lt (subst (λ (es : List (ℕ × First)). place < length es) are inside) in
+      let here : (get_or entries k (0, Outward)).0 < entry.0 =
+      subst (λ (es : List (ℕ × First)). (get_or es k (0, Outward)).0 < (get_or es place (0, Outward)).0) (sym are) rises in
+      subst (λ (e : ℕ × First). e.0 < entry.0) (get_or_default entries k (0, Outward) d (omega (arith, lt, inside))) here
 
-  transitive : (w u v : ℕ) → Near w u → Near u v → Near w v
-  transitive w u v a b =
-      let same = distance_unique links d u a.far b.near a.other b.this in
-      record { near = a.near; far = b.far; this = a.this; other = b.other; before = go same a.before b.before }
-    where
-      go : a.far ≡ b.near → (a.near < a.far) ⊎ ((a.near ≡ a.far) × (w < u))
-          → (b.near < b.far) ⊎ ((b.near ≡ b.far) × (u < v)) → (a.near < b.far) ⊎ ((a.near ≡ b.far) × (w < v))
-      go same (inl p) (inl q) = inl (omega (arith, same, p, q))
-      go same (inl p) (inr q) = inl (omega (arith, same, p, q.0))
-      go same (inr p) (inl q) = inl (omega (arith, same, p.0, q))
-      go same (inr p) (inr q) = inr (omega (arith, same, p.0, q.0), omega (arith, p.1, q.1))
+  more : take (place + 1) entries ≡ take place entries ++ entry ∷ []
+  more = take_more entries place (0, Outward) inside
 
-  pub ways_unique : (x : ℕ) (a b : List ℕ) → AreWays links d x a → AreWays links d x b → a ≡ b
-  ways_unique x a b are also = sorted_unique Near asymmetric a b
-      (sorted_from Near a are.order) (sorted_from Near b also.order)
-      (λ w has. (also.just w).1 ((are.just w).0 has)) (λ w has. (are.just w).1 ((also.just w).0 has))
-
-  -- the list with one more node
-  abbrev IsMore : ℕ → List ℕ → List ℕ → Type 0
-  IsMore w list more = IsSorted Near more × ((u : ℕ) → (Contains more u → (u ≡ w) ⊎ Contains list u)
-      × ((u ≡ w) ⊎ Contains list u → Contains more u))
-
-  insert : (w : ℕ) → HasPath links w d → (list : List ℕ) → IsSorted Near list
-      → ((u : ℕ) → Contains list u → HasPath links u d × ¬ (w ≡ u)) → (more : List ℕ) × IsMore w list more
-  insert w path [] sorted others = (w ∷ [], (((λ u has. absurd (Contains-none u has)), tt), λ u. (
-    (λ has. ⊎_elim (λ e. inl (sym e)) inr (Contains-cases u w [] has)),
-    (λ h. ⊎_elim (λ e. subst (Contains (w ∷ [])) (sym e) (Contains-head w [])) (λ has. absurd (Contains-none u has)) h),
-  )))
-  insert w path (v ∷ vs) sorted others =
-      let at_v = others v (Contains-head v vs) in
-      elim (nearer_cases w v path at_v.0 at_v.1) [
-        | inl near ↦ (w ∷ (v ∷ vs), (((λ u has. ⊎_elim (λ e. subst (Near w) e near)
-            (λ in_vs. transitive w v u near (sorted.0 u in_vs)) (Contains-cases u v vs has)), sorted), λ u. (
-          (λ has. ⊎_elim (λ e. inl (sym e)) inr (Contains-cases u w (v ∷ vs) has)),
-          (λ h. ⊎_elim (λ e. subst (Contains (w ∷ (v ∷ vs))) (sym e) (Contains-head w (v ∷ vs)))
-              (λ has. Contains-tail u w (v ∷ vs) has) h),
-        )))
-        | inr far ↦
-            let (more, (rest, just)) = insert w path vs sorted.1 (λ u has. others u (Contains-tail u v vs has)) in
-            (v ∷ more, (((λ u has. ⊎_elim (λ e. subst (Near v) (sym e) far) (λ in_vs. sorted.0 u in_vs)
-                ((just u).0 has)), rest), λ u. (
-              (λ has. ⊎_elim (λ e. inr (subst (Contains (v ∷ vs)) e (Contains-head v vs)))
-                  (λ in_more. ⊎_elim inl (λ in_vs. inr (Contains-tail u v vs in_vs)) ((just u).0 in_more))
-                  (Contains-cases u v more has)),
-              (λ h. ⊎_elim (λ e. Contains-tail u v more ((just u).1 (inl e)))
-                  (λ has. ⊎_elim (λ e. subst (Contains (v ∷ more)) e (Contains-head v more))
-                  (λ in_vs. Contains-tail u v more ((just u).1 (inr in_vs))) (Contains-cases u v vs has)) h),
-            )))
-      ]
-
-  module _ (decide : (w : ℕ) → HasPath links w d ⊎ ¬ HasPath links w d) (x : ℕ) where
-    cases_way : (w : ℕ) → IsWay links d x w ⊎ ¬ IsWay links d x w
-    cases_way w = elim (decide w) [
-      | inr out ↦ inr (λ way. out way.leads)
-      | inl path ↦ elim (cases_link w) [
-        | inl link ↦ inl (record { link = link; leads = path })
-        | inr none ↦ inr (λ way. none way.link)
-      ]
-    ]
-      where
-        cases_link : (w : ℕ) → Points links x w ⊎ ¬ Points links x w
-        cases_link w = go (has_link links x w) refl
-          where
-            go : (b : Bool) → has_link links x w ≡ b → Points links x w ⊎ ¬ Points links x w
-            go true is = inl (Points-has_link links x w is)
-            go false is = inr (λ link. false≢true (sym is ∙ has_link_true links x w link))
-
-    -- the ways below m
-    some_ways : (m : ℕ) → (list : List ℕ) × IsSorted Near list
-        × ((w : ℕ) → (Contains list w → IsWay links d x w × (w < m)) × (IsWay links d x w × (w < m) → Contains list w))
-    some_ways zero = ([], tt, λ w. ((λ has. absurd (Contains-none w has)), (λ h. absurd (omega (arith, h.1)))))
-    some_ways (suc m) =
-        let (list, sorted, just) = some_ways m in
-        elim (cases_way m) [
-          | inl way ↦
-              let others : (u : ℕ) → Contains list u → HasPath links u d × ¬ (m ≡ u) =
-              λ u has. let h = (just u).0 has in (h.0.leads, λ e. omega (arith, e, h.1)) in
-              let (more, (is, each)) = insert m way.leads list sorted others in
-              (more, is, λ w. (
-                (λ has. ⊎_elim (λ e. (subst (IsWay links d x) (sym e) way, omega (arith, e)))
-                    (λ old. let h = (just w).0 old in (h.0, omega (arith, h.1))) ((each w).0 has)),
-                (λ h. elim (cases_eq w m) [
-                  | inl e ↦ (each w).1 (inl e)
-                  | inr apart ↦ (each w).1 (inr ((just w).1 (h.0, omega (arith, h.1, apart))))
-                ]),
-              ))
-          | inr none ↦ (list, sorted, λ w. (
-            (λ has. let h = (just w).0 has in (h.0, omega (arith, h.1))),
-            (λ h. elim (cases_eq w m) [
-              | inl e ↦ absurd (none (subst (IsWay links d x) e h.0))
-              | inr apart ↦ (just w).1 (h.0, omega (arith, h.1, apart))
-            ]),
-          ))
-        ]
-
-    pub ways_exist : (n : ℕ) → AreBelow n links → (list : List ℕ) × AreWays links d x list
-    ways_exist n below =
-        let (list, sorted, just) = some_ways n in
-        (list, record {
-          just = λ w. ((λ has. ((just w).0 has).0), (λ way. (just w).1 (way, head_below w way.link)));
-          order = sorted_at Near list sorted;
-        })
-      where
-        head_below : (w : ℕ) → Points links x w → w < n
-        head_below w (k, low, is) = subst (λ (l : ℕ × ℕ). l.1 < n) is (below k (x, w) low).1
-
-  -- the first of a list of ways is the first way
-  first_is : (x w : ℕ) (ws : List ℕ) → AreWays links d x (w ∷ ws) → IsFirstWay links d x w
-  first_is x w ws are =
+  -- a way at this place
+  pub listed_way : {table list : List ℕ} → AreListedTo table entries place list → entry.1 ≡ Outward → slice_index table entry.0 ≢ no_distance
+      → AreListedTo table entries (place + 1) (list ++ entry.0 ∷ [])
+  listed_way {table} {list} l out some =
+      let whole : entry ≡ (entry.0, Outward) = entry_is entry Outward out in
+      let fresh : ¬ Contains list entry.0 = λ h.
+      let at = place_of entries place (entry.0, Outward) (omega (arith, inside)) ((l.just entry.0).0 h).0 in
+      let low = lower at.0 (0, Outward) at.1 in
+      let same : (get_or entries at.0 (0, Outward)).0 ≡ entry.0 = ap (λ (e : ℕ × First). e.0) (at.2 (0, Outward)) in
+      omega (arith, low, same) in
       record {
-        way = (are.just w).0 (Contains-head w ws);
-        first = λ u way apart. ⊎_elim (λ e. absurd (apart (sym e))) (later u)
-            (Contains-cases u w ws ((are.just u).1 way));
+        few = omega (arith, length_push list entry.0, l.few);
+        just = λ w. (
+          λ h. elim (Contains-push_cases list entry.0 w h) [
+            | inl old ↦ let was = (l.just w).0 old in (rw more (Contains-append_left (take place entries) (entry ∷ []) (w, Outward) was.0), was.1)
+            | inr e ↦ rw (sym e) (rw more (subst (λ (q : ℕ × First). Contains (take place entries ++ entry ∷ []) q) whole (Contains-push (take place entries) entry)), some)
+          ],
+          λ (h, has). elim (Contains-push_cases (take place entries) entry (w, Outward) (rw more at h)) [
+            | inl old ↦ Contains-append_left list (entry.0 ∷ []) w ((l.just w).1 (old, has))
+            | inr e ↦ let same : entry.0 ≡ w = ap (λ (q : ℕ × First). q.0) e in subst (Contains (list ++ entry.0 ∷ [])) same (Contains-push list entry.0)
+          ],
+        );
+        once = once_more list entry.0 l.once fresh;
       }
+
+  -- no way at this place
+  pub listed_other : {table list : List ℕ} → AreListedTo table entries place list → (entry.1 ≡ Outward → slice_index table entry.0 ≡ no_distance)
+      → AreListedTo table entries (place + 1) list
+  listed_other {table} {list} l none = record {
+    few = omega (arith, l.few);
+    just = λ w. (
+      λ h. let was = (l.just w).0 h in (rw more (Contains-append_left (take place entries) (entry ∷ []) (w, Outward) was.0), was.1),
+      λ (h, has). elim (Contains-push_cases (take place entries) entry (w, Outward) (rw more at h)) [
+        | inl old ↦ (l.just w).1 (old, has)
+        | inr e ↦
+            let out : entry.1 ≡ Outward = ap (λ (q : ℕ × First). q.1) e in
+            let same : entry.0 ≡ w = ap (λ (q : ℕ × First). q.0) e in
+            absurd (has (subst (λ (q : ℕ). slice_index table q ≡ no_distance) same (none out)))
+      ],
+    );
+    once = l.once;
+  }
+
+  -- the entry at an earlier place or at this one
+  at_place : (k : ℕ) (e : ℕ × First) → ¬ (k < place) → k < place + 1 → get_or entries k e ≡ entry
+  at_place k e past lt = let is : k ≡ place = omega (arith, past, lt) in rw is (get_or_default entries place e (0, Outward) inside)
+
+  -- the entry is nearer than those before
+  pub best_way : (table : List ℕ) (least : ℕ) (nearest : Option ℕ) → IsBestSo table entries place least nearest → entry.1 ≡ Outward
+      → slice_index table entry.0 < least → least ≤ no_distance → IsBestSo table entries (place + 1) (slice_index table entry.0) (Some entry.0)
+  best_way table least nearest so out near most = (
+    refl,
+    record {
+      listed = rw more (subst (λ (q : ℕ × First). Contains (take place entries ++ entry ∷ []) q) (entry_is entry Outward out) (Contains-push (take place entries) entry));
+      some = λ e. omega (arith, e, near, most);
+      best = λ k e lt outward. elim (cases_lt k place) [
+        | inl less ↦ inl (before nearest so k e less outward)
+        | inr past ↦ rw (at_place k e (λ q. omega (arith, q, past)) lt) (inr (refl, omega arith))
+      ];
+    },
+  )
     where
-      later : (u : ℕ) → Contains ws u → Near w u
-      later u (k, low, is) = subst (Near w) (get_or_default ws k 0 u low ∙ is) (are.order 0 (suc k) (omega arith) (omega (arith, low)))
+      before : (o : Option ℕ) → IsBestSo table entries place least o → (k : ℕ) (e : ℕ × First) → k < place → (get_or entries k e).1 ≡ Outward
+          → slice_index table entry.0 < slice_index table (get_or entries k e).0
+      before None (none, all) k e lt outward = omega (arith, near, most, all k e lt outward)
+      before (Some w) (is, best) k e lt outward = ⊎_elim (λ l. omega (arith, l, near, is)) (λ l. omega (arith, l.0, near, is)) (best.best k e lt outward)
 
-  pub first_unique : (x w u : ℕ) → IsFirstWay links d x w → IsFirstWay links d x u → w ≡ u
-  first_unique x w u a b = elim (cases_eq w u) [
-    | inl e ↦ e
-    | inr apart ↦ absurd (asymmetric w u (a.first u b.way (λ e. apart (sym e))) (b.first w a.way apart))
-  ]
+  -- the entry is not nearer, or its link does not point to it
+  pub best_other : (table : List ℕ) (least : ℕ) (nearest : Option ℕ) → IsBestSo table entries place least nearest → slice_index table entry.0 ≤ no_distance
+      → (entry.1 ≡ Outward → least ≤ slice_index table entry.0) → IsBestSo table entries (place + 1) least nearest
+  best_other table least None (none, all) fits far = (
+    none,
+    λ k e lt outward. elim (cases_lt k place) [
+      | inl less ↦ all k e less outward
+      | inr past ↦
+          let at = at_place k e (λ q. omega (arith, q, past)) lt in
+          rw at (let le = far (rw at at outward) in omega (arith, le, none, fits))
+    ],
+  )
+  best_other table least (Some w) (is, best) fits far = (
+    is,
+    record {
+      listed = rw more (Contains-append_left (take place entries) (entry ∷ []) (w, Outward) best.listed);
+      some = best.some;
+      best = λ k e lt outward. elim (cases_lt k place) [
+        | inl less ↦ best.best k e less outward
+        | inr past ↦
+            let at = at_place k e (λ q. omega (arith, q, past)) lt in
+            let le = far (rw at at outward) in
+            let found = place_of entries place (w, Outward) (omega (arith, inside)) best.listed in
+            let same : (get_or entries found.0 (0, Outward)).0 ≡ w = ap (λ (q : ℕ × First). q.0) (found.2 (0, Outward)) in
+            let low = lower found.0 (0, Outward) found.1 in
+            rw at (⊎_elim (λ less. inl (omega (arith, less, is)))
+            (λ ge. inr (omega (arith, ge, le, is), omega (arith, low, same)))
+            (cases_lt (slice_index table w) (slice_index table entry.0)))
+      ];
+    },
+  )
 
-  pub nearest_unique : (x : ℕ) (a b : List ℕ) → IsNearestWalk links d x a → IsNearestWalk links d x b → a ≡ b
-  nearest_unique x [] [] p q = refl
-  nearest_unique x [] (y ∷ ys) p q = absurd (q.0 p)
-  nearest_unique x (y ∷ ys) [] p q = absurd (p.0 q)
-  nearest_unique x (y ∷ ys) (z ∷ zs) p q =
-      let same = first_unique x y z p.1 q.1 in
-      ap (λ (w : ℕ). w ∷ ys) same
-      ∙ ap (λ (ws : List ℕ). z ∷ ws) (nearest_unique z ys zs (subst (λ (w : ℕ). IsNearestWalk links d w ys) same p.2) q.2)
+pub listed_none : (table : List ℕ) (entries : List (ℕ × First)) → AreListedTo table entries 0 []
+listed_none table entries = record {
+  few = omega arith;
+  just = λ w. (λ h. absurd (Contains-none w h), λ (h, has). absurd (Contains-none (w, Outward) h));
+  once = λ i j lt l. absurd (omega (arith, l));
+}
 
-  -- a node with a distance above 0 has a way that is one link nearer
-  way_nearer : (x k : ℕ) → IsDistance links d x (suc k) → (w : ℕ) × IsWay links d x w × IsDistance links d w k
-  way_nearer x k is = go is.nodes is.path is.leads is.long is.least
-    where
-      go : (vs : List ℕ) → IsPath links x vs → end_of x vs ≡ d → length vs ≡ suc k
-          → ((others : List ℕ) → IsPath links x others → end_of x others ≡ d → suc k ≤ length others)
-          → (w : ℕ) × IsWay links d x w × IsDistance links d w k
-      go [] path ends long least = absurd (omega (arith, long))
-      go (w ∷ ws) path ends long least = (
-        w,
-        record { link = path.0; leads = (ws, (path.1, ends)) },
-        record {
-          nodes = ws;
-          path = path.1;
-          leads = ends;
-          long = omega (arith, long);
-          least = λ others goes leads. omega (arith, least (w ∷ others) (path.0, goes) leads);
-        },
-      )
+-- The whole row
 
-  -- the first way is as near as any
-  first_near : (x w : ℕ) (j : ℕ) → IsFirstWay links d x w → (u k : ℕ) → IsWay links d x u → IsDistance links d u k
-      → IsDistance links d w j → j ≤ k
-  first_near x w j first u k way far near = elim (cases_eq u w) [
-    | inl e ↦
-        let same = distance_unique links d w k j (subst (λ (z : ℕ). IsDistance links d z k) e far) near in
-        omega (arith, same)
-    | inr apart ↦
-        let nearer = first.first u way apart in
-        let here = distance_unique links d w nearer.near j nearer.this near in
-        let there = distance_unique links d u nearer.far k nearer.other far in
-        grind (arith, here, there, nearer.before)
-  ]
+pub listed_all : {net : Network} {x : ℕ} {table list : List ℕ} (place : ℕ) → IsNet net.nodes net.links → length (row net.nodes net.links x) ≤ place
+    → AreListedTo table (row net.nodes net.links x) place list → AreListed net.links table x list
+listed_all {net} {x} {table} {list} place is_net end l =
+    let entries = row net.nodes net.links x in
+    let whole : take place entries ≡ entries = take_all place entries end in
+    record {
+      just = λ w. (
+        λ h. let was = (l.just w).0 h in (out_of_row net.nodes net.links x w (rw whole at was.0), was.1),
+        λ (h, has). (l.just w).1 (rw whole (row_of_out net.nodes net.links x w is_net h), has),
+      );
+      once = IsDistinct-from_apart eqb list (λ i j d lt inside. ne_eqb _ _ (λ same. l.once i j lt inside
+          (sym (get_or_default list i d 0 (omega (arith, lt, inside))) ∙ same ∙ get_or_default list j d 0 inside)));
+    }
 
-  -- the first way is exactly one link nearer
-  pub first_nearer : (x k w : ℕ) → IsDistance links d x (suc k) → IsFirstWay links d x w → IsDistance links d w k
-  first_nearer x k w is first =
-      let (u, way, near) = way_nearer x k is in
-      let (j, at) = distance_exists links d w first.way.leads in
-      let up = first_near x w j first u k way near at in
-      let down = is.least (w ∷ at.nodes) (first.way.link, at.path) at.leads in
-      let same : j ≡ k = omega (arith, up, down, at.long) in
-      subst (IsDistance links d w) same at
+module _ {net : Network} {d x : ℕ} {table : List ℕ} (is_net : IsNet net.nodes net.links) (are : AreDistances net.nodes net.links d table) where
+  -- the nodes with a distance to which links point are the ways
+  way_of : (w : ℕ) → Points net.links x w → slice_index table w ≢ no_distance → IsWay net.links d x w
+  way_of w link some = record {
+    link = link;
+    leads = has_path ((are.each w (link_below net.nodes net.links x w is_net link).1).some some);
+  }
 
-  module _ (n : ℕ) (below : AreBelow n links) (decide : (w : ℕ) → HasPath links w d ⊎ ¬ HasPath links w d) where
-    walk_of : (k x : ℕ) → IsDistance links d x k → (rest : List ℕ) × IsNearestWalk links d x rest
-    walk_of zero x is = ([], at is.nodes is.leads is.long)
-      where
-        at : (vs : List ℕ) → end_of x vs ≡ d → length vs ≡ zero → x ≡ d
-        at [] ends long = ends
-        at (v ∷ vs) ends long = absurd (omega (arith, long))
-    walk_of (suc k) x is = go (ways_exist decide x n below) (walk_of k)
-      where
-        apart : ¬ (x ≡ d)
-        apart e = omega (arith, is.least [] tt e)
+  some_of : (w : ℕ) → IsWay net.links d x w → slice_index table w ≢ no_distance
+  some_of w way none = (are.each w (link_below net.nodes net.links x w is_net way.link).1).none none way.leads
 
-        go : (list : List ℕ) × AreWays links d x list
-            → ((w : ℕ) → IsDistance links d w k → (rest : List ℕ) × IsNearestWalk links d w rest)
-            → (rest : List ℕ) × IsNearestWalk links d x rest
-        go ([], are) on =
-            let (w, way, near) = way_nearer x k is in
-            absurd (Contains-none w ((are.just w).1 way))
-        go (w ∷ ws, are) on =
-            let first = first_is x w ws are in
-            let (rest, walk) = on w (first_nearer x k w is first) in
-            (w ∷ rest, (apart, first, walk))
+  nearer_of : (w u : ℕ) → IsWay net.links d x w → IsWay net.links d x u
+      → (slice_index table w < slice_index table u) ⊎ ((slice_index table w ≡ slice_index table u) × (w < u)) → IsNearer net.links d w u
+  nearer_of w u way other before = record {
+    near = slice_index table w;
+    far = slice_index table u;
+    this = (are.each w (link_below net.nodes net.links x w is_net way.link).1).some (some_of w way);
+    other = (are.each u (link_below net.nodes net.links x u is_net other.link).1).some (some_of u other);
+    before = before;
+  }
 
-    pub nearest_exists : (x : ℕ) → HasPath links x d → (rest : List ℕ) × IsNearestWalk links d x rest
-    nearest_exists x path = let (k, is) = distance_exists links d x path in walk_of k x is
+  -- once they are sorted
+  pub ways_of : {list sorted : List ℕ} → net.nodes ≤ most_nodes → AreListed net.links table x list → IsPermutation list sorted
+      → IsNonDecreasingBy (rank_of table) sorted → AreWays net.links d x sorted
+  ways_of {list} {sorted} few l same rises =
+      let just : (w : ℕ) → Contains sorted w → IsWay net.links d x w = λ w h.
+      let was = (l.just w).0 (Contains-permutation sorted list w (IsPermutation-sym list sorted same) h) in way_of w was.0 was.1 in
+      record {
+        just = λ w. (just w, λ way. Contains-permutation list sorted w same ((l.just w).1 (way.link, some_of w way)));
+        order = λ i j lt inside.
+            let w = slice_index sorted i in
+            let u = slice_index sorted j in
+            let way = just w (Contains-get_or sorted i 0 (omega (arith, lt, inside))) in
+            let other = just u (Contains-get_or sorted j 0 inside) in
+            let low = (link_below net.nodes net.links x w is_net way.link).1 in
+            let high = (link_below net.nodes net.links x u is_net other.link).1 in
+            let rank = rises i j 0 (omega (arith, lt)) inside in
+            let once = IsDistinct-IsPermutation eqb nat_eq_equiv.symm list sorted same l.once in
+            let apart : w ≢ u = λ e. false≢true (sym (apart_from_distinct eqb sorted i j 0 once lt inside) ∙ eq-eqb w u e) in
+            nearer_of w u way other (elim (cases_lt (slice_index table w) (slice_index table u)) [
+              | inl less ↦ inl less
+              | inr past ↦ inr (omega (arith, rank, past, low, high, few), omega (arith, rank, past, low, high, few, apart))
+            ]);
+      }
 
-  pub nearest_path : (x : ℕ) (rest : List ℕ) → IsNearestWalk links d x rest → HasPath links x d
-  nearest_path x [] here = ([], (tt, here))
-  nearest_path x (y ∷ ys) walk =
-      let path = nearest_path y ys walk.2 in
-      (y ∷ path.0, ((walk.1.way.link, path.1.0), path.1.1))
+  pub best_none : (least place : ℕ) → length (row net.nodes net.links x) ≤ place → IsBestSo table (row net.nodes net.links x) place least None
+      → (w : ℕ) → ¬ IsWay net.links d x w
+  best_none least place end so w way =
+      let (k, l, e) = row_of_out net.nodes net.links x w is_net way.link in
+      let Far : ℕ × First → Type 0 = λ q. q.1 ≡ Outward → slice_index table q.0 ≡ no_distance in
+      let far : Far (w, Outward) = subst Far e (so.1 k (w, Outward) (omega (arith, l, end))) in
+      some_of w way (far refl)
+
+  pub best_first : (least place w : ℕ) → length (row net.nodes net.links x) ≤ place → IsBestSo table (row net.nodes net.links x) place least (Some w)
+      → IsFirstWay net.links d x w
+  best_first least place w end so =
+      let entries = row net.nodes net.links x in
+      let best = so.1 in
+      let link : Points net.links x w = out_of_row net.nodes net.links x w
+      (subst (λ (es : List (ℕ × First)). Contains es (w, Outward)) (take_all place entries end) best.listed) in
+      let way = way_of w link best.some in
+      record {
+        way = way;
+        first = λ u other apart.
+            let (k, l, e) = row_of_out net.nodes net.links x u is_net other.link in
+            let Before : ℕ × First → Type 0 = λ q. q.1 ≡ Outward
+            → (slice_index table w < slice_index table q.0) ⊎ ((slice_index table w ≡ slice_index table q.0) × (w ≤ q.0)) in
+            let before : Before (u, Outward) = subst Before e (best.best k (u, Outward) (omega (arith, l, end))) in
+            nearer_of w u way other (⊎_elim (λ less. inl less) (λ le. inr (le.0, omega (arith, le.1, apart))) (before refl));
+      }
+
+-- the nearest way, if there is one
+pub nearest_answer : (net : Network) (m : Measured) (x : ℕ) → IsNet net.nodes net.links → IsMeasureOf net m → (least place : ℕ) (nearest : Option ℕ)
+    (entries : List (ℕ × First)) (table : List ℕ) → entries ≡ row net.nodes net.links x → table ≡ m.table → length entries ≤ place
+    → IsBestSo table entries place least nearest
+    → MatchOption nearest ((w : ℕ) → ¬ IsWay net.links m.dest x w) (IsFirstWay net.links m.dest x)
+nearest_answer net m x is_net are least place nearest entries table is same end so =
+    go nearest
+    (subst (λ (es : List (ℕ × First)). IsBestSo m.table es place least nearest) is (subst (λ (xs : List ℕ). IsBestSo xs entries place least nearest) same so))
+  where
+    rest : length (row net.nodes net.links x) ≤ place
+    rest = subst (λ (es : List (ℕ × First)). length es ≤ place) is end
+
+    go : (o : Option ℕ) → IsBestSo m.table (row net.nodes net.links x) place least o → MatchOption o ((w : ℕ) → ¬ IsWay net.links m.dest x w) (IsFirstWay net.links m.dest x)
+    go None best = best_none is_net are least place rest best
+    go (Some w) best = best_first is_net are least place w rest best

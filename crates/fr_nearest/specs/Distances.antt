@@ -49,15 +49,6 @@ pub record AreChanged (before table changed : List ℕ) : Type 0 where
   pub once : (i j : ℕ) → i < j → j < length changed → slice_index changed i ≢ slice_index changed j
   pub just : (x : ℕ) → Contains changed x ↔ ((x < length table) × (slice_index table x ≢ slice_index before x))
 
--- the table has the distances in earlier links to an earlier destination. Except at touched nodes, the links that leave
--- a node are the same as then, and a node is the destination exactly if it was
-pub record IsOutOfDate (net : Network) (d : ℕ) (touched : List ℕ) (m : Measured) : Type 0 where
-  pub links : List (ℕ × ℕ)
-  pub were : AreDistances net.nodes links m.dest m.table
-  pub below : All (λ (x : ℕ). x < net.nodes) touched
-  pub same : (x w : ℕ) → x < net.nodes → ¬ Contains touched x → Points links x w ↔ Points net.links x w
-  pub home : (x : ℕ) → x < net.nodes → ¬ Contains touched x → (x ≡ m.dest) ↔ (x ≡ d)
-
 -- the table has the distances in the network now, and the table before is the one that was there
 pub record IsRenewed (net : Network) (d : ℕ) (old new : Measured) : Type 0 where
   pub dest : new.dest ≡ d

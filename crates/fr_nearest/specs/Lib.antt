@@ -1,3 +1,10 @@
 pub mod Distances
 pub mod Ways
+pub mod Touched
+pub mod Local
+pub mod Search
+pub mod Update
+pub mod Changes
+pub mod Ranks
 pub mod Laws
+pub mod Inside

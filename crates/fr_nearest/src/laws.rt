@@ -1,11 +1,19 @@
-//! Laws.
+//! The laws of distances and ways. Each clause is a law of `specs/Laws.antt`, proved. The functions do nothing.
 
-ghost use Rattle.fr_nearest.specs.Laws.{WaysExist, WaysAreUnique, NearestExists, NearestIsUnique};
+ghost use Rattle.fr_nearest.specs.Laws.{DistanceIsUnique, FirstWayIsNearer, TableIsUnique, WalkIsShortest};
+ghost use Rattle.fr_nearest.specs.Laws.{WaysAreUnique, WaysHaveNoLoop};
 
-/// Laws.
-pub fn lists_law()
-    ensures exist { WaysExist }
+/// Links determine the distance of each node and the table of distances.
+pub fn distance_law()
+    ensures distance { DistanceIsUnique }
+    ensures table { TableIsUnique }
+{}
+
+/// A node has one list of ways. Its first way is one link nearer, and by first ways it has a shortest walk to the
+/// destination. Whichever ways a packet takes, it visits no node twice, because the links contain no cycle.
+pub fn nearest_law()
     ensures unique { WaysAreUnique }
-    ensures nearest { NearestExists }
-    ensures nearest_unique { NearestIsUnique }
+    ensures nearer { FirstWayIsNearer }
+    ensures shortest { WalkIsShortest }
+    ensures loop_free { WaysHaveNoLoop }
 {}

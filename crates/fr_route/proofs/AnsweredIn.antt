@@ -14,7 +14,8 @@ use Rattle.fr_graph.specs.Evidence.{evidence}
 use Rattle.fr_route.specs.Forms.{IsAnswerIn}
 use Rattle.fr_route.specs.Json.{AreChanged, AreChanges, IsBatchRefusal, IsEditRefusal, IsJsonAnswer, IsJsonReport, IsJsonText, IsJsonWalk, IsNewRefusal, IsRefusal, PlainRefusal}
 use Rattle.fr_route.specs.Json.{IsJsonNearest, IsJsonNodeWays, IsJsonWays, nearest_json, node_ways_json, ways_json}
-use Rattle.fr_nearest.proofs.Ranking.{nearest_unique, ways_unique}
+use Rattle.fr_nearest.proofs.Walking.{one_list}
+use Rattle.fr_route.proofs.WaysExist.{nearest_unique}
 use Rattle.fr_route.proofs.NodeWays.{all_ways_unique, nearest_connected}
 use Rattle.fr_route.specs.Json.{ends, ends_in, hops_json, pushes_json, refusal_for, refusal_json, report_json, walk_json}
 use Rattle.fr_route.specs.Reroutes.{AreReplaced}
@@ -115,7 +116,7 @@ json_ways_unique s t u a b = a.2 ∙ (ap (ways_json s.dest) (all_ways_unique s a
 
 json_node_ways_unique : (s : State) (x : ℕ) (t u : List ℕ) → IsJsonNodeWays s x t → IsJsonNodeWays s x u → t ≡ u
 json_node_ways_unique s x t u a b =
-    a.2 ∙ (ap (node_ways_json (x == s.dest)) (ways_unique s.links s.dest x a.0 b.0 a.1 b.1) ∙ sym b.2)
+    a.2 ∙ (ap (node_ways_json (x == s.dest)) (one_list s.links s.dest x a.0 b.0 a.1 b.1) ∙ sym b.2)
 
 json_nearest_unique : (s : State) (x : ℕ) (t u : List ℕ) → IsJsonNearest s x t → IsJsonNearest s x u → t ≡ u
 json_nearest_unique s x t u (inl a) (inl b) =

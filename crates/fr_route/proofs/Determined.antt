@@ -27,7 +27,8 @@ use Rattle.fr_route.specs.Pushing.{AreAsked}
 use Rattle.fr_route.specs.Texts.{nearest_text, node_ways_text, ways_text}
 use Rattle.fr_route.specs.Texts.{report_text, hops_text, pushes_text, walk_text, refusal_text}
 use Rattle.fr_route.specs.Answers.{IsNearestLine, IsNodeWaysLine, IsWaysLine}
-use Rattle.fr_nearest.proofs.Ranking.{nearest_unique, ways_unique}
+use Rattle.fr_nearest.proofs.Walking.{one_list}
+use Rattle.fr_route.proofs.WaysExist.{nearest_unique}
 use Rattle.fr_route.proofs.NodeWays.{all_ways_unique, nearest_connected}
 use Rattle.fr_route.specs.Answers.{fault_number, IsRefused, IsAccepted, IsReportLine, IsWalkLine, IsText, IsAnswer, IsLineAnswer, AreAnswers}
 use Rattle.fr_tables.specs.declared.hop.Hop.{Hop}
@@ -202,7 +203,7 @@ ways_line_unique s t u a b = a.2 ∙ (ap (ways_text s.dest) (all_ways_unique s a
 
 node_ways_line_unique : (s : State) (x : ℕ) (t u : List ℕ) → IsNodeWaysLine s x t → IsNodeWaysLine s x u → t ≡ u
 node_ways_line_unique s x t u a b =
-    a.2 ∙ (ap (node_ways_text (x == s.dest)) (ways_unique s.links s.dest x a.0 b.0 a.1 b.1) ∙ sym b.2)
+    a.2 ∙ (ap (node_ways_text (x == s.dest)) (one_list s.links s.dest x a.0 b.0 a.1 b.1) ∙ sym b.2)
 
 nearest_line_unique : (s : State) (x : ℕ) (t u : List ℕ) → IsNearestLine s x t → IsNearestLine s x u → t ≡ u
 nearest_line_unique s x t u (inl a) (inl b) =

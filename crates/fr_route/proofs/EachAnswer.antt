@@ -35,7 +35,7 @@ use Rattle.fr_core.proofs.Finishing.{settled_exists}
 use Rattle.fr_core.proofs.Paths.{walk_from_path}
 use Rattle.fr_core.proofs.Searching.{cases_below}
 use Rattle.fr_core.proofs.Unique.{settled_lawful}
-use Rattle.fr_route.specs.States.{State, IsCutOff, IsReport, IsRound, net_at}
+use Rattle.fr_route.specs.States.{State, IsAfterRound, IsReport, IsRound, net_at}
 use Rattle.fr_route.specs.Routes.{IsHop, AreHops, is_cut_off}
 use Rattle.fr_route.specs.Answers.{fault_number, IsReportLine, IsHopsLine, IsWalkLine, IsAnswer, IsLineAnswer, IsText}
 use Rattle.fr_route.specs.Texts.{counts_text, links_text, hops_text, walk_text, no_walk_text, pushes_text, report_text, refusal_text}
@@ -46,7 +46,7 @@ use Rattle.std.specs.List.{count_by}
 use Rattle.fr_route.proofs.Changing.{joined_nodes, made_nodes}
 use Rattle.fr_route.proofs.CutNodes.{hops_cut_count}
 use Rattle.fr_route.proofs.FirstFaults.{faultless_or_fault}
-use Rattle.fr_route.proofs.NodeWays.{all_ways_exist, nearest_route_exists, node_ways_exist}
+use Rattle.fr_route.proofs.NodeWays.{all_ways_exist, cut_without, nearest_route_exists, node_ways_exist}
 use Rattle.fr_route.proofs.Routing.{route_end, route_path}
 use Rattle.fr_route.proofs.TablePushes.{from_or_fault}
 use Rattle.fr_route.specs.Pushing.{padded}
@@ -314,14 +314,11 @@ node_text s good node.Nearest x = elim (decide s good x) [
   | inl path ↦
       let (rest, walk) = nearest_route_exists s good.faultless.is_net.in_range (decide s good) x path in
       (nearest_text (x ∷ rest), inl (rest, walk, refl))
-  | inr none ↦ (no_nearest_text x, inr (cut_without s good x none, refl))
+  | inr none ↦ (no_nearest_text x, inr (cut_without s after x none, refl))
 ]
   where
-    cut_without : (s : State) → IsSettledState s → (x : ℕ) → ¬ HasPath s.links x s.dest → IsCutOff s.dest s.links x
-    cut_without s good x none = elim ((walk_line s good x).1) [
-      | inl route ↦ absurd (none (route.0, (route_path s.links s.dest x route.0 route.1, route_end s.links s.dest x route.0 route.1)))
-      | inr cut ↦ cut.0
-    ]
+    after : IsAfterRound s
+    after = record { first = good.first; is_net = good.net; dest = good.dest; round = good.round }
 
 node_answer : (s : State) → IsSettledState s → (question : NodeQuestion) (x : ℕ) → HasAnswer (Some s) (ask_node question x)
 node_answer s good question x = ⊎_elim

@@ -7,6 +7,8 @@ use Rattle.fr_graph.specs.Counts.{links_at}
 use Rattle.fr_graph.specs.Links.{IsNet}
 use Rattle.fr_graph.specs.Network.{Network, net_of}
 use Rattle.fr_route.specs.Outcomes.{settled_state}
+use Rattle.fr_nearest.specs.Distances.{Measured}
+use Rattle.fr_route.specs.NodeWays.{HasDistances}
 use Rattle.fr_route.specs.RouterInside.{IsSoundRouter}
 use Rattle.fr_route.specs.Routes.{AreHops}
 use Rattle.fr_route.specs.States.{IsReport}
@@ -16,21 +18,41 @@ use Rattle.fr_route.specs.declared.router.Router.TheInside.{Inside}
 use Rattle.fr_route.specs.declared.spare.Spare.{Spare}
 use Rattle.fr_route.proofs.CutNodes.{after_outcome}
 
-module _ (d : ℕ) (turns : List ℕ) (spare : Spare) (hops : Vec Hop Global) (room : ℕ) (report : Report) where
+module _ (d : ℕ) (turns : List ℕ) (spare : Spare) (hops : Vec Hop Global) (distances : Measured) (room : ℕ)
+    (report : Report) where
   inside : Network → Inside
-  inside net = record { net = net; dest = d; turns = turns; spare = spare; hops = hops; room = room; report = report }
+  inside net = record {
+    net = net;
+    dest = d;
+    turns = turns;
+    spare = spare;
+    hops = hops;
+    distances = distances;
+    room = room;
+    report = report;
+  }
 
   pub sound_after : (net turned : Network) → IsNet net.nodes net.links → IsCounted net.nodes d net.links turns
       → IsReport (settled_state net d turns) report.turned report.cut
-      → turned ≡ net_of net.nodes (links_at net.links turns) → AreHops (settled_state net d turns) net.nodes hops.items → room ≡ net.nodes
-      → IsSoundRouter (record { net = turned; dest = d; turns = turns; spare = spare; hops = hops; room = room; report = report })
+      → turned ≡ net_of net.nodes (links_at net.links turns) → AreHops (settled_state net d turns) net.nodes hops.items
+      → HasDistances (settled_state net d turns) distances → room ≡ net.nodes → IsSoundRouter (record {
+        net = turned;
+        dest = d;
+        turns = turns;
+        spare = spare;
+        hops = hops;
+        distances = distances;
+        room = room;
+        report = report;
+      })
   unfolding inside
-  sound_after net turned is counted reported turned_is hops_are for_all =
+  sound_after net turned is counted reported turned_is hops_are measured for_all =
       let there : IsSoundRouter (inside (net_of net.nodes (links_at net.links turns))) = record {
         dest = counted.destination;
         round = after_outcome net d turns is counted;
         one_each = counted.settled.one_each;
         hops = hops_are;
+        distances = measured;
         room = for_all;
         report = reported;
       } in

@@ -7,7 +7,9 @@ pub mod Changing
 pub mod Opening
 pub mod LoopWalks  -- walks of a table back to their first node
 pub mod TablePushes
-pub mod NodeWays  -- that each node has one list of ways
+pub mod ShortestPaths  -- that a node with a path has a distance
+pub mod WaysExist  -- that a node has a list of ways, and a walk by first ways
+pub mod NodeWays  -- the same for the nodes of a state
 pub mod Determined
 pub mod OneTelling
 pub mod Asking

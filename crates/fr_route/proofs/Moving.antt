@@ -1,12 +1,12 @@
 -- Which nodes can be sinks after edits are made or the destination moves, and where the others send on to. The others
 -- are not touched, and the last round left each of them that has links with a way home.
-use Rattle.std.proofs.Common.{List, arith, inl, inr, refl, slice_index, subst, sym, ℕ, ⊎_elim, ◌<◌, ◌∙◌, ◌∷◌, ◌≡◌, Contains}
+use Rattle.std.proofs.Common.{List, arith, inl, inr, refl, slice_index, subst, sym, ℕ, ⊎_elim, ◌<◌, ◌∙◌, ◌∷◌, ◌≡◌, ◌↔◌, Contains}
 use Rattle.std.specs.List.{All}
 use Rattle.std.proofs.lemmas.Bool.{cases_eq}
 use Rattle.std.proofs.lemmas.List.Elements.{All-append, All-cons, Contains-append_left, Contains-append_right}
 use Rattle.fr_graph.specs.Batches.{AreMade}
 use Rattle.fr_graph.specs.Links.{IsNet, Joins, Points}
-use Rattle.fr_graph.specs.Network.{Network}
+use Rattle.fr_graph.specs.Network.{Network, net_of}
 use Rattle.fr_graph.specs.Turn.{IsSink}
 use Rattle.fr_graph.specs.declared.edit.Edit.{Edit}
 use Rattle.fr_graph.proofs.Giving.{Points-links_at_from, Points-links_at_same}
@@ -14,6 +14,8 @@ use Rattle.fr_graph.proofs.Members.{Contains-head, Contains-tail, cases_some}
 use Rattle.fr_graph.specs.Counts.{links_at}
 use Rattle.fr_graph.proofs.Ordering.{into_order, out_of_order}
 use Rattle.fr_crew.specs.Settlements.{HoldsSinks, IsCounted}
+use Rattle.fr_nearest.specs.Distances.{AreDistances, Measured}
+use Rattle.fr_route.specs.NodeWays.{AreOldDistances, HasDistances}
 use Rattle.fr_route.specs.Outcomes.{HoldsMoved, IsStale, cut_off_nodes, ends_of, movable, settled_state, touched}
 use Rattle.fr_route.specs.Routes.{AreHops, IsHop}
 use Rattle.fr_route.specs.States.{IsAfterRound, IsRound, State, net_at}
@@ -121,6 +123,32 @@ module _ (s : State) (after : IsAfterRound s) where
           let joins : Joins s.links x w = inl ((same.out w).1 (was_away x w rests g)) in
           h.1 ((round_joined s.nodes s.dest after.first s after.is_net after.dest after.round x).0
           (linked_joined s.nodes s.dest after.first s after.is_net after.dest after.round x w joins free)))
+
+      -- the links that lead from a node stay, unless it can move or turns, or a neighbour turns
+      unmoved_links : (x w : ℕ) → ¬ Contains (movable s d edits) x → slice_index counts x ≡ 0
+          → ((y : ℕ) → Joins (settled_state net d counts).links x y → slice_index counts y ≡ 0)
+          → Points s.links x w ↔ Points (settled_state net d counts).links x w
+      unmoved_links x w none rests near =
+          let same = (untouched x (unmoved x none).0).2 in
+          let joins = round_joins net.nodes d net.links (settled_state net d counts) left.is_net counted.destination round x w in (
+            (λ h. let link = (same.out w).0 h in still_away x w rests (near w (joins.0 (inl link))) link),
+            (λ h. (same.out w).1 (was_away x w rests h)),
+          )
+
+      -- so distances are out of date only near nodes that can move or turn
+      pub old_distances : (m : Measured) → HasDistances s m
+          → AreOldDistances (net_of net.nodes (links_at net.links counts)) d counts (movable s d edits) m
+      old_distances m has = record {
+        links = s.links;
+        were = subst (λ (n : ℕ). AreDistances n s.links m.dest m.table) (sym same_nodes)
+            (subst (λ (e : ℕ). AreDistances s.nodes s.links e m.table) (sym has.dest) has.table);
+        counted = counted.settled.one_each;
+        below = movable_below;
+        same = unmoved_links;
+        home = λ x none.
+            let not = untouched x (unmoved x none).0 in
+            ((λ e. absurd (not.0 (e ∙ has.dest))), (λ e. absurd (not.1 e)));
+      }
 
       -- the hop of each node that cannot move stays right, unless it is stale
       pub unmoved_hops : (hops : List Hop) → AreHops s s.nodes hops → HoldsMoved (settled_state net d counts) hops (movable s d edits)

@@ -1,14 +1,40 @@
 -- Each node of a settled network has exactly one list of ways, and a connected one exactly one nearest route.
-use Rattle.std.proofs.Common.{[], List, ap, get_or, arith, inl, inr, length, refl, subst, suc, sym, zero, ℕ, ◌+◌, ◌++◌, ◌<◌, ◌∙◌, ◌∷◌, ◌≡◌, ◌≤◌, ◌⊎◌}
-use Rattle.std.proofs.lemmas.Bool.{cases_eq}
+use Rattle.std.proofs.Common.{[], Bool, List, Option, ap, false, get_or, slice_index, true, ◌==◌, arith, inl, inr, length, refl, subst, suc, sym, zero, ℕ, ◌+◌, ◌++◌, ◌<◌, ◌∙◌, ◌∷◌, ◌≡◌, ◌≤◌, ◌⊎◌}
+use Rattle.std.specs.Prelude.{MatchOption}
+use Rattle.std.proofs.lemmas.Bool.{cases_eq, eqb-true, false≢true}
 use Rattle.std.proofs.lemmas.List.{get_or_append_left, get_or_push, length_push}
 use Rattle.fr_graph.specs.Links.{AreBelow, HasPath}
 use Rattle.fr_core.specs.Walks.{IsConnected}
 use Rattle.fr_core.proofs.Paths.{walk_from_path}
-use Rattle.fr_nearest.proofs.Ranking.{nearest_exists, nearest_path, ways_exist, ways_unique}
+use Rattle.fr_nearest.proofs.Walking.{one_list, walk_shortest}
+use Rattle.fr_route.proofs.WaysExist.{nearest_exists, ways_exist}
 use Rattle.fr_ways.specs.Ways.{ways}
-use Rattle.fr_route.specs.NodeWays.{AreAllWays, AreNodeWays, IsNearestRoute}
-use Rattle.fr_route.specs.States.{State}
+use Rattle.fr_nearest.specs.Distances.{IsDistance, IsMeasured, Measured, distance_of, no_distance}
+use Rattle.fr_route.specs.NodeWays.{AreAllWays, AreNodeWays, HasDistances, IsNearestRoute}
+use Rattle.fr_route.specs.States.{State, IsAfterRound, IsCutOff}
+use Rattle.fr_route.proofs.RoundEnds.{route_home}
+use Rattle.fr_route.proofs.Routing.{route_end, route_path}
+
+-- a node without a path is cut off
+pub cut_without : (s : State) → IsAfterRound s → (x : ℕ) → ¬ HasPath s.links x s.dest → IsCutOff s.dest s.links x
+cut_without s after x none = (
+  (λ e. none ([], (tt, e))),
+  (λ connected.
+      let r = route_home s.nodes s.dest after.first s after.is_net after.dest after.round x connected in
+      none (r.0, (route_path s.links s.dest x r.0 r.1, route_end s.links s.dest x r.0 r.1))),
+)
+
+-- the distance of a node, by the table
+pub distance_is : (s : State) → IsAfterRound s → (m : Measured) → HasDistances s m → (x : ℕ) → x < s.nodes
+    → (distance : Option ℕ) → distance ≡ distance_of (slice_index m.table x)
+    → MatchOption distance (IsCutOff s.dest s.links x) (IsDistance s.links s.dest x)
+distance_is s after m has x low distance is =
+    rw is (go (slice_index m.table x) (has.table.each x low) (slice_index m.table x == no_distance) refl)
+  where
+    go : (number : ℕ) → IsMeasured s.links s.dest x number → (none : Bool) → (number == no_distance) ≡ none
+        → MatchOption (distance_of number) (IsCutOff s.dest s.links x) (IsDistance s.links s.dest x)
+    go number measured true e = rw e (cut_without s after x (measured.none (eqb-true number no_distance e)))
+    go number measured false e = rw e (measured.some (λ same. false≢true (sym e ∙ rw same refl)))
 
 -- lists of the same length with the same elements are equal
 same_lists : {X : Type 0} (d : X) (a b : List X) → length a ≡ length b
@@ -22,14 +48,27 @@ same_lists d (x ∷ xs) (y ∷ ys) long each =
 
 pub all_ways_unique : (s : State) (a b : List (List ℕ)) → AreAllWays s a → AreAllWays s b → a ≡ b
 all_ways_unique s a b are also = same_lists [] a b (are.one_each ∙ sym also.one_each)
-    (λ x low. ways_unique s.links s.dest x (ways a x) (ways b x) (are.each x (omega (arith, low, are.one_each)))
+    (λ x low. one_list s.links s.dest x (ways a x) (ways b x) (are.each x (omega (arith, low, are.one_each)))
     (also.each x (omega (arith, low, are.one_each))))
+
+-- a table with one more row
+pub ways_pushed : (P : ℕ → List ℕ → Type 0) (table : List (List ℕ)) (list : List ℕ) (n : ℕ) → length table ≡ n
+    → ((x : ℕ) → x < n → P x (ways table x)) → P n list
+    → (length (table ++ list ∷ []) ≡ n + 1) × ((x : ℕ) → x < n + 1 → P x (ways (table ++ list ∷ []) x))
+ways_pushed P table list n long each is = (
+  omega (arith, length_push table list, long),
+  λ x low. elim (cases_eq x n) [
+    | inl e ↦ rw (e, get_or_push table list [] n long) is
+    | inr apart ↦ rw (get_or_append_left table (list ∷ []) [] x (omega (arith, low, apart, long)))
+        (each x (omega (arith, low, apart)))
+  ],
+)
 
 -- a node with a nearest route is connected with the destination
 pub nearest_connected : (s : State) (x : ℕ) (rest : List ℕ) → IsNearestRoute s x rest → IsConnected s.links s.dest x
 nearest_connected s x rest walk =
-    let path = nearest_path s.links s.dest x rest walk in
-    (0, walk_from_path s.links s.dest x path.0 path.1.0 path.1.1)
+    let path = walk_shortest s.links s.dest x rest walk in
+    (0, walk_from_path s.links s.dest x rest path.0 path.1)
 
 module _ (s : State) (below : AreBelow s.nodes s.links)
     (decide : (w : ℕ) → HasPath s.links w s.dest ⊎ ¬ HasPath s.links w s.dest) where
@@ -41,15 +80,9 @@ module _ (s : State) (below : AreBelow s.nodes s.links)
   ways_below zero = ([], refl, λ x low. absurd (omega (arith, low)))
   ways_below (suc n) =
       let (table, long, each) = ways_below n in
-      let (list, are) = node_ways_exist n in (
-        table ++ list ∷ [],
-        omega (arith, length_push table list, long),
-        λ x low. elim (cases_eq x n) [
-          | inl e ↦ rw (e, get_or_push table list [] n long) are
-          | inr apart ↦ rw (get_or_append_left table (list ∷ []) [] x (omega (arith, low, apart, long)))
-              (each x (omega (arith, low, apart)))
-        ],
-      )
+      let (list, are) = node_ways_exist n in
+      let more = ways_pushed (AreNodeWays s) table list n long each are in
+      (table ++ list ∷ [], omega (arith, more.0), λ x low. more.1 x (omega (arith, low)))
 
   pub all_ways_exist : (table : List (List ℕ)) × AreAllWays s table
   all_ways_exist = let (table, long, each) = ways_below s.nodes in (table, record { one_each = long; each = each })

@@ -73,7 +73,11 @@ fn push_comma(line: &mut String, first: bool) -> Result<(), AllocError>
 }
 
 /// Appends the numbers of nodes, with commas between them.
-pub(crate) fn push_nodes(line: &mut String, nodes: &[u32], buffer: &mut Buffer) -> Result<(), AllocError>
+pub(crate) fn push_nodes(
+    line: &mut String,
+    nodes: &[u32],
+    buffer: &mut Buffer,
+) -> Result<(), AllocError>
     ensures { OnOk result (string_bytes line.new ≡ string_bytes line.old ++ listed decimal nodes.now) }
 {
     let mut first = true;

@@ -13,11 +13,15 @@ ghost use Rattle.fr_route.specs.declared.fault.AnswerFault.TheVariants.{Memory};
 use crate::fault::AnswerFault;
 use crate::form::Form;
 use crate::hops::Walked;
-use crate::json::{counts_object, hops_object, links_object, nearest_object, no_nearest_object};
-use crate::json::{no_walk_object, node_ways_object, walk_object, ways_object};
+use crate::json::{
+    counts_object, hops_object, links_object, nearest_object, no_nearest_object, no_walk_object,
+    node_ways_object, walk_object, ways_object,
+};
 use crate::router::Router;
-use crate::texts::{counts_line, hops_line, links_line, nearest_line, no_nearest_line};
-use crate::texts::{no_walk_line, node_ways_line, walk_line, ways_line};
+use crate::texts::{
+    counts_line, hops_line, links_line, nearest_line, no_nearest_line, no_walk_line,
+    node_ways_line, walk_line, ways_line,
+};
 use fr_lines::{NodeQuestion, Question};
 use std::alloc::{AllocError, Global};
 

@@ -1,7 +1,7 @@
 //! A router: a settled network with its next hops and routes, and the changes after which it settles again.
 
 ghost use Rattle.std.specs.Prelude.{◌≡◌, ◌≢◌, ◌<◌, ◌≤◌, ◌⊎◌, [], ◌∷◌, length, replicate};
-ghost use Rattle.std.specs.Prelude.{Ok, Some, IfOk, IfErr, IfSome, OnErr, OnOk};
+ghost use Rattle.std.specs.Prelude.{Ok, Some, IfOk, IfErr, IfSome, MatchOption, OnErr, OnOk};
 ghost use Rattle.std.specs.Option.{option_copied};
 ghost use Rattle.fr_graph.specs.Limits.{most_edits};
 ghost use Rattle.fr_crew.specs.Settlements.{CanBegin, HoldsSinks, IsCounted};
@@ -9,7 +9,8 @@ ghost use Rattle.fr_route.specs.Ways.{Settles, NeverStarts};
 ghost use Rattle.fr_route.specs.declared.fault.RouteFault.TheVariants.{Start, Memory};
 ghost use Rattle.fr_route.specs.Listing.{nodes_told};
 ghost use Rattle.fr_route.specs.NodeWays.{AreAllWays, AreNodeWays, IsNearest};
-ghost use Rattle.fr_route.specs.States.{IsAfterRound, IsRound, IsReport};
+ghost use Rattle.fr_nearest.specs.Distances.{IsDistance};
+ghost use Rattle.fr_route.specs.States.{IsAfterRound, IsCutOff, IsRound, IsReport};
 ghost use Rattle.fr_route.specs.Routes.{IsHop, AreHops, IsWalked};
 ghost use Rattle.fr_route.specs.Changes.{IsOpenFault, IsChanged, IsRouteFault, IsStill};
 ghost use Rattle.fr_route.specs.Reroutes.{ArePushes, AreReplaced, IsPushesFault, TellsRerouted};
@@ -20,13 +21,16 @@ ghost use Rattle.fr_route.specs.Outcomes.{IsSettledTable, cut_off_nodes, movable
 use crate::change::{Change, Report};
 use crate::fault::{NotMade, RouteFault, placeless};
 use crate::hops::{AfterRound, Walked, hop_table, resized};
-use crate::outcome::{alone_nodes, push_capped, put_in_place, report_of, touched_nodes};
+use crate::outcome::{
+    alone_nodes, push_capped, put_in_place, renew_distances, report_of, touched_nodes,
+};
 use crate::revision::Revision;
 use crate::settling::Asking;
 use crate::spare::Spare;
 use crate::told::Told;
 use fr_crew::{Crew, CrewFault, Gate, Plan, settled_counts, settled_counts_alone};
 use fr_graph::{Edit, MAX_EDITS, Net, NetFault, Turns};
+use fr_nearest::Distances;
 use fr_tables::{Hop, PushRoom, TableFault, first_outside, known_push_order};
 use fr_ways::WayTable;
 use std::alloc::{AllocError, Global};
@@ -47,6 +51,7 @@ pub struct Router {
     turns: Turns,
     spare: Spare,
     hops: Vec<Hop>,
+    distances: Distances,
     room: PushRoom,
     report: Report,
 }
@@ -60,6 +65,7 @@ impl Drop for Router {
             turns,
             spare,
             hops,
+            distances,
             room,
             report: _,
         } = self;
@@ -67,6 +73,7 @@ impl Drop for Router {
         drop(turns);
         drop(spare);
         drop(hops);
+        drop(distances);
         drop(room);
     }
 }
@@ -199,6 +206,7 @@ impl<'a, F: Fn(&Net, u32, Option<&[u32]>, Turns) -> Result<Turns, CrewFault>> As
             },
         )?;
         put_in_place(&mut router.net, &mut router.hops, &outcome, from, told);
+        renew_distances(&mut router.distances, &router.net, &outcome, from);
         told.put_in_order(&mut router.room, &router.hops);
         keep_turns(&mut router.turns, &mut router.spare, outcome.turns);
         router.dest = dest;
@@ -275,6 +283,7 @@ impl Router {
             turns: &turns,
         };
         let hops = hop_table(alloc, &round)?;
+        let distances = Distances::measure(alloc, &net, dest)?;
         let room = PushRoom::new(alloc, net.nodes())?;
         Ok(Router {
             net,
@@ -282,6 +291,7 @@ impl Router {
             turns,
             spare: Spare::none(),
             hops,
+            distances,
             room,
             report,
         })
@@ -561,29 +571,59 @@ impl Router {
         self.hops[x as usize]
     }
 
-    /// STUB
+    /// Lists the ways of node `x`, which must be in the network: the nodes to which its links point, nearest first. Ways of
+    /// the same distance are in rising order. The destination has no way, and neither has a node that is cut off. The
+    /// list is cleared first. It keeps its capacity, so that a caller who asks often allocates rarely.
+    ///
+    /// A packet may take any of the ways at each node: it visits no node twice, because the links contain no cycle.
+    ///
+    /// Fails with `AllocError`, and an empty list, if an allocation is refused. O(d log d) for d links of the node.
     pub fn ways(&self, x: u32, list: &mut Vec<u32>) -> Result<(), AllocError>
         requires { x < self.now.nodes }
-        ensures { OnOk result (AreNodeWays self.now x list.new.items) }
+        ensures ways { OnOk result (AreNodeWays self.now x list.new.items) }
+        ensures empty { OnErr result (list.new.items ≡ []) }
     {
-        list.clear();
-        Err(AllocError)
+        self.distances.ways(&self.net, x, list)
     }
 
-    /// STUB
+    /// The distance of node `x`, which must be in the network: the fewest links that lead from it down to the
+    /// destination. `None` if the node is cut off. O(1).
+    pub fn distance(&self, x: u32) -> Option<u32>
+        requires { x < self.now.nodes }
+        ensures { MatchOption result (IsCutOff self.now.dest self.now.links x)
+            (IsDistance self.now.links self.now.dest x) }
+    {
+        self.distances.distance(x)
+    }
+
+    /// The ways of each node, as [`ways`](Router::ways) lists them. Fails with `AllocError` if an allocation is refused.
+    /// O(n + m log d), where no node has more than d links.
     pub fn all_ways(&self, alloc: Global) -> Result<WayTable, AllocError>
         ensures { IfOk result (AreAllWays self.now) }
     {
-        Err(AllocError)
+        self.net.network_law();
+        let nodes = self.net.nodes();
+        let mut table = WayTable::with_capacity(alloc, nodes as usize, self.net.link_count())?;
+        let mut list = Vec::new(alloc);
+        for x in 0..nodes {
+            self.ways(x, &mut list)?;
+            table.push_row(&list)?;
+        }
+        Ok(table)
     }
 
-    /// STUB
+    /// A route of the fewest links from node `x` along the links to the destination: each node is the nearest way of the
+    /// one before. The node must be in the network. Fails only with `Memory`, if an allocation is refused. O(r d) for a
+    /// route of r nodes, none of which has more than d links.
     pub fn nearest(&self, alloc: Global, x: u32) -> Result<Walked, RouteFault>
         requires { x < self.now.nodes }
         ensures walked { IfOk result (IsNearest self.now x) }
         ensures memory { IfErr result (λ fault. fault ≡ Memory) }
     {
-        Err(RouteFault::Memory)
+        match self.distances.walk(alloc, &self.net, x)? {
+            Some(route) => Ok(Walked::Route(route)),
+            None => Ok(Walked::CutOff),
+        }
     }
 
     /// The route from node `x` to the destination, hop by hop. The node must be in the network. Fails only with

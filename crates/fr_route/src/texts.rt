@@ -191,11 +191,7 @@ pub(crate) fn ways_line(alloc: Global, dest: u32, table: &WayTable) -> Result<St
 
 /// `ways`, and then a space and the word for these ways of one node. `home` says whether it is the destination.
 #[inline(never)]
-pub(crate) fn node_ways_line(
-    alloc: Global,
-    home: bool,
-    ways: &[u32],
-) -> Result<String, AllocError>
+pub(crate) fn node_ways_line(alloc: Global, home: bool, ways: &[u32]) -> Result<String, AllocError>
     ensures { IfOk result (λ line. string_bytes line ≡ node_ways_text home ways.now) }
 {
     let mut line = begun(alloc, "ways ", ways.len())?;

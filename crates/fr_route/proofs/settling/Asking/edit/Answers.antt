@@ -4,7 +4,9 @@ use Rattle.std.proofs.lemmas.Result.{err_from_is_err_and}
 use Rattle.std.specs.Vec.{with_items}
 use Rattle.fr_graph.specs.Batches.{AreMade}
 use Rattle.fr_graph.specs.Limits.{most_edits}
-use Rattle.fr_graph.specs.Network.{Network}
+use Rattle.fr_graph.specs.Counts.{links_at}
+use Rattle.fr_graph.specs.Network.{Network, net_of}
+use Rattle.fr_nearest.specs.Distances.{Measured}
 use Rattle.fr_crew.specs.Settlements.{HoldsSinks}
 use Rattle.fr_graph.specs.declared.fault.NotEdited.{NotEdited}
 use Rattle.fr_graph.specs.declared.fault.NotEdited.TheVariants.{Fault, Refused}
@@ -12,11 +14,12 @@ use Rattle.fr_route.specs.Changes.{IsOpenFault, IsStill}
 use Rattle.fr_route.specs.Faults.{of_not_edited}
 use Rattle.fr_route.specs.Listing.{HasPlaces, IsListing, nodes_told}
 use Rattle.fr_crew.specs.Settlements.{IsCounted}
+use Rattle.fr_route.specs.NodeWays.{AreOldDistances, HasDistances}
 use Rattle.fr_route.specs.Outcomes.{AreOthers, HoldsMoved, IsOutcome, movable, settled_state}
 use Rattle.fr_route.specs.Reroutes.{AreRerouted}
 use Rattle.fr_route.specs.Routes.{AreHops}
 use Rattle.fr_route.specs.RouterInside.{state_of}
-use Rattle.fr_route.specs.States.{IsAfterRound, State, net_at}
+use Rattle.fr_route.specs.States.{IsAfterRound, State, net_at, state_with}
 use Rattle.fr_route.specs.Tries.{IsPlaced}
 use Rattle.fr_route.specs.declared.fault.RouteFault.{RouteFault}
 use Rattle.fr_route.specs.declared.fault.RouteFault.TheVariants.{Start}
@@ -27,7 +30,7 @@ use Rattle.fr_tables.specs.declared.hop.Hop.{Hop}
 use Rattle.fr_route.proofs.CutNodes.{after_outcome, ended}
 use Rattle.fr_route.proofs.Changing.{made_nodes, refused_fault, round_fault}
 use Rattle.fr_route.proofs.Inside.{sound_after}
-use Rattle.fr_route.proofs.Moving.{made_net, movable_sinks, unmoved_hops}
+use Rattle.fr_route.proofs.Moving.{made_net, movable_sinks, old_distances, unmoved_hops}
 use Rattle.fr_route.proofs.Noting.{listing_has}
 use Rattle.fr_route.proofs.SettledHops.{settled_in_range, settled_loop_free}
 use Rattle.fr_route.proofs.settling.Asking.edit.Given.{Over}
@@ -181,6 +184,30 @@ put_in_place-requires-clause-moved g c =
     (unmoved_hops s c.router.invariant.round c.args.revision.now.edits.now net c.args.revision.now.dest
     (in_range g at.After-router) (edits_made g at.In_ok-outcome) counts (outcome_is g at.In_ok-outcome).counts c.deref_mut.result.now hops))
 
+-- what the round puts in place: the network with its links turned, for the destination
+pub renew_distances-requires-clause-node : goal.renew_distances-requires-clause-node
+renew_distances-requires-clause-node g c =
+    let at = goal.at.renew_distances-requires-clause-node g c in
+    rw c.put_in_place.ensures.net
+    (subst (λ (d : ℕ). d < c.edit_if.new.self.nodes) (sym (same_dest g at.In_ok-outcome))
+    (outcome_is g at.In_ok-outcome).counts.destination)
+
+pub renew_distances-requires-clause-old : goal.renew_distances-requires-clause-old
+renew_distances-requires-clause-old g c =
+    let at = goal.at.renew_distances-requires-clause-old g c in
+    let s : State = state_of c.router.inside in
+    let net : Network = c.edit_if.new.self in
+    let d = c.args.revision.now.dest in
+    let counts : List ℕ = c.in_ok-outcome.outcome.turns in
+    let m : Measured = c.router.inside.distances in
+    let old = old_distances s c.router.invariant.round c.args.revision.now.edits.now net d (in_range g at.After-router)
+    (edits_made g at.In_ok-outcome) counts (outcome_is g at.In_ok-outcome).counts m c.router.invariant.distances in
+    rw c.put_in_place.ensures.net
+    (subst (λ (e : ℕ). AreOldDistances (net_of net.nodes (links_at net.links counts)) e counts c.as_slice-from.result.now m)
+    (sym (same_dest g at.In_ok-outcome))
+    (subst (λ (moved : List ℕ). AreOldDistances (net_of net.nodes (links_at net.links counts)) d counts moved m)
+    (sym (from_movable g at.After-as_slice-from)) old))
+
 pub put_in_order-requires-clause-table : goal.put_in_order-requires-clause-table
 put_in_order-requires-clause-table g c =
     let at = goal.at.put_in_order-requires-clause-table g c in
@@ -239,11 +266,16 @@ invariant_of-router-2 g c =
     with_items_is c.router.inside.hops c.put_in_place.new.hops same in
     rw c.keep_turns.ensures
     (sound_after c.args.revision.now.dest counts c.keep_turns.new.spare
-    (with_items c.router.inside.hops c.put_in_place.new.hops) c.put_in_order.new.room c.in_ok-outcome.outcome.report net c.put_in_place.new.net
+    (with_items c.router.inside.hops c.put_in_place.new.hops) c.renew_distances.new.distances c.put_in_order.new.room
+    c.in_ok-outcome.outcome.report net c.put_in_place.new.net
     (made_net s c.args.revision.now.edits.now net c.router.invariant.round made)
     outcome.counts outcome.report c.put_in_place.ensures.net
     (subst (AreHops (settled_state net c.args.revision.now.dest counts) net.nodes) (sym items)
     (with_dest g at.In_ok-outcome c.put_in_place.new.hops c.put_in_place.ensures.hops))
+    (subst (λ (m : Network). HasDistances (state_with m c.args.revision.now.dest counts) c.renew_distances.new.distances)
+    c.put_in_place.ensures.net
+    (subst (λ (d : ℕ). HasDistances (state_with c.put_in_place.new.net d counts) c.renew_distances.new.distances)
+    (same_dest g at.In_ok-outcome) c.renew_distances.ensures))
     (c.put_in_order.ensures.kept ∙ (c.router.invariant.room ∙ sym nodes)))
 
 pub returns-clause-tried : goal.returns-clause-tried

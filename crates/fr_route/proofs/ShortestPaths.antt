@@ -1,4 +1,4 @@
--- A node with a path has exactly one distance.
+-- A node with a path has a distance.
 use Rattle.std.proofs.Common.{[], List, arith, inl, inr, length, refl, subst, suc, sym, zero, ℕ, ⊎_elim, ap}
 use Rattle.std.proofs.Common.{Contains, ◌+◌, ◌<◌, ◌∙◌, ◌∷◌, ◌≡◌, ◌≤◌, ◌⊎◌}
 use Rattle.std.proofs.lemmas.Bool.{cases_eq, cases_lt}
@@ -81,9 +81,3 @@ module _ (links : List (ℕ × ℕ)) (d : ℕ) where
     | inl (k, least) ↦ (k, from_least x k least)
     | inr none ↦ absurd (none (length vs) (omega arith) (vs, path, ends, refl))
   ]
-
-  pub distance_unique : (x j k : ℕ) → IsDistance links d x j → IsDistance links d x k → j ≡ k
-  distance_unique x j k a b = omega (arith, a.long, b.long, a.least b.nodes b.path b.leads, b.least a.nodes a.path a.leads)
-
-  pub path_of_distance : (x k : ℕ) → IsDistance links d x k → HasPath links x d
-  path_of_distance x k is = (is.nodes, (is.path, is.leads))

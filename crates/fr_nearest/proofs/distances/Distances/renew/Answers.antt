@@ -1,0 +1,82 @@
+use Rattle.std.proofs.Common.{List, ap, arith, length, subst, sym, ℕ, ◌∙◌, ◌≡◌}
+use Rattle.std.proofs.lemmas.List.{with_items_is}
+use Rattle.std.specs.Vec.{with_items}
+use Rattle.fr_nearest.specs.Changes.{AreAllNoted, IsForgotten}
+use Rattle.fr_nearest.specs.Distances.{IsRenewed, Measured}
+use Rattle.fr_nearest.specs.Touched.{IsOutOfDate}
+use Rattle.fr_nearest.specs.Inside.{measured_in}
+use Rattle.fr_nearest.specs.Local.{IsSmall}
+use Rattle.fr_nearest.specs.Update.{AgreeOutside, KeepsOthers}
+use Rattle.fr_nearest.proofs.Renewing.{agree_outside, renewed}
+use Rattle.fr_nearest.proofs.distances.Distances.renew.Goals as goal
+use Rattle.fr_nearest.proofs.distances.Distances.renew.Goals.{After-forget, After-deref-then-update}
+
+old : (c : After-forget) → IsOutOfDate c.args.net.now c.args.dest c.args.touched.now (measured_in c.self.inside)
+old c = rw c.self.view_is c.requires.old
+
+one_each : (c : After-forget) → length c.self.inside.of.items ≡ c.args.net.now.nodes
+one_each c = (old c).were.one_each
+
+was : (c : After-forget) → c.self.inside.of.items ≡ c.args.self.now.table
+was c = ap (λ (m : Measured). m.table) c.self.view_is
+
+forgotten : (c : After-forget) → IsForgotten c.self.inside.of.items c.forget.new.self
+forgotten c = rw c.deref.ensures.value at c.forget.ensures
+
+small : (c : After-forget) → IsSmall c.args.net.now.nodes c.self.inside.of.items
+small c = subst (λ (n : ℕ). IsSmall n c.self.inside.of.items) (one_each c) c.self.invariant.small
+
+pub update-requires-clause-agree : goal.update-requires-clause-agree
+update-requires-clause-agree c =
+    let at = (goal.at.update-requires-clause-agree c).After-forget in
+    let net = c.args.net.now in
+    subst (λ (xs : List ℕ). AgreeOutside net c.args.dest c.args.touched.now xs) (sym c.deref_mut.ensures.value)
+    (agree_outside net c.args.dest c.args.touched.now (measured_in c.self.inside) c.network_law.ensures.is_net c.network_law.ensures.limits.nodes_few (small at) (old at))
+
+-- the table after an update
+table_is : (c : After-deref-then-update) → (with_items c.self.inside.of c.update.new.distances).items ≡ c.update.new.distances
+table_is c = with_items_is c.self.inside.of c.update.new.distances
+    (omega (arith, c.update.ensures.one_each, ap length c.deref_mut.ensures.value, c.self.inside.of.ok.0))
+
+read_is : (c : After-deref-then-update) → c.deref-then-update.result.now ≡ c.update.new.distances
+read_is c = c.deref-then-update.ensures.value ∙ table_is c
+
+pub note_some-requires-clause-noted : goal.note_some-requires-clause-noted
+note_some-requires-clause-noted c =
+    let at = (goal.at.note_some-requires-clause-noted c).After-forget in
+    let then = (goal.at.note_some-requires-clause-noted c).After-deref-then-update in
+    let was = c.self.inside.of.items in
+    let now = c.update.new.distances in
+    let others : KeepsOthers was now c.update.new.list.items = subst (λ (xs : List ℕ). KeepsOthers xs now c.update.new.list.items) c.deref_mut.ensures.value
+    (c.update.ensures.updated c.if-update.true).others in
+    let read : KeepsOthers was c.deref-then-update.result.now c.update.new.list.items =
+    subst (λ (xs : List ℕ). KeepsOthers was xs c.update.new.list.items) (sym (read_is then)) others in (
+      was,
+      forgotten at,
+      omega (arith, ap length (read_is then), c.update.ensures.one_each, ap length c.deref_mut.ensures.value),
+      subst (λ (xs : List ℕ). KeepsOthers was c.deref-then-update.result.now xs) (sym c.deref-then-update-2.ensures.value) read,
+    )
+
+pub returns-then-update : goal.returns-then-update
+returns-then-update c =
+    let at = (goal.at.returns-then-update c).After-forget in
+    let then = (goal.at.returns-then-update c).After-deref-then-update in
+    let changes = c.note_some.new.self in
+    let noted : AreAllNoted c.update.new.distances changes = subst (λ (xs : List ℕ). AreAllNoted xs changes) (read_is then) c.note_some.ensures.noted in
+    let before : changes.before.items ≡ c.self.inside.of.items = rw c.note_some.ensures.before (forgotten at).before in
+    subst (λ (xs : List ℕ). IsRenewed c.args.net.now c.args.dest c.args.self.now
+    (record { dest = c.args.dest; table = xs; before = changes.before.items; changed = changes.nodes.items })) (sym (table_is then))
+    (renewed c.args.net.now c.args.dest c.args.self.now (was at) (c.update.ensures.updated c.if-update.true).distances noted before)
+
+pub returns-else-update : goal.returns-else-update
+returns-else-update c =
+    let at = (goal.at.returns-else-update c).After-forget in
+    let changes = c.note_all.new.self in
+    let are = c.measure_all.ensures.distances in
+    let table : (with_items (with_items c.self.inside.of c.update.new.distances) c.measure_all.new.distances).items ≡ c.measure_all.new.distances =
+    with_items_is (with_items c.self.inside.of c.update.new.distances) c.measure_all.new.distances (omega (arith, are.one_each, one_each at, c.self.inside.of.ok.0)) in
+    let noted : AreAllNoted c.measure_all.new.distances changes = subst (λ (xs : List ℕ). AreAllNoted xs changes) (c.deref-else-update.ensures.value ∙ table) c.note_all.ensures.noted in
+    let before : changes.before.items ≡ c.self.inside.of.items = rw c.note_all.ensures.before (forgotten at).before in
+    subst (λ (xs : List ℕ). IsRenewed c.args.net.now c.args.dest c.args.self.now
+    (record { dest = c.args.dest; table = xs; before = changes.before.items; changed = changes.nodes.items })) (sym table)
+    (renewed c.args.net.now c.args.dest c.args.self.now (was at) are noted before)

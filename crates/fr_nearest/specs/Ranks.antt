@@ -1,0 +1,38 @@
+-- How the ways of a node are listed and sorted, and how its nearest way is found. For proofs only.
+use Rattle.std.specs.Prelude.{◌≡◌, ◌≢◌, ℕ, ◌<◌, ◌≤◌, ◌+◌, ◌*◌, ◌^◌, ◌⊎◌, ◌↔◌, List, Option, Some, None}
+use Rattle.std.specs.Prelude.{length, nat_eq, slice_index, slice_index_or, take}
+use Rattle.std.specs.List.{Contains, IsDistinct}
+use Rattle.fr_graph.specs.Links.{Points}
+use Rattle.fr_graph.specs.declared.first.First.{First}
+use Rattle.fr_graph.specs.declared.first.First.TheVariants.{Outward}
+use Rattle.fr_nearest.specs.Distances.{no_distance}
+
+-- the number by which ways are sorted
+abbrev pub rank_of : List ℕ → ℕ → ℕ
+rank_of table w = slice_index table w * 2 ^ 32 + w
+
+-- exactly the nodes that have a distance and to which a link of x points, each once
+pub record AreListed (links : List (ℕ × ℕ)) (table : List ℕ) (x : ℕ) (list : List ℕ) : Type 0 where
+  pub just : (w : ℕ) → Contains list w ↔ (Points links x w × (slice_index table w ≢ no_distance))
+  pub once : IsDistinct nat_eq list
+
+-- the same for the entries before this place of the row of x
+pub record AreListedTo (table : List ℕ) (row : List (ℕ × First)) (place : ℕ) (list : List ℕ) : Type 0 where
+  pub few : length list ≤ place
+  pub just : (w : ℕ) → Contains list w ↔ (Contains (take place row) (w, Outward) × (slice_index table w ≢ no_distance))
+  pub once : (i j : ℕ) → i < j → j < length list → slice_index list i ≢ slice_index list j
+
+-- w is the nearest of the nodes to which the links before this place of a row point
+pub record IsBest (table : List ℕ) (row : List (ℕ × First)) (place w : ℕ) : Type 0 where
+  pub listed : Contains (take place row) (w, Outward)
+  pub some : slice_index table w ≢ no_distance
+  pub best : (k : ℕ) (e : ℕ × First) → k < place → (slice_index_or row k e).1 ≡ Outward
+      → (slice_index table w < slice_index table (slice_index_or row k e).0)
+      ⊎ ((slice_index table w ≡ slice_index table (slice_index_or row k e).0) × (w ≤ (slice_index_or row k e).0))
+
+-- the nearest of these nodes, if one has a distance, and its number
+abbrev pub IsBestSo : List ℕ → List (ℕ × First) → ℕ → ℕ → Option ℕ → Type 0
+IsBestSo table row place least None = (least ≡ no_distance)
+    × ((k : ℕ) (e : ℕ × First) → k < place → (slice_index_or row k e).1 ≡ Outward
+    → slice_index table (slice_index_or row k e).0 ≡ no_distance)
+IsBestSo table row place least (Some w) = (least ≡ slice_index table w) × IsBest table row place w

@@ -1,0 +1,153 @@
+//! The distance of each node from the destination, kept while links change.
+
+ghost use Rattle.std.specs.Prelude.{◌≡◌, ◌<◌, [], IfOk, length, slice_index};
+ghost use Rattle.fr_nearest.specs.Distances.{AreChanged, IsMeasureOf, IsRenewed, distance_of};
+ghost use Rattle.fr_nearest.specs.Touched.{IsOutOfDate};
+
+use crate::changes::Changes;
+use crate::search::measure_all;
+use crate::update::{Touched, update};
+use fr_graph::Net;
+use std::alloc::{AllocError, Global};
+use std::marker::Model;
+
+/// Stands for the distance of a node from which no links lead to the destination.
+pub(crate) const NONE: u16 = u16::MAX;
+
+/// The distance of each node of a network from its destination, and what the last update has changed. The value in
+/// contracts has the distances as numbers; `no_distance` stands for none.
+#[derive(Debug)]
+pub struct Distances {
+    dest: u32,
+    of: Vec<u16>,
+    changes: Changes,
+    // Its capacity is the number of nodes.
+    list: Vec<u16>,
+}
+
+// Written by hand: code that drops distances proves this one call. With a derived Drop it proves how each part is
+// dropped.
+impl Drop for Distances {
+    fn drop(self) {
+        let Distances {
+            dest: _,
+            of,
+            changes,
+            list,
+        } = self;
+        drop(of);
+        drop(changes);
+        drop(list);
+    }
+}
+
+impl Model for Distances {
+    ghost use Rattle.fr_nearest.specs.Distances.{Measured};
+
+    ghost Value = { Measured };
+
+    ghost use Rattle.fr_nearest.specs.Inside.{measured_in, IsKept};
+
+    ghost view = { measured_in };
+
+    ghost invariant = { IsKept };
+}
+
+/// The distance that this number stands for.
+fn distance_in(number: u16) -> Option<u32>
+    ensures { result ≡ distance_of number }
+{
+    if number == NONE {
+        None
+    } else {
+        Some(number as u32)
+    }
+}
+
+impl Distances {
+    /// Measures the distance of each node from `dest`, which must be a node. Fails with `AllocError` if an allocation
+    /// is refused. O(n + m).
+    pub fn measure(alloc: Global, net: &Net, dest: u32) -> Result<Distances, AllocError>
+        requires { dest < net.now.nodes }
+        ensures measured { IfOk result (IsMeasureOf net.now) }
+        ensures dest { IfOk result (λ made. made.dest ≡ dest) }
+        ensures same { IfOk result (λ made. made.before ≡ made.table) }
+        ensures none { IfOk result (λ made. made.changed ≡ []) }
+    {
+        net.network_law();
+        let nodes = net.nodes() as usize;
+        let mut of = vec![in alloc; NONE; nodes]?;
+        let mut list = Vec::with_capacity(alloc, nodes)?;
+        measure_all(net, dest, &mut of, &mut list);
+        let changes = Changes::none(alloc, &of)?;
+        Ok(Distances {
+            dest,
+            of,
+            changes,
+            list,
+        })
+    }
+
+    /// Updates the distances after a change of the links or of the destination. Each node whose outgoing links have
+    /// changed must be touched, and so must the old and the new destination if they differ. The number of nodes must be
+    /// the same as before. It cannot fail and does not allocate.
+    ///
+    /// O(t d + c d) for t touched nodes and c changes of distances, at most O(n + m): a change that takes more than n
+    /// steps is measured anew.
+    pub fn renew(&mut self, net: &Net, dest: u32, touched: &Touched<'_>)
+        requires node { dest < net.now.nodes }
+        requires old { IsOutOfDate net.now dest touched.now self.old }
+        ensures { IsRenewed net.now dest self.old self.new }
+    {
+        net.network_law();
+        self.dest = dest;
+        self.changes.forget(&self.of);
+        if update(net, dest, touched, &mut self.of, &mut self.list) {
+            self.changes.note_some(&self.of, &self.list);
+        } else {
+            measure_all(net, dest, &mut self.of, &mut self.list);
+            self.changes.note_all(&self.of);
+        }
+    }
+
+    /// The destination. O(1).
+    pub fn dest(&self) -> u32
+        ensures { result ≡ self.now.dest }
+    {
+        self.dest
+    }
+
+    /// The distance of node `x`, which must be in the network. `None` if no links lead from it to the destination.
+    /// O(1).
+    pub fn distance(&self, x: u32) -> Option<u32>
+        requires { x < length self.now.table }
+        ensures { result ≡ distance_of (slice_index self.now.table x) }
+    {
+        distance_in(self.of[x as usize])
+    }
+
+    /// The distance that node `x` had before the last update, or the same as now if there was none. The node must be in
+    /// the network. O(1).
+    pub fn distance_before(&self, x: u32) -> Option<u32>
+        requires { x < length self.now.before }
+        ensures { result ≡ distance_of (slice_index self.now.before x) }
+    {
+        distance_in(self.changes.before[x as usize])
+    }
+
+    /// The nodes whose distance the last update has changed, each once, in no particular order. They are `u16`, as in
+    /// the rows of a network. O(1).
+    pub fn changed(&self) -> &[u16]
+        ensures value { result.now ≡ self.now.changed }
+        ensures changed { AreChanged self.now.before self.now.table self.now.changed }
+    {
+        &self.changes.nodes
+    }
+
+    /// The distances as numbers.
+    pub(crate) fn numbers(&self) -> &[u16]
+        ensures { result.now ≡ self.now.table }
+    {
+        &self.of
+    }
+}
