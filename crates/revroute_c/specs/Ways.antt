@@ -1,10 +1,11 @@
 -- The ways of nodes, and routes of the fewest links, as answers to questions. This project's own.
 use Rattle.std.specs.Prelude.{◌≡◌, ℕ, ◌<◌, ◌≤◌, ◌⊎◌, ◌∷◌, List, length, Option, Some, None}
 use Rattle.std.specs.List.{concat}
+use Rattle.fr_nearest.specs.Distances.{IsDistance}
 use Rattle.fr_route.specs.NodeWays.{AreAllWays, AreNodeWays, IsNearestRoute}
 use Rattle.fr_route.specs.States.{State, IsCutOff}
 use Rattle.fr_ways.specs.Rows.{AreStarts}
-use Rattle.revroute_c.specs.Questions.{HasNoRoute}
+use Rattle.revroute_c.specs.Questions.{HasNoRoute, cut_off, no_network, no_node}
 use Rattle.revroute_c.specs.Replies.{IsWritten, Outcome}
 use Rattle.revroute_c.specs.Statuses.{REVROUTE_ANSWERED, REVROUTE_TOO_SHORT, REVROUTE_NO_NETWORK, REVROUTE_NO_ROUTE}
 
@@ -26,6 +27,17 @@ AreWaysFrom (Some s) x list = HasRoute s x × AreNodeWays s x list
 abbrev pub IsNearestFrom : Option State → ℕ → List ℕ → Type 0
 IsNearestFrom None x nodes = ⊥
 IsNearestFrom (Some s) x nodes = (x < s.nodes) × ((rest : List ℕ) × IsNearestRoute s x rest × (nodes ≡ x ∷ rest))
+
+-- the distance of x as a number, or the value for a node that is cut off
+abbrev pub IsDistanceNumber : State → ℕ → ℕ → Type 0
+IsDistanceNumber s x number =
+    (IsCutOff s.dest s.links x × (number ≡ cut_off)) ⊎ IsDistance s.links s.dest x number
+
+-- the answer for any x and any session
+abbrev pub TellsDistance : Option State → ℕ → ℕ → Type 0
+TellsDistance None x number = number ≡ no_network
+TellsDistance (Some s) x number =
+    ((s.nodes ≤ x) × (number ≡ no_node)) ⊎ ((x < s.nodes) × IsDistanceNumber s x number)
 
 -- the ways of each node
 abbrev pub AreWaysOfAll : Option State → List (List ℕ) → Type 0
