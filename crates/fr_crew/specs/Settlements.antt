@@ -1,6 +1,6 @@
 -- What it means to settle a network. This project's own; a settled network is destination-oriented in the sense of
 -- Gafni and Bertsekas (1981) in the part that contains the destination.
-use Rattle.std.specs.Prelude.{◌≡◌, ℕ, ◌<◌, ◌+◌, List, Option, IfSome, length, map, replicate, sum, sum_by}
+use Rattle.std.specs.Prelude.{◌≡◌, ℕ, ◌<◌, ◌≤◌, ◌+◌, List, Option, IfSome, length, map, replicate, sum, sum_by}
 use Rattle.std.specs.Borrow.{Bor}
 use Rattle.std.specs.List.{All, AllByRecursion as Each, Contains}
 use Rattle.fr_graph.specs.Network.{Network, net_of}
@@ -13,6 +13,8 @@ use Rattle.fr_core.specs.Settled.{AreSettled}
 use Rattle.fr_core.specs.Work.{IsWithinWork}
 use Rattle.fr_core.specs.declared.entry.Entry.{Entry}
 use Rattle.fr_round.specs.Histories.{AreApart}
+use Rattle.fr_crew.specs.Gates.{EachBefore}
+use Rattle.fr_crew.specs.declared.plan.Plan.{Plan}
 use Rattle.fr_crew.specs.declared.settlement.CrewWork.{CrewWork}
 use Rattle.fr_crew.specs.declared.settlement.Settled.{Settled}
 
@@ -34,24 +36,32 @@ pub record AreNumbered (k : ℕ) (turned : List (ℕ × ℕ)) : Type 0 where
   pub apart : AreApart (map (λ (p : ℕ × ℕ). p.0) turned)
   pub in_range : Each (λ (p : ℕ × ℕ). p.0 < k) turned
 
--- k workers have turned nodes, each node as often as its count says: there is a history of calls by the workers
--- 0 to k - 1,
-pub record AreByWorkers (n d : ℕ) (first : List (ℕ × ℕ)) (k : ℕ) (counts : List ℕ) (turned : List (ℕ × ℕ))
-    : Type 0 where
+-- the calls of one worker in a history: no more than its budget, and numbered from 1, each has passed the gate
+pub record AreCallsWithin (budget : ℕ) (passed : ℕ → ℕ → Type 0) (history : List Entry) (number : ℕ) : Type 0 where
+  pub few : length (part number history) ≤ budget
+  pub each_passed : EachBefore (length (part number history) + 1) (passed number)
+
+-- the workers of a plan have turned nodes, each node as often as its count says: there is a history of calls by these
+-- workers,
+pub record AreByWorkers (n d : ℕ) (first : List (ℕ × ℕ)) (plan : Plan) (passed : ℕ → ℕ → Type 0) (counts : List ℕ)
+    (turned : List (ℕ × ℕ)) : Type 0 where
   pub history : List Entry
-  pub of_workers : Each (λ (e : Entry). e.worker < k) history
+  pub of_workers : Each (λ (e : Entry). e.worker < plan.workers) history
   -- which is a run of full reversal by one thread from the first links to the counts,
   pub run : IsRunTo n d first history counts
   -- each worker has one pair,
-  pub numbered : AreNumbered k turned
-  -- which says how many of its own calls in the history are turns,
+  pub numbered : AreNumbered plan.workers turned
+  -- has made at most as many calls as its budget, each within the gate,
+  pub calls : Each (λ (p : ℕ × ℕ). AreCallsWithin plan.budget passed history p.0) turned
+  -- and its pair says how many of its own calls in the history are turns,
   pub own : Each (λ (p : ℕ × ℕ). p.1 ≡ turn_count (part p.0 history)) turned
   -- and together these are the counts
   pub total : sum_by (λ (p : ℕ × ℕ). p.1) turned ≡ sum counts
 
--- k workers and the finisher have settled the network: the workers have turned nodes up to some counts,
-pub record IsCrewWork (n d : ℕ) (first : List (ℕ × ℕ)) (k : ℕ) (work : CrewWork) : Type 0 where
-  pub workers : AreByWorkers n d first k work.left.items work.turned.items
+-- the workers of a plan and the finisher have settled the network: the workers have turned nodes up to some counts,
+pub record IsCrewWork (n d : ℕ) (first : List (ℕ × ℕ)) (plan : Plan) (passed : ℕ → ℕ → Type 0) (work : CrewWork)
+    : Type 0 where
+  pub workers : AreByWorkers n d first plan passed work.left.items work.turned.items
   -- with as many turns as these counts add up to,
   pub by_workers : work.settled.by_workers ≡ sum work.left.items
   -- and the finisher has gone on from these counts to the settled ones

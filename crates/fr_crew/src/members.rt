@@ -2,8 +2,8 @@
 
 ghost use Rattle.std.specs.Prelude.{◌≡◌, ◌<◌, ◌≤◌, IfOk, length, vec_len};
 ghost use Rattle.std.specs.List.{AllByRecursion as Each};
-ghost use Rattle.fr_round.specs.Knowledge.{IsOwn, OpenRound};
-ghost use Rattle.fr_crew.specs.Crews.{IsOwnMember};
+ghost use Rattle.fr_round.specs.Knowledge.{OpenRound};
+ghost use Rattle.fr_crew.specs.Crews.{IsNew, IsOwnMember};
 
 use crate::deques::{Deque, Stealer};
 use crate::naming::Naming;
@@ -35,7 +35,7 @@ pub(crate) fn equip<J: Naming>(
     seed: u64,
 ) -> Result<Members<J>, AllocError>
     requires named { round.now.setup ≡ J.setup }
-    ensures own { IfOk result (λ all. (round : OpenRound) → Each (IsOwn round) workers.items
+    ensures own { IfOk result (λ all. (round : OpenRound) → Each (IsNew round) workers.items
         → Each (IsOwnMember round) all.members.items) }
     ensures members { IfOk result (λ all. vec_len all.members ≡ vec_len workers) }
     ensures stealers { IfOk result (λ all. vec_len all.stealers ≡ vec_len workers) }

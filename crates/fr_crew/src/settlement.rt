@@ -1,6 +1,6 @@
 //! Settling a network.
 
-ghost use Rattle.std.specs.Prelude.{◌≡◌, ◌≢◌, ℕ, ◌<◌, ◌≤◌, ◌^◌, ◌↔◌, ◌⊎◌, IfOk, IfErr};
+ghost use Rattle.std.specs.Prelude.{◌≡◌, ◌≢◌, ℕ, ◌*◌, ◌<◌, ◌≤◌, ◌^◌, ◌↔◌, ◌⊎◌, IfOk, IfErr};
 ghost use Rattle.std.specs.Prelude.{IfSome, IsTrue, OnOk, length, replicate, sum, sum_by};
 ghost use Rattle.std.specs.List.{AllByRecursion as Each};
 ghost use Rattle.fr_graph.specs.Counts.{AreLawful};
@@ -76,7 +76,7 @@ pub fn settle<R: Threads + Wait + Sync, G: Gate + Sync>(
 ) -> Result<Settled, CrewFault>
     ensures settled { IfOk result (λ settled. IsSettlement net.nodes dest net.links settled) }
     ensures range { IfErr result (λ fault. (fault ≡ Range) ↔ (net.nodes ≤ dest)) }
-    ensures by_finisher { plan.now.budget ≡ 0 → IfOk result (λ settled. settled.by_workers ≡ 0) }
+    ensures budget { IfOk result (λ settled. settled.by_workers ≤ plan.now.workers * plan.now.budget) }
     ensures no_start { (plan.now.budget ≡ 0) ⊎ (plan.now.workers ≡ 1) → IfErr result (λ fault. fault ≢ Start) }
     ensures still { AreSettled net.nodes dest net.links (replicate net.nodes 0)
         → IfErr result (λ fault. fault ≢ Start) }
@@ -100,7 +100,8 @@ pub fn settle<R: Threads + Wait + Sync, G: Gate + Sync>(
 
 /// Settles a network as [`settle`] does, and also returns what the workers did: how often each node had turned when
 /// they ended, and how often the calls of each worker turned a node. The calls of the workers form one run of full
-/// reversal by one thread, from the first links to those counts. The finisher goes on from there.
+/// reversal by one thread, from the first links to those counts. No worker makes more calls than its budget, and each
+/// call is within the gate. The finisher goes on from the counts at which the workers ended.
 ///
 /// If no worker makes a call, all counts in `left` are 0, and each worker has the turns 0 in `turned`.
 ///
@@ -115,7 +116,7 @@ pub fn settle_telling<R: Threads + Wait + Sync, G: Gate + Sync>(
     gate: &G,
 ) -> Result<CrewWork, CrewFault>
     ensures settled { IfOk result (λ work. IsSettlement net.nodes dest net.links work.settled) }
-    ensures told { IfOk result (IsCrewWork net.nodes dest net.links plan.now.workers) }
+    ensures told { IfOk result (IsCrewWork net.nodes dest net.links plan.now (G.passed gate.now)) }
     ensures range { IfErr result (λ fault. (fault ≡ Range) ↔ (net.nodes ≤ dest)) }
     ensures by_finisher { plan.now.budget ≡ 0 → IfOk result (λ work. work.settled.by_workers ≡ 0) }
     ensures no_start { (plan.now.budget ≡ 0) ⊎ (plan.now.workers ≡ 1) → IfErr result (λ fault. fault ≢ Start) }
@@ -123,15 +124,15 @@ pub fn settle_telling<R: Threads + Wait + Sync, G: Gate + Sync>(
         → IfErr result (λ fault. fault ≢ Start) }
 {
     let turns = none_yet(alloc, &net, dest)?;
-    if plan.budget() == 0 || are_settled(&net, dest, turns.counts()) {
-        return settled_by_none(alloc, net, dest, plan.workers(), turns);
-    }
     let crew = Crew {
         rt,
         alloc,
         plan,
         gate,
     };
+    if plan.budget() == 0 || are_settled(&net, dest, turns.counts()) {
+        return settled_by_none(&crew, net, dest, turns);
+    }
     settled_by(&crew, net, dest, turns)
 }
 
@@ -256,24 +257,24 @@ fn turn_few(net: &Net, dest: u32, from: Option<&[u32]>, turns: &mut Turns) -> bo
 }
 
 /// Settles a network on the calling thread. None of the workers makes a call. No node has turned yet.
-fn settled_by_none(
-    alloc: Global,
+fn settled_by_none<R, G: Gate>(
+    crew: &Crew<'_, R, G>,
     net: Net,
     dest: u32,
-    workers: u32,
     turns: Turns,
 ) -> Result<CrewWork, CrewFault>
     requires node { dest < net.nodes }
     requires none { turns ≡ replicate net.nodes 0 }
     ensures settled { IfOk result (λ work. IsSettlement net.nodes dest net.links work.settled) }
-    ensures told { IfOk result (IsCrewWork net.nodes dest net.links workers) }
+    ensures told { IfOk result
+        (IsCrewWork net.nodes dest net.links crew.now.plan.now (G.passed crew.now.gate.now)) }
     ensures by_finisher { IfOk result (λ work. work.settled.by_workers ≡ 0) }
     ensures fault { IfErr result (λ fault. fault ≢ Range) }
     ensures no_start { IfErr result (λ fault. fault ≢ Start) }
 {
     net.network_law();
-    let left = vec![in alloc; 0u64; net.nodes() as usize]?;
-    let turned = no_turns(alloc, workers)?;
+    let left = vec![in crew.alloc; 0u64; net.nodes() as usize]?;
+    let turned = no_turns(crew.alloc, crew.plan.workers())?;
     let settled = finished(net, dest, turns, 0);
     Ok(CrewWork {
         settled,
@@ -304,7 +305,10 @@ fn settled_by<R: Threads + Wait, G: Gate + Sync>(
     requires node { dest < net.nodes }
     requires one_each { length turns ≡ net.nodes }
     ensures settled { IfOk result (λ work. IsSettlement net.nodes dest net.links work.settled) }
-    ensures told { IfOk result (IsCrewWork net.nodes dest net.links crew.now.plan.now.workers) }
+    ensures told { IfOk result
+        (IsCrewWork net.nodes dest net.links crew.now.plan.now (G.passed crew.now.gate.now)) }
+    ensures budget { IfOk result (λ work.
+        work.settled.by_workers ≤ crew.now.plan.now.workers * crew.now.plan.now.budget) }
     ensures fault { IfErr result (λ fault. fault ≢ Range) }
     ensures no_start { crew.now.plan.now.workers ≡ 1 → IfErr result (λ fault. fault ≢ Start) }
 {
@@ -362,8 +366,8 @@ fn turned_by<R: Threads + Wait, G: Gate + Sync>(
 ) -> Result<Closed, CrewFault>
     requires { dest < net.nodes }
     ensures net { IfOk result (λ closed. closed.net ≡ net) }
-    ensures turned { IfOk result (λ closed. AreByWorkers net.nodes dest net.links crew.now.plan.now.workers
-        closed.counts.items closed.turned.items) }
+    ensures turned { IfOk result (λ closed. AreByWorkers net.nodes dest net.links crew.now.plan.now
+        (G.passed crew.now.gate.now) closed.counts.items closed.turned.items) }
     ensures fault { IfErr result (λ fault. fault ≢ Range) }
     ensures no_start { crew.now.plan.now.workers ≡ 1 → IfErr result (λ fault. fault ≢ Start) }
 {

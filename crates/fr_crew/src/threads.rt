@@ -1,10 +1,12 @@
 //! Workers in threads of their own. Only the joining of the threads waits.
 
-ghost use Rattle.std.specs.Prelude.{◌≡◌, ◌≢◌, ◌<◌, ◌≤◌, IfOk, IfErr, IfSome, vec_len, vec_capacity};
+ghost use Rattle.std.specs.Prelude.{◌≡◌, ◌≢◌, ◌+◌, ◌<◌, ◌≤◌, IfOk, IfErr, IfSome, vec_len, vec_capacity};
 ghost use Rattle.std.specs.List.{AllByRecursion as Each};
-ghost use Rattle.fr_round.specs.Knowledge.{IsOwn, OpenRound};
+ghost use Rattle.fr_round.specs.Knowledge.{IsOwn};
 ghost use Rattle.fr_crew.specs.Candidates.{IsCandidate};
-ghost use Rattle.fr_crew.specs.Crews.{AreStarted, ComeBack, IsSameWorker, IsOwnMember, IsOwnThread};
+ghost use Rattle.fr_crew.specs.Crews.{AreStarted, ComeBack, HasCalled, HasWorked, IsDone, IsNew, IsOwnMember};
+ghost use Rattle.fr_crew.specs.Crews.{IsOwnThread, Shift, calls_of, shift};
+ghost use Rattle.fr_crew.specs.Gates.{EachBefore};
 ghost use Rattle.fr_crew.specs.declared.fault.CrewFault.TheVariants.{Range, Start};
 
 use crate::deques::{Deque, Stealer};
@@ -32,28 +34,34 @@ struct Job<J: Naming> {
     ghost some_stealer: { 0 < vec_len stealers },
 }
 
-/// A promise of a thread: it returns the worker that it was given.
+/// A promise of a thread: it returns the worker that it was given, which has made at most `budget` calls, each within the
+/// gate.
 #[derive(Drop)]
-struct GivesBack(Snapshot<Worker>);
-
-impl Promise<Worker> for GivesBack {
-    ghost use Rattle.fr_crew.specs.Crews.{IsSameWorker};
-
-    ghost kept_by = { λ promise worker. IsSameWorker promise.0.value worker };
+struct GivesBack<G> {
+    worker: Snapshot<Worker>,
+    gate: Snapshot<G>,
+    budget: u64,
 }
 
-type Thread = PromisedHandle<Worker, GivesBack>;
+impl<G: Gate> Promise<Worker> for GivesBack<G> {
+    ghost use Rattle.fr_crew.specs.Crews.{HasWorked};
+
+    ghost kept_by = { λ promise worker.
+        HasWorked G.passed promise.gate.value promise.budget promise.worker.value worker };
+}
+
+type Thread<G> = PromisedHandle<Worker, GivesBack<G>>;
 
 /// The memory that is allocated before the first thread is started.
 #[derive(Drop)]
-struct Rooms {
+struct Rooms<G: Gate> {
     back: Vec<Worker>,
-    threads: Vec<Thread>,
+    threads: Vec<Thread<G>>,
 }
 
 /// The threads that were started, and whether these are all.
-struct Started {
-    threads: Vec<Thread>,
+struct Started<G: Gate> {
+    threads: Vec<Thread<G>>,
     all: bool,
 }
 
@@ -78,7 +86,9 @@ fn try_candidate<J: Naming, G: Gate>(
     requires named { job.now.round.setup ≡ J.setup }
     requires own { IsOwn job.now.round member.old.worker }
     requires candidate { IsCandidate J.setup x }
-    ensures { IsSameWorker member.old.worker member.new.worker }
+    requires call { call ≡ calls_of member.old.worker + 1 }
+    requires in_order { EachBefore call (G.passed gate.now member.old.worker.number) }
+    ensures { HasCalled G.passed gate.now call member.old.worker member.new.worker }
 {
     let Member { worker, deque } = member;
     let number = worker.number();
@@ -100,8 +110,8 @@ fn try_candidate<J: Naming, G: Gate>(
 /// The work of one worker: it takes candidates and tries to turn them, until it finds none or its budget is spent.
 fn work<J: Naming, G: Gate>(job: &Job<J>, gate: &G, mut member: Member<J>) -> Worker
     requires named { job.now.round.setup ≡ J.setup }
-    requires own { IsOwn job.now.round member.worker }
-    ensures { IsSameWorker member.worker result }
+    requires new { IsNew job.now.round member.worker }
+    ensures { HasWorked G.passed gate.now job.now.budget member.worker result }
 {
     for made in 0..job.budget {
         // The candidate is in no deque before the call. So if a neighbour turns during the call, the node becomes a
@@ -119,16 +129,20 @@ fn start_each<'s, 'e, J: Naming + Send + Sync, G: Gate + Sync>(
     scope: &'s Scope<'s, &'e ()>,
     job: &'e Job<J>,
     gate: &'e G,
-    mut threads: Vec<Thread>,
+    mut threads: Vec<Thread<G>>,
     members: Vec<Member<J>>,
-) -> Started
+) -> Started<G>
     requires named { job.now.round.setup ≡ J.setup }
     requires own { Each (IsOwnMember job.now.round) members.items }
     requires room { (vec_len threads ≡ 0) × (vec_len members ≤ vec_capacity threads) }
-    ensures { AreStarted job.now.round (vec_len members) result }
+    ensures { AreStarted (shift job.now.round job.now.budget gate.now) (vec_len members) result }
 {
     for member in members {
-        let promise = GivesBack(Snapshot::of(&member.worker));
+        let promise = GivesBack {
+            worker: Snapshot::of(&member.worker),
+            gate: Snapshot::of(gate),
+            budget: job.budget,
+        };
         match scope.spawn_with(promise, move || work(job, gate, member)) {
             Ok(thread) => threads.push_reserved(thread),
             Err(_) => return Started {
@@ -141,9 +155,13 @@ fn start_each<'s, 'e, J: Naming + Send + Sync, G: Gate + Sync>(
 }
 
 /// Joins the threads in order, and takes their workers back.
-fn join_each<R: Threads>(rt: &R, threads: Vec<Thread>, mut workers: Vec<Worker>) -> Vec<Worker>
+fn join_each<R: Threads, G: Gate>(
+    rt: &R,
+    threads: Vec<Thread<G>>,
+    mut workers: Vec<Worker>,
+) -> Vec<Worker>
     requires { (vec_len workers ≡ 0) × (vec_len threads ≤ vec_capacity workers) }
-    ensures own { (round : OpenRound) → Each (IsOwnThread round) threads.items → Each (IsOwn round) result.items }
+    ensures done { (s : Shift G) → Each (IsOwnThread s) threads.items → Each (IsDone G.passed s) result.items }
     ensures len { vec_len result ≡ vec_len threads }
     ensures room { vec_capacity result ≡ vec_capacity workers }
 {
@@ -154,7 +172,7 @@ fn join_each<R: Threads>(rt: &R, threads: Vec<Thread>, mut workers: Vec<Worker>)
 }
 
 /// Memory for so many workers that come back, and for their threads.
-fn make_room(alloc: Global, members: usize) -> Result<Rooms, AllocError>
+fn make_room<G: Gate>(alloc: Global, members: usize) -> Result<Rooms<G>, AllocError>
     ensures back { IfOk result (λ rooms. (vec_len rooms.back ≡ 0) × (members ≤ vec_capacity rooms.back)) }
     ensures threads { IfOk result (λ rooms. (vec_len rooms.threads ≡ 0) × (members ≤ vec_capacity rooms.threads)) }
 {
@@ -175,7 +193,8 @@ fn run_each<'s, 'e, J: Naming + Send + Sync, R: Threads, G: Gate + Sync>(
 ) -> Result<Vec<Worker>, CrewFault>
     requires named { job.now.round.setup ≡ J.setup }
     requires own { Each (IsOwnMember job.now.round) members.items }
-    ensures own { IfOk result (λ back. Each (IsOwn job.now.round) back.items) }
+    ensures done { IfOk result (λ back.
+        Each (IsDone G.passed (shift job.now.round job.now.budget crew.now.gate.now)) back.items) }
     ensures len { IfOk result (λ back. vec_len back ≡ vec_len members) }
     ensures fault { IfErr result (λ fault. fault ≢ Range) }
     ensures no_start { vec_len members ≡ 1 → IfErr result (λ fault. fault ≢ Start) }
@@ -190,12 +209,13 @@ fn run_within<'s, 'e, J: Naming + Send + Sync, R: Threads, G: Gate + Sync>(
     crew: &'e Crew<'e, R, G>,
     job: &'e Job<J>,
     mut members: Vec<Member<J>>,
-    rooms: Rooms,
+    rooms: Rooms<G>,
 ) -> Result<Vec<Worker>, CrewFault>
     requires own { (job.now.round.setup ≡ J.setup) × Each (IsOwnMember job.now.round) members.items }
     requires room { (vec_len rooms.back ≡ 0) × (vec_len members ≤ vec_capacity rooms.back)
         × (vec_len rooms.threads ≡ 0) × (vec_len members ≤ vec_capacity rooms.threads) }
-    ensures own { IfOk result (λ back. Each (IsOwn job.now.round) back.items) }
+    ensures done { IfOk result (λ back.
+        Each (IsDone G.passed (shift job.now.round job.now.budget crew.now.gate.now)) back.items) }
     ensures len { IfOk result (λ back. vec_len back ≡ vec_len members) }
     ensures fault { IfErr result (λ fault. fault ≡ Start) }
     ensures no_start { vec_len members ≡ 1 → IfErr result (λ fault. fault ≢ Start) }
@@ -223,7 +243,8 @@ fn run_threads<J: Naming + Send + Sync, R: Threads + Wait, G: Gate + Sync>(
 ) -> Result<Vec<Worker>, CrewFault>
     requires named { job.now.round.setup ≡ J.setup }
     requires own { Each (IsOwnMember job.now.round) members.items }
-    ensures own { IfOk result (λ back. Each (IsOwn job.now.round) back.items) }
+    ensures done { IfOk result (λ back.
+        Each (IsDone G.passed (shift job.now.round job.now.budget crew.now.gate.now)) back.items) }
     ensures len { IfOk result (λ back. vec_len back ≡ vec_len members) }
     ensures fault { IfErr result (λ fault. fault ≢ Range) }
     ensures no_start { vec_len members ≡ 1 → IfErr result (λ fault. fault ≢ Start) }
@@ -233,7 +254,8 @@ fn run_threads<J: Naming + Send + Sync, R: Threads + Wait, G: Gate + Sync>(
         crew.rt,
         |scope| -> Result<Vec<Worker>, CrewFault>
             requires { (job.now.round.setup ≡ J.setup) × Each (IsOwnMember job.now.round) members.items }
-            ensures own { IfOk result (λ back. Each (IsOwn job.entry.now.round) back.items) }
+            ensures done { IfOk result (λ back. Each
+                (IsDone G.passed (shift job.entry.now.round job.entry.now.budget crew.entry.now.gate.now)) back.items) }
             ensures len { IfOk result (λ back. vec_len back ≡ vec_len members) }
             ensures fault { IfErr result (λ fault. fault ≢ Range) }
             ensures no_start { vec_len members ≡ 1 → IfErr result (λ fault. fault ≢ Start) }
@@ -250,7 +272,7 @@ fn dealt_members<J: Naming, R: Threads, G: Gate>(
     from: Option<&[u32]>,
 ) -> Result<Members<J>, AllocError>
     requires named { round.now.setup ≡ J.setup }
-    requires own { Each (IsOwn round.now) workers.items }
+    requires own { Each (IsNew round.now) workers.items }
     requires some { 0 < vec_len workers }
     ensures own { IfOk result (λ all. Each (IsOwnMember round.now) all.members.items) }
     ensures members { IfOk result (λ all. vec_len all.members ≡ vec_len workers) }
@@ -270,9 +292,9 @@ fn make_job<J: Naming, R: Threads, G: Gate>(
     from: Option<&[u32]>,
 ) -> Result<(Job<J>, Vec<Member<J>>), AllocError>
     requires named { round.setup ≡ J.setup }
-    requires own { Each (IsOwn round) workers.items }
+    requires own { Each (IsNew round) workers.items }
     requires some { 0 < vec_len workers }
-    ensures round { IfOk result (λ made. made.0.round ≡ round) }
+    ensures round { IfOk result (λ made. (made.0.round ≡ round) × (made.0.budget ≡ crew.now.plan.now.budget)) }
     ensures own { IfOk result (λ made. Each (IsOwnMember round) made.1.items) }
     ensures len { IfOk result (λ made. vec_len made.1 ≡ vec_len workers) }
 {
@@ -298,9 +320,10 @@ pub(crate) fn run_crew<J: Naming + Send + Sync, R: Threads + Wait, G: Gate + Syn
     from: Option<&[u32]>,
 ) -> Result<(Round, Vec<Worker>), CrewFault>
     requires named { round.setup ≡ J.setup }
-    requires own { Each (IsOwn round) workers.items }
+    requires own { Each (IsNew round) workers.items }
     requires some { 0 < vec_len workers }
-    ensures back { IfOk result (ComeBack round (vec_len workers)) }
+    ensures back { IfOk result
+        (ComeBack G.passed (shift round crew.now.plan.now.budget crew.now.gate.now) (vec_len workers)) }
     ensures fault { IfErr result (λ fault. fault ≢ Range) }
     ensures no_start { vec_len workers ≡ 1 → IfErr result (λ fault. fault ≢ Start) }
 {

@@ -45,6 +45,11 @@ IsBatchFault net edits refused =
     ((most_edits < length edits) × (refused.at ≡ most_edits) × (refused.fault ≡ TooMany))
     ⊎ ((length edits ≤ most_edits) × IsRefusedAt net edits refused.at refused.fault)
 
+-- memory is missing only for edits within the limit
+abbrev pub AreFewIfMemory : {E : Type 0} → List Edit → NotEdited E → Type 0
+AreFewIfMemory edits (Refused refused) = refused.fault ≡ Memory → length edits ≤ most_edits
+AreFewIfMemory edits (Fault fault) = Unit {0}
+
 -- why `edit_if` fails: an edit is refused, an allocation is refused, or `accept` fails on the edited network
 abbrev pub IsNotEdited : {T E : Type 0} → Network → List Edit → (Network → Result T E → Type 0) → NotEdited E → Type 0
 IsNotEdited net edits answers (Refused refused) = refused.fault ≢ Memory → IsBatchFault net edits refused

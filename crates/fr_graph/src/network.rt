@@ -18,7 +18,7 @@ ghost use Rattle.fr_graph.specs.declared.fault.NetFault.TheVariants.{Memory, Too
 ghost use Rattle.fr_graph.specs.Faults.{IsFaultless, IsFirstFault, IsInRange, IsNetworkOf, PassFirstTests};
 ghost use Rattle.fr_graph.specs.Edits.{IsCutFault, IsJoined, IsJoinFault, without};
 ghost use Rattle.fr_graph.specs.Evidence.{NamesFirst, NamesIfRefused, NamesInBatch, NamesOfEdit};
-ghost use Rattle.fr_graph.specs.Batches.{AreMade, IsBatchFault, IsEditFault, IsMade, IsNotEdited};
+ghost use Rattle.fr_graph.specs.Batches.{AreMade, IsBatchFault, IsEditFault, IsMade, IsNotEdited, AreFewIfMemory};
 ghost use Rattle.fr_graph.specs.Limits.{IsWithinLimits, most_edits};
 ghost use Rattle.fr_graph.specs.declared.edit.Edit.TheVariants.{Add, Join};
 
@@ -308,7 +308,7 @@ impl Net {
     /// returns. What `accept` requires must hold of the edited network.
     ///
     /// Fails with `Refused` if an edit is refused, as by `with_edits`, or an allocation is refused, and with `Fault`
-    /// if `accept` fails. Then the network is unchanged.
+    /// if `accept` fails. Then the network is unchanged. The number of edits is tested first, and needs no memory.
     ///
     /// O(d) for each edit. An added link or a join compares two heights; if these do not decide, it searches between
     /// them, with tables of O(n). A link that would close a cycle takes one more search, which names the cycle. O(n +
@@ -325,6 +325,7 @@ impl Net {
         ensures ok { IfOk result (λ answer. AreMade self.old edits.now self.new
             × FnOnceReturnsAt F.FnOnce accept self.new (Ok answer)) }
         ensures refused { IfErr result (IsNotEdited self.old edits.now (FnOnceReturnsAt F.FnOnce accept)) }
+        ensures memory { IfErr result (AreFewIfMemory edits.now) }
         ensures names { IfErr result (NamesIfRefused self.old edits.now) }
         ensures unchanged { OnErr result (self.new ≡ self.old) }
     {

@@ -1,9 +1,10 @@
 -- A line that is read by its bytes: from its lexemes to its request.
-use Rattle.std.proofs.Common.{Err, IsUtf8, List, Ok, Option, Some, [], ap, append_assoc, arith, codes, decimal, lt-ltb, map, ok_or, option_and_then, refl, sym, true}
-use Rattle.std.proofs.Common.{ℕ, ◌++◌, ◌≤◌, ◌∙◌, ◌∷◌, ◌≡◌}
+use Rattle.std.proofs.Common.{Bool, Err, IsUtf8, List, None, Ok, Option, Some, [], ap, append_assoc, arith, codes, decimal, lt-ltb, map, ok_or, option_and_then, refl, sym, true}
+use Rattle.std.proofs.Common.{ℕ, ◌++◌, ◌≤◌, ◌∙◌, ◌∷◌, ◌≡◌, false, if◌then◌else◌}
 use Rattle.std.proofs.lemmas.Bool.{false≢true}
 use Rattle.std.proofs.lemmas.List.{append-nil}
 use Rattle.std.proofs.lemmas.Str.{IsUtf8-nil}
+use Rattle.std.specs.Str.{bytes_eq}
 use Rattle.json.proofs.Printed.Trees.{value-json_tokens}
 use Rattle.json.specs.Json as json
 use Rattle.json.specs.Json.{Json, value}
@@ -14,10 +15,10 @@ use Rattle.serde_json.proofs.Numbers.{number_of-decimal}
 use Rattle.serde_json.specs.Data.{Data, Items, array, item, no_items, no_members, number, object, string, unsigned}
 use Rattle.serde_json.specs.Read.{number_of, of_items, of_json}
 use Rattle.serde_json.specs.View.{items_of}
-use Rattle.fr_lines.specs.LineLexemes.{AreNumbers, AreSmall, Begins, Each, HasSmallEnds, IsNumber, IsReadAs, IsSmall, edit_ends, edit_lexemes}
+use Rattle.fr_lines.specs.LineLexemes.{AreNumbers, AreSmall, Begins, Each, HasSmallEnds, IsNumber, IsReadAs, IsSmall, IsUnknownWord, edit_ends, edit_lexemes}
 use Rattle.fr_lines.specs.LineLexemes.{letters, link_lexemes, list_lexemes, number_lexeme, number_lexemes, opening, plain_edit, word_of}
 use Rattle.fr_lines.specs.Requests.{ask, edit_in, edit_of_word, edits_in, item_list, link_in, links_in, make_edits, move_dest, new_network, number_in}
-use Rattle.fr_lines.specs.Requests.{read_all, reading, reading_of_value, request_of, request_of_word, walk_from}
+use Rattle.fr_lines.specs.Requests.{PlainRequest, read_all, reading, reading_of_value, request_of, request_of_word, walk_from}
 use Rattle.fr_graph.specs.declared.edit.Edit.{Edit}
 use Rattle.fr_graph.specs.declared.edit.Edit.TheVariants.{Add, Cut, Join}
 use Rattle.fr_lines.specs.declared.requests.LineFault.TheVariants.{NotRequest}
@@ -273,7 +274,28 @@ batch_reads rest items edits head closes small line opens =
     let listed : edits_in (array (items_of (map edit_data edits))) ≡ Some edits = rw (list_again (map edit_data edits)) all.1 in
     word_reads_as line (codes "batch") js ds told (both.1 (closes.1 IsUtf8-nil)) (omega (arith, all.2)) (rw all.0) ∙ rw listed
 
--- ---- lines of only numbers, and an empty object
+-- ---- lines of only numbers, an array of one word, and an empty object
+
+pub word_is_none : (line items : List ℕ) → Begins line (token Token.begin_array ∷ []) items → IsUnknownWord items → reading line ≡ Err NotRequest
+unfolding lex punctuate
+word_is_none line items opens is =
+    let both = begins_more line items [] (token Token.begin_array ∷ []) (token (Token.string is.0) ∷ token Token.end_array ∷ []) opens is.2 in
+    word_reads_as line is.0 json.no_items no_items (ap (punctuate fresh) both.0) (both.1 IsUtf8-nil) (omega arith) refl
+    ∙ ap (λ found. ok_or found NotRequest) is.1.1
+
+-- no request but a question consists of its word alone
+pub asks_nothing : (word : List ℕ) → bytes_eq word (codes "links") ≡ false → bytes_eq word (codes "counts") ≡ false
+    → bytes_eq word (codes "hops") ≡ false → bytes_eq word (codes "ways") ≡ false → request_of_word word [] ≡ None
+unfolding request_of_word
+asks_nothing word links counts hops ways =
+    rw (links, counts, hops, ways)
+    (none_of (bytes_eq word (codes "net")) _ (none_of (bytes_eq word (codes "cut")) _ (none_of (bytes_eq word (codes "add")) _
+    (none_of (bytes_eq word (codes "join")) _ (none_of (bytes_eq word (codes "batch")) _ (none_of (bytes_eq word (codes "dest")) _
+    (none_of (bytes_eq word (codes "walk")) _ (none_of (bytes_eq word (codes "nearest")) _ (none_of (bytes_eq word (codes "pushes")) _ refl)))))))))
+  where
+    none_of : (test : Bool) (other : Option PlainRequest) → other ≡ None → (if test then None else other) ≡ None
+    none_of true other is = refl
+    none_of false other is = is
 
 pub number_is_none : (line : List ℕ) → IsNumber line → reading line ≡ Err NotRequest
 unfolding lex punctuate

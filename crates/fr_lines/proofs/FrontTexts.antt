@@ -1,19 +1,19 @@
 -- The front of a text, as a lexeme.
-use Rattle.std.proofs.Common.{Bool, IsUtf8, List, Some, [], ap, append_assoc, decimal, eqb-true, false, get_or, inl, inr, refl, subst, sym, true, ℕ}
-use Rattle.std.proofs.Common.{◌++◌, ◌<◌, ◌==◌, ◌||◌, ◌∙◌, ◌∷◌, ◌≡◌, ◌^◌, if◌then◌else◌}
-use Rattle.std.proofs.lemmas.Bool.{or_cases}
+use Rattle.std.proofs.Common.{Bool, IsUtf8, List, Some, [], ap, ap₂, append_assoc, arith, decimal, eqb-true, false, get_or, inl, inr, leb-true, lt-ltb, nat_le, refl, subst, sym, true, ℕ}
+use Rattle.std.proofs.Common.{◌&&◌, ◌++◌, ◌<◌, ◌≤◌, ◌==◌, ◌||◌, ◌∙◌, ◌∷◌, ◌≡◌, ◌^◌, if◌then◌else◌}
+use Rattle.std.proofs.lemmas.Bool.{and_parts, or_cases}
 use Rattle.std.proofs.lemmas.Fmt.{IsAscii-decimal}
 use Rattle.std.proofs.lemmas.Str.{IsUtf8-append, IsUtf8-from_ascii}
 use Rattle.json.proofs.Printed.Decimals.{IsNumber-decimal}
 use Rattle.json.proofs.Printed.Numbers.{lex-number}
-use Rattle.json.proofs.Printed.Strings.{content-escape, lex-escape}
+use Rattle.json.proofs.Printed.Strings.{content-escape, escape_byte_plain, lex-escape}
 use Rattle.json.proofs.Printed.Utf8.{IsUtf8-are_ascii, are_ascii}
 use Rattle.json.specs.Lex.{Lexeme, between, class, in_string, lex, lex_byte, operator, operator_lexeme, space, string_token, token}
 use Rattle.json.specs.Print.{escape, escape_byte}
 use Rattle.json.specs.Text.{content, plain}
 use Rattle.json.specs.Token.{Token}
 use Rattle.json.specs.Word.{ends_word, is_operator, is_space}
-use Rattle.fr_lines.specs.LineLexemes.{Begins, letters, number_lexeme, opening, unspaced}
+use Rattle.fr_lines.specs.LineLexemes.{Begins, is_small_word, letters, number_lexeme, opening, unspaced}
 use Rattle.fr_lines.specs.declared.requests.Question.TheVariants.{Counts, Hops, Links, Ways}
 use Rattle.fr_lines.specs.declared.words.EditWord.TheVariants as edit_word
 use Rattle.fr_lines.specs.declared.words.Word.{Word}
@@ -79,19 +79,25 @@ mark_begins mark text rest is stands =
     begins text (mark ∷ []) rest (operator_lexeme mark ∷ []) stands (IsUtf8-are_ascii (mark ∷ []) ascii)
     (ap (λ c. lex_byte between c mark rest (λ next. lex next rest)) its)
 
--- an array that begins with a word without escapes
-pub opens_with : (letters text inside rest : List ℕ) → escape letters ≡ letters → are_ascii (34 ∷ (letters ++ 34 ∷ [])) ≡ true
-    → Begins text (token Token.begin_array ∷ []) inside → unspaced inside ≡ (34 ∷ (letters ++ 34 ∷ [])) ++ rest
-    → Begins text (opening letters) rest
+-- a word without escapes
+pub word_begins : (letters text rest : List ℕ) → escape letters ≡ letters → are_ascii (34 ∷ (letters ++ 34 ∷ [])) ≡ true
+    → unspaced text ≡ (34 ∷ (letters ++ 34 ∷ [])) ++ rest → Begins text (token (Token.string letters) ∷ []) rest
 unfolding lex
-opens_with letters text inside rest plain_word ascii opens stands =
+word_begins letters text rest plain_word ascii stands =
     let whole = append_assoc letters (34 ∷ []) rest in
     let within : content plain (letters ++ 34 ∷ rest) ≡ Some letters = ap (λ w. content plain (w ++ 34 ∷ rest))
     (sym plain_word) ∙ content-escape letters rest in
     let over : lex in_string (letters ++ 34 ∷ rest) ≡ lex between rest = ap (λ w. lex in_string (w ++ 34 ∷ rest)) (sym plain_word) ∙ lex-escape letters rest in
+    begins text (34 ∷ (letters ++ 34 ∷ [])) rest (token (Token.string letters) ∷ []) stands (IsUtf8-are_ascii _ ascii)
+    (ap (λ bs. lex between (34 ∷ bs)) whole ∙ (λ i. token (string_token (within i)) ∷ over i))
+
+-- an array that begins with a word without escapes
+pub opens_with : (letters text inside rest : List ℕ) → escape letters ≡ letters → are_ascii (34 ∷ (letters ++ 34 ∷ [])) ≡ true
+    → Begins text (token Token.begin_array ∷ []) inside → unspaced inside ≡ (34 ∷ (letters ++ 34 ∷ [])) ++ rest
+    → Begins text (opening letters) rest
+opens_with letters text inside rest plain_word ascii opens stands =
     begins_more text inside rest (token Token.begin_array ∷ []) (token (Token.string letters) ∷ []) opens
-    (begins inside (34 ∷ (letters ++ 34 ∷ [])) rest (token (Token.string letters) ∷ []) stands (IsUtf8-are_ascii _ ascii)
-    (ap (λ bs. lex between (34 ∷ bs)) whole ∙ (λ i. token (string_token (within i)) ∷ over i)))
+    (word_begins letters inside rest plain_word ascii stands)
 
 or_true : (p : Bool) → (p || true) ≡ true
 or_true true = refl
@@ -166,3 +172,23 @@ letters_ascii (word.Ask Links) = refl
 letters_ascii (word.Ask Counts) = refl
 letters_ascii (word.Ask Hops) = refl
 letters_ascii (word.Ask Ways) = refl
+
+-- a word of small letters has no escapes
+pub small_plain : (word : List ℕ) → is_small_word word ≡ true → escape word ≡ word
+small_plain [] small = refl
+small_plain (b ∷ bs) small =
+    let parts = and_parts (nat_le 97 b && nat_le b 122) (is_small_word bs) small in
+    let low : 97 ≤ b = leb-true 97 b (and_parts (nat_le 97 b) (nat_le b 122) parts.0).0 in
+    let high : b ≤ 122 = leb-true b 122 (and_parts (nat_le 97 b) (nat_le b 122) parts.0).1 in
+    let no_quote : b ≡ 34 → ⊥ = λ e. omega (arith, low, e) in
+    let no_escape : b ≡ 92 → ⊥ = λ e. omega (arith, low, e) in
+    let printed : 32 ≤ b = omega (arith, low) in
+    ap₂ (λ (x y : List ℕ). x ++ y) (escape_byte_plain b no_quote no_escape printed) (small_plain bs parts.1)
+
+pub small_ascii : (word : List ℕ) → is_small_word word ≡ true → are_ascii (34 ∷ (word ++ 34 ∷ [])) ≡ true
+small_ascii [] small = refl
+small_ascii (b ∷ bs) small =
+    let parts = and_parts (nat_le 97 b && nat_le b 122) (is_small_word bs) small in
+    let high : b ≤ 122 = leb-true b 122 (and_parts (nat_le 97 b) (nat_le b 122) parts.0).1 in
+    let ascii : b < 128 = omega (arith, high) in
+    rw (lt-ltb b 128 ascii) (small_ascii bs parts.1)

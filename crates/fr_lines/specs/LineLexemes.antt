@@ -1,5 +1,6 @@
 -- The lines that are read by their bytes, as lexemes without white space. For proofs only.
-use Rattle.std.specs.Prelude.{ℕ, List, [], ◌∷◌, ◌++◌, ◌≡◌, ◌<◌, ◌^◌, if◌then◌else◌, Ok, codes, decimal, ⊤}
+use Rattle.std.specs.Prelude.{ℕ, List, [], ◌∷◌, ◌++◌, ◌≡◌, ◌<◌, ◌^◌, ◌&&◌, Bool, if◌then◌else◌, Ok, None, codes, decimal, nat_le, true, ⊤}
+use Rattle.std.specs.List.{list_all}
 use Rattle.std.specs.Str.{IsUtf8}
 use Rattle.json.specs.Lex.{Lexeme, token, comma, between, lex}
 use Rattle.json.specs.Token.{Token}
@@ -11,7 +12,9 @@ use Rattle.fr_lines.specs.declared.words.EditWord.{EditWord}
 use Rattle.fr_lines.specs.declared.words.EditWord.TheVariants as edit_word
 use Rattle.fr_lines.specs.declared.words.Word.{Word}
 use Rattle.fr_lines.specs.declared.words.Word.TheVariants as word
-use Rattle.fr_lines.specs.Requests.{PlainRequest, cut_link, add_link, join_nodes, reading}
+use Rattle.fr_lines.specs.declared.word_lines.Brief.{Brief}
+use Rattle.fr_lines.specs.declared.word_lines.Brief.TheVariants as brief
+use Rattle.fr_lines.specs.Requests.{PlainRequest, cut_link, add_link, ask, join_nodes, move_dest, reading, request_of_word, walk_from}
 
 -- a text without the white space at its front
 abbrev pub unspaced : List ℕ → List ℕ
@@ -80,6 +83,13 @@ plain_edit (Cut u v) = cut_link u v
 plain_edit (Add u v) = add_link u v
 plain_edit (Join u v) = join_nodes u v
 
+-- a request without a list
+abbrev pub plain_brief : Brief → PlainRequest
+plain_brief (brief.Edit edit) = plain_edit edit
+plain_brief (brief.Destination d) = move_dest d
+plain_brief (brief.Walk x) = walk_from x
+plain_brief (brief.Ask question) = ask question
+
 -- numbers of 32 bits
 abbrev pub IsSmall : ℕ → Type 0
 IsSmall n = n < 2 ^ 32
@@ -112,3 +122,16 @@ IsNumber text = (n : ℕ) × IsSmall n × Begins text (number_lexemes n) []
 -- a text is numbers, separated by commas, and the bracket after them
 abbrev pub AreNumbers : List ℕ → Type 0
 AreNumbers text = (ns : List ℕ) × Each IsSmall ns × Begins text (list_lexemes number_lexemes ns) []
+
+-- a word of small letters, from a to z
+abbrev pub is_small_word : List ℕ → Bool
+is_small_word word = list_all (λ b. nat_le 97 b && nat_le b 122) word
+
+-- a word makes no request if no item follows it
+abbrev pub AsksNothing : List ℕ → Type 0
+AsksNothing word = (is_small_word word ≡ true) × (request_of_word word [] ≡ None)
+
+-- a text is such a word, and the bracket after it
+abbrev pub IsUnknownWord : List ℕ → Type 0
+IsUnknownWord text =
+    (word : List ℕ) × AsksNothing word × Begins text (token (Token.string word) ∷ token Token.end_array ∷ []) []

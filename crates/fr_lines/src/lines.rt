@@ -7,7 +7,7 @@ ghost use Rattle.fr_lines.specs.Requests.{plain, reading};
 use crate::no_requests::is_no_request;
 use crate::read::read_value;
 use crate::requests::{LineFault, Request};
-use crate::word_lines::request_after;
+use crate::word_lines::{brief_after, listed_after, request_of};
 use crate::words::opening_word;
 use std::alloc::Global;
 
@@ -22,11 +22,26 @@ pub fn read_line(alloc: Global, line: &[u8]) -> Result<Request, LineFault>
     ensures refused { IfErr result (λ fault. fault ≢ Memory → reading line.now ≡ Err fault) }
 {
     if let Some((word, rest)) = opening_word(line) {
-        if let Some(request) = request_after(alloc, word, rest)? {
-            return Ok(request);
+        if let Some(brief) = brief_after(word, rest) {
+            return Ok(request_of(brief));
         }
     } else if is_no_request(line) {
         return Err(LineFault::NotRequest);
+    }
+    read_long_line(alloc, line)
+}
+
+/// The request of a line with a list, or of one that only `serde_json` reads. It is not inlined, so that other lines do
+/// not pay for its local variables.
+#[inline(never)]
+fn read_long_line(alloc: Global, line: &[u8]) -> Result<Request, LineFault>
+    ensures ok { IfOk result (λ request. reading line.now ≡ Ok (plain request)) }
+    ensures refused { IfErr result (λ fault. fault ≢ Memory → reading line.now ≡ Err fault) }
+{
+    if let Some((word, rest)) = opening_word(line) {
+        if let Some(request) = listed_after(alloc, word, rest)? {
+            return Ok(request);
+        }
     }
     read_value(alloc, line)
 }

@@ -5,7 +5,7 @@ ghost use Rattle.json.specs.Lex.{token, comma};
 ghost use Rattle.json.specs.Token.{begin_array, end_array};
 ghost use Rattle.fr_lines.specs.declared.requests.LineFault.TheVariants.{Memory};
 ghost use Rattle.fr_lines.specs.declared.words.Word.TheVariants.{Network, Batch, Destination, Walk, Ask};
-ghost use Rattle.fr_lines.specs.LineLexemes.{Begins, IsReadAs, letters, letters_of_edit, number_lexeme, plain_edit};
+ghost use Rattle.fr_lines.specs.LineLexemes.{Begins, IsReadAs, letters, letters_of_edit, number_lexeme, plain_brief};
 ghost use Rattle.fr_lines.specs.Requests.{plain};
 
 use crate::fronts::{behind_mark, ends_line, is_over, number_before};
@@ -15,10 +15,33 @@ use crate::words::{EditWord, Word};
 use fr_graph::Edit;
 use std::alloc::Global;
 
-/// The request of a line that begins with this word, with an arm for each word. Returns `None` for a line with signs,
-/// fractions, exponents, escapes or an empty list, although it may be a request.
+/// A request without a list. It is small, so that moving it costs little.
+#[derive(Clone, Copy)]
+pub(crate) enum Brief {
+    Edit(Edit),
+    Destination(u32),
+    Walk(u32),
+    Ask(Question),
+}
+
+/// The request without a list of a line that begins with this word. Returns `None` for a line with a list, signs,
+/// fractions, exponents or escapes, although it may be a request.
 #[inline(always)]
-pub(crate) fn request_after(
+pub(crate) fn brief_after(word: Word, rest: &[u8]) -> Option<Brief>
+    ensures { IfSome result (λ brief. IsReadAs (letters word) rest.now (plain_brief brief)) }
+{
+    match word {
+        Word::Edit(word) => edit(word, rest),
+        Word::Destination => destination(rest),
+        Word::Walk => walk(rest),
+        Word::Ask(question) => ask(question, rest),
+        Word::Network | Word::Batch => None,
+    }
+}
+
+/// The request with a list of a line that begins with this word. Returns `None` for a line without a list, or with
+/// signs, fractions, exponents, escapes or an empty list, although it may be a request.
+pub(crate) fn listed_after(
     alloc: Global,
     word: Word,
     rest: &[u8],
@@ -27,49 +50,52 @@ pub(crate) fn request_after(
     ensures refused { IfErr result (λ fault. fault ≡ Memory) }
 {
     match word {
-        Word::Edit(word) => Ok(edit(word, rest)),
-        Word::Destination => Ok(destination(rest)),
-        Word::Walk => Ok(walk(rest)),
-        Word::Ask(question) => Ok(ask(question, rest)),
         Word::Network => network(alloc, rest),
         Word::Batch => batch(alloc, rest),
+        Word::Edit(_) | Word::Destination | Word::Walk | Word::Ask(_) => Ok(None),
+    }
+}
+
+/// A request without a list, as a request.
+#[inline(always)]
+pub(crate) fn request_of(brief: Brief) -> Request
+    ensures { plain result ≡ plain_brief brief }
+{
+    match brief {
+        Brief::Edit(Edit::Cut { u, v }) => Request::Cut { u, v },
+        Brief::Edit(Edit::Add { u, v }) => Request::Add { u, v },
+        Brief::Edit(Edit::Join { u, v }) => Request::Join { u, v },
+        Brief::Destination(dest) => Request::Destination { dest },
+        Brief::Walk(x) => Request::Walk { x },
+        Brief::Ask(question) => Request::Ask(question),
     }
 }
 
 /// An edit: `["cut",u,v]`, `["add",u,v]` or `["join",u,v]`.
-fn edit(word: EditWord, rest: &[u8]) -> Option<Request>
-    ensures { IfSome result (λ request. IsReadAs (letters_of_edit word) rest.now (plain request)) }
+#[inline(always)]
+fn edit(word: EditWord, rest: &[u8]) -> Option<Brief>
+    ensures { IfSome result (λ brief. IsReadAs (letters_of_edit word) rest.now (plain_brief brief)) }
 {
     let (edit, behind) = edit_after(word, rest)?;
-    is_over(behind).then_some(request_of(edit))
-}
-
-/// The request for an edit.
-#[inline(always)]
-fn request_of(edit: Edit) -> Request
-    ensures { plain result ≡ plain_edit edit }
-{
-    match edit {
-        Edit::Cut { u, v } => Request::Cut { u, v },
-        Edit::Add { u, v } => Request::Add { u, v },
-        Edit::Join { u, v } => Request::Join { u, v },
-    }
+    is_over(behind).then_some(Brief::Edit(edit))
 }
 
 /// Another destination: `["dest",d]`.
-fn destination(rest: &[u8]) -> Option<Request>
-    ensures { IfSome result (λ request. IsReadAs (letters Destination) rest.now (plain request)) }
+#[inline(always)]
+fn destination(rest: &[u8]) -> Option<Brief>
+    ensures { IfSome result (λ brief. IsReadAs (letters Destination) rest.now (plain_brief brief)) }
 {
     let dest = last_number(rest)?;
-    Some(Request::Destination { dest })
+    Some(Brief::Destination(dest))
 }
 
 /// A walk: `["walk",x]`.
-fn walk(rest: &[u8]) -> Option<Request>
-    ensures { IfSome result (λ request. IsReadAs (letters Walk) rest.now (plain request)) }
+#[inline(always)]
+fn walk(rest: &[u8]) -> Option<Brief>
+    ensures { IfSome result (λ brief. IsReadAs (letters Walk) rest.now (plain_brief brief)) }
 {
     let x = last_number(rest)?;
-    Some(Request::Walk { x })
+    Some(Brief::Walk(x))
 }
 
 /// The number after a comma, if only the bracket of the line follows it.
@@ -82,10 +108,11 @@ fn last_number(rest: &[u8]) -> Option<u32>
 }
 
 /// A question about all nodes: `["links"]`, `["counts"]`, `["hops"]` or `["ways"]`.
-fn ask(question: Question, rest: &[u8]) -> Option<Request>
-    ensures { IfSome result (λ request. IsReadAs (letters (Ask question)) rest.now (plain request)) }
+#[inline(always)]
+fn ask(question: Question, rest: &[u8]) -> Option<Brief>
+    ensures { IfSome result (λ brief. IsReadAs (letters (Ask question)) rest.now (plain_brief brief)) }
 {
-    ends_line(b']', rest).then_some(Request::Ask(question))
+    ends_line(b']', rest).then_some(Brief::Ask(question))
 }
 
 /// A network with at least one link: `["net",n,d,[[u,v],..]]`.

@@ -5,4 +5,7 @@ pub mod Nearest  -- first ways
 pub mod Waves  -- waves: that they exist, and fall downstream
 pub mod Orders  -- in which sense push orders are closed, and that the tables determine them
 pub mod Existing  -- that a push order exists
-pub mod Phases  -- what nodes have after each phase
+pub mod Shrinking  -- what nodes have after each phase
+pub mod Searching  -- what the search for a cycle knows
+pub mod Noting  -- ways that are noted by their numbers
+pub mod Planning  -- the pushes for one more node

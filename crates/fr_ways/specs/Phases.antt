@@ -1,7 +1,7 @@
 -- New ways in two phases. In the first, routers lose the ways that are none of the new table (they shrink); in the
 -- second they get their new lists (they grow). This project's own.
-use Rattle.std.specs.Prelude.{◌≡◌, ℕ, ◌⊎◌, Bool, not, cond, List, filter, nat_eq}
-use Rattle.std.specs.List.{list_any}
+use Rattle.std.specs.Prelude.{◌≡◌, ℕ, ◌⊎◌, ◌&&◌, ◌++◌, Bool, true, false, not, bytes_eq, cond, List, [], ◌∷◌, filter, length, nat_eq}
+use Rattle.std.specs.List.{list_any, range_with_len}
 use Rattle.fr_ways.specs.Ways.{ways}
 
 -- whether y is one of these ways
@@ -31,3 +31,35 @@ IsGrowing old new table = (x : ℕ) → (ways table x ≡ shrunk old new x) ⊎ 
 -- any nodes have their new ways, and the others their old ones
 abbrev pub IsMixed : List (List ℕ) → List (List ℕ) → List (List ℕ) → Type 0
 IsMixed old new table = (x : ℕ) → (ways table x ≡ ways old x) ⊎ (ways table x ≡ ways new x)
+
+abbrev pub is_empty : List ℕ → Bool
+is_empty [] = true
+is_empty (y ∷ ys) = false
+
+-- whether x loses ways and keeps others
+abbrev pub sheds : List (List ℕ) → List (List ℕ) → ℕ → Bool
+sheds old new x = loses old new x && not (is_empty (kept old new x))
+
+-- whether x loses ways and keeps none
+abbrev pub empties : List (List ℕ) → List (List ℕ) → ℕ → Bool
+empties old new x = loses old new x && is_empty (kept old new x)
+
+abbrev pub differs : List ℕ → List ℕ → Bool
+differs some other = not (bytes_eq some other)
+
+-- whether the new ways of x differ from those after the first phase
+abbrev pub grows : List (List ℕ) → List (List ℕ) → ℕ → Bool
+grows old new x = differs (shrunk old new x) (ways new x)
+
+-- the nodes of a table, by number
+abbrev pub nodes_of : List (List ℕ) → List ℕ
+nodes_of table = range_with_len 0 (length table)
+
+-- the nodes that shrink: by number those that keep a way, and then those that keep none. So a node is left without a way
+-- only once each node that keeps one has lost the others
+abbrev pub shrinking_nodes : List (List ℕ) → List (List ℕ) → List ℕ
+shrinking_nodes old new = filter (sheds old new) (nodes_of new) ++ filter (empties old new) (nodes_of new)
+
+-- the nodes that grow, by number
+abbrev pub growing_nodes : List (List ℕ) → List (List ℕ) → List ℕ
+growing_nodes old new = filter (grows old new) (nodes_of new)

@@ -1,8 +1,7 @@
 use Rattle.std.proofs.Common.{rules, subst}
 use Rattle.std.specs.List.{AllByRecursion as Each}
-use Rattle.fr_round.specs.Knowledge.{IsOwn}
 use Rattle.fr_round.proofs.Keeping.{each_snoc}
-use Rattle.fr_crew.specs.Crews.{IsOwnMember}
+use Rattle.fr_crew.specs.Crews.{IsNew, IsOwnMember}
 use Rattle.fr_crew.proofs.members.equip.Goals as goal
 
 pub loop-worker-preserved : goal.loop-worker-preserved
@@ -13,8 +12,8 @@ loop-worker-preserved g c =
       stealers = search rules;
       room = search rules;
       handles = search rules;
-      rest = λ round each. (subst (Each (IsOwn round)) next (was.rest round each)).1;
+      rest = λ round each. (subst (Each (IsNew round)) next (was.rest round each)).1;
       own = λ round each.
-          let here = subst (Each (IsOwn round)) next (was.rest round each) in
+          let here = subst (Each (IsNew round)) next (was.rest round each) in
           rw c.push_reserved-in-loop-worker.ensures.items (each_snoc (IsOwnMember {J = g.row.J.Denot} round) _ _ (was.own round each) here.0);
     }

@@ -1,8 +1,8 @@
 use Rattle.std.proofs.Common.{◌≡◌, ◌+◌, ◌≤◌, vec_len, vec_capacity}
 use Rattle.std.specs.List.{AllByRecursion as Each}
 use Rattle.std.specs.Vec.Iter.{into_iter_items, into_iter_len}
-use Rattle.fr_round.specs.Knowledge.{OpenRound, IsOwn}
-use Rattle.fr_crew.specs.Crews.{IsOwnMember}
+use Rattle.fr_round.specs.Knowledge.{OpenRound}
+use Rattle.fr_crew.specs.Crews.{IsNew, IsOwnMember}
 use Rattle.fr_crew.proofs.members.equip.Given as goal
 
 abbrev pub invariant-loop-worker : goal.invariant-loop-worker
@@ -11,6 +11,6 @@ invariant-loop-worker g l = record {
   stealers : vec_len l.stealers ≡ vec_len l.members;
   room : vec_len l.fn.workers ≤ vec_capacity l.members;
   handles : vec_len l.fn.workers ≤ vec_capacity l.stealers;
-  rest : (round : OpenRound) → Each (IsOwn round) l.fn.workers.items → Each (IsOwn round) (into_iter_items l.worker-iterator);
-  own : (round : OpenRound) → Each (IsOwn round) l.fn.workers.items → Each (IsOwnMember round) l.members.items;
+  rest : (round : OpenRound) → Each (IsNew round) l.fn.workers.items → Each (IsNew round) (into_iter_items l.worker-iterator);
+  own : (round : OpenRound) → Each (IsNew round) l.fn.workers.items → Each (IsOwnMember round) l.members.items;
 }

@@ -1,6 +1,7 @@
 use Rattle.std.proofs.Common.{arith, ap}
 use Rattle.fr_core.proofs.SettledRuns.{lawful_sum_fits}
 use Rattle.fr_graph.specs.Network.{Network}
+use Rattle.fr_crew.proofs.Turners.{within_budget}
 use Rattle.fr_crew.proofs.settlement.settled_by.Goals as goal
 
 pub sum_of_turns-by_workers-requires : goal.sum_of_turns-by_workers-requires
@@ -21,3 +22,8 @@ finished-settled-requires-clause-turned g c =
       c.deref-2.ensures.value,
       c.copy_from.ensures,
     )
+
+pub returns-clause-budget : goal.returns-clause-budget
+returns-clause-budget g c =
+    let most = within_budget _ _ _ _ _ _ _ c.in_ok-net.ensures.turned in
+    rw (c.finished-settled.ensures.by_workers, c.sum_of_turns-by_workers.ensures, c.deref.ensures.value) most

@@ -1,14 +1,18 @@
-use Rattle.std.proofs.Common.{replicate, rules, sym, ◌∙◌, ◌≡◌}
+use Rattle.std.proofs.Common.{replicate, rules, subst, sym, ℕ, ◌∙◌, ◌≡◌}
 use Rattle.fr_crew.proofs.Turners.{none_turned, sum_none}
+use Rattle.fr_crew.specs.Settlements.{AreNumbered}
 use Rattle.fr_crew.proofs.settlement.settled_by_none.Goals as goal
 
 pub returns-clause-told : goal.returns-clause-told
-returns-clause-told c =
+returns-clause-told g c =
     let net = c.args.net in
     let zeros : c.in_ok-left.left.items ≡ replicate net.nodes 0 = search rules in
     record {
-      workers = rw zeros (none_turned net.nodes c.args.dest net.links c.args.workers c.in_ok-turned.turned.items
-          c.network_law.ensures.is_net c.in_ok-turned.ensures.numbered c.in_ok-turned.ensures.none);
+      workers = rw zeros (none_turned net.nodes c.args.dest net.links c.args.crew.now.plan.now (g.G.Gate.passed c.args.crew.now.gate.now)
+          c.in_ok-turned.turned.items
+          c.network_law.ensures.is_net
+          (subst (λ (k : ℕ). AreNumbered k c.in_ok-turned.turned.items) c.workers.ensures c.in_ok-turned.ensures.numbered)
+          c.in_ok-turned.ensures.none);
       by_workers = rw zeros (c.finished-settled.ensures.by_workers ∙ sym (sum_none net.nodes));
       finisher = rw (zeros ∙ sym c.requires.none) c.finished-settled.ensures.finisher;
     }

@@ -1,13 +1,13 @@
 use Rattle.std.proofs.Common.{arith, length, rules, ◌<◌, ◌∙◌, ◌≡◌}
 use Rattle.std.proofs.lemmas.Result.{err_from_is_err_and}
 use Rattle.fr_crew.proofs.Turners.{closed_turned}
-use Rattle.fr_crew.proofs.Workers.{all_came_back, as_many_as_asked, new_workers_own, some_worker}
+use Rattle.fr_crew.proofs.Workers.{all_came_back, as_many_as_asked, new_workers_new, some_worker}
 use Rattle.fr_crew.proofs.settlement.turned_by.Given.{Over}
 use Rattle.fr_crew.proofs.settlement.turned_by.Goals as goal
 use Rattle.fr_crew.proofs.settlement.turned_by.Goals.{In_ok-round}
 
 pub run_crew-requires-clause-own : goal.run_crew-requires-clause-own
-run_crew-requires-clause-own g c κs within = rw c.in-Ok.ensures.workers (new_workers_own c.in-Ok.round c.workers.result)
+run_crew-requires-clause-own g c κs within = rw c.in-Ok.ensures.workers (new_workers_new c.in-Ok.round c.workers.result)
 
 pub run_crew-requires-clause-some : goal.run_crew-requires-clause-some
 run_crew-requires-clause-some g c κs within =
@@ -28,10 +28,12 @@ pub returns-clause-turned : goal.returns-clause-turned
 returns-clause-turned g c =
     let all = all_back g (goal.at.returns-clause-turned g c).In_ok-round in
     let net = c.args.net in
-    rw (← c.workers.ensures) (closed_turned c.in-Ok.round c.in_ok-round.round
+    let crew = c.args.crew.now in
+    closed_turned g.G.Gate.passed c.in-Ok.round c.in_ok-round.round
     (record { nodes = net.nodes; dest = c.args.dest; links = net.links; workers = c.workers.result })
-    c.in_ok-round.workers.items c.close.result.counts.items c.close.result.turned.items
-    c.in-Ok.ensures.setup c.in_ok-round.ensures.back.round_is c.close.ensures.history all)
+    crew.plan.now crew.gate.now c.in_ok-round.workers.items c.close.result.counts.items c.close.result.turned.items
+    c.in-Ok.ensures.setup c.workers.ensures c.in_ok-round.ensures.back.round_is c.close.ensures.history
+    c.in_ok-round.ensures.back.done all
 
 pub returns-in_err-round-clause-no_start : goal.returns-in_err-round-clause-no_start
 returns-in_err-round-clause-no_start g c = λ one.

@@ -1,6 +1,5 @@
-use Rattle.fr_lines.specs.LineLexemes.{IsReadAs, letters}
-use Rattle.fr_lines.specs.Requests.{plain}
-use Rattle.fr_lines.specs.declared.requests.Request.TheVariants as request
+use Rattle.fr_lines.specs.LineLexemes.{IsReadAs, letters, plain_brief}
+use Rattle.fr_lines.specs.declared.word_lines.Brief.TheVariants as brief
 use Rattle.fr_lines.specs.declared.words.Word.TheVariants as word
 use Rattle.fr_lines.proofs.ByteLines.{question_reads}
 use Rattle.fr_lines.proofs.HandedOn.{if_then_some}
@@ -11,5 +10,5 @@ returns c =
     let rest = c.args.rest.now in
     let question = c.args.question in
     rw c.then_some.ensures
-    (if_then_some (λ asked. IsReadAs (letters (word.Ask question)) rest (plain asked)) c.ends_line.result
-    (request.Ask question) (λ over. question_reads rest question (c.ends_line.ensures over)))
+    (if_then_some (λ asked. IsReadAs (letters (word.Ask question)) rest (plain_brief asked)) c.ends_line.result
+    (brief.Ask question) (λ over. question_reads rest question (c.ends_line.ensures over)))

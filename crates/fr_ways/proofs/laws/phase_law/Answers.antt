@@ -1,4 +1,4 @@
-use Rattle.fr_ways.proofs.Phases.{growing_new, loser_done, one_phase, phases_free, shrinking_old}
+use Rattle.fr_ways.proofs.Shrinking.{growing_new, loser_done, one_phase, phases_free, shrinking_old}
 use Rattle.fr_ways.proofs.laws.phase_law.Goals as goal
 
 pub returns-clause-shrinking : goal.returns-clause-shrinking

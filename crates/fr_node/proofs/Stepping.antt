@@ -1,0 +1,243 @@
+-- What a node does is a step of the laws.
+use Rattle.std.proofs.Common.{[], Bool, IsTrue, List, Some, ap, arith, false, inl, inr, length, refl, true, subst, sym, ℕ, ⊎_elim, ◌∷◌, ◌<◌, ◌≡◌, ◌≢◌, ◌≤◌, ◌⊎◌, ◌∙◌}
+use Rattle.std.proofs.lemmas.Bool.{cases_lt}
+use Rattle.std.proofs.Math.Nat.{eq-or-lt_of_le}
+use Rattle.std.proofs.lemmas.Bool.Decides.{nat_tests}
+use Rattle.fr_node.specs.declared.link.Link.{Link}
+use Rattle.fr_node.specs.declared.message.Message.{Message}
+use Rattle.fr_node.specs.declared.node.Node.{Node}
+use Rattle.fr_node.specs.declared.own.Own.{Own}
+use Rattle.fr_node.specs.Histories.{Announces, IsHistory}
+use Rattle.fr_node.specs.Links.{Hears, IsHeard, IsKnown, Says, SetsUp, is_way, link_to, place_of}
+use Rattle.fr_node.specs.Nodes.{Steps, router}
+use Rattle.fr_node.specs.Routers.{GoesOn, IsBelow, IsFrom, IsWay, TakesAnswer, TakesHeight, TakesStart}
+use Rattle.fr_node.proofs.Histories.{Announces-none}
+use Rattle.fr_node.proofs.Linking.{IsAt, found_at}
+
+same_or_not : (a b : ℕ) → (a ≡ b) ⊎ (a ≢ b)
+same_or_not a b = grind arith
+
+-- router y, of this start, keeps what it knows of w, or takes it from messages of the pool
+record Takes (pool : List Message) (y boot w : ℕ) (l k : Link) : Type 0 where
+  start : (l.peer ≤ k.peer) × ((k.peer ≡ l.peer) ⊎ ((m : Message) × IsFrom pool y w m × (k.peer ≡ m.boot)))
+  height : ((k.peer ≡ l.peer) × (k.heard ≡ l.heard) × (k.seen ≡ l.seen))
+      ⊎ ((l.peer < k.peer) × (k.heard ≡ 0))
+      ⊎ ((m : Message) × IsFrom pool y w m × (m.echo ≡ boot) × (k.peer ≡ m.boot) × (k.heard ≡ m.number)
+      × (k.seen ≡ m.height) × (k.peer ≡ l.peer → l.heard ≤ m.number))
+  answer : ((k.peer ≡ l.peer) × (k.acked ≡ l.acked))
+      ⊎ (k.acked ≡ 0)
+      ⊎ ((m : Message) × IsFrom pool y w m × (m.echo ≡ boot) × (k.peer ≡ m.boot) × (k.acked ≡ m.heard))
+
+-- the same is known
+record KnowsSame (l k : Link) : Type 0 where
+  peer : k.peer ≡ l.peer
+  heard : k.heard ≡ l.heard
+  seen : k.seen ≡ l.seen
+  acked : k.acked ≡ l.acked
+
+takes_none : (pool : List Message) (y boot w : ℕ) (l k : Link) → KnowsSame l k → Takes pool y boot w l k
+takes_none pool y boot w l k s = record {
+  start = (omega (arith, s.peer), inl s.peer);
+  height = inl (s.peer, s.heard, s.seen);
+  answer = inl (s.peer, s.acked);
+}
+
+same : (l k : Link) → k ≡ l → KnowsSame l k
+same l k e = record {
+  peer = ap (λ (j : Link). j.peer) e;
+  heard = ap (λ (j : Link). j.heard) e;
+  seen = ap (λ (j : Link). j.seen) e;
+  acked = ap (λ (j : Link). j.acked) e;
+}
+
+-- the two halves of hearing a message m that is not of an earlier start
+Height : Own → Message → Link → Link → Type 0
+Height own m l k = ((k.peer ≡ l.peer) × (k.heard ≡ l.heard) × (k.seen ≡ l.seen))
+    ⊎ ((l.peer < k.peer) × (k.heard ≡ 0))
+    ⊎ ((n : Message) × IsFrom (m ∷ []) own.me m.from n × (n.echo ≡ own.boot) × (k.peer ≡ n.boot) × (k.heard ≡ n.number)
+    × (k.seen ≡ n.height) × (k.peer ≡ l.peer → l.heard ≤ n.number))
+
+Answer : Own → Message → Link → Link → Type 0
+Answer own m l k = ((k.peer ≡ l.peer) × (k.acked ≡ l.acked))
+    ⊎ (k.acked ≡ 0)
+    ⊎ ((n : Message) × IsFrom (m ∷ []) own.me m.from n × (n.echo ≡ own.boot) × (k.peer ≡ n.boot) × (k.acked ≡ n.heard))
+
+height_heard : (own : Own) (m : Message) (l k : Link) → IsHeard own m l k → IsFrom (m ∷ []) own.me m.from m → l.peer ≤ m.boot
+    → Height own m l k
+unfolding Height
+height_heard own m l k h from now = ⊎_elim
+    (λ echo. ⊎_elim
+    (λ even. ⊎_elim
+    (λ later. let e = h.uninformed even (inr later) in inl (omega (arith, h.start now, even), e.0, e.1))
+    (λ good. took echo (λ _. good))
+    (cases_lt m.number l.heard))
+    (λ less. took echo (λ e. absurd (omega (arith, e, less))))
+    (eq-or-lt_of_le now))
+    (λ other. ⊎_elim
+    (λ even. let e = h.uninformed even (inl other) in inl (omega (arith, h.start now, even), e.0, e.1))
+    (λ less. inr (inl (omega (arith, less, h.start now), (h.forgotten less other).0)))
+    (eq-or-lt_of_le now))
+    (same_or_not m.echo own.boot)
+  where
+    took : m.echo ≡ own.boot → (l.peer ≡ m.boot → l.heard ≤ m.number) → Height own m l k
+    took echo good = let e = h.informed now echo good in
+        inr (inr (m, from, echo, h.start now, e.0, e.1, λ s. good (omega (arith, s, h.start now))))
+
+answer_heard : (own : Own) (m : Message) (l k : Link) → IsHeard own m l k → IsFrom (m ∷ []) own.me m.from m → l.peer ≤ m.boot
+    → Answer own m l k
+unfolding Answer
+answer_heard own m l k h from now = ⊎_elim
+    (λ echo. ⊎_elim
+    (λ many. kept (inr many))
+    (λ few. ⊎_elim
+    (λ even. ⊎_elim
+    (λ more. given echo few (λ _. more))
+    (λ old. inl (omega (arith, h.start now, even), h.unanswered even (inr (inr old))))
+    (cases_lt l.acked m.heard))
+    (λ less. given echo few (λ e. absurd (omega (arith, e, less))))
+    (eq-or-lt_of_le now))
+    (cases_lt own.number m.heard))
+    (λ other. kept (inl other))
+    (same_or_not m.echo own.boot)
+  where
+    given : m.echo ≡ own.boot → m.heard ≤ own.number → (l.peer ≡ m.boot → l.acked < m.heard) → Answer own m l k
+    given echo few more = inr (inr (m, from, echo, h.start now, h.answered now echo few more))
+
+    kept : (m.echo ≢ own.boot) ⊎ (own.number < m.heard) → Answer own m l k
+    kept why = ⊎_elim
+        (λ even. inl (omega (arith, h.start now, even), h.unanswered even (⊎_elim (λ a. inl a) (λ b. inr (inl b)) why)))
+        (λ less. inr (inl (h.unacked less why)))
+        (eq-or-lt_of_le now)
+
+takes_heard : (own : Own) (m : Message) (l k : Link) → IsHeard own m l k → m.to ≡ own.me
+    → Takes (m ∷ []) own.me own.boot m.from l k
+unfolding Height Answer
+takes_heard own m l k h to = ⊎_elim
+    (λ old. takes_none (m ∷ []) own.me own.boot m.from l k (same l k (h.ignored old)))
+    (λ now. record {
+      start = (omega (arith, now, h.start now), inr (m, from, h.start now));
+      height = height_heard own m l k h from now;
+      answer = answer_heard own m l k h from now;
+    })
+    (cases_lt m.boot l.peer)
+  where
+    from : IsFrom (m ∷ []) own.me m.from m
+    from = record { said = (0, omega arith, refl); from = refl; to = to }
+
+takes_hears : (own : Own) (m : Message) (ls ks : List Link) → Hears own m ls ks
+    → (w : ℕ) → Takes (m ∷ []) own.me own.boot w (link_to ls w) (link_to ks w)
+takes_hears own m ls ks h w = ⊎_elim
+    (λ here. subst (λ v. Takes (m ∷ []) own.me own.boot v (link_to ls v) (link_to ks v)) (sym here) from_it)
+    (λ other. takes_none (m ∷ []) own.me own.boot w (link_to ls w) (link_to ks w)
+    (same (link_to ls w) (link_to ks w) (h.others w other)))
+    (same_or_not w m.from)
+  where
+    unchanged : ks ≡ ls → Takes (m ∷ []) own.me own.boot m.from (link_to ls m.from) (link_to ks m.from)
+    unchanged e = takes_none (m ∷ []) own.me own.boot m.from (link_to ls m.from) (link_to ks m.from)
+        (same (link_to ls m.from) (link_to ks m.from) (ap (λ (js : List Link). link_to js m.from) e))
+
+    from_it : Takes (m ∷ []) own.me own.boot m.from (link_to ls m.from) (link_to ks m.from)
+    from_it = ⊎_elim
+        (λ to. ⊎_elim
+        (λ known. takes_heard own m (link_to ls m.from) (link_to ks m.from) (h.heard to known) to)
+        (λ past. unchanged (h.stranger (inr (λ known. omega (arith, past, known)))))
+        (cases_lt (place_of ls m.from) (length ls)))
+        (λ away. unchanged (h.stranger (inl away)))
+        (same_or_not m.to own.me)
+
+takes_up : (pool : List Message) (y boot w : ℕ) (up : Bool) (ls ks : List Link) → SetsUp w up ls ks
+    → (v : ℕ) → Takes pool y boot v (link_to ls v) (link_to ks v)
+takes_up pool y boot w up ls ks s v = takes_none pool y boot v (link_to ls v) (link_to ks v) (⊎_elim
+    (λ here. ⊎_elim
+    (λ known. known_up (subst (λ u. link_to ks u ≡ record (link_to ls u) { up = up }) (sym here) (s.itself known)))
+    (λ past. same (link_to ls v) (link_to ks v)
+    (ap (λ (js : List Link). link_to js v) (s.stranger (λ known. omega (arith, past, known)))))
+    (cases_lt (place_of ls w) (length ls)))
+    (λ other. same (link_to ls v) (link_to ks v) (s.others v other))
+    (same_or_not v w))
+  where
+    known_up : link_to ks v ≡ record (link_to ls v) { up = up } → KnowsSame (link_to ls v) (link_to ks v)
+    known_up e = record {
+      peer = ap (λ (l : Link). l.peer) e;
+      heard = ap (λ (l : Link). l.heard) e;
+      seen = ap (λ (l : Link). l.seen) e;
+      acked = ap (λ (l : Link). l.acked) e;
+    }
+
+steps : (pool : List Message) (old new : Node) → Announces old.own new.own
+    → ((w : ℕ) → Takes pool old.own.me old.own.boot w (link_to old.links.items w) (link_to new.links.items w))
+    → Steps pool old new
+steps pool old new says takes = record {
+  me = says.me;
+  goes_on = λ h known. let after = says.history h known in (
+    after.0,
+    after.1,
+    record {
+      boot = says.boot;
+      number = says.number;
+      announced = after.2;
+      start = λ w. (takes w).start;
+      height = λ w. (takes w).height;
+      answer = λ w. (takes w).answer;
+    },
+  );
+}
+
+-- the links change first, and then what the node knows of itself
+in_turn : (pool : List Message) (old mid new : Node) → mid ≡ record old { links = mid.links } → new ≡ record mid { own = new.own }
+    → Announces mid.own new.own
+    → ((w : ℕ) → Takes pool old.own.me old.own.boot w (link_to old.links.items w) (link_to mid.links.items w)) → Steps pool old new
+in_turn pool old mid new first second says takes = steps pool old new
+    (subst (λ (o : Own). Announces o new.own) (ap (λ (n : Node). n.own) first) says)
+    (λ w. subst (λ (ks : List Link). Takes pool old.own.me old.own.boot w (link_to old.links.items w) (link_to ks w))
+    (sym (ap (λ (n : Node). n.links.items) second)) (takes w))
+
+pub steps_heard : (m : Message) (old mid new : Node) → mid ≡ record old { links = mid.links }
+    → Hears old.own m old.links.items mid.links.items → new ≡ record mid { own = new.own } → Announces mid.own new.own
+    → Steps (m ∷ []) old new
+steps_heard m old mid new first hears second says = in_turn (m ∷ []) old mid new first second says
+    (takes_hears old.own m old.links.items mid.links.items hears)
+
+pub steps_up : (w : ℕ) (up : Bool) (old mid new : Node) → mid ≡ record old { links = mid.links }
+    → SetsUp w up old.links.items mid.links.items → new ≡ record mid { own = new.own } → Announces mid.own new.own
+    → Steps [] old new
+steps_up w up old mid new first sets second says = in_turn [] old mid new first second says
+    (takes_up [] old.own.me old.own.boot w up old.links.items mid.links.items sets)
+
+pub steps_said : (w : ℕ) (m : Message) (old new : Node) → new.own ≡ old.own → Says w m old.links.items new.links.items
+    → Steps [] old new
+steps_said w m old new own says = steps [] old new (subst (Announces old.own) (sym own) (Announces-none old.own))
+    (λ v. takes_none [] old.own.me old.own.boot v (link_to old.links.items v) (link_to new.links.items v) (⊎_elim
+    (λ here. told v (subst (λ u. link_to new.links.items u ≡ record (link_to old.links.items u) { said = Some m }) (sym here) says.itself))
+    (λ other. same (link_to old.links.items v) (link_to new.links.items v) (says.others v other))
+    (same_or_not v w)))
+  where
+    told : (v : ℕ) → link_to new.links.items v ≡ record (link_to old.links.items v) { said = Some m }
+        → KnowsSame (link_to old.links.items v) (link_to new.links.items v)
+    told v e = record {
+      peer = ap (λ (l : Link). l.peer) e;
+      heard = ap (λ (l : Link). l.heard) e;
+      seen = ap (λ (l : Link). l.seen) e;
+      acked = ap (λ (l : Link). l.acked) e;
+    }
+
+is_lower_fact : (own : Own) (l : Link) → IsTrue (is_way own l) → (0 < l.heard) × IsBelow l.seen l.neighbour own.used own.me
+is_lower_fact own l t = grind (arith, nat_tests)
+
+pub way_at : (n : Node) (w i : ℕ) (x : Link) → IsAt n.links.items w i x → n.gateway ≡ false → IsTrue (is_way n.own x)
+    → (h : ℕ → ℕ) → IsWay (router n h) n.own.me w
+way_at n w i x at router_is t h = record {
+  forwards = λ g. true_false (sym router_is ∙ g);
+  known = omega (arith, ap (λ (l : Link). l.heard) found, fact.0);
+  below = subst (λ v. IsBelow (link_to n.links.items w).seen v n.own.used n.own.me) at.neighbour
+      (subst (λ v. IsBelow v x.neighbour n.own.used n.own.me) (sym (ap (λ (l : Link). l.seen) found)) fact.1);
+}
+  where
+    found : link_to n.links.items w ≡ x
+    found = found_at n.links.items w i x at
+
+    fact : (0 < x.heard) × IsBelow x.seen x.neighbour n.own.used n.own.me
+    fact = is_lower_fact n.own x t
+
+    true_false : false ≡ true → ⊥
+    true_false e = cc

@@ -1,0 +1,166 @@
+//! What a router knows of one neighbour.
+
+ghost use Rattle.std.specs.Prelude.{◌≡◌, ◌≢◌, ◌<◌, ◌≤◌, ◌⊎◌, ◌↔◌, IsTrue, false};
+ghost use Rattle.fr_node.specs.Distances.{way_of};
+ghost use Rattle.fr_node.specs.Links.{IsHeard, has_answered, is_lower, is_way};
+
+use crate::message::{CUT_OFF, Message};
+use crate::own::Own;
+use crate::way::Way;
+
+/// What a router knows of one neighbour, and whether the link to it is up.
+#[derive(Clone, Copy, Debug, PartialEq, Eq)]
+pub(crate) struct Link {
+    pub(crate) neighbour: u32,
+    pub(crate) up: bool,
+    /// The greatest start of the neighbour that is known. 0: none.
+    pub(crate) peer: u64,
+    /// The greatest number that was heard of that start. 0: none.
+    pub(crate) heard: u64,
+    /// The height that came with it.
+    pub(crate) seen: u64,
+    /// The distance that came with it.
+    pub(crate) distance: u32,
+    /// The number of the router's announcements that the neighbour has acknowledged. 0: none.
+    pub(crate) acked: u64,
+    /// The last message that was said to the neighbour.
+    pub(crate) said: Option<Message>,
+}
+
+impl Link {
+    /// A link that is down, to a neighbour of which nothing is known.
+    pub(crate) fn new(neighbour: u32) -> Link
+        ensures { result ≡ record {
+          neighbour = neighbour;
+          up = false;
+          peer = 0;
+          heard = 0;
+          seen = 0;
+          distance = CUT_OFF;
+          acked = 0;
+          said = None;
+        } }
+    {
+        Link {
+            neighbour,
+            up: false,
+            peer: 0,
+            heard: 0,
+            seen: 0,
+            distance: CUT_OFF,
+            acked: 0,
+            said: None,
+        }
+    }
+
+    /// After a message from this neighbour. What it says of an earlier start, of its own or of the router's, is ignored.
+    pub(crate) fn after(self, message: &Message, own: &Own) -> Link
+        ensures { IsHeard own.now message.now self result }
+    {
+        if message.boot < self.peer {
+            return self;
+        }
+        let known = self.of_start(message.boot);
+        if message.echo == own.boot {
+            known.answered(message, own).informed(message)
+        } else {
+            known
+        }
+    }
+
+    /// With what is known of this start of the neighbour: nothing, if it is greater.
+    fn of_start(self, boot: u64) -> Link
+        ensures same { boot ≡ self.peer → result ≡ self }
+        ensures other { boot ≢ self.peer
+            → result ≡ record self { peer = boot; heard = 0; seen = 0; distance = CUT_OFF; acked = 0 } }
+    {
+        if boot == self.peer {
+            return self;
+        }
+        Link {
+            peer: boot,
+            heard: 0,
+            seen: 0,
+            distance: CUT_OFF,
+            acked: 0,
+            ..self
+        }
+    }
+
+    /// With the neighbour's acknowledgement. One of a number that was not announced is ignored.
+    fn answered(self, message: &Message, own: &Own) -> Link
+        ensures kept { (own.now.number < message.now.heard) ⊎ (message.now.heard ≤ self.acked) → result ≡ self }
+        ensures taken { message.now.heard ≤ own.now.number → self.acked < message.now.heard
+            → result ≡ record self { acked = message.now.heard } }
+    {
+        if message.heard > own.number || message.heard <= self.acked {
+            return self;
+        }
+        Link {
+            acked: message.heard,
+            ..self
+        }
+    }
+
+    /// With the neighbour's announcement, if no later one was heard. The same one may come with another distance.
+    fn informed(self, message: &Message) -> Link
+        ensures kept { message.now.number < self.heard → result ≡ self }
+        ensures taken { self.heard ≤ message.now.number → result ≡ record self {
+          heard = message.now.number;
+          seen = message.now.height;
+          distance = message.now.distance;
+        } }
+    {
+        if message.number < self.heard {
+            return self;
+        }
+        Link {
+            heard: message.number,
+            seen: message.height,
+            distance: message.distance,
+            ..self
+        }
+    }
+
+    /// Whether the router may send packets to the neighbour.
+    pub(crate) fn is_way(&self, own: &Own) -> bool
+        ensures { result ≡ is_way own.now self.now }
+    {
+        self.up && self.is_lower(own)
+    }
+
+    /// Whether the neighbour is known to be lower than the router.
+    pub(crate) fn is_lower(&self, own: &Own) -> bool
+        ensures { result ≡ is_lower own.now self.now }
+    {
+        let is_first = self.neighbour < own.me;
+        self.heard > 0 && (self.seen < own.used || self.seen == own.used && is_first)
+    }
+
+    /// Whether the neighbour has acknowledged enough to be let in.
+    pub(crate) fn has_answered(&self, own: &Own) -> bool
+        ensures { result ≡ has_answered own.now self.now }
+    {
+        self.acked >= own.used_since
+    }
+
+    /// Whether this was the last message that was said to the neighbour.
+    pub(crate) fn has_said(&self, message: &Message) -> bool
+        ensures { IsTrue result ↔ (self.now.said ≡ Some message.now) }
+    {
+        match &self.said {
+            Some(said) => *said == *message,
+            None => false,
+        }
+    }
+
+    /// The neighbour as a way.
+    pub(crate) fn way(&self) -> Way
+        ensures { result ≡ way_of self.now }
+    {
+        Way {
+            neighbour: self.neighbour,
+            distance: self.distance,
+        }
+    }
+}

@@ -1,0 +1,434 @@
+//! The state machine of one router.
+
+ghost use Rattle.std.specs.Prelude.{◌≡◌, ◌≢◌, ◌<◌, ◌≤◌, ◌+◌, ◌++◌, ◌^◌, ◌↔◌, ◌⊎◌, true, false, IsTrue, IsSome, [], ◌∷◌, IfSome, IfNone, MatchOption, OnErr, OnOk, min, length, ℕ, vec_capacity, vec_len};
+ghost use Rattle.std.specs.List.{position};
+ghost use Rattle.fr_node.specs.Histories.{Announces, IsHistory};
+ghost use Rattle.fr_node.specs.declared.fault.NodeFault.TheVariants.{Itself};
+ghost use Rattle.fr_node.specs.Links.{Hears, IsKnown, Says, SetsUp, leads_to, link_to, unknown};
+ghost use Rattle.fr_node.specs.Distances.{AreWays, HasNoWay, IsDistance, IsNearest, ways_of};
+ghost use Rattle.fr_node.specs.Nodes.{IsMessageTo, Steps, lets_in, router, sends_to};
+ghost use Rattle.fr_node.specs.Routers.{IsOpen, IsSaidBy, IsWay, Restarts, Router};
+
+use crate::fault::NodeFault;
+use crate::link::Link;
+use crate::message::{CUT_OFF, Message};
+use crate::own::Own;
+use crate::policy::{Policy, Rise};
+use crate::way::{Way, sort};
+use std::alloc::Global;
+
+/// One router, for one destination. Its table is written, so its messages may be sent.
+#[derive(Drop)]
+pub struct Node {
+    own: Own,
+    gateway: bool,
+    policy: Policy,
+    links: Vec<Link>,
+}
+
+/// A router whose ways and gates have to be written before it can send a message.
+#[derive(Drop)]
+#[must_use]
+pub struct Unwritten {
+    node: Node,
+}
+
+impl Node {
+    /// A router that starts. `boot` must be greater than at each of its earlier starts.
+    pub fn new(alloc: Global, me: u32, boot: u64, height: u64, policy: Policy) -> Node
+        ensures who { (result.own.me ≡ me) × (result.own.boot ≡ boot) × (result.gateway ≡ false) × (result.policy ≡ policy) }
+        ensures height { result.own.used ≡ height }
+        ensures links { result.links.items ≡ [] }
+        ensures announced { IsHistory result.own (λ _. height) }
+        ensures restart { (r : Router) → r.boot < boot → Restarts r (router result (λ _. height)) }
+    {
+        Node {
+            own: Own::new(me, boot, height),
+            gateway: false,
+            policy,
+            links: Vec::new(alloc),
+        }
+    }
+
+    /// A gateway that starts: it takes packets out of the network and sends on nothing.
+    pub fn gateway(alloc: Global, me: u32, boot: u64) -> Node
+        ensures who { (result.own.me ≡ me) × (result.own.boot ≡ boot) × (result.gateway ≡ true) }
+        ensures height { result.own.used ≡ 0 }
+        ensures links { result.links.items ≡ [] }
+        ensures announced { IsHistory result.own (λ _. 0) }
+        ensures restart { (r : Router) → r.boot < boot → Restarts r (router result (λ _. 0)) }
+    {
+        Node {
+            own: Own::new(me, boot, 0),
+            gateway: true,
+            policy: Policy {
+                rise: Rise::Full,
+                lower: false,
+                wait: false,
+            },
+            links: Vec::new(alloc),
+        }
+    }
+
+    /// Makes a neighbour known. The link to it is down.
+    pub fn know(&mut self, neighbour: u32) -> Result<(), NodeFault>
+        ensures itself { neighbour ≡ self.old.own.me ↔ (result ≡ Err Itself) }
+        ensures known { neighbour ≢ self.old.own.me → IsKnown self.old.links.items neighbour → self.new ≡ self.old }
+        ensures new { OnOk result (¬ IsKnown self.old.links.items neighbour
+            → self.new.links.items ≡ self.old.links.items ++ record unknown { neighbour = neighbour } ∷ []) }
+        ensures same { self.new ≡ record self.old { links = self.new.links } }
+        ensures err { OnErr result (self.new.links.items ≡ self.old.links.items) }
+        ensures step { Steps [] self.old self.new }
+    {
+        if neighbour == self.own.me {
+            return Err(NodeFault::Itself);
+        }
+        if self.index_of(neighbour).is_none() {
+            self.links.reserve(1)?;
+            self.links.push_reserved(Link::new(neighbour));
+        }
+        Ok(())
+    }
+
+    /// The link to a neighbour comes up.
+    pub fn link_up(mut self, neighbour: u32) -> Unwritten
+        ensures set { SetsUp neighbour true self.links.items result.node.links.items }
+        ensures same { (result.node.gateway ≡ self.gateway) × (result.node.policy ≡ self.policy) }
+        ensures step { Steps [] self result.node }
+    {
+        self.set_up(neighbour, true);
+        self.act();
+        Unwritten { node: self }
+    }
+
+    /// The link to a neighbour goes down.
+    pub fn link_down(mut self, neighbour: u32) -> Unwritten
+        ensures set { SetsUp neighbour false self.links.items result.node.links.items }
+        ensures same { (result.node.gateway ≡ self.gateway) × (result.node.policy ≡ self.policy) }
+        ensures step { Steps [] self result.node }
+    {
+        self.set_up(neighbour, false);
+        self.act();
+        Unwritten { node: self }
+    }
+
+    /// Hears a message.
+    pub fn hear(mut self, message: &Message) -> Unwritten
+        ensures heard { Hears self.own message.now self.links.items result.node.links.items }
+        ensures same { (result.node.gateway ≡ self.gateway) × (result.node.policy ≡ self.policy) }
+        ensures step { Steps (message.now ∷ []) self result.node }
+    {
+        self.take(message);
+        self.act();
+        Unwritten { node: self }
+    }
+
+    /// The message for a neighbour now. `None` if it is not known, or the link to it is down.
+    pub fn say(&mut self, neighbour: u32) -> Option<Message>
+        ensures up { IsSome result ↔ IsTrue (link_to self.old.links.items neighbour).up }
+        ensures content { IfSome result (IsMessageTo self.old neighbour) }
+        ensures same { self.new ≡ record self.old { links = self.new.links } }
+        ensures said { MatchOption result (self.new.links.items ≡ self.old.links.items)
+            (λ m. Says neighbour m self.old.links.items self.new.links.items) }
+        ensures safe { (h : ℕ → ℕ) → IsHistory self.old.own h → IfSome result (IsSaidBy (router self.old h)) }
+        ensures step { Steps [] self.old self.new }
+    {
+        let Some(i) = self.index_of(neighbour) else {
+            return None;
+        };
+        if !self.links[i].up {
+            return None;
+        }
+        let message = self.message_at(i);
+        self.links[i].said = Some(message);
+        Some(message)
+    }
+
+    /// Whether there is news for a neighbour: the message for it is not the last one that was said.
+    pub fn has_news(&self, neighbour: u32) -> bool
+        ensures down { ¬ IsTrue (link_to self.now.links.items neighbour).up → ¬ IsTrue result }
+        ensures news { IsTrue (link_to self.now.links.items neighbour).up → (m : Message) × IsMessageTo self.now neighbour m
+            × (IsTrue result ↔ ((link_to self.now.links.items neighbour).said ≢ Some m)) }
+    {
+        match self.index_of(neighbour) {
+            Some(i) => self.links[i].up && !self.links[i].has_said(&self.message_at(i)),
+            None => false,
+        }
+    }
+
+    /// Whether packets from this neighbour are let in: a gate for them is to be open. All other packets are dropped.
+    pub fn lets_in(&self, neighbour: u32) -> bool
+        ensures open { result ≡ lets_in self.now neighbour }
+        ensures safe { IsTrue result → (h : ℕ → ℕ) → IsHistory self.now.own h → IsOpen (router self.now h) neighbour }
+    {
+        match self.index_of(neighbour) {
+            Some(i) => {
+                let link = &self.links[i];
+                link.up && (self.gateway || link.has_answered(&self.own))
+            }
+            None => false,
+        }
+    }
+
+    /// Whether packets may be sent to this neighbour.
+    pub fn sends_to(&self, neighbour: u32) -> bool
+        ensures way { result ≡ sends_to self.now neighbour }
+        ensures safe { IsTrue result → (h : ℕ → ℕ) → IsWay (router self.now h) self.now.own.me neighbour }
+    {
+        match self.index_of(neighbour) {
+            Some(i) => !self.gateway && self.links[i].is_way(&self.own),
+            None => false,
+        }
+    }
+
+    /// Lists the ways, the nearest first, and equally near ones by number. The list keeps its capacity, so no memory is
+    /// taken. O(d log d) for d known neighbours.
+    pub fn list_ways(&self, ways: &mut Vec<Way>)
+        requires { vec_len self.now.links ≤ vec_capacity ways.old }
+        ensures ways { AreWays self.now ways.new.items }
+        ensures room { vec_capacity ways.new ≡ vec_capacity ways.old }
+    {
+        ways.clear();
+        if !self.gateway {
+            push_ways(&self.links, &self.own, ways);
+        }
+        sort(ways);
+    }
+
+    /// How many neighbours are known.
+    pub fn neighbours(&self) -> usize
+        ensures { result ≡ vec_len self.now.links }
+    {
+        self.links.len()
+    }
+
+    /// The height in use.
+    pub fn height(&self) -> u64
+        ensures { result ≡ self.now.own.used }
+    {
+        self.own.used
+    }
+
+    /// How many links a packet crosses from this router to a gateway, by what it has heard. `CUT_OFF` if it has no way.
+    pub fn distance(&self) -> u32
+        ensures { IsDistance self.now result }
+    {
+        if self.gateway {
+            return 0;
+        }
+        let cap = self.policy.rise.cap();
+        match nearest(&self.links, &self.own) {
+            Some(nearest) if nearest < cap => nearest + 1,
+            _ => CUT_OFF,
+        }
+    }
+
+    /// The index of the link to a neighbour.
+    fn index_of(&self, neighbour: u32) -> Option<usize>
+        ensures { result ≡ position (leads_to neighbour) self.now.links.items }
+    {
+        self.links
+            .iter()
+            .position(|link| link.neighbour == neighbour)
+    }
+
+    /// The message for the neighbour at an index.
+    fn message_at(&self, i: usize) -> Message
+        requires { i < vec_len self.now.links }
+        ensures { (w : ℕ) → position (leads_to w) self.now.links.items ≡ Some i → IsMessageTo self.now w result }
+    {
+        let link = &self.links[i];
+        Message {
+            from: self.own.me,
+            to: link.neighbour,
+            boot: self.own.boot,
+            echo: link.peer,
+            number: self.own.number,
+            height: self.own.announced,
+            heard: link.heard,
+            distance: self.distance(),
+        }
+    }
+
+    fn set_up(&mut self, neighbour: u32, up: bool)
+        ensures same { self.new ≡ record self.old { links = self.new.links } }
+        ensures set { SetsUp neighbour up self.old.links.items self.new.links.items }
+    {
+        if let Some(i) = self.index_of(neighbour) {
+            self.links[i].up = up;
+        }
+    }
+
+    fn take(&mut self, message: &Message)
+        ensures same { self.new ≡ record self.old { links = self.new.links } }
+        ensures heard { Hears self.old.own message.now self.old.links.items self.new.links.items }
+    {
+        if message.to != self.own.me {
+            return;
+        }
+        if let Some(i) = self.index_of(message.from) {
+            self.links[i] = self.links[i].after(message, &self.own);
+        }
+    }
+
+    /// Changes the height by the policy.
+    fn act(&mut self)
+        ensures same { self.new ≡ record self.old { own = self.new.own } }
+        ensures own { Announces self.old.own self.new.own }
+    {
+        self.own = self.announced();
+        if self.may_settle() {
+            self.own = self.own.settled();
+        }
+    }
+
+    /// What the router knows of itself after an announcement, if the policy wants one.
+    fn announced(&self) -> Own
+        ensures { Announces self.now.own result }
+    {
+        if self.gateway || self.own.number == u64::MAX || !self.own.is_settled() {
+            return self.own;
+        }
+        if let Some(height) = self.lower_height() {
+            return self.own.lowered(height);
+        }
+        match self.greater_height() {
+            Some(height) if height > self.own.announced => self.own.raised(height),
+            _ => self.own,
+        }
+    }
+
+    /// Whether the last height that was announced may be used: without waiting always, else if each open gate stays open.
+    fn may_settle(&self) -> bool {
+        let own = &self.own;
+        !self.policy.wait
+            || self.links.iter().all(|link| !(link.up && link.has_answered(own))
+                || link.acked >= own.announced_since)
+    }
+
+    /// The distance, if the router lowers its height to it.
+    fn lower_height(&self) -> Option<u64>
+        ensures { IfSome result (λ h. h < self.now.own.used) }
+    {
+        let distance = self.distance();
+        let height = distance as u64;
+        if !self.policy.lower || distance == CUT_OFF || height >= self.own.used {
+            return None;
+        }
+        let own = &self.own;
+        let stays = self.links.iter().any(|link| {
+            link.is_way(own)
+                && link.distance < distance
+                && (link.seen < height || link.seen == height && link.neighbour < own.me)
+        });
+        if stays { Some(height) } else { None }
+    }
+
+    /// The height to which the policy raises the router.
+    fn greater_height(&self) -> Option<u64> {
+        match self.policy.rise {
+            Rise::Full => self.above_all(),
+            Rise::Jump(cap) => self.above_nearest(cap),
+        }
+    }
+
+    /// Above all neighbours, if all are known to be higher.
+    fn above_all(&self) -> Option<u64> {
+        let own = &self.own;
+        if self
+            .links
+            .iter()
+            .any(|link| link.up && (link.heard == 0 || link.is_lower(own)))
+        {
+            return None;
+        }
+        let most = self
+            .links
+            .iter()
+            .filter(|link| link.up)
+            .map(|link| link.seen)
+            .max()?;
+        most.checked_add(1)
+    }
+
+    /// Above the neighbour with the least distance below the cap, if the router knows no distance.
+    fn above_nearest(&self, cap: u32) -> Option<u64> {
+        if self.distance() != CUT_OFF {
+            return None;
+        }
+        let mut best: Option<Link> = None;
+        for link in &self.links {
+            if link.up
+                && link.heard > 0
+                && link.distance < cap
+                && best.is_none_or(|b| is_nearer(link, &b))
+            {
+                best = Some(*link);
+            }
+        }
+        let nearest = best?;
+        if nearest.neighbour < self.own.me {
+            Some(nearest.seen)
+        } else {
+            nearest.seen.checked_add(1)
+        }
+    }
+}
+
+/// Lists the ways among these links.
+fn push_ways(links: &[Link], own: &Own, ways: &mut Vec<Way>)
+    requires none { ways.old.items ≡ [] }
+    requires room { length links.now ≤ vec_capacity ways.old }
+    ensures ways { ways.new.items ≡ ways_of own.now links.now }
+    ensures room { vec_capacity ways.new ≡ vec_capacity ways.old }
+{
+    for link in links {
+        if link.is_way(own) {
+            ways.push_reserved(link.way());
+        }
+    }
+}
+
+/// The least distance of a neighbour to which packets may be sent.
+fn nearest(links: &[Link], own: &Own) -> Option<u32>
+    ensures { MatchOption result (HasNoWay own.now links.now) (IsNearest own.now links.now) }
+{
+    let mut nearest = None;
+    for link in links {
+        if link.is_way(own) {
+            nearest = Some(nearer(nearest, link.distance));
+        }
+    }
+    nearest
+}
+
+/// The lesser of two distances, of which the first may not be known.
+fn nearer(nearest: Option<u32>, distance: u32) -> u32
+    ensures { MatchOption nearest (result ≡ distance) (λ d. result ≡ min d distance) }
+{
+    match nearest {
+        Some(d) => d.min(distance),
+        None => distance,
+    }
+}
+
+/// Whether a link leads to a nearer neighbour than another one: by distance, then by height, then by number.
+fn is_nearer(link: &Link, other: &Link) -> bool {
+    (link.distance, link.seen, link.neighbour) < (other.distance, other.seen, other.neighbour)
+}
+
+impl Unwritten {
+    /// The node, whose ways and gates are to be written. It can say nothing.
+    pub fn node(&self) -> &Node
+        ensures { result.now ≡ self.now.node }
+    {
+        &self.node
+    }
+
+    /// The caller says that the ways and gates are written.
+    pub fn written(self) -> Node
+        ensures { result ≡ self.node }
+    {
+        self.node
+    }
+}

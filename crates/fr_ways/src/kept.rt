@@ -1,0 +1,106 @@
+//! Which ways a node keeps and which it loses, without looking for each way in a list.
+
+ghost use Rattle.std.specs.Prelude.{◌≡◌, ℕ, ◌<◌, All, IfOk, OnOk, false, filter, length, not, replicate, slice_index_or};
+ghost use Rattle.std.specs.List.{list_any};
+ghost use Rattle.fr_ways.specs.Phases.{is_way};
+ghost use Rattle.fr_ways.specs.Plans.{AreNoted, IsClear};
+
+use std::alloc::{AllocError, Global};
+
+/// Memory to compare lists of ways.
+#[derive(Debug, Drop)]
+pub(crate) struct Spare {
+    // Whether each node is in the list that is compared. Between calls all are `false`.
+    noted: Vec<bool>,
+    /// What the last call of `keep` kept.
+    pub kept: Vec<u32>,
+}
+
+impl Spare {
+    /// Memory to compare the ways of tables of so many nodes.
+    pub(crate) fn new(alloc: Global, nodes: usize) -> Result<Spare, AllocError>
+        ensures { IfOk result (IsClear nodes) }
+    {
+        Ok(Spare {
+            noted: vec![in alloc; false; nodes]?,
+            kept: Vec::new(alloc),
+        })
+    }
+
+    /// Whether one of the old ways is none of the new ones.
+    pub(crate) fn loses(&mut self, old: &[u32], new: &[u32]) -> bool
+        requires clear { (nodes : ℕ) × IsClear nodes self.old × All (λ (y : ℕ). y < nodes) new.now }
+        ensures loses { result ≡ list_any (λ y. not (is_way new.now y)) old.now }
+        ensures clear { (nodes : ℕ) → IsClear nodes self.old → IsClear nodes self.new }
+    {
+        note(&mut self.noted, new);
+        let loses = has_other(&self.noted, old);
+        forget(&mut self.noted, new);
+        loses
+    }
+
+    /// Keeps those of the new ways that are old ones too.
+    pub(crate) fn keep(&mut self, old: &[u32], new: &[u32]) -> Result<(), AllocError>
+        requires clear { (nodes : ℕ) × IsClear nodes self.old × All (λ (y : ℕ). y < nodes) new.now }
+        ensures kept { OnOk result (self.new.kept.items ≡ filter (is_way old.now) new.now) }
+        ensures clear { (nodes : ℕ) → IsClear nodes self.old → IsClear nodes self.new }
+    {
+        note(&mut self.noted, old);
+        let result = keep_noted(&self.noted, new, &mut self.kept);
+        forget(&mut self.noted, old);
+        result
+    }
+}
+
+/// Whether this node is noted.
+fn is_noted(noted: &[bool], y: u32) -> bool
+    ensures { result ≡ slice_index_or noted.now y false }
+{
+    noted.get(y as usize).copied().unwrap_or(false)
+}
+
+/// Notes these ways, except those that name no node.
+fn note(noted: &mut [bool], ways: &[u32])
+    requires { noted.old ≡ replicate (length noted.old) false }
+    ensures one_each { length noted.new ≡ length noted.old }
+    ensures noted { AreNoted ways.now noted.new }
+{
+    for y in ways {
+        if (*y as usize) < noted.len() {
+            noted[*y as usize] = true;
+        }
+    }
+}
+
+/// Undoes [`note`].
+fn forget(noted: &mut [bool], ways: &[u32])
+    requires { AreNoted ways.now noted.old }
+    ensures { noted.new ≡ replicate (length noted.old) false }
+{
+    for y in ways {
+        if (*y as usize) < noted.len() {
+            noted[*y as usize] = false;
+        }
+    }
+}
+
+/// Whether one of these ways is not noted.
+fn has_other(noted: &[bool], ways: &[u32]) -> bool
+    ensures { result ≡ list_any (λ y. not (slice_index_or noted.now y false)) ways.now }
+{
+    ways.iter().any(|y| !is_noted(noted, *y))
+}
+
+/// Puts the noted ones of these ways into `kept`, in place of what it holds.
+fn keep_noted(noted: &[bool], ways: &[u32], kept: &mut Vec<u32>) -> Result<(), AllocError>
+    ensures { OnOk result (kept.new.items ≡ filter (λ y. slice_index_or noted.now y false) ways.now) }
+{
+    kept.clear();
+    kept.reserve(ways.len())?;
+    for y in ways {
+        if is_noted(noted, *y) {
+            kept.push(*y)?;
+        }
+    }
+    Ok(())
+}

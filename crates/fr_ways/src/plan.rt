@@ -1,0 +1,190 @@
+//! The two phases from one table to another.
+
+ghost use Rattle.std.specs.Prelude.{◌≡◌, ℕ, ◌+◌, ◌++◌, [], ◌∷◌, IfErr, IfOk, OnOk, cond, length, map, not};
+ghost use Rattle.fr_ways.specs.Faults.{AreOneLength, ArePhases, IsFaultOf, IsPlanned};
+ghost use Rattle.fr_ways.specs.Phases.{differs, is_empty};
+ghost use Rattle.fr_ways.specs.Plans.{IsClear, IsPlan, IsPushedIf};
+ghost use Rattle.fr_ways.specs.Ways.{IsInRange};
+
+use crate::fault::WaysFault;
+use crate::kept::Spare;
+use crate::range::first_outside;
+use crate::search::find_cycle;
+use crate::table::WayTable;
+use std::alloc::{AllocError, Global};
+
+/// Nodes, and a list of ways for each of them: what a controller pushes in one phase.
+#[derive(Debug, Drop)]
+pub struct Pushes {
+    /// The nodes that get a list, in the order in which to push.
+    pub nodes: Vec<u32>,
+    /// The list of each of these nodes, in the same order.
+    pub lists: WayTable,
+}
+
+impl Pushes {
+    /// No pushes.
+    fn none(alloc: Global) -> Result<Pushes, AllocError>
+        ensures nodes { IfOk result (λ pushes. pushes.nodes.items ≡ []) }
+        ensures lists { IfOk result (λ pushes. pushes.lists ≡ []) }
+    {
+        Ok(Pushes {
+            nodes: Vec::new(alloc),
+            lists: WayTable::with_capacity(alloc, 0, 0)?,
+        })
+    }
+
+    /// Adds a node with its list.
+    fn add(&mut self, x: u32, list: &[u32]) -> Result<(), AllocError>
+        ensures nodes { OnOk result (self.new.nodes.items ≡ self.old.nodes.items ++ x ∷ []) }
+        ensures lists { OnOk result (self.new.lists ≡ self.old.lists ++ list.now ∷ []) }
+    {
+        self.nodes.push(x)?;
+        self.lists.push_row(list)
+    }
+}
+
+/// What to push in each of the two phases. All pushes of the first have to be confirmed before the second begins. Those
+/// of one phase can be made in any order, and at the same time ([`phase_law`](crate::laws::phase_law)).
+#[derive(Debug, Drop)]
+pub struct TwoPhases {
+    /// The first phase: the nodes that lose a way, each with the ways of the new table that it had. First those that
+    /// keep a way, by number, and then those that keep none, by number.
+    pub shrink: Pushes,
+    /// The second phase: the nodes whose new list differs from the one that they have by then, by number, each with its
+    /// new list.
+    pub grow: Pushes,
+}
+
+/// The pushes that lead from one table to another without a cycle meanwhile. A node *shrinks* if it loses a way: if a
+/// way of `old` is none of `new`. Once all such nodes have shrunk, nodes *grow* to their new lists. Lists that differ
+/// in their order alone count as growth. At each moment the table is a part of `old` or of `new`.
+///
+/// `old` can be any table, even one with cycles, or with ways that are out of range.
+///
+/// The faults are tested in this order. Fails with `Length` if the tables differ in length or are longer than
+/// 4,294,967,295 nodes; with `Range` if a way of `new` names a node that is not in the table (the first such way); with
+/// `Cycle` if `new` has a cycle; and with `Memory` if an allocation is refused. Only the search for a cycle and what
+/// follows it need memory.
+///
+/// O(n + m) time and memory.
+pub fn phases(alloc: Global, old: &WayTable, new: &WayTable) -> Result<TwoPhases, WaysFault>
+    ensures phases { IfOk result (IsPlanned old.now new.now) }
+    ensures fault { IfErr result (IsFaultOf old.now new.now) }
+{
+    if old.len() != new.len() || new.len() > u32::MAX as usize {
+        return Err(WaysFault::Length);
+    }
+    if let Some(y) = first_outside(new) {
+        return Err(WaysFault::Range(y));
+    }
+    if let Some(nodes) = find_cycle(alloc, new)? {
+        return Err(WaysFault::Cycle(nodes));
+    }
+    Ok(known_phases(alloc, old, new)?)
+}
+
+/// Does the same as [`phases`] without any test. The tables must have the same length, and all ways of `new` must name
+/// nodes. Fails with `AllocError` if an allocation is refused.
+///
+/// O(n + m) time and memory.
+pub fn known_phases(alloc: Global, old: &WayTable, new: &WayTable) -> Result<TwoPhases, AllocError>
+    requires tables { AreOneLength old.now new.now }
+    requires range { IsInRange new.now }
+    ensures { IfOk result (ArePhases old.now new.now) }
+{
+    let mut plan = Plan {
+        phases: TwoPhases {
+            shrink: Pushes::none(alloc)?,
+            grow: Pushes::none(alloc)?,
+        },
+        emptied: Vec::new(alloc),
+    };
+    let mut spare = Spare::new(alloc, new.len())?;
+    for x in 0..new.len() as u32 {
+        plan.add(old, new, x, &mut spare)?;
+    }
+    let Plan {
+        mut phases,
+        emptied,
+    } = plan;
+    add_emptied(&mut phases.shrink, &emptied)?;
+    Ok(phases)
+}
+
+/// The pushes for the nodes up to one of them.
+#[derive(Debug, Drop)]
+struct Plan {
+    phases: TwoPhases,
+    // The nodes that keep no way. They come last in the first phase.
+    emptied: Vec<u32>,
+}
+
+impl Plan {
+    /// Adds what has to be pushed to node `x`.
+    fn add(
+        &mut self,
+        old: &WayTable,
+        new: &WayTable,
+        x: u32,
+        spare: &mut Spare,
+    ) -> Result<(), AllocError>
+        requires range { IsInRange new.now }
+        requires plan { IsPlan old.now new.now x self.old }
+        requires spare { IsClear (length new.now) spare.old }
+        ensures plan { OnOk result (IsPlan old.now new.now (x + 1) self.new) }
+        ensures spare { OnOk result (IsClear (length new.now) spare.new) }
+    {
+        let was = old.row(x);
+        let now = new.row(x);
+        if !spare.loses(was, now) {
+            self.grow(x, was, now)?;
+            return Ok(());
+        }
+        spare.keep(was, now)?;
+        self.shrink(x, &spare.kept)?;
+        self.grow(x, &spare.kept, now)?;
+        Ok(())
+    }
+
+    /// Adds a node that loses ways, and keeps these.
+    fn shrink(&mut self, x: u32, kept: &[u32]) -> Result<(), AllocError>
+        ensures shrink { OnOk result (IsPushedIf (not (is_empty kept.now)) x kept.now self.old.phases.shrink
+            self.new.phases.shrink) }
+        ensures emptied { OnOk result (self.new.emptied.items
+            ≡ self.old.emptied.items ++ cond (is_empty kept.now) (x ∷ []) []) }
+        ensures grow { OnOk result (self.new.phases.grow ≡ self.old.phases.grow) }
+    {
+        if kept.is_empty() {
+            self.emptied.push(x)?;
+            return Ok(());
+        }
+        self.phases.shrink.add(x, kept)?;
+        Ok(())
+    }
+
+    /// Adds a node to the second phase, if its new ways differ from those after the first.
+    fn grow(&mut self, x: u32, after: &[u32], now: &[u32]) -> Result<(), AllocError>
+        ensures grow { OnOk result (IsPushedIf (differs after.now now.now) x now.now self.old.phases.grow
+            self.new.phases.grow) }
+        ensures shrink { OnOk result (self.new.phases.shrink ≡ self.old.phases.shrink) }
+        ensures emptied { OnOk result (self.new.emptied ≡ self.old.emptied) }
+    {
+        if after == now {
+            return Ok(());
+        }
+        self.phases.grow.add(x, now)?;
+        Ok(())
+    }
+}
+
+/// Adds nodes that keep no way.
+fn add_emptied(pushes: &mut Pushes, nodes: &[u32]) -> Result<(), AllocError>
+    ensures nodes { OnOk result (pushes.new.nodes.items ≡ pushes.old.nodes.items ++ nodes.now) }
+    ensures lists { OnOk result (pushes.new.lists ≡ pushes.old.lists ++ map (λ (x : ℕ). []) nodes.now) }
+{
+    for x in nodes {
+        pushes.add(*x, &[])?;
+    }
+    Ok(())
+}
