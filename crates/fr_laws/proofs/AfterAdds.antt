@@ -46,7 +46,7 @@ module _ (s : State) (after : IsAfterRound s) (tail head : ℕ) (first : List (�
   added_is : Points first tail head
   added_is = (listed tail head).0 (Contains-push s.links (tail, head))
 
-  still : (x : ℕ) → IsConnected s.links s.dest x → ¬ HasTurned new x
+  pub still : (x : ℕ) → IsConnected s.links s.dest x → ¬ HasTurned new x
   still = grown_still s after first new net round grows
 
   -- a head that does not turn has a path, which is none over the added link
@@ -61,7 +61,7 @@ module _ (s : State) (after : IsAfterRound s) (tail head : ℕ) (first : List (�
       (0, walk_from_path s.links s.dest head path.0 old path.1.1)
 
   -- where a link points after the round from a node that has not turned
-  new_out : (x w : ℕ) → ¬ HasTurned new x → Points new.links x w
+  pub new_out : (x w : ℕ) → ¬ HasTurned new x → Points new.links x w
       → Points s.links x w ⊎ ((x ≡ tail) × (w ≡ head) × ¬ HasTurned new head)
   new_out x w rests h =
       let out = out_still s.nodes s.dest first new net after.dest round x w rests h in

@@ -8,3 +8,4 @@ mod ChangeRounds  -- the round after a change begins with a network
 mod TurnsAfter  -- who turns in it, and who keeps its hop
 mod AfterAdds  -- whom an added link leaves alone
 mod AfterCuts  -- whom a cut link leaves alone
+mod Gaining  -- who gains a way, and where the ways of the others lead
