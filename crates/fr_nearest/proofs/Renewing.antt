@@ -1,6 +1,6 @@
 -- How an update begins, and what it leaves.
 use Rattle.std.proofs.Common.{All, Contains, List, [], arith, get_or, inl, inr, length, refl, slice_index, subst, take, ℕ, ⊎_elim}
-use Rattle.std.proofs.Common.{◌++◌, ◌+◌, ◌<◌, ◌∙◌, ◌∷◌, ◌≡◌, ◌≤◌, ◌⊎◌}
+use Rattle.std.proofs.Common.{◌++◌, ◌+◌, ◌<◌, ◌∙◌, ◌∷◌, ◌≡◌, ◌≤◌}
 use Rattle.fr_graph.proofs.Linking.{link_below}
 use Rattle.std.proofs.lemmas.Bool.{cases_lt}
 use Rattle.std.proofs.lemmas.List.{get_or_default, length_push, take_more}

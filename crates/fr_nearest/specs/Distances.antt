@@ -1,8 +1,8 @@
 -- Distances down to a destination: the fewest links that lead there, as a breadth-first search finds them (E. F. Moore,
 -- "The shortest path through a maze", 1959). Tables of distances are this project's own.
 use Rattle.std.specs.Prelude.{◌≡◌, ◌≢◌, ℕ, ◌<◌, ◌≤◌, ◌==◌, ◌↔◌, if◌then◌else◌, List, length, slice_index, Option, Some, None}
-use Rattle.std.specs.List.{All, Contains}
-use Rattle.fr_graph.specs.Links.{HasPath, IsPath, Points, end_of}
+use Rattle.std.specs.List.{Contains}
+use Rattle.fr_graph.specs.Links.{HasPath, IsPath, end_of}
 use Rattle.fr_graph.specs.Network.{Network}
 
 -- a path of k links leads from x to d, and no path is shorter

@@ -3,7 +3,7 @@ use Rattle.fr_graph.proofs.SideRows.{entry_below}
 use Rattle.fr_graph.specs.Rows.{row}
 use Rattle.fr_graph.specs.declared.first.First.{First}
 use Rattle.fr_graph.specs.declared.first.First.TheVariants.{Outward}
-use Rattle.fr_nearest.proofs.Renewing.{ListsRow, near_all, row_first, row_more}
+use Rattle.fr_nearest.proofs.Renewing.{ListsRow, near_all, row_more}
 use Rattle.fr_nearest.proofs.update.list_near.Goals as goal
 
 pub loop-w-preserved : goal.loop-w-preserved

@@ -1,4 +1,4 @@
-use Rattle.std.proofs.Common.{List, arith, length, subst, ◌∙◌, ◌≤◌, ℕ}
+use Rattle.std.proofs.Common.{List, arith, subst, ◌∙◌, ℕ}
 use Rattle.std.proofs.lemmas.List.{take_all}
 use Rattle.fr_nearest.specs.Update.{ListsTurned}
 use Rattle.fr_nearest.proofs.Renewing.{turned_more}
