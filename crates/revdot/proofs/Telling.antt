@@ -199,8 +199,8 @@ refused_told s next last number request answer rerouted text old one two new (in
           let tells_last = subst (λ (t : Option State). IsTold s request t [] rerouted) (sym back) tells in
           answered_told s last number request answer rerouted (refusal_line text) old one two new (inl (why, refused, is, unchanged)) tells_last
           (inl line) e f g)
-      | inr (inl (new, accepted, _)) ↦ absurd (not_both s request why new refused accepted)
-      | inr (inr (pushes, asked, _)) ↦ absurd (asked_not_refused s request pushes why asked refused)
+      | inr (inl (new, accepted, _, _)) ↦ absurd (not_both s request why new refused accepted)
+      | inr (inr (pushes, asked, _, _)) ↦ absurd (asked_not_refused s request pushes why asked refused)
     ]
   where
     json_here : IsJsonAnswer number s request text last
