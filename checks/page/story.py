@@ -1,6 +1,6 @@
 """The story of an input, which `revdot --page` must write between the fixed parts of a page, made in another way than by revdot.
 
-The answers of `revroute run` say which lines are accepted. The turns are made here link by link. For a larger network they follow from a search from
+The answers of `revroute run` say which lines are accepted, and those of `revroute run --json` why others are refused. The turns are made here link by link. For a larger network they follow from a search from
 the destination. The order of pushes follows from the new hops. Every answer that results is compared with the answer of `run`.
 """
 import collections
@@ -135,6 +135,13 @@ def padded(table, nodes):
     return table + ['cut'] * (nodes - len(table))
 
 
+def pushes(old, new):
+    """The answer to a request for the pushes from one table to another."""
+    count = max(len(old), len(new))
+    old, new = padded(old, count), padded(new, count)
+    return words('pushes', [f'{node}>{new[node]}' for node in push_order(old, new)])
+
+
 def words(name, items):
     return ' '.join([name, *map(str, items)])
 
@@ -153,6 +160,8 @@ def asked(request):
     name, *items = request
     if name == 'net':
         return [name, *items[:2], *texts(items[2])]
+    if name == 'pushes':
+        return [name]
     return [name, *(word for edit in items[0] for word in edit)] if name == 'batch' else request
 
 
@@ -162,6 +171,9 @@ def answered(network, request):
         return words('links', texts(network.links()))
     if request[0] == 'counts':
         return words('counts', network.counts)
+    if request[0] == 'pushes':
+        old, *wanted = [list(map(str, table)) for table in request[1:]]
+        return pushes(old, *wanted or [network.hops()])
     return words('hops', network.hops()) if request[0] == 'hops' else network.walk(request[1])
 
 
@@ -210,19 +222,19 @@ def changed(network, request):
 
 
 class Story:
-    """The story of this input, and its rounds by the numbers of their lines. `answers` are the lines of `run`."""
+    """The story of this input, and its rounds by the numbers of their lines. `answers` are the lines of `run`, and `in_json` those of `run --json`."""
 
-    def __init__(self, data, answers):
+    def __init__(self, data, answers, in_json):
         self.network, self.table, self.rounds, out = None, [], {}, []
-        given = dict(zip((number for number, _ in request_lines(data)), answers, strict=True))
+        given = dict(zip((number for number, _ in request_lines(data)), zip(answers, in_json, strict=True), strict=True))
         for number, line in enumerate(data.split(b'\n'), 1):
             if number in given:
-                out += self.block(number, line, given[number])
+                out += self.block(number, line, *given[number])
             if number % LINES_BETWEEN_STATES == 0 and self.network and self.network.nodes <= NODES:
                 out += ['state', *state_of(self.network)]
         self.text = ''.join(line + '\n' for line in out)
 
-    def block(self, number, line, answer):
+    def block(self, number, line, answer, in_json):
         """The lines of the story for a line that is not blank."""
         out = [f'line {number}', answer]
         if answer in NO_REQUEST:
@@ -230,7 +242,7 @@ class Story:
         request = json.loads(line)
         out.append(words('asks', asked(request)))
         if answer.startswith('refused'):
-            return out
+            return [*out, f'refusal {in_json}']
         before = None if request[0] == 'net' else self.network.links() if answer.startswith('turned') else None
         self.network = changed(self.network, request)
         if answer.startswith('turned'):
@@ -244,6 +256,6 @@ class Story:
         return out
 
 
-def story(data, answers):
-    """The story of this input. `answers` are the lines of `run`."""
-    return Story(data, answers).text
+def story(data, answers, in_json):
+    """The story of this input. `answers` are the lines of `run`, and `in_json` those of `run --json`."""
+    return Story(data, answers, in_json).text

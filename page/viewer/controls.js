@@ -9,7 +9,8 @@ function show(step, keep) {
   const state = drawn ? stateOf(round, turn, push) : null, net = by('net'), none = by('none');
   const changes = drawn && block.own && state.hops ? changedHops(round) : [];
   const news = push ? pushesOf(round).slice(0, push - 1) : changes;
-  const walk = walkOf(block), isNetwork = walk.length > 0 && block.asks.startsWith('net ');
+  // The cycle of a new network, and the loop of a table, are not in the network that is drawn.
+  const cycle = cycleOf(block), isApart = cycle.length > 0 && /^(net |pushes$)/.test(block.asks);
   net.toggleAttribute('hidden', !drawn);
   none.toggleAttribute('hidden', Boolean(drawn));
   mark(net, {'data-line': block.line, 'data-turn': block.own ? turn : 0, 'data-push': push});
@@ -23,14 +24,14 @@ function show(step, keep) {
       fit();
     } else if (isNew && camera.isFitted) fit();
     mark(net, {'aria-label': 'A network of ' + round.nodes + ' nodes, destination ' + round.home});
-    drawLinks(view, round, state, way, push ? state.loop : isNetwork ? [] : walk);
+    drawLinks(view, round, state, way, push ? state.loop : isApart ? [] : cycle);
     drawNodes(view, round, state, way, news);
     const moved = state.sink ?? state.node;
     if (moved !== null && moved < round.nodes) keepInSight(view, moved);
   } else
     none.textContent = !round ? 'There is no network yet.' :
                                 'This network is larger than a page shows (256 nodes). The answers are in the list.';
-  drawRing(isNetwork ? walk : []);
+  drawRing(isApart ? cycle : []);
   tellNode(round, state);
   tellStep(block, turn, state, changes);
   currentButton(at);

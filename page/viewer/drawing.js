@@ -113,9 +113,9 @@ function arrow(view, group, shape, tail, head, kinds) {
   return g;
 }
 
-// The closed walk of a network that is refused, where it is short: its nodes in a circle.
-function drawRing(walk) {
-  const ring = by('ring'), nodes = walk.slice(1), isDrawn = nodes.length > 0 && nodes.length <= 24,
+// The cycle of a network that is refused, or the loop of a table, where it is short: its nodes in a circle.
+function drawRing(cycle) {
+  const ring = by('ring'), nodes = cycle.slice(1), isDrawn = nodes.length > 0 && nodes.length <= 24,
         far = Math.max(46, 9 * nodes.length);
   ring.toggleAttribute('hidden', !isDrawn);
   ring.replaceChildren();
@@ -124,12 +124,10 @@ function drawRing(walk) {
   nodes.forEach((node, at) => {
     view.place[node] = [wide / 2 + far * Math.sin(at * turn), wide / 2 - far * Math.cos(at * turn)];
   });
-  mark(ring, {
-    viewBox: '0 0 ' + wide + ' ' + wide,
-    width: Math.min(wide, 300),
-    'aria-label': 'The closed walk ' + walk.join(' ')
-  });
-  for (const [tail, head] of [...stepsOf(walk)].map(linkOf)) {
+  mark(
+      ring,
+      {viewBox: '0 0 ' + wide + ' ' + wide, width: Math.min(wide, 300), 'aria-label': 'The nodes ' + cycle.join(' ')});
+  for (const [tail, head] of [...stepsOf(cycle)].map(linkOf)) {
     arrow(view, ring, {a: tail, b: head, bend: 0}, tail, head, 'link closed asked');
   }
   for (const node of nodes) {

@@ -38,13 +38,14 @@ function tellStep(block, turn, state, news) {
            !block.own   ? 'a question; the network stays as it was.' :
            !round.drawn ? 'only the answer is shown.' :
                           roundText(round, turn, state));
-  const request = requestOf(block), walk = walkOf(block);
+  const request = requestOf(block), cycle = cycleOf(block);
   by('request').textContent = short(request);
   mark(by('request'), {'data-request': request});
   by('answer').textContent = block.answer;
-  by('more').textContent =
-      (refusal ? 'Refused: ' + refusal + '.' : '') + (walk.length ? ' The cycle: ' + walk.join(' ') + '.' : '');
-  mark(by('more'), {'data-closed': walk.length ? walk.join(' ') : null});
+  const name = block.asks === 'pushes' ? 'loop' : 'cycle';
+  by('more').textContent = (refusal ? 'Refused: ' + refusal + '.' : '') +
+      (cycle.length ? ' The ' + name + ': ' + cycle.join(' ') + '.' : '');
+  mark(by('more'), {'data-closed': cycle.length ? cycle.join(' ') : null});
   const change = node => changeText(node, round.before.hops[node], round.hops[node]);
   by('changed').textContent =
       news.length ? 'Next hops that the round changed, in push order: ' + news.map(change).join(', ') + '.' : '';

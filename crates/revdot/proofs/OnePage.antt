@@ -8,16 +8,19 @@ use Rattle.fr_lines.specs.declared.requests.Question.TheVariants.{Links, Counts,
 use Rattle.fr_route.specs.Blank.{is_blank}
 use Rattle.fr_route.specs.States.{State}
 use Rattle.fr_graph.specs.Network.{Network}
-use Rattle.fr_route.proofs.Determined.{answer_unique, asked_not_accepted, hops_unique, line_unique, not_both}
+use Rattle.fr_route.proofs.AnsweredIn.{refusal_unique}
+use Rattle.fr_route.proofs.Determined.{answer_unique, asked_not_accepted, asked_not_refused, hops_unique, line_unique, not_both}
 use Rattle.fr_route.proofs.OneTelling.{line_told_unique}
+use Rattle.fr_route.proofs.Replying.{refused_by}
+use Rattle.fr_route.specs.Json.{PlainRefusal, refusal_json}
 use Rattle.fr_route.specs.Told.{IsLineTold}
 use Rattle.fr_bytes.specs.Lines.{lines_of}
 use Rattle.revdot.specs.Pages.{IsPage}
 use Rattle.revdot.specs.Asked.{asked_text}
 use Rattle.revdot.specs.Changes.{pushes_line}
-use Rattle.revdot.specs.Stories.{AreBlocks, AreSettledLines, HasBegun, HasLineBegun, IsAnswerLine, IsAnsweredBlock, IsBlock}
-use Rattle.revdot.specs.Stories.{IsMark, IsResult, IsRoundStory, IsStep, IsToldRound, IsTurnByTurn, answer_text, is_marked}
-use Rattle.revdot.specs.Stories.{is_told, line_before, most_told_turns, net_text, turns_line}
+use Rattle.revdot.specs.Stories.{AreBlocks, AreSettledLines, IsAnswerLine, IsAnsweredBlock, IsBlock, IsLineSequel, IsMark}
+use Rattle.revdot.specs.Stories.{IsRefusalLine, IsResult, IsRoundStory, IsSequel, IsStep, IsToldRound, IsTurnByTurn, answer_text}
+use Rattle.revdot.specs.Stories.{is_marked, is_told, makes_round, most_told_turns, net_before, net_text, refusal_line, turns_line}
 use Rattle.revdot.specs.Strips.{beginning}
 use Rattle.revdot.proofs.OneDrawing.{all_turns_unique}
 
@@ -65,20 +68,29 @@ round_story_unique true before (Some s) rerouted a b h k =
 round_story_unique true before None rerouted a b h k = h ∙ sym k
 round_story_unique false before s rerouted a b h k = h ∙ sym k
 
-begun_unique : (s : Option State) (request : PlainRequest) (a b : Bool) → HasBegun s request a → HasBegun s request b → a ≡ b
-begun_unique s request a b (inl (j, h, e)) (inl (k, g, f)) = e ∙ sym f
-begun_unique s request a b (inl (j, h, e)) (inr (inl (n, g, f))) = absurd (not_both s request j n h g)
-begun_unique s request a b (inl (j, h, e)) (inr (inr (n, g, f))) = e ∙ sym f
-begun_unique s request a b (inr (inl (m, h, e))) (inl (k, g, f)) = absurd (not_both s request k m g h)
-begun_unique s request a b (inr (inl (m, h, e))) (inr (inl (n, g, f))) = e ∙ sym f
-begun_unique s request a b (inr (inl (m, h, e))) (inr (inr (n, g, f))) = absurd (asked_not_accepted s request n m g h)
-begun_unique s request a b (inr (inr (m, h, e))) (inl (k, g, f)) = e ∙ sym f
-begun_unique s request a b (inr (inr (m, h, e))) (inr (inl (n, g, f))) = absurd (asked_not_accepted s request m n h g)
-begun_unique s request a b (inr (inr (m, h, e))) (inr (inr (n, g, f))) = e ∙ sym f
+refusal_line_unique : (s : Option State) (number : ℕ) (request : PlainRequest) (a b : List ℕ) → IsRefusalLine s number request a
+    → IsRefusalLine s number request b → a ≡ b
+refusal_line_unique s number request a b h k =
+    let same : h.0 ≡ k.0 = refusal_unique s request h.0 k.0 h.1 k.1 in
+    h.2 ∙ (ap (λ (refusal : PlainRefusal). refusal_line (refusal_json refusal number)) same ∙ sym k.2)
 
-line_begun_unique : (s : Option State) (asked : Result PlainRequest LineFault) (a b : Bool) → HasLineBegun s asked a → HasLineBegun s asked b → a ≡ b
-line_begun_unique s (Ok request) a b h k = begun_unique s request a b h k
-line_begun_unique s (Err fault) a b h k = h ∙ sym k
+sequel_unique : (s : Option State) (number : ℕ) (request : PlainRequest) (next : Option State) (rerouted a b : List ℕ)
+    → IsSequel s number request next rerouted a → IsSequel s number request next rerouted b → a ≡ b
+sequel_unique s number request next rerouted a b (inl h) (inl k) = refusal_line_unique s number request a b h k
+sequel_unique s number request next rerouted a b (inl h) (inr (inl (n, g, f))) = absurd (not_both s request h.0.number n (refused_by s request h.0 h.1) g)
+sequel_unique s number request next rerouted a b (inl h) (inr (inr (n, g, f))) = absurd (asked_not_refused s request n h.0.number g (refused_by s request h.0 h.1))
+sequel_unique s number request next rerouted a b (inr (inl (m, h, e))) (inl k) = absurd (not_both s request k.0.number m (refused_by s request k.0 k.1) h)
+sequel_unique s number request next rerouted a b (inr (inl (m, h, e))) (inr (inl (n, g, f))) =
+    round_story_unique (makes_round request) (net_before s request) next rerouted a b e f
+sequel_unique s number request next rerouted a b (inr (inl (m, h, e))) (inr (inr (n, g, f))) = absurd (asked_not_accepted s request n m g h)
+sequel_unique s number request next rerouted a b (inr (inr (m, h, e))) (inl k) = absurd (asked_not_refused s request m k.0.number h (refused_by s request k.0 k.1))
+sequel_unique s number request next rerouted a b (inr (inr (m, h, e))) (inr (inl (n, g, f))) = absurd (asked_not_accepted s request m n h g)
+sequel_unique s number request next rerouted a b (inr (inr (m, h, e))) (inr (inr (n, g, f))) = e ∙ sym f
+
+line_sequel_unique : (s : Option State) (number : ℕ) (asked : Result PlainRequest LineFault) (next : Option State) (rerouted a b : List ℕ)
+    → IsLineSequel s number asked next rerouted a → IsLineSequel s number asked next rerouted b → a ≡ b
+line_sequel_unique s number (Ok request) next rerouted a b h k = sequel_unique s number request next rerouted a b h k
+line_sequel_unique s number (Err fault) next rerouted a b h k = h ∙ sym k
 
 answered_unique : (s : Option State) (number : ℕ) (asked : Result PlainRequest LineFault) (a b : List ℕ) (p q : Option State)
     → IsAnsweredBlock s number asked a p → IsAnsweredBlock s number asked b q → (a ≡ b) × (p ≡ q)
@@ -86,10 +98,8 @@ answered_unique s number asked a b p q h k =
     let one = line_unique s asked h.answer k.answer p q h.is_answer k.is_answer in
     let are_rerouted = subst (λ (t : Option State). IsLineTold s asked t [] h.rerouted) one.1 h.are_rerouted in
     let same : h.rerouted ≡ k.rerouted = line_told_unique s asked q [] h.rerouted k.rerouted are_rerouted k.are_rerouted in
-    let began : h.began ≡ k.began = line_begun_unique s asked h.began k.began h.has_begun k.has_begun in
-    let before = line_before s asked in
-    let of_round : IsRoundStory k.began before q k.rerouted h.told = rw (← began, ← one.1, ← same) h.of_round in
-    let told : h.told ≡ k.told = round_story_unique k.began before q k.rerouted h.told k.told of_round k.of_round in
+    let is_sequel : IsLineSequel s number asked q k.rerouted h.told = rw (← one.1, ← same) h.is_sequel in
+    let told : h.told ≡ k.told = line_sequel_unique s number asked q k.rerouted h.told k.told is_sequel k.is_sequel in
     let texts : answer_text number h.answer ++ (asked_text asked ++ h.told) ≡ answer_text number k.answer ++ (asked_text asked ++ k.told) =
     (λ i. answer_text number (one.0 i) ++ (asked_text asked ++ told i)) in
     (h.text ∙ (texts ∙ sym k.text), one.1)

@@ -2,6 +2,7 @@
 use Rattle.std.proofs.Common.{◌≡◌, ◌∙◌, ℕ, ◌+◌, ◌≤◌, List, [], ◌∷◌, ◌++◌, length, ap, append_assoc, append-nil, arith, Option, None, Some, true}
 use Rattle.std.proofs.Common.{Bool, false, inl, inr, not, refl, rules, subst, sym, ◌&&◌}
 use Rattle.std.specs.List.{starts_with}
+use Rattle.std.proofs.lemmas.Bool.{both_ways}
 use Rattle.fr_graph.specs.Network.{Network}
 use Rattle.fr_route.specs.Pushing.{AreAsked}
 use Rattle.fr_route.specs.Routes.{AreHops}
@@ -10,19 +11,22 @@ use Rattle.fr_tables.specs.declared.hop.Hop.{Hop}
 use Rattle.fr_bytes.specs.Lines.{lines_of}
 use Rattle.fr_bytes.proofs.Ending.{few_lines}
 use Rattle.std.specs.Prelude.{Err, Ok, codes, eqb}
-use Rattle.fr_lines.specs.declared.requests.Question.TheVariants.{Links, Counts, Hops}
+use Rattle.fr_lines.specs.declared.requests.Question.TheVariants.{Links, Counts, Hops, Ways}
+use Rattle.fr_lines.specs.declared.requests.NodeQuestion.TheVariants as node
 use Rattle.fr_lines.specs.declared.requests.LineFault.{LineFault}
 use Rattle.fr_lines.specs.Requests.{PlainRequest, new_network, cut_link, add_link, join_nodes, make_edits, move_dest, walk_from, ask, ask_node, order_pushes, reading}
 use Rattle.fr_route.specs.Answers.{IsAnswer, IsLineAnswer, IsText}
 use Rattle.fr_route.specs.Blank.{is_blank}
+use Rattle.fr_route.specs.Json.{IsJsonAnswer}
 use Rattle.fr_route.specs.Texts.{refusal_text}
 use Rattle.fr_route.specs.Told.{IsTold}
 use Rattle.revdot.specs.Asked.{asked_text}
 use Rattle.revdot.specs.Changes.{pushes_line}
-use Rattle.revdot.specs.Stories.{AreBlocks, AreSettledLines, HasBegun, IsAnswerLine, IsAnsweredBlock, IsBlock, IsMark, IsResult}
-use Rattle.revdot.specs.Stories.{IsRoundStory, IsStep, IsStory, IsTurnByTurn, answer_text, is_told, makes_round}
-use Rattle.revdot.specs.Stories.{most_told_turns, net_before, net_text, turns_line}
+use Rattle.revdot.specs.Stories.{AreBlocks, AreSettledLines, IsAnswerLine, IsAnsweredBlock, IsBlock, IsMark, IsRefusalLine, IsResult}
+use Rattle.revdot.specs.Stories.{IsRoundStory, IsSequel, IsStep, IsStory, IsTurnByTurn, answer_text, is_told, makes_round}
+use Rattle.revdot.specs.Stories.{most_told_turns, net_before, net_text, refusal_line, turns_line}
 use Rattle.revdot.specs.Strips.{AreAllTurns, beginning}
+use Rattle.fr_route.proofs.Determined.{asked_not_refused, not_both}
 use Rattle.revdot.proofs.Beginnings.{begins}
 
 -- three texts that were added one by one
@@ -127,19 +131,25 @@ round_told before s session turns left rerouted hops old one two more new some s
     let in_session = subst (λ (t : Option State). IsRoundStory true before t rerouted (net ++ rest)) some story in
     (net ++ rest, in_session, three old net (turns_line turns) (left ++ pushes) one two new e f end)
 
--- a report is not a refusal
+-- the answer to an accepted request is not a refusal
 no_refusal : (s : State) (request : PlainRequest) (answer : List ℕ) → IsText s request answer
-    → (makes_round request && not (starts_with eqb answer (codes "refused"))) ≡ makes_round request
+    → starts_with eqb answer (codes "refused") ≡ false
 no_refusal s (new_network n d links) answer is = rw is.3 refl
 no_refusal s (cut_link u v) answer is = rw is.3 refl
 no_refusal s (add_link u v) answer is = rw is.3 refl
 no_refusal s (join_nodes u v) answer is = rw is.3 refl
 no_refusal s (make_edits edits) answer is = rw is.3 refl
 no_refusal s (move_dest d) answer is = rw is.3 refl
-no_refusal s (walk_from x) answer is = refl
-no_refusal s (ask question) answer is = refl
-no_refusal s (ask_node question x) answer is = refl
-no_refusal s (order_pushes table wanted) answer is = refl
+no_refusal s (walk_from x) answer (inl is) = rw is.2 refl
+no_refusal s (walk_from x) answer (inr is) = rw is.1 refl
+no_refusal s (ask Links) answer is = rw is refl
+no_refusal s (ask Counts) answer is = rw is refl
+no_refusal s (ask Hops) answer is = rw is.2 refl
+no_refusal s (ask Ways) answer is = rw is.2 refl
+no_refusal s (ask_node node.Ways x) answer is = rw is.2 refl
+no_refusal s (ask_node node.Nearest x) answer (inl is) = rw is.2 refl
+no_refusal s (ask_node node.Nearest x) answer (inr is) = rw is.1 refl
+no_refusal s (order_pushes table wanted) answer is = absurd is
 
 -- pushes between tables begin no round
 asked_no_round : (s : Option State) (request : PlainRequest) (pushes : List (ℕ × Hop)) → AreAsked s request pushes → makes_round request ≡ false
@@ -154,51 +164,67 @@ asked_no_round s (ask question) pushes asked = absurd asked
 asked_no_round s (ask_node question x) pushes asked = absurd asked
 asked_no_round s (order_pushes table wanted) pushes asked = refl
 
-none_begun : (request : PlainRequest) → (makes_round request && false) ≡ false
-none_begun request = search rules
+-- what follows an answer that is not a refusal: the round, if the request makes one
+pub round_follows : (s next : Option State) (number : ℕ) (request : PlainRequest) (answer rerouted told : List ℕ) → IsAnswer s request answer next
+    → starts_with eqb answer (codes "refused") ≡ false → IsRoundStory (makes_round request) (net_before s request) next rerouted told
+    → IsSequel s number request next rerouted told
+round_follows s next number request answer rerouted told (inl (why, refused, is, same)) e round =
+    absurd (both_ways (starts_with eqb answer (codes "refused")) e (rw is refl))
+round_follows s next number request answer rerouted told (inr (inl (new, accepted, is, same))) e round = inr (inl (new, accepted, round))
+round_follows s next number request answer rerouted told (inr (inr (pushes, asked, is, same))) e round =
+    inr (inr (pushes, asked, rw (asked_no_round s request pushes asked) at round))
 
--- whether a request began a round, from its kind and its answer
-pub begun_by : (s next : Option State) (request : PlainRequest) (answer : List ℕ) (began : Bool) → IsAnswer s request answer next
-    → began ≡ (makes_round request && not (starts_with eqb answer (codes "refused"))) → HasBegun s request began
-begun_by s next request answer began (inl (number, refused, is, same)) e = inl (number, refused, e ∙ rw is (none_begun request))
-begun_by s next request answer began (inr (inl (new, accepted, is, same))) e = inr (inl (new, accepted, e ∙ no_refusal new request answer is))
-begun_by s next request answer began (inr (inr (pushes, asked, is, same))) e = inr (inr (
-  pushes,
-  asked,
-  e ∙ ap (λ (b : Bool). b && not (starts_with eqb answer (codes "refused"))) (asked_no_round s request pushes asked),
-))
-
--- the answer to a request, what it asks, and its round
-pub answered_told : (s next : Option State) (number : ℕ) (request : PlainRequest) (began : Bool) (answer rerouted told old one two new : List ℕ)
-    → IsAnswer s request answer next → IsTold s request next [] rerouted → HasBegun s request began
-    → IsRoundStory began (net_before s request) next rerouted told
+-- the answer to a request, what it asks, and what follows
+pub answered_told : (s next : Option State) (number : ℕ) (request : PlainRequest) (answer rerouted told old one two new : List ℕ)
+    → IsAnswer s request answer next → IsTold s request next [] rerouted → IsSequel s number request next rerouted told
     → one ≡ old ++ answer_text number answer → two ≡ one ++ asked_text (Ok request) → new ≡ two ++ told
     → (block : List ℕ) × IsAnsweredBlock s number (Ok request) block next × (new ≡ old ++ block)
-answered_told s next number request began answer rerouted told old one two new is_answer are_rerouted has_begun of_round e f g =
+answered_told s next number request answer rerouted told old one two new is_answer are_rerouted is_sequel e f g =
     let answered : IsAnsweredBlock s number (Ok request) (answer_text number answer ++ (asked_text (Ok request) ++ told)) next = record {
       answer = answer;
       is_answer = is_answer;
       rerouted = rerouted;
       are_rerouted = are_rerouted;
-      began = began;
-      has_begun = has_begun;
       told = told;
-      of_round = of_round;
+      is_sequel = is_sequel;
       text = refl;
     } in
     (_, answered, three old (answer_text number answer) (asked_text (Ok request)) told one two new e f g)
 
+-- the same for a refused request, whose answer in JSON changes nothing
+pub refused_told : (s next last : Option State) (number : ℕ) (request : PlainRequest) (answer rerouted text old one two new : List ℕ)
+    → IsAnswer s request answer next → IsTold s request next [] rerouted → starts_with eqb answer (codes "refused") ≡ true
+    → IsJsonAnswer number next request text last
+    → one ≡ old ++ answer_text number answer → two ≡ one ++ asked_text (Ok request) → new ≡ two ++ refusal_line text
+    → (block : List ℕ) × IsAnsweredBlock s number (Ok request) block last × (new ≡ old ++ block)
+refused_told s next last number request answer rerouted text old one two new (inl (why, refused, is, same)) tells starts json e f g =
+    elim json_here [
+      | inl (refusal, is_refusal, is_text, unchanged) ↦
+          (let line : IsRefusalLine s number request (refusal_line text) = (refusal, is_refusal, ap refusal_line is_text) in
+          let back : last ≡ next = unchanged ∙ sym same in
+          let tells_last = subst (λ (t : Option State). IsTold s request t [] rerouted) (sym back) tells in
+          answered_told s last number request answer rerouted (refusal_line text) old one two new (inl (why, refused, is, unchanged)) tells_last
+          (inl line) e f g)
+      | inr (inl (new, accepted, _, _)) ↦ absurd (not_both s request why new refused accepted)
+      | inr (inr (pushes, asked, _, _)) ↦ absurd (asked_not_refused s request pushes why asked refused)
+    ]
+  where
+    json_here : IsJsonAnswer number s request text last
+    json_here = subst (λ (t : Option State). IsJsonAnswer number t request text last) same json
+refused_told s next last number request answer rerouted text old one two new (inr (inl (state, accepted, is, same))) tells starts json e f g =
+    absurd (both_ways (starts_with eqb answer (codes "refused")) (no_refusal state request answer is) starts)
+refused_told s next last number request answer rerouted text old one two new (inr (inr (pushes, asked, is, same))) tells starts json e f g =
+    absurd (both_ways (starts_with eqb answer (codes "refused")) (rw is refl) starts)
+
 -- the answer to a line that is not a request
-pub refused_told : (s : Option State) (fault : LineFault) (why number : ℕ) (line : List ℕ) → is_blank line ≡ false → reading line ≡ Err fault
+pub unread_told : (s : Option State) (fault : LineFault) (why number : ℕ) (line : List ℕ) → is_blank line ≡ false → reading line ≡ Err fault
     → IsLineAnswer s (Err fault) (refusal_text why) s → IsBlock s number line (answer_text number (refusal_text why)) s
-refused_told s fault why number line asks reads is_answer = rw (asks, reads) record {
+unread_told s fault why number line asks reads is_answer = rw (asks, reads) record {
   answer = refusal_text why;
   is_answer = is_answer;
   rerouted = [];
   are_rerouted = (refl, refl);
-  began = false;
-  has_begun = refl;
   told = [];
-  of_round = refl;
+  is_sequel = refl;
   text = sym (append-nil (answer_text number (refusal_text why)));
 }

@@ -1,5 +1,5 @@
--- The story of an input: the answer to each line, and each round turn by turn, with what it changed and the nodes that
--- get new hops. This project's own.
+-- The story of an input: the answer to each line, why a request was refused, and each round turn by turn, with what it
+-- changed and the nodes that get new hops. This project's own.
 use Rattle.std.specs.Prelude.{◌≡◌, ℕ, ◌+◌, ◌%◌, ◌==◌, nat_le, ◌⊎◌, ◌&&◌, Bool, true, false, List, [], ◌∷◌, ◌++◌}
 use Rattle.std.specs.Prelude.{Option, Some, None, Result, Ok, Err, MatchBool, if◌then◌else◌, codes, decimal}
 use Rattle.fr_graph.specs.Network.{Network}
@@ -7,8 +7,9 @@ use Rattle.fr_lines.specs.Requests.{PlainRequest, new_network, walk_from, ask, a
 use Rattle.fr_lines.specs.declared.requests.LineFault.{LineFault}
 use Rattle.fr_lines.specs.declared.requests.Question.{Question}
 use Rattle.fr_lines.specs.declared.requests.Question.TheVariants.{Links, Counts, Hops}
-use Rattle.fr_route.specs.Answers.{IsAccepted, IsAnswer, IsLineAnswer, IsRefused}
+use Rattle.fr_route.specs.Answers.{IsAccepted, IsAnswer, IsLineAnswer}
 use Rattle.fr_route.specs.Blank.{is_blank}
+use Rattle.fr_route.specs.Json.{IsRefusal, PlainRefusal, refusal_json}
 use Rattle.fr_route.specs.Pushing.{AreAsked}
 use Rattle.fr_route.specs.Routes.{AreHops}
 use Rattle.fr_route.specs.States.{State, net_at}
@@ -76,7 +77,7 @@ abbrev pub IsToldRound : Option Network → State → List ℕ → List ℕ → 
 IsToldRound before s rerouted out =
     MatchBool (is_told s) (IsTurnByTurn before s rerouted out) (out ≡ codes "omitted\n")
 
--- the part after an answer, for the state after it: the story of a round if the line began one
+-- the story of a round for the state after it, if the line began one
 abbrev pub IsRoundStory : Bool → Option Network → Option State → List ℕ → List ℕ → Type 0
 IsRoundStory true before (Some s) rerouted told =
     (out : List ℕ) × IsToldRound before s rerouted out × (told ≡ net_text s.nodes s.dest ++ out)
@@ -101,37 +102,41 @@ net_before (Some s) (ask_node question x) = None
 net_before (Some s) (order_pushes table wanted) = None
 net_before (Some s) request = if is_told s then Some (net_at s) else None
 
-abbrev pub line_before : Option State → Result PlainRequest LineFault → Option Network
-line_before s (Ok request) = net_before s request
-line_before s (Err fault) = None
+-- the answer in JSON to a request that is refused, as a line
+abbrev pub refusal_line : List ℕ → List ℕ
+refusal_line refusal = codes "refusal " ++ (refusal ++ codes "\n")
 
--- whether a request began a round: it was accepted, and is a network or a change
-abbrev pub HasBegun : Option State → PlainRequest → Bool → Type 0
-HasBegun s request began =
-    ((number : ℕ) × IsRefused s request number × (began ≡ false))
-    ⊎ (((new : State) × IsAccepted s request new × (began ≡ makes_round request))
-    ⊎ ((pushes : List (ℕ × Hop)) × AreAsked s request pushes × (began ≡ false)))
+-- the request of the line with this number is refused, and this line names the fault and the nodes that show it
+abbrev pub IsRefusalLine : Option State → ℕ → PlainRequest → List ℕ → Type 0
+IsRefusalLine s number request out =
+    (refusal : PlainRefusal) × IsRefusal s request refusal × (out ≡ refusal_line (refusal_json refusal number))
+
+-- the part after an answer, for the state after it: why the request was refused, or the round that it began
+abbrev pub IsSequel : Option State → ℕ → PlainRequest → Option State → List ℕ → List ℕ → Type 0
+IsSequel s number request next rerouted told =
+    IsRefusalLine s number request told
+    ⊎ (((new : State) × IsAccepted s request new
+    × IsRoundStory (makes_round request) (net_before s request) next rerouted told)
+    ⊎ ((pushes : List (ℕ × Hop)) × AreAsked s request pushes × (told ≡ [])))
 
 -- the same for a line that was read with this result
-abbrev pub HasLineBegun : Option State → Result PlainRequest LineFault → Bool → Type 0
-HasLineBegun s (Ok request) began = HasBegun s request began
-HasLineBegun s (Err fault) began = began ≡ false
+abbrev pub IsLineSequel : Option State → ℕ → Result PlainRequest LineFault → Option State → List ℕ → List ℕ → Type 0
+IsLineSequel s number (Ok request) next rerouted told = IsSequel s number request next rerouted told
+IsLineSequel s number (Err fault) next rerouted told = told ≡ []
 
 -- the number of a line, and its answer
 abbrev pub answer_text : ℕ → List ℕ → List ℕ
 answer_text number answer = codes "line " ++ (decimal number ++ (codes "\n" ++ (answer ++ codes "\n")))
 
--- the story of a line that is not blank: its answer, what it asks, and its round if it began one
+-- the story of a line that is not blank: its answer, what it asks, and what follows from it
 pub record IsAnsweredBlock (s : Option State) (number : ℕ) (asked : Result PlainRequest LineFault) (block : List ℕ)
     (next : Option State) : Type 0 where
   pub answer : List ℕ
   pub is_answer : IsLineAnswer s asked answer next
   pub rerouted : List ℕ
   pub are_rerouted : IsLineTold s asked next [] rerouted
-  pub began : Bool
-  pub has_begun : HasLineBegun s asked began
   pub told : List ℕ
-  pub of_round : IsRoundStory began (line_before s asked) next rerouted told
+  pub is_sequel : IsLineSequel s number asked next rerouted told
   pub text : block ≡ answer_text number answer ++ (asked_text asked ++ told)
 
 -- the story of a line, and the state after it: nothing for a blank line

@@ -2,7 +2,6 @@
 
 ghost use Rattle.std.specs.Prelude.{◌≡◌, ◌++◌, ℕ, List, length, map, IfOk, OnOk, string_bytes};
 ghost use Rattle.std.specs.List.{range_with_len};
-ghost use Rattle.fr_route.specs.Routes.{AreHops};
 ghost use Rattle.revdot.specs.Settled.{node_look, link_look, settled_node, settled_link, IsGraphOf};
 
 use crate::graphs::{DrawnLink, DrawnNode, LinkLook, NodeLook, push_graph};
@@ -14,21 +13,10 @@ pub fn push_settled(text: &mut String, alloc: Global, router: &Router) -> Result
     ensures { OnOk result ((graph : List ℕ) × IsGraphOf router.now graph
         × (string_bytes text.new ≡ string_bytes text.old ++ graph)) }
 {
-    let hops = hops_of(alloc, router)?;
-    let nodes = settled_nodes(alloc, router, &hops)?;
-    let links = settled_links(alloc, router, &hops)?;
+    let hops = router.hops();
+    let nodes = settled_nodes(alloc, router, hops)?;
+    let links = settled_links(alloc, router, hops)?;
     push_graph(text, None, router.dest(), &nodes, &links)
-}
-
-/// The hop of each node.
-fn hops_of(alloc: Global, router: &Router) -> Result<Vec<Hop>, AllocError>
-    ensures { IfOk result (λ hops. AreHops router.now router.now.nodes hops.items) }
-{
-    let mut hops = Vec::new(alloc);
-    for x in 0..router.net().nodes() {
-        hops.push(router.next_hop(x))?;
-    }
-    Ok(hops)
 }
 
 /// The nodes, in order.

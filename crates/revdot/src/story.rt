@@ -1,12 +1,13 @@
-//! The story of an input: the answer to each line, and each round turn by turn, with what it changed and the nodes that
-//! get new hops.
+//! The story of an input: the answer to each line, why a request was refused, and each round turn by turn, with what it
+//! changed and the nodes that get new hops.
 
-ghost use Rattle.std.specs.Prelude.{◌≡◌, ◌++◌, ◌&&◌, ℕ, IfOk, List, Ok, OnOk, codes, eqb, not, string_bytes};
-ghost use Rattle.std.specs.List.{starts_with};
-ghost use Rattle.fr_lines.specs.Requests.{plain};
+ghost use Rattle.std.specs.Prelude.{◌≡◌, ◌++◌, ℕ, IfOk, List, Ok, OnOk, codes, string_bytes};
+ghost use Rattle.fr_lines.specs.Requests.{plain, reading};
+ghost use Rattle.fr_route.specs.Json.{IsJsonLineAnswer};
 ghost use Rattle.fr_route.specs.Refusals.{number_of};
 ghost use Rattle.fr_route.specs.Texts.{refusal_text};
-ghost use Rattle.revdot.specs.Stories.{IsAnsweredBlock, IsBlock, IsMark, IsStep, IsStory, answer_text, makes_round};
+ghost use Rattle.revdot.specs.Stories.{IsAnsweredBlock, IsBlock, IsMark, IsStep, IsStory, answer_text, refusal_line};
+ghost use Rattle.revdot.specs.Stories.{makes_round as makes_round_of};
 ghost use Rattle.revdot.specs.Stories.{is_marked as is_marked_at, net_before as net_before_of};
 
 use crate::asked::push_asked;
@@ -14,7 +15,7 @@ use crate::rounds::{is_told, push_round, push_settled_lines};
 use fr_bytes::Lines;
 use fr_graph::Net;
 use fr_lines::{LineFault, Request, read_line};
-use fr_route::{Reason, Session, is_blank};
+use fr_route::{Form, Line, Reason, Session, is_blank};
 use std::alloc::{AllocError, Global};
 use std::fmt::Write;
 
@@ -92,31 +93,39 @@ fn push_line(
         return Ok(());
     }
     match read_line(alloc, line) {
-        Ok(request) => push_answered(story, alloc, session, number, &request),
-        Err(LineFault::NotJson) => push_refusal(story, number, Reason::NotJson),
-        Err(LineFault::NotRequest) => push_refusal(story, number, Reason::NotRequest),
+        Ok(request) => {
+            let line = Line {
+                number,
+                bytes: line,
+            };
+            push_answered(story, alloc, session, line, &request)
+        }
+        Err(LineFault::NotJson) => push_unread(story, number, Reason::NotJson),
+        Err(LineFault::NotRequest) => push_unread(story, number, Reason::NotRequest),
         Err(LineFault::Memory) => Err(AllocError),
     }
 }
 
 /// Appends the number of a line that is not a request, and its answer.
-fn push_refusal(story: &mut String, number: u64, refusal: Reason) -> Result<(), AllocError>
+fn push_unread(story: &mut String, number: u64, refusal: Reason) -> Result<(), AllocError>
     ensures { OnOk result (string_bytes story.new
         ≡ string_bytes story.old ++ answer_text number (refusal_text (number_of refusal))) }
 {
     writeln!(story, "line {number}\nrefused {}", refusal.number())
 }
 
-/// Appends the number of a line, the answer to its request, what it asks, and its round if it began one.
+/// Appends the number of a line, the answer to its request, what it asks, and why it was refused or the round that it
+/// began.
 fn push_answered(
     story: &mut String,
     alloc: Global,
     session: &mut Session,
-    number: u64,
+    line: Line<'_>,
     request: &Request,
 ) -> Result<(), AllocError>
+    requires { reading line.bytes.now ≡ Ok (plain request.now) }
     ensures { OnOk result ((block : List ℕ)
-        × IsAnsweredBlock session.old number (Ok (plain request.now)) block session.new
+        × IsAnsweredBlock session.old line.entry.number (Ok (plain request.now)) block session.new
         × (string_bytes story.new ≡ string_bytes story.old ++ block)) }
 {
     let before = net_before(alloc, session, request)?;
@@ -124,26 +133,49 @@ fn push_answered(
     let Ok(answer) = session.answer_telling_alone(alloc, request, &mut rerouted) else {
         return Err(AllocError);
     };
+    let number = line.number;
     writeln!(story, "line {number}\n{answer}")?;
     push_asked(story, request)?;
-    if has_begun(request, &answer) {
+    if answer.starts_with("refused") {
+        push_refusal(story, alloc, session, line)
+    } else if makes_round(request) {
         push_round(story, alloc, before.net.as_ref(), session, &rerouted)
     } else {
         Ok(())
     }
 }
 
-/// Whether a request began a round: it is a network or a change, and was not refused.
-fn has_begun(request: &Request, answer: &str) -> bool
-    ensures { result ≡ (makes_round (plain request.now) && not (starts_with eqb answer.now (codes "refused"))) }
+/// Appends the answer in JSON to a line that the session refuses. It names the nodes that show the fault.
+fn push_refusal(
+    story: &mut String,
+    alloc: Global,
+    session: &mut Session,
+    line: Line<'_>,
+) -> Result<(), AllocError>
+    ensures { OnOk result ((refusal : List ℕ) × IsJsonLineAnswer line.entry.number session.old
+        (reading line.entry.bytes.now) refusal session.new
+        × (string_bytes story.new ≡ string_bytes story.old ++ refusal_line refusal)) }
 {
-    match request {
+    let mut unused = Vec::new(alloc);
+    // A blank line has no answer, and never comes here.
+    let Ok(Some(refusal)) = session.answer_line_in_alone(alloc, Form::Json, line, &mut unused)
+    else {
+        return Err(AllocError);
+    };
+    writeln!(story, "refusal {}", refusal.text)
+}
+
+/// Whether a request begins a round if it is accepted: it is a network or a change.
+fn makes_round(request: &Request) -> bool
+    ensures { result ≡ makes_round_of (plain request.now) }
+{
+    !matches!(
+        request,
         Request::Walk { .. }
-        | Request::Ask(_)
-        | Request::AskNode { .. }
-        | Request::Pushes { .. } => false,
-        _ => !answer.starts_with("refused"),
-    }
+            | Request::Ask(_)
+            | Request::AskNode { .. }
+            | Request::Pushes { .. }
+    )
 }
 
 /// What a request may change.

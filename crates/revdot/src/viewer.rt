@@ -195,16 +195,17 @@ function mark(element, attributes) {
 }
 // The story of a page, read: its lines, their requests and answers, and what each round changed.
 
+// What is wrong with a line that is refused, by the number of the refusal. The engine names the nodes.
 const faults = {
-  1: 'the line is no JSON, or nests too deep',
-  2: 'the value is no request',
-  3: 'there is no network yet',
-  4: 'the end of a link is no node',
-  5: 'a link joins a node with itself',
-  6: 'two links join the same nodes',
-  7: 'the links contain a cycle',
-  8: 'there is no link between the two nodes',
-  9: 'more nodes, links or edits than the limits'
+  1: () => 'the line is no JSON, or nests too deep',
+  2: () => 'the value is no request',
+  3: () => 'there is no network yet',
+  4: node => node + ' is not a node',
+  5: node => 'a link joins node ' + node + ' with itself',
+  6: (u, v) => 'a second link would join ' + u + ' and ' + v,
+  7: () => 'the links would contain a cycle',
+  8: (u, v) => 'there is no link between ' + u + ' and ' + v,
+  9: () => 'more nodes, links or edits than the limits'
 };
 const roundLines = new Set(['turns', 'gone', 'new', 'counted', 'links', 'counts', 'hops', 'pushes']);
 const listed = (text, item) => text.split(' ').slice(1).map(item);
@@ -298,7 +299,7 @@ function readStory(text, before) {
     } else if (!block) continue;
     else if (block.answer === null) block.answer = line;
     else if (name === 'asks') block.asks = line.slice(5);
-    else if (name === 'cycle') block.walk = listed(line, Number);
+    else if (name === 'refusal') block.refusal = JSON.parse(line.slice(8));
     else if (name === 'net') {
       before = block.round = new Round(listed(line, Number), before, block);
       block.own = true;
@@ -308,27 +309,17 @@ function readStory(text, before) {
   return blocks;
 }
 
-// Why a line was refused, in words: with its nodes if it is a single edit.
-function faultOf(block) {
-  if (!block.answer.startsWith('refused ')) return null;
-  const number = Number(block.answer.slice(8)), [name, ...words] = (block.asks || '').split(' '), [u, v] = words;
-  const nodes = block.round ? block.round.nodes : 0, gone = words.filter(word => Number(word) >= nodes);
-  const isEdit = ['add', 'cut', 'join'].includes(name);
-  if (name === 'batch' && number > 3) return 'in an edit: ' + faults[number];
-  if (number === 4 && name === 'net') return netFault(words);
-  if (number === 4 && gone.length) return (name === 'dest' ? 'the destination ' : '') + gone[0] + ' is no node';
-  if (number === 5 && isEdit) return 'the link joins node ' + u + ' with itself';
-  if (number === 6 && isEdit) return 'there is a link between ' + u + ' and ' + v;
-  if (number === 7 && isEdit) return 'the link would close a cycle';
-  if (number === 8 && isEdit) return 'there is no link between ' + u + ' and ' + v;
-  return faults[number] || 'refused';
+// Why a line was refused, in words. A line that is no request has a number only.
+function faultOf({answer, refusal, asks}) {
+  if (!answer.startsWith('refused ')) return null;
+  if (!refusal) return faults[answer.slice(8)]();
+  if (asks === 'pushes' && refusal.refused === 7) return 'the wanted table has a loop';
+  const edit = refusal.edit === undefined ? '' : JSON.stringify(editsOf(asks.split(' ').slice(1))[refusal.edit]) + ': ';
+  return edit + faults[refusal.refused](...refusal.nodes);
 }
 
-function netFault([nodes, home, ...links]) {
-  if (nodes === '0') return 'there is no node';
-  const gone = links.flatMap(linkOf).find(node => node >= Number(nodes));
-  return gone === undefined ? 'the destination ' + home + ' is no node' : gone + ' is no node, and a link ends there';
-}
+// The cycle that the engine names for a line that is refused for one, and no nodes for any other line.
+const cycleOf = ({refusal}) => refusal && refusal.refused === 7 ? refusal.nodes : [];
 
 // What a line asks, as a line, or why nobody knows: one that is no request has no words here.
 function requestOf(block) {
@@ -344,65 +335,6 @@ function editsOf(words) {
   for (let place = 0; place < words.length; place += 3)
     edits.push([words[place], Number(words[place + 1]), Number(words[place + 2])]);
   return edits;
-}
-
-// The nodes from one to another along links, few as can be, or null where no links lead there.
-function pathOf(heads, start, end) {
-  const from = new Map([[start, null]]), open = [start];
-  for (const node of open) {
-    if (node === end) {
-      const path = [];
-      for (let at = end; at !== null; at = from.get(at)) path.unshift(at);
-      return path;
-    }
-    for (const head of heads.get(node) || [])
-      if (!from.has(head)) {
-        from.set(head, node);
-        open.push(head);
-      }
-  }
-  return null;
-}
-
-// Makes an edit among links, or answers the walk that it would close.
-function edit(heads, [name, u, v]) {
-  const put = (a, b) => {
-    heads.has(a) ? heads.get(a).add(b) : heads.set(a, new Set([b]));
-  };
-  if (name === 'cut') {
-    for (const [a, b] of [[u, v], [v, u]])
-      if (heads.has(a)) heads.get(a).delete(b);
-    return null;
-  }
-  const back = pathOf(heads, v, u);
-  if (!back) put(u, v);
-  else if (name === 'join') put(v, u);
-  else return [u, ...back];
-  return null;
-}
-
-// The walk that a refused line would have closed, by its nodes: along the links of its own network, if these are few,
-// or those on which its edits begin.
-function closedWalk(block) {
-  const words = block.asks.split(' '), heads = new Map();
-  const edits = words[0] === 'net' ? words.slice(3).map(word => ['add', ...linkOf(word)]) :
-                                     editsOf(words[0] === 'batch' ? words.slice(1) : words);
-  if (words[0] !== 'net') {
-    if (!block.round || !block.round.drawn) return null;
-    for (const [a, b] of block.round.links) heads.has(a) ? heads.get(a).add(b) : heads.set(a, new Set([b]));
-  }
-  if (edits.length > 4096) return null;
-  for (const one of edits) {
-    const walk = edit(heads, one);
-    if (walk) return walk;
-  }
-  return null;
-}
-
-// The closed walk of a line, if it has one: found once. The lab puts the one that the engine names into the story.
-function walkOf(block) {
-  if (block.walk === undefined) block.walk = block.answer === 'refused 7' && block.asks ? closedWalk(block) : null;
-  return block.walk || [];
 }
 // The steps of a page: the lines, their turns and pushes, and the tables of routers after each.
 
@@ -848,9 +780,9 @@ function arrow(view, group, shape, tail, head, kinds) {
   return g;
 }
 
-// The closed walk of a network that is refused, where it is short: its nodes in a circle.
-function drawRing(walk) {
-  const ring = by('ring'), nodes = walk.slice(1), isDrawn = nodes.length > 0 && nodes.length <= 24,
+// The cycle of a network that is refused, or the loop of a table, where it is short: its nodes in a circle.
+function drawRing(cycle) {
+  const ring = by('ring'), nodes = cycle.slice(1), isDrawn = nodes.length > 0 && nodes.length <= 24,
         far = Math.max(46, 9 * nodes.length);
   ring.toggleAttribute('hidden', !isDrawn);
   ring.replaceChildren();
@@ -859,12 +791,10 @@ function drawRing(walk) {
   nodes.forEach((node, at) => {
     view.place[node] = [wide / 2 + far * Math.sin(at * turn), wide / 2 - far * Math.cos(at * turn)];
   });
-  mark(ring, {
-    viewBox: '0 0 ' + wide + ' ' + wide,
-    width: Math.min(wide, 300),
-    'aria-label': 'The closed walk ' + walk.join(' ')
-  });
-  for (const [tail, head] of [...stepsOf(walk)].map(linkOf)) {
+  mark(
+      ring,
+      {viewBox: '0 0 ' + wide + ' ' + wide, width: Math.min(wide, 300), 'aria-label': 'The nodes ' + cycle.join(' ')});
+  for (const [tail, head] of [...stepsOf(cycle)].map(linkOf)) {
     arrow(view, ring, {a: tail, b: head, bend: 0}, tail, head, 'link closed asked');
   }
   for (const node of nodes) {
@@ -1072,13 +1002,14 @@ function tellStep(block, turn, state, news) {
            !block.own   ? 'a question; the network stays as it was.' :
            !round.drawn ? 'only the answer is shown.' :
                           roundText(round, turn, state));
-  const request = requestOf(block), walk = walkOf(block);
+  const request = requestOf(block), cycle = cycleOf(block);
   by('request').textContent = short(request);
   mark(by('request'), {'data-request': request});
   by('answer').textContent = block.answer;
-  by('more').textContent =
-      (refusal ? 'Refused: ' + refusal + '.' : '') + (walk.length ? ' The cycle: ' + walk.join(' ') + '.' : '');
-  mark(by('more'), {'data-closed': walk.length ? walk.join(' ') : null});
+  const name = block.asks === 'pushes' ? 'loop' : 'cycle';
+  by('more').textContent = (refusal ? 'Refused: ' + refusal + '.' : '') +
+      (cycle.length ? ' The ' + name + ': ' + cycle.join(' ') + '.' : '');
+  mark(by('more'), {'data-closed': cycle.length ? cycle.join(' ') : null});
   const change = node => changeText(node, round.before.hops[node], round.hops[node]);
   by('changed').textContent =
       news.length ? 'Next hops that the round changed, in push order: ' + news.map(change).join(', ') + '.' : '';
@@ -1271,7 +1202,8 @@ function show(step, keep) {
   const state = drawn ? stateOf(round, turn, push) : null, net = by('net'), none = by('none');
   const changes = drawn && block.own && state.hops ? changedHops(round) : [];
   const news = push ? pushesOf(round).slice(0, push - 1) : changes;
-  const walk = walkOf(block), isNetwork = walk.length > 0 && block.asks.startsWith('net ');
+  // The cycle of a new network, and the loop of a table, are not in the network that is drawn.
+  const cycle = cycleOf(block), isApart = cycle.length > 0 && /^(net |pushes$)/.test(block.asks);
   net.toggleAttribute('hidden', !drawn);
   none.toggleAttribute('hidden', Boolean(drawn));
   mark(net, {'data-line': block.line, 'data-turn': block.own ? turn : 0, 'data-push': push});
@@ -1285,14 +1217,14 @@ function show(step, keep) {
       fit();
     } else if (isNew && camera.isFitted) fit();
     mark(net, {'aria-label': 'A network of ' + round.nodes + ' nodes, destination ' + round.home});
-    drawLinks(view, round, state, way, push ? state.loop : isNetwork ? [] : walk);
+    drawLinks(view, round, state, way, push ? state.loop : isApart ? [] : cycle);
     drawNodes(view, round, state, way, news);
     const moved = state.sink ?? state.node;
     if (moved !== null && moved < round.nodes) keepInSight(view, moved);
   } else
     none.textContent = !round ? 'There is no network yet.' :
                                 'This network is larger than a page shows (256 nodes). The answers are in the list.';
-  drawRing(isNetwork ? walk : []);
+  drawRing(isApart ? cycle : []);
   tellNode(round, state);
   tellStep(block, turn, state, changes);
   currentButton(at);

@@ -3,19 +3,19 @@ use Rattle.std.proofs.lemmas.Result.{on_ok_weaker}
 use Rattle.fr_lines.specs.declared.requests.LineFault.TheVariants.{NotJson, NotRequest}
 use Rattle.fr_route.specs.Texts.{refusal_text}
 use Rattle.revdot.specs.Stories.{answer_text}
-use Rattle.revdot.proofs.Telling.{refused_told}
+use Rattle.revdot.proofs.Telling.{unread_told}
 use Rattle.revdot.proofs.story.push_line.Goals as goal
 
 pub returns-in-Err-NotJson : goal.returns-in-Err-NotJson
 returns-in-Err-NotJson c =
-    let told = refused_told c.args.session.now NotJson 1 c.args.number c.args.line.now (search rules) (search rules) (refl, refl) in
-    on_ok_weaker c.push_refusal.result
-    (λ (text : string_bytes c.push_refusal.new.story ≡ string_bytes c.args.story.now ++ answer_text c.args.number
-    (refusal_text 1)). (_, told, text)) c.push_refusal.ensures
+    let told = unread_told c.args.session.now NotJson 1 c.args.number c.args.line.now (search rules) (search rules) (refl, refl) in
+    on_ok_weaker c.push_unread.result
+    (λ (text : string_bytes c.push_unread.new.story ≡ string_bytes c.args.story.now ++ answer_text c.args.number
+    (refusal_text 1)). (_, told, text)) c.push_unread.ensures
 
 pub returns-in-Err-NotRequest : goal.returns-in-Err-NotRequest
 returns-in-Err-NotRequest c =
-    let told = refused_told c.args.session.now NotRequest 2 c.args.number c.args.line.now (search rules) (search rules) (refl, refl) in
-    on_ok_weaker c.push_refusal-in-Err-NotRequest.result
-    (λ (text : string_bytes c.push_refusal-in-Err-NotRequest.new.story ≡ string_bytes c.args.story.now ++ answer_text
-    c.args.number (refusal_text 2)). (_, told, text)) c.push_refusal-in-Err-NotRequest.ensures
+    let told = unread_told c.args.session.now NotRequest 2 c.args.number c.args.line.now (search rules) (search rules) (refl, refl) in
+    on_ok_weaker c.push_unread-in-Err-NotRequest.result
+    (λ (text : string_bytes c.push_unread-in-Err-NotRequest.new.story ≡ string_bytes c.args.story.now ++ answer_text
+    c.args.number (refusal_text 2)). (_, told, text)) c.push_unread-in-Err-NotRequest.ensures
