@@ -1,0 +1,11 @@
+-- The laws of networks of routers. They are this project's own.
+use Rattle.std.specs.Prelude.{List}
+use Rattle.fr_node.specs.Routers.{Net, IsStart, IsRun, IsUsed, last, HasNoLoop}
+
+-- at the end of every run, and so at every moment, the used links have no loop
+abbrev pub NeverALoop : Type 0
+NeverALoop = (s : Net) (ts : List Net) → IsStart s → IsRun s ts → HasNoLoop (last s ts)
+
+-- links come into use: some run ends with a used link, from router 1 to router 0
+abbrev pub SomeLinkIsUsed : Type 0
+SomeLinkIsUsed = (s : Net) × (ts : List Net) × IsStart s × IsRun s ts × IsUsed (last s ts) 1 0
