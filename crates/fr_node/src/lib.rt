@@ -1,7 +1,30 @@
-//! A router that finds its ways to a destination by itself: one state machine for one destination.
+//! A router that finds its ways to a destination by itself, without a controller: one state machine for one destination.
+//!
+//! Each router has a height and tells its neighbours. It sends packets to neighbours that it knows to be lower, and lets
+//! packets in only from neighbours that have acknowledged its height. At no moment do the links that routers use contain
+//! a loop, whatever happens to their messages and whichever routers restart ([`laws`]).
+//!
+//! A [`Node`] takes events: a link comes up or goes down, a [`Message`] is heard. After an event it is [`Unwritten`]: the
+//! caller writes the ways and gates into its forwarding table, and says so. Only then can a message leave.
+//!
+//! Heights and full link reversal are from Gafni and Bertsekas, IEEE Transactions on Communications 29 (1981). Gates,
+//! acknowledgements and the law are this project's own.
 #![tactic(auto)]
 
 pub mod laws;
+mod fault;
+mod link;
 mod message;
+mod node;
+mod own;
+mod policy;
+mod way;
 
-pub use message::Message;
+#[cfg(test)]
+mod tests;
+
+pub use fault::NodeFault;
+pub use message::{CUT_OFF, MESSAGE_LENGTH, Message};
+pub use node::{Node, Unwritten};
+pub use policy::{Policy, Rise};
+pub use way::Way;

@@ -1,5 +1,11 @@
 //! What routers say to their neighbours.
 
+/// A distance that is not known, since there is no way.
+pub const CUT_OFF: u32 = u32::MAX;
+
+/// How many bytes a message has.
+pub const MESSAGE_LENGTH: usize = 56;
+
 /// What a router says to a neighbour. It may be lost, delayed, repeated and overtaken.
 #[derive(Clone, Copy, Debug, PartialEq, Eq)]
 pub struct Message {
@@ -21,3 +27,6 @@ pub struct Message {
     /// [`CUT_OFF`](crate::CUT_OFF) if it has no way.
     pub distance: u32,
 }
+
+/// The first four bytes of a message: its kind, and the version of its form.
+const HEADER: u32 = 0x4652_4e01;

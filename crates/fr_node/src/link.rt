@@ -1,0 +1,116 @@
+//! What a router knows of one neighbour.
+
+use crate::message::{CUT_OFF, Message};
+use crate::own::Own;
+use crate::way::Way;
+
+/// What a router knows of one neighbour, and whether the link to it is up.
+#[derive(Clone, Copy, Debug, PartialEq, Eq)]
+pub(crate) struct Link {
+    pub(crate) neighbour: u32,
+    pub(crate) up: bool,
+    /// The greatest start of the neighbour that is known. 0: none.
+    pub(crate) peer: u64,
+    /// The greatest number that was heard of that start. 0: none.
+    pub(crate) heard: u64,
+    /// The height that came with it.
+    pub(crate) seen: u64,
+    /// The distance that came with it.
+    pub(crate) distance: u32,
+    /// The number of the router's announcements that the neighbour has acknowledged. 0: none.
+    pub(crate) acked: u64,
+    /// The last message that was said to the neighbour.
+    pub(crate) said: Option<Message>,
+}
+
+impl Link {
+    /// A link that is down, to a neighbour of which nothing is known.
+    pub(crate) fn new(neighbour: u32) -> Link {
+        Link {
+            neighbour,
+            up: false,
+            peer: 0,
+            heard: 0,
+            seen: 0,
+            distance: CUT_OFF,
+            acked: 0,
+            said: None,
+        }
+    }
+
+    /// After a message from this neighbour. What it says of an earlier start, of its own or of the router's, is ignored.
+    pub(crate) fn after(self, message: &Message, own: &Own) -> Link {
+        if message.boot < self.peer {
+            return self;
+        }
+        let known = self.of_start(message.boot);
+        if message.echo == own.boot {
+            known.answered(message, own).informed(message)
+        } else {
+            known
+        }
+    }
+
+    /// With what is known of this start of the neighbour: nothing, if it is greater.
+    fn of_start(self, boot: u64) -> Link {
+        if boot == self.peer {
+            return self;
+        }
+        Link {
+            peer: boot,
+            heard: 0,
+            seen: 0,
+            distance: CUT_OFF,
+            acked: 0,
+            ..self
+        }
+    }
+
+    /// With the neighbour's acknowledgement. One of a number that was not announced is ignored.
+    fn answered(self, message: &Message, own: &Own) -> Link {
+        if message.heard > own.number || message.heard <= self.acked {
+            return self;
+        }
+        Link {
+            acked: message.heard,
+            ..self
+        }
+    }
+
+    /// With the neighbour's announcement, if no later one was heard. The same one may come with another distance.
+    fn informed(self, message: &Message) -> Link {
+        if message.number < self.heard {
+            return self;
+        }
+        Link {
+            heard: message.number,
+            seen: message.height,
+            distance: message.distance,
+            ..self
+        }
+    }
+
+    /// Whether the router may send packets to the neighbour.
+    pub(crate) fn is_way(&self, own: &Own) -> bool {
+        self.up && self.is_lower(own)
+    }
+
+    /// Whether the neighbour is known to be lower than the router.
+    pub(crate) fn is_lower(&self, own: &Own) -> bool {
+        let is_first = self.neighbour < own.me;
+        self.heard > 0 && (self.seen < own.used || self.seen == own.used && is_first)
+    }
+
+    /// Whether the router lets in packets from the neighbour.
+    pub(crate) fn is_open(&self, own: &Own) -> bool {
+        self.up && self.acked >= own.used_since
+    }
+
+    /// The neighbour as a way.
+    pub(crate) fn way(&self) -> Way {
+        Way {
+            neighbour: self.neighbour,
+            distance: self.distance,
+        }
+    }
+}
