@@ -1,5 +1,9 @@
 //! What a router knows of one neighbour.
 
+ghost use Rattle.std.specs.Prelude.{◌≡◌, ◌≢◌, ◌<◌, ◌≤◌, ◌+◌, ◌^◌, ◌↔◌, ◌⊎◌, IsTrue, false};
+ghost use Rattle.fr_node.specs.Links.{IsHeard};
+ghost use Rattle.fr_node.specs.Routers.{IsBelow};
+
 use crate::message::{CUT_OFF, Message};
 use crate::own::Own;
 use crate::way::Way;
@@ -25,7 +29,10 @@ pub(crate) struct Link {
 
 impl Link {
     /// A link that is down, to a neighbour of which nothing is known.
-    pub(crate) fn new(neighbour: u32) -> Link {
+    pub(crate) fn new(neighbour: u32) -> Link
+        ensures { result ≡ record { neighbour = neighbour; up = false; peer = 0; heard = 0; seen = 0; distance = CUT_OFF;
+            acked = 0; said = None } }
+    {
         Link {
             neighbour,
             up: false,
@@ -39,7 +46,9 @@ impl Link {
     }
 
     /// After a message from this neighbour. What it says of an earlier start, of its own or of the router's, is ignored.
-    pub(crate) fn after(self, message: &Message, own: &Own) -> Link {
+    pub(crate) fn after(self, message: &Message, own: &Own) -> Link
+        ensures { IsHeard own.now message.now self result }
+    {
         if message.boot < self.peer {
             return self;
         }
@@ -52,7 +61,11 @@ impl Link {
     }
 
     /// With what is known of this start of the neighbour: nothing, if it is greater.
-    fn of_start(self, boot: u64) -> Link {
+    fn of_start(self, boot: u64) -> Link
+        ensures same { boot ≡ self.peer → result ≡ self }
+        ensures other { boot ≢ self.peer
+            → result ≡ record self { peer = boot; heard = 0; seen = 0; distance = CUT_OFF; acked = 0 } }
+    {
         if boot == self.peer {
             return self;
         }
@@ -67,7 +80,11 @@ impl Link {
     }
 
     /// With the neighbour's acknowledgement. One of a number that was not announced is ignored.
-    fn answered(self, message: &Message, own: &Own) -> Link {
+    fn answered(self, message: &Message, own: &Own) -> Link
+        ensures kept { (own.now.number < message.now.heard) ⊎ (message.now.heard ≤ self.acked) → result ≡ self }
+        ensures taken { message.now.heard ≤ own.now.number → self.acked < message.now.heard
+            → result ≡ record self { acked = message.now.heard } }
+    {
         if message.heard > own.number || message.heard <= self.acked {
             return self;
         }
@@ -78,7 +95,11 @@ impl Link {
     }
 
     /// With the neighbour's announcement, if no later one was heard. The same one may come with another distance.
-    fn informed(self, message: &Message) -> Link {
+    fn informed(self, message: &Message) -> Link
+        ensures kept { message.now.number < self.heard → result ≡ self }
+        ensures taken { self.heard ≤ message.now.number → result ≡ record self { heard = message.now.number;
+            seen = message.now.height; distance = message.now.distance } }
+    {
         if message.number < self.heard {
             return self;
         }
@@ -91,18 +112,26 @@ impl Link {
     }
 
     /// Whether the router may send packets to the neighbour.
-    pub(crate) fn is_way(&self, own: &Own) -> bool {
+    pub(crate) fn is_way(&self, own: &Own) -> bool
+        ensures { IsTrue result ↔ (IsTrue self.now.up × (0 < self.now.heard)
+            × IsBelow self.now.seen self.now.neighbour own.now.used own.now.me) }
+    {
         self.up && self.is_lower(own)
     }
 
     /// Whether the neighbour is known to be lower than the router.
-    pub(crate) fn is_lower(&self, own: &Own) -> bool {
+    pub(crate) fn is_lower(&self, own: &Own) -> bool
+        ensures { IsTrue result ↔ ((0 < self.now.heard)
+            × IsBelow self.now.seen self.now.neighbour own.now.used own.now.me) }
+    {
         let is_first = self.neighbour < own.me;
         self.heard > 0 && (self.seen < own.used || self.seen == own.used && is_first)
     }
 
     /// Whether the router lets in packets from the neighbour.
-    pub(crate) fn is_open(&self, own: &Own) -> bool {
+    pub(crate) fn is_open(&self, own: &Own) -> bool
+        ensures { IsTrue result ↔ (IsTrue self.now.up × (own.now.used_since ≤ self.now.acked)) }
+    {
         self.up && self.acked >= own.used_since
     }
 

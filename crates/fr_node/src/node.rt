@@ -1,5 +1,12 @@
 //! The state machine of one router.
 
+ghost use Rattle.std.specs.Prelude.{◌≡◌, ◌≢◌, ◌<◌, ◌≤◌, ◌+◌, ◌^◌, ◌↔◌, ◌⊎◌, IsTrue, [], ◌∷◌, IfSome, IfNone};
+ghost use Rattle.std.specs.List.{position};
+ghost use Rattle.fr_node.specs.Histories.{Announces, IsHistory};
+ghost use Rattle.fr_node.specs.Links.{Hears, IsKnown, Says, SetsUp, leads_to, link_to};
+ghost use Rattle.fr_node.specs.Nodes.{Steps, router};
+ghost use Rattle.fr_node.specs.Routers.{IsOpen, IsSaidBy, IsWay};
+
 use crate::fault::NodeFault;
 use crate::link::Link;
 use crate::message::{CUT_OFF, Message};
@@ -62,21 +69,27 @@ impl Node {
     }
 
     /// The link to a neighbour comes up.
-    pub fn link_up(mut self, neighbour: u32) -> Unwritten {
+    pub fn link_up(mut self, neighbour: u32) -> Unwritten
+        ensures step { Steps [] self result.node }
+    {
         self.set_up(neighbour, true);
         self.act();
         Unwritten { node: self }
     }
 
     /// The link to a neighbour goes down.
-    pub fn link_down(mut self, neighbour: u32) -> Unwritten {
+    pub fn link_down(mut self, neighbour: u32) -> Unwritten
+        ensures step { Steps [] self result.node }
+    {
         self.set_up(neighbour, false);
         self.act();
         Unwritten { node: self }
     }
 
     /// Hears a message.
-    pub fn hear(mut self, message: &Message) -> Unwritten {
+    pub fn hear(mut self, message: &Message) -> Unwritten
+        ensures step { Steps (message.now ∷ []) self result.node }
+    {
         self.take(message);
         self.act();
         Unwritten { node: self }
@@ -127,7 +140,9 @@ impl Node {
         self.links.iter().filter(|link| link.is_way(own)).map(|link| link.distance).min()
     }
 
-    fn index_of(&self, neighbour: u32) -> Option<usize> {
+    fn index_of(&self, neighbour: u32) -> Option<usize>
+        ensures { result ≡ position (leads_to neighbour) self.now.links.items }
+    {
         self.links.iter().position(|link| link.neighbour == neighbour)
     }
 
@@ -144,13 +159,19 @@ impl Node {
         }
     }
 
-    fn set_up(&mut self, neighbour: u32, up: bool) {
+    fn set_up(&mut self, neighbour: u32, up: bool)
+        ensures same { self.new ≡ record self.old { links = self.new.links } }
+        ensures set { SetsUp neighbour up self.old.links.items self.new.links.items }
+    {
         if let Some(i) = self.index_of(neighbour) {
             self.links[i].up = up;
         }
     }
 
-    fn take(&mut self, message: &Message) {
+    fn take(&mut self, message: &Message)
+        ensures same { self.new ≡ record self.old { links = self.new.links } }
+        ensures heard { Hears self.old.own message.now self.old.links.items self.new.links.items }
+    {
         if message.to != self.own.me {
             return;
         }
@@ -160,7 +181,10 @@ impl Node {
     }
 
     /// Changes the height by the policy.
-    fn act(&mut self) {
+    fn act(&mut self)
+        ensures same { self.new ≡ record self.old { own = self.new.own } }
+        ensures own { Announces self.old.own self.new.own }
+    {
         if self.gateway || self.own.number == u64::MAX {
             return;
         }
@@ -173,7 +197,10 @@ impl Node {
     }
 
     /// What the router knows of itself after an announcement, if the policy wants one.
-    fn announced(&self) -> Own {
+    fn announced(&self) -> Own
+        requires { self.now.own.number + 1 < 2 ^ 64 }
+        ensures { Announces self.now.own result }
+    {
         if let Some(height) = self.lower_height() {
             return self.own.lowered(height);
         }
@@ -191,7 +218,9 @@ impl Node {
     }
 
     /// The distance, if the router lowers its height to it.
-    fn lower_height(&self) -> Option<u64> {
+    fn lower_height(&self) -> Option<u64>
+        ensures { IfSome result (λ h. h < self.now.own.used) }
+    {
         let distance = self.distance();
         let height = distance as u64;
         if !self.policy.lower || distance == CUT_OFF || height >= self.own.used {

@@ -1,6 +1,6 @@
 //! What a router knows of itself: its start, the height that it uses, and what it has announced.
 
-ghost use Rattle.std.specs.Prelude.{◌≡◌, ◌<◌, ◌≤◌, ◌+◌, ◌^◌};
+ghost use Rattle.std.specs.Prelude.{◌≡◌, ◌<◌, ◌≤◌, ◌+◌, ◌^◌, ◌↔◌, IsTrue};
 
 /// What a router knows of itself. Of its announcements it keeps the last one, and from which numbers on no announcement
 /// was below the height in use or the last height. An acknowledgement of an earlier number opens no gate.
@@ -22,7 +22,11 @@ pub(crate) struct Own {
 
 impl Own {
     /// A router that starts, with its first announcement.
-    pub(crate) fn new(me: u32, boot: u64, height: u64) -> Own {
+    pub(crate) fn new(me: u32, boot: u64, height: u64) -> Own
+        ensures who { (result.me ≡ me) × (result.boot ≡ boot) }
+        ensures heights { (result.used ≡ height) × (result.announced ≡ height) }
+        ensures numbers { (result.number ≡ 1) × (result.used_since ≡ 1) × (result.announced_since ≡ 1) }
+    {
         Own {
             me,
             boot,
@@ -35,13 +39,16 @@ impl Own {
     }
 
     /// Whether the last height that was announced is in use.
-    pub(crate) fn is_settled(&self) -> bool {
+    pub(crate) fn is_settled(&self) -> bool
+        ensures { IsTrue result ↔ (self.now.used ≡ self.now.announced) }
+    {
         self.used == self.announced
     }
 
     /// After the announcement of a greater height, which is not in use yet.
     pub(crate) fn raised(self, height: u64) -> Own
         requires { self.number + 1 < 2 ^ 64 }
+        ensures { result ≡ record self { announced = height; number = self.number + 1; announced_since = self.number + 1 } }
     {
         Own {
             announced: height,
@@ -54,6 +61,7 @@ impl Own {
     /// After the announcement of a height that is not greater. It is in use at once.
     pub(crate) fn lowered(self, height: u64) -> Own
         requires { self.number + 1 < 2 ^ 64 }
+        ensures { result ≡ record self { used = height; announced = height; number = self.number + 1 } }
     {
         Own {
             used: height,
@@ -64,7 +72,9 @@ impl Own {
     }
 
     /// With the last height that was announced in use.
-    pub(crate) fn settled(self) -> Own {
+    pub(crate) fn settled(self) -> Own
+        ensures { result ≡ record self { used = self.announced; used_since = self.announced_since } }
+    {
         Own {
             used: self.announced,
             used_since: self.announced_since,

@@ -1,0 +1,27 @@
+-- Which router of the laws a node is, and what a step of a node is in these laws. The definitions are this project's own.
+use Rattle.std.specs.Prelude.{ℕ, List, ◌≡◌}
+use Rattle.fr_node.specs.declared.message.Message.{Message}
+use Rattle.fr_node.specs.declared.node.Node.{Node}
+use Rattle.fr_node.specs.Histories.{IsHistory}
+use Rattle.fr_node.specs.Links.{link_to}
+use Rattle.fr_node.specs.Routers.{GoesOn, Router}
+
+-- the router that the node is, if it has announced these heights
+abbrev pub router : Node → (ℕ → ℕ) → Router
+router node h = record {
+  boot = node.own.boot;
+  gateway = node.gateway;
+  height = node.own.used;
+  number = node.own.number;
+  announced = h;
+  peer = λ w. (link_to node.links.items w).peer;
+  heard = λ w. (link_to node.links.items w).heard;
+  seen = λ w. (link_to node.links.items w).seen;
+  acked = λ w. (link_to node.links.items w).acked;
+}
+
+-- whatever the node had announced, it is the same router as before and has gone on by messages of the pool
+pub record Steps (pool : List Message) (old new : Node) : Type 0 where
+  pub me : new.own.me ≡ old.own.me
+  pub goes_on : (h : ℕ → ℕ) → IsHistory old.own h
+      → (k : ℕ → ℕ) × IsHistory new.own k × GoesOn pool old.own.me (router old h) (router new k)
