@@ -1,12 +1,13 @@
 -- What a node does is a step of the laws.
-use Rattle.std.proofs.Common.{[], Contains, List, absurd, ap, arith, inl, inr, refl, subst, sym, ℕ, ⊎_elim, ◌∷◌, ◌<◌, ◌≡◌, ◌≢◌, ◌≤◌, ◌⊎◌}
+use Rattle.std.proofs.Common.{[], Bool, List, ap, arith, inl, inr, length, refl, subst, sym, ℕ, ⊎_elim, ◌∷◌, ◌<◌, ◌≡◌, ◌≢◌, ◌≤◌, ◌⊎◌}
 use Rattle.std.proofs.lemmas.Bool.{cases_lt}
+use Rattle.std.proofs.Math.Nat.{eq-or-lt_of_le}
 use Rattle.fr_node.specs.declared.link.Link.{Link}
 use Rattle.fr_node.specs.declared.message.Message.{Message}
 use Rattle.fr_node.specs.declared.node.Node.{Node}
 use Rattle.fr_node.specs.declared.own.Own.{Own}
 use Rattle.fr_node.specs.Histories.{Announces, IsHistory}
-use Rattle.fr_node.specs.Links.{Hears, IsHeard, IsKnown, Says, SetsUp, link_to}
+use Rattle.fr_node.specs.Links.{Hears, IsHeard, IsKnown, Says, SetsUp, link_to, place_of}
 use Rattle.fr_node.specs.Nodes.{Steps, router}
 use Rattle.fr_node.specs.Routers.{GoesOn, IsFrom, TakesAnswer, TakesHeight, TakesStart}
 
@@ -46,25 +47,119 @@ same l k e = record {
   acked = ap (λ (j : Link). j.acked) e;
 }
 
+-- the two halves of hearing a message m that is not of an earlier start
+Height : Own → Message → Link → Link → Type 0
+Height own m l k = ((k.peer ≡ l.peer) × (k.heard ≡ l.heard) × (k.seen ≡ l.seen))
+    ⊎ ((l.peer < k.peer) × (k.heard ≡ 0))
+    ⊎ ((n : Message) × IsFrom (m ∷ []) own.me m.from n × (n.echo ≡ own.boot) × (k.peer ≡ n.boot) × (k.heard ≡ n.number)
+    × (k.seen ≡ n.height) × (k.peer ≡ l.peer → l.heard ≤ n.number))
+
+Answer : Own → Message → Link → Link → Type 0
+Answer own m l k = ((k.peer ≡ l.peer) × (k.acked ≡ l.acked))
+    ⊎ (k.acked ≡ 0)
+    ⊎ ((n : Message) × IsFrom (m ∷ []) own.me m.from n × (n.echo ≡ own.boot) × (k.peer ≡ n.boot) × (k.acked ≡ n.heard))
+
+height_heard : (own : Own) (m : Message) (l k : Link) → IsHeard own m l k → IsFrom (m ∷ []) own.me m.from m → l.peer ≤ m.boot
+    → Height own m l k
+unfolding Height
+height_heard own m l k h from now = ⊎_elim
+    (λ echo. ⊎_elim
+        (λ even. ⊎_elim
+            (λ later. let e = h.uninformed even (inr later) in inl (omega (arith, h.start now, even), e.0, e.1))
+            (λ good. took echo (λ _. good))
+            (cases_lt m.number l.heard))
+        (λ less. took echo (λ e. absurd (omega (arith, e, less))))
+        (eq-or-lt_of_le now))
+    (λ other. ⊎_elim
+        (λ even. let e = h.uninformed even (inl other) in inl (omega (arith, h.start now, even), e.0, e.1))
+        (λ less. inr (inl (omega (arith, less, h.start now), (h.forgotten less other).0)))
+        (eq-or-lt_of_le now))
+    (same_or_not m.echo own.boot)
+  where
+    took : m.echo ≡ own.boot → (l.peer ≡ m.boot → l.heard ≤ m.number) → Height own m l k
+    took echo good = let e = h.informed now echo good in
+        inr (inr (m, from, echo, h.start now, e.0, e.1, λ s. good (omega (arith, s, h.start now))))
+
+answer_heard : (own : Own) (m : Message) (l k : Link) → IsHeard own m l k → IsFrom (m ∷ []) own.me m.from m → l.peer ≤ m.boot
+    → Answer own m l k
+unfolding Answer
+answer_heard own m l k h from now = ⊎_elim
+    (λ echo. ⊎_elim
+        (λ many. kept (inr many))
+        (λ few. ⊎_elim
+            (λ even. ⊎_elim
+                (λ more. given echo few (λ _. more))
+                (λ old. inl (omega (arith, h.start now, even), h.unanswered even (inr (inr old))))
+                (cases_lt l.acked m.heard))
+            (λ less. given echo few (λ e. absurd (omega (arith, e, less))))
+            (eq-or-lt_of_le now))
+        (cases_lt own.number m.heard))
+    (λ other. kept (inl other))
+    (same_or_not m.echo own.boot)
+  where
+    given : m.echo ≡ own.boot → m.heard ≤ own.number → (l.peer ≡ m.boot → l.acked < m.heard) → Answer own m l k
+    given echo few more = inr (inr (m, from, echo, h.start now, h.answered now echo few more))
+
+    kept : (m.echo ≢ own.boot) ⊎ (own.number < m.heard) → Answer own m l k
+    kept why = ⊎_elim
+        (λ even. inl (omega (arith, h.start now, even), h.unanswered even (⊎_elim (λ a. inl a) (λ b. inr (inl b)) why)))
+        (λ less. inr (inl (h.unacked less why)))
+        (eq-or-lt_of_le now)
+
 takes_heard : (own : Own) (m : Message) (l k : Link) → IsHeard own m l k → m.to ≡ own.me
     → Takes (m ∷ []) own.me own.boot m.from l k
+unfolding Height Answer
 takes_heard own m l k h to = ⊎_elim
     (λ old. takes_none (m ∷ []) own.me own.boot m.from l k (same l k (h.ignored old)))
     (λ now. record {
       start = (omega (arith, now, h.start now), inr (m, from, h.start now));
-      height = height now;
-      answer = answer now;
+      height = height_heard own m l k h from now;
+      answer = answer_heard own m l k h from now;
     })
     (cases_lt m.boot l.peer)
   where
     from : IsFrom (m ∷ []) own.me m.from m
     from = record { said = (0, omega arith, refl); from = refl; to = to }
 
-    height : l.peer ≤ m.boot → _
-    height now = ?
+takes_hears : (own : Own) (m : Message) (ls ks : List Link) → Hears own m ls ks
+    → (w : ℕ) → Takes (m ∷ []) own.me own.boot w (link_to ls w) (link_to ks w)
+takes_hears own m ls ks h w = ⊎_elim
+    (λ here. subst (λ v. Takes (m ∷ []) own.me own.boot v (link_to ls v) (link_to ks v)) (sym here) from_it)
+    (λ other. takes_none (m ∷ []) own.me own.boot w (link_to ls w) (link_to ks w)
+        (same (link_to ls w) (link_to ks w) (h.others w other)))
+    (same_or_not w m.from)
+  where
+    unchanged : ks ≡ ls → Takes (m ∷ []) own.me own.boot m.from (link_to ls m.from) (link_to ks m.from)
+    unchanged e = takes_none (m ∷ []) own.me own.boot m.from (link_to ls m.from) (link_to ks m.from)
+        (same (link_to ls m.from) (link_to ks m.from) (ap (λ (js : List Link). link_to js m.from) e))
 
-    answer : l.peer ≤ m.boot → _
-    answer now = ?
+    from_it : Takes (m ∷ []) own.me own.boot m.from (link_to ls m.from) (link_to ks m.from)
+    from_it = ⊎_elim
+        (λ to. ⊎_elim
+            (λ known. takes_heard own m (link_to ls m.from) (link_to ks m.from) (h.heard to known) to)
+            (λ past. unchanged (h.stranger (inr (λ known. omega (arith, past, known)))))
+            (cases_lt (place_of ls m.from) (length ls)))
+        (λ away. unchanged (h.stranger (inl away)))
+        (same_or_not m.to own.me)
+
+takes_up : (pool : List Message) (y boot w : ℕ) (up : Bool) (ls ks : List Link) → SetsUp w up ls ks
+    → (v : ℕ) → Takes pool y boot v (link_to ls v) (link_to ks v)
+takes_up pool y boot w up ls ks s v = takes_none pool y boot v (link_to ls v) (link_to ks v) (⊎_elim
+    (λ here. ⊎_elim
+        (λ known. known_up (subst (λ u. link_to ks u ≡ record (link_to ls u) { up = up }) (sym here) (s.itself known)))
+        (λ past. same (link_to ls v) (link_to ks v)
+            (ap (λ (js : List Link). link_to js v) (s.stranger (λ known. omega (arith, past, known)))))
+        (cases_lt (place_of ls w) (length ls)))
+    (λ other. same (link_to ls v) (link_to ks v) (s.others v other))
+    (same_or_not v w))
+  where
+    known_up : link_to ks v ≡ record (link_to ls v) { up = up } → KnowsSame (link_to ls v) (link_to ks v)
+    known_up e = record {
+      peer = ap (λ (l : Link). l.peer) e;
+      heard = ap (λ (l : Link). l.heard) e;
+      seen = ap (λ (l : Link). l.seen) e;
+      acked = ap (λ (l : Link). l.acked) e;
+    }
 
 steps : (pool : List Message) (old new : Node) → Announces old.own new.own
     → ((w : ℕ) → Takes pool old.own.me old.own.boot w (link_to old.links.items w) (link_to new.links.items w))
@@ -84,3 +179,24 @@ steps pool old new says takes = record {
     },
   );
 }
+
+-- the links change first, and then what the node knows of itself
+in_turn : (pool : List Message) (old mid new : Node) → mid ≡ record old { links = mid.links } → new ≡ record mid { own = new.own }
+    → Announces mid.own new.own
+    → ((w : ℕ) → Takes pool old.own.me old.own.boot w (link_to old.links.items w) (link_to mid.links.items w)) → Steps pool old new
+in_turn pool old mid new first second says takes = steps pool old new
+    (subst (λ (o : Own). Announces o new.own) (ap (λ (n : Node). n.own) first) says)
+    (λ w. subst (λ (ks : List Link). Takes pool old.own.me old.own.boot w (link_to old.links.items w) (link_to ks w))
+        (sym (ap (λ (n : Node). n.links.items) second)) (takes w))
+
+pub steps_heard : (m : Message) (old mid new : Node) → mid ≡ record old { links = mid.links }
+    → Hears old.own m old.links.items mid.links.items → new ≡ record mid { own = new.own } → Announces mid.own new.own
+    → Steps (m ∷ []) old new
+steps_heard m old mid new first hears second says = in_turn (m ∷ []) old mid new first second says
+    (takes_hears old.own m old.links.items mid.links.items hears)
+
+pub steps_up : (w : ℕ) (up : Bool) (old mid new : Node) → mid ≡ record old { links = mid.links }
+    → SetsUp w up old.links.items mid.links.items → new ≡ record mid { own = new.own } → Announces mid.own new.own
+    → Steps [] old new
+steps_up w up old mid new first sets second says = in_turn [] old mid new first second says
+    (takes_up [] old.own.me old.own.boot w up old.links.items mid.links.items sets)

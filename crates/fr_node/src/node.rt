@@ -185,12 +185,7 @@ impl Node {
         ensures same { self.new ≡ record self.old { own = self.new.own } }
         ensures own { Announces self.old.own self.new.own }
     {
-        if self.gateway || self.own.number == u64::MAX {
-            return;
-        }
-        if self.own.is_settled() {
-            self.own = self.announced();
-        }
+        self.own = self.announced();
         if self.may_settle() {
             self.own = self.own.settled();
         }
@@ -198,9 +193,11 @@ impl Node {
 
     /// What the router knows of itself after an announcement, if the policy wants one.
     fn announced(&self) -> Own
-        requires { self.now.own.number + 1 < 2 ^ 64 }
         ensures { Announces self.now.own result }
     {
+        if self.gateway || self.own.number == u64::MAX || !self.own.is_settled() {
+            return self.own;
+        }
         if let Some(height) = self.lower_height() {
             return self.own.lowered(height);
         }
