@@ -71,7 +71,7 @@ neighbours-set : (ls : List Link) (w i : ℕ) (x k : Link) → IsAt ls w i x →
 neighbours-set ls w i x k at same = map-set_same (λ (l : Link). l.neighbour) ls i k unknown
     (same ∙ sym (ap (λ (l : Link). l.neighbour) at.here))
 
-found_at : (ls : List Link) (w i : ℕ) (x : Link) → IsAt ls w i x → link_to ls w ≡ x
+pub found_at : (ls : List Link) (w i : ℕ) (x : Link) → IsAt ls w i x → link_to ls w ≡ x
 found_at ls w i x at = ap (λ (n : ℕ). get_or ls n unknown) at.place ∙ at.here
 
 pub hears_at : (own : Own) (m : Message) (ls : List Link) (i : ℕ) (x k : Link) → IsAt ls m.from i x → IsHeard own m x k

@@ -1,15 +1,18 @@
 -- What a node does is a step of the laws.
-use Rattle.std.proofs.Common.{[], Bool, List, ap, arith, inl, inr, length, refl, subst, sym, ℕ, ⊎_elim, ◌∷◌, ◌<◌, ◌≡◌, ◌≢◌, ◌≤◌, ◌⊎◌}
+use Rattle.std.proofs.Common.{[], Bool, IsTrue, List, Some, ap, arith, false, inl, inr, length, refl, true, subst, sym, ℕ, ⊎_elim, ◌∷◌, ◌<◌, ◌≡◌, ◌≢◌, ◌≤◌, ◌⊎◌, ◌∙◌}
 use Rattle.std.proofs.lemmas.Bool.{cases_lt}
 use Rattle.std.proofs.Math.Nat.{eq-or-lt_of_le}
+use Rattle.std.proofs.lemmas.Bool.Decides.{nat_tests}
 use Rattle.fr_node.specs.declared.link.Link.{Link}
 use Rattle.fr_node.specs.declared.message.Message.{Message}
 use Rattle.fr_node.specs.declared.node.Node.{Node}
 use Rattle.fr_node.specs.declared.own.Own.{Own}
 use Rattle.fr_node.specs.Histories.{Announces, IsHistory}
-use Rattle.fr_node.specs.Links.{Hears, IsHeard, IsKnown, Says, SetsUp, link_to, place_of}
+use Rattle.fr_node.specs.Links.{Hears, IsHeard, IsKnown, Says, SetsUp, is_way, link_to, place_of}
 use Rattle.fr_node.specs.Nodes.{Steps, router}
-use Rattle.fr_node.specs.Routers.{GoesOn, IsFrom, TakesAnswer, TakesHeight, TakesStart}
+use Rattle.fr_node.specs.Routers.{GoesOn, IsBelow, IsFrom, IsWay, TakesAnswer, TakesHeight, TakesStart}
+use Rattle.fr_node.proofs.Histories.{Announces-none}
+use Rattle.fr_node.proofs.Linking.{IsAt, found_at}
 
 same_or_not : (a b : ℕ) → (a ≡ b) ⊎ (a ≢ b)
 same_or_not a b = grind arith
@@ -200,3 +203,41 @@ pub steps_up : (w : ℕ) (up : Bool) (old mid new : Node) → mid ≡ record old
     → Steps [] old new
 steps_up w up old mid new first sets second says = in_turn [] old mid new first second says
     (takes_up [] old.own.me old.own.boot w up old.links.items mid.links.items sets)
+
+pub steps_said : (w : ℕ) (m : Message) (old new : Node) → new.own ≡ old.own → Says w m old.links.items new.links.items
+    → Steps [] old new
+steps_said w m old new own says = steps [] old new (subst (Announces old.own) (sym own) (Announces-none old.own))
+    (λ v. takes_none [] old.own.me old.own.boot v (link_to old.links.items v) (link_to new.links.items v) (⊎_elim
+        (λ here. told v (subst (λ u. link_to new.links.items u ≡ record (link_to old.links.items u) { said = Some m }) (sym here) says.itself))
+        (λ other. same (link_to old.links.items v) (link_to new.links.items v) (says.others v other))
+        (same_or_not v w)))
+  where
+    told : (v : ℕ) → link_to new.links.items v ≡ record (link_to old.links.items v) { said = Some m }
+        → KnowsSame (link_to old.links.items v) (link_to new.links.items v)
+    told v e = record {
+      peer = ap (λ (l : Link). l.peer) e;
+      heard = ap (λ (l : Link). l.heard) e;
+      seen = ap (λ (l : Link). l.seen) e;
+      acked = ap (λ (l : Link). l.acked) e;
+    }
+
+is_lower_fact : (own : Own) (l : Link) → IsTrue (is_way own l) → (0 < l.heard) × IsBelow l.seen l.neighbour own.used own.me
+is_lower_fact own l yes = grind (arith, nat_tests)
+
+pub way_at : (n : Node) (w i : ℕ) (x : Link) → IsAt n.links.items w i x → n.gateway ≡ false → IsTrue (is_way n.own x)
+    → (h : ℕ → ℕ) → IsWay (router n h) n.own.me w
+way_at n w i x at no yes h = record {
+  forwards = λ g. true_false (sym no ∙ g);
+  known = omega (arith, ap (λ (l : Link). l.heard) found, fact.0);
+  below = subst (λ v. IsBelow (link_to n.links.items w).seen v n.own.used n.own.me) at.neighbour
+      (subst (λ v. IsBelow v x.neighbour n.own.used n.own.me) (sym (ap (λ (l : Link). l.seen) found)) fact.1);
+}
+  where
+    found : link_to n.links.items w ≡ x
+    found = found_at n.links.items w i x at
+
+    fact : (0 < x.heard) × IsBelow x.seen x.neighbour n.own.used n.own.me
+    fact = is_lower_fact n.own x yes
+
+    true_false : false ≡ true → ⊥
+    true_false e = cc

@@ -2,4 +2,5 @@ pub mod Routers  -- networks of routers, and what can happen in them
 pub mod Laws  -- the laws of these networks
 pub mod Links  -- what a node knows of its neighbours
 pub mod Histories  -- what a node has announced
+pub mod Distances  -- how far a node is from a gateway
 pub mod Nodes  -- which router of the laws a node is

@@ -1,5 +1,5 @@
 -- What a node knows of its neighbours, and how a message changes it. The definitions are this project's own.
-use Rattle.std.specs.Prelude.{Bool, IsTrue, None, Some, ℕ, List, map, length, ◌≡◌, ◌≢◌, ◌==◌, ◌<◌, ◌≤◌, ◌⊎◌, false}
+use Rattle.std.specs.Prelude.{Bool, IsTrue, None, Some, ℕ, List, map, length, ◌≡◌, ◌≢◌, ◌==◌, ◌<◌, ◌≤◌, ◌⊎◌, ◌&&◌, ◌||◌, false, nat_le, nat_lt}
 use Rattle.std.specs.List.{position_or_len, slice_index_or}
 use Rattle.fr_node.specs.declared.message.TheConstants.{CUT_OFF}
 use Rattle.fr_node.specs.declared.link.Link.{Link}
@@ -23,6 +23,18 @@ IsKnown ls w = place_of ls w < length ls
 -- what is known of router w
 abbrev pub link_to : List Link → ℕ → Link
 link_to ls w = slice_index_or ls (place_of ls w) unknown
+
+-- the neighbour is known to be lower: heights are compared with the routers' numbers
+abbrev pub is_lower : Own → Link → Bool
+is_lower own l = nat_lt 0 l.heard && (nat_lt l.seen own.used || (l.seen == own.used && nat_lt l.neighbour own.me))
+
+-- the router may send packets on the link
+abbrev pub is_way : Own → Link → Bool
+is_way own l = l.up && is_lower own l
+
+-- the neighbour has acknowledged a number from which on nothing was announced below the height in use
+abbrev pub has_answered : Own → Link → Bool
+has_answered own l = nat_le own.used_since l.acked
 
 -- router `own` has heard the message m, and the link l has become k. A message of an earlier start of the neighbour is
 -- ignored. A greater start is taken, and what was known is forgotten. If the message is for the present start of the

@@ -1,8 +1,7 @@
 //! What a router knows of one neighbour.
 
-ghost use Rattle.std.specs.Prelude.{◌≡◌, ◌≢◌, ◌<◌, ◌≤◌, ◌+◌, ◌^◌, ◌↔◌, ◌⊎◌, IsTrue, false};
-ghost use Rattle.fr_node.specs.Links.{IsHeard};
-ghost use Rattle.fr_node.specs.Routers.{IsBelow};
+ghost use Rattle.std.specs.Prelude.{◌≡◌, ◌≢◌, ◌<◌, ◌≤◌, ◌⊎◌, false};
+ghost use Rattle.fr_node.specs.Links.{IsHeard, has_answered, is_lower, is_way};
 
 use crate::message::{CUT_OFF, Message};
 use crate::own::Own;
@@ -113,30 +112,30 @@ impl Link {
 
     /// Whether the router may send packets to the neighbour.
     pub(crate) fn is_way(&self, own: &Own) -> bool
-        ensures { IsTrue result ↔ (IsTrue self.now.up × (0 < self.now.heard)
-            × IsBelow self.now.seen self.now.neighbour own.now.used own.now.me) }
+        ensures { result ≡ is_way own.now self.now }
     {
         self.up && self.is_lower(own)
     }
 
     /// Whether the neighbour is known to be lower than the router.
     pub(crate) fn is_lower(&self, own: &Own) -> bool
-        ensures { IsTrue result ↔ ((0 < self.now.heard)
-            × IsBelow self.now.seen self.now.neighbour own.now.used own.now.me) }
+        ensures { result ≡ is_lower own.now self.now }
     {
         let is_first = self.neighbour < own.me;
         self.heard > 0 && (self.seen < own.used || self.seen == own.used && is_first)
     }
 
-    /// Whether the router lets in packets from the neighbour.
-    pub(crate) fn is_open(&self, own: &Own) -> bool
-        ensures { IsTrue result ↔ (IsTrue self.now.up × (own.now.used_since ≤ self.now.acked)) }
+    /// Whether the neighbour has acknowledged enough to be let in.
+    pub(crate) fn has_answered(&self, own: &Own) -> bool
+        ensures { result ≡ has_answered own.now self.now }
     {
-        self.up && self.acked >= own.used_since
+        self.acked >= own.used_since
     }
 
     /// The neighbour as a way.
-    pub(crate) fn way(&self) -> Way {
+    pub(crate) fn way(&self) -> Way
+        ensures { result ≡ record { neighbour = self.now.neighbour; distance = self.now.distance } }
+    {
         Way {
             neighbour: self.neighbour,
             distance: self.distance,

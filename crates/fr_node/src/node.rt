@@ -1,11 +1,13 @@
 //! The state machine of one router.
 
-ghost use Rattle.std.specs.Prelude.{◌≡◌, ◌≢◌, ◌<◌, ◌≤◌, ◌+◌, ◌^◌, ◌↔◌, ◌⊎◌, IsTrue, [], ◌∷◌, IfSome, IfNone};
+ghost use Rattle.std.specs.Prelude.{◌≡◌, ◌≢◌, ◌<◌, ◌≤◌, ◌+◌, ◌++◌, ◌^◌, ◌↔◌, ◌⊎◌, true, false, IsTrue, IsSome, [], ◌∷◌, IfSome, IfNone, MatchOption, OnErr, OnOk, min, ℕ, vec_len};
 ghost use Rattle.std.specs.List.{position};
 ghost use Rattle.fr_node.specs.Histories.{Announces, IsHistory};
-ghost use Rattle.fr_node.specs.Links.{Hears, IsKnown, Says, SetsUp, leads_to, link_to};
-ghost use Rattle.fr_node.specs.Nodes.{Steps, router};
-ghost use Rattle.fr_node.specs.Routers.{IsOpen, IsSaidBy, IsWay};
+ghost use Rattle.fr_node.specs.declared.fault.NodeFault.TheVariants.{Itself};
+ghost use Rattle.fr_node.specs.Links.{Hears, IsKnown, Says, SetsUp, leads_to, link_to, unknown};
+ghost use Rattle.fr_node.specs.Distances.{HasNoWay, IsDistance, IsNearest};
+ghost use Rattle.fr_node.specs.Nodes.{IsMessageTo, Steps, lets_in, router, sends_to};
+ghost use Rattle.fr_node.specs.Routers.{IsOpen, IsSaidBy, IsWay, Restarts, Router};
 
 use crate::fault::NodeFault;
 use crate::link::Link;
@@ -33,7 +35,13 @@ pub struct Unwritten {
 
 impl Node {
     /// A router that starts. `boot` must be greater than at each of its earlier starts.
-    pub fn new(alloc: Global, me: u32, boot: u64, height: u64, policy: Policy) -> Node {
+    pub fn new(alloc: Global, me: u32, boot: u64, height: u64, policy: Policy) -> Node
+        ensures who { (result.own.me ≡ me) × (result.own.boot ≡ boot) × (result.gateway ≡ false) × (result.policy ≡ policy) }
+        ensures height { result.own.used ≡ height }
+        ensures links { result.links.items ≡ [] }
+        ensures announced { IsHistory result.own (λ _. height) }
+        ensures restart { (r : Router) → r.boot < boot → Restarts r (router result (λ _. height)) }
+    {
         Node {
             own: Own::new(me, boot, height),
             gateway: false,
@@ -43,7 +51,13 @@ impl Node {
     }
 
     /// A gateway that starts: it takes packets out of the network and sends on nothing.
-    pub fn gateway(alloc: Global, me: u32, boot: u64) -> Node {
+    pub fn gateway(alloc: Global, me: u32, boot: u64) -> Node
+        ensures who { (result.own.me ≡ me) × (result.own.boot ≡ boot) × (result.gateway ≡ true) }
+        ensures height { result.own.used ≡ 0 }
+        ensures links { result.links.items ≡ [] }
+        ensures announced { IsHistory result.own (λ _. 0) }
+        ensures restart { (r : Router) → r.boot < boot → Restarts r (router result (λ _. 0)) }
+    {
         Node {
             own: Own::new(me, boot, 0),
             gateway: true,
@@ -57,7 +71,15 @@ impl Node {
     }
 
     /// Makes a neighbour known. The link to it is down.
-    pub fn know(&mut self, neighbour: u32) -> Result<(), NodeFault> {
+    pub fn know(&mut self, neighbour: u32) -> Result<(), NodeFault>
+        ensures itself { neighbour ≡ self.old.own.me ↔ (result ≡ Err Itself) }
+        ensures known { neighbour ≢ self.old.own.me → IsKnown self.old.links.items neighbour → self.new ≡ self.old }
+        ensures new { OnOk result (¬ IsKnown self.old.links.items neighbour
+            → self.new.links.items ≡ self.old.links.items ++ record unknown { neighbour = neighbour } ∷ []) }
+        ensures same { self.new ≡ record self.old { links = self.new.links } }
+        ensures err { OnErr result (self.new.links.items ≡ self.old.links.items) }
+        ensures step { Steps [] self.old self.new }
+    {
         if neighbour == self.own.me {
             return Err(NodeFault::Itself);
         }
@@ -96,57 +118,97 @@ impl Node {
     }
 
     /// The message for a neighbour now. `None` if it is not known, or the link to it is down.
-    pub fn say(&mut self, neighbour: u32) -> Option<Message> {
-        let i = self.index_of(neighbour)?;
+    pub fn say(&mut self, neighbour: u32) -> Option<Message>
+        ensures up { IsSome result ↔ IsTrue (link_to self.old.links.items neighbour).up }
+        ensures content { IfSome result (IsMessageTo self.old neighbour) }
+        ensures same { self.new ≡ record self.old { links = self.new.links } }
+        ensures said { MatchOption result (self.new.links.items ≡ self.old.links.items)
+            (λ m. Says neighbour m self.old.links.items self.new.links.items) }
+        ensures safe { (h : ℕ → ℕ) → IsHistory self.old.own h → IfSome result (IsSaidBy (router self.old h)) }
+        ensures step { Steps [] self.old self.new }
+    {
+        let Some(i) = self.index_of(neighbour) else {
+            return None;
+        };
         if !self.links[i].up {
             return None;
         }
-        let message = self.message(&self.links[i]);
+        let message = self.message_at(i);
         self.links[i].said = Some(message);
         Some(message)
     }
 
     /// Whether there is news for a neighbour: the message for it is not the last one that was said.
-    pub fn has_news(&self, neighbour: u32) -> bool {
+    pub fn has_news(&self, neighbour: u32) -> bool
+        ensures down { ¬ IsTrue (link_to self.now.links.items neighbour).up → ¬ IsTrue result }
+        ensures news { IsTrue (link_to self.now.links.items neighbour).up → (m : Message) × IsMessageTo self.now neighbour m
+            × (IsTrue result ↔ ((link_to self.now.links.items neighbour).said ≢ Some m)) }
+    {
         match self.index_of(neighbour) {
-            Some(i) => self.links[i].up && self.links[i].said != Some(self.message(&self.links[i])),
+            Some(i) => self.links[i].up && self.links[i].said != Some(self.message_at(i)),
+            None => false,
+        }
+    }
+
+    /// Whether packets from this neighbour are let in: a gate for them is to be open. All other packets are dropped.
+    pub fn lets_in(&self, neighbour: u32) -> bool
+        ensures open { result ≡ lets_in self.now neighbour }
+        ensures safe { IsTrue result → (h : ℕ → ℕ) → IsHistory self.now.own h → IsOpen (router self.now h) neighbour }
+    {
+        match self.index_of(neighbour) {
+            Some(i) => {
+                let link = &self.links[i];
+                link.up && (self.gateway || link.has_answered(&self.own))
+            }
+            None => false,
+        }
+    }
+
+    /// Whether packets may be sent to this neighbour.
+    pub fn sends_to(&self, neighbour: u32) -> bool
+        ensures way { result ≡ sends_to self.now neighbour }
+        ensures safe { IsTrue result → (h : ℕ → ℕ) → IsWay (router self.now h) self.now.own.me neighbour }
+    {
+        match self.index_of(neighbour) {
+            Some(i) => !self.gateway && self.links[i].is_way(&self.own),
             None => false,
         }
     }
 
     /// The height in use.
-    pub fn height(&self) -> u64 {
+    pub fn height(&self) -> u64
+        ensures { result ≡ self.now.own.used }
+    {
         self.own.used
     }
 
     /// How many links a packet crosses from this router to a gateway, by what it has heard. `CUT_OFF` if it has no way.
-    pub fn distance(&self) -> u32 {
+    pub fn distance(&self) -> u32
+        ensures { IsDistance self.now result }
+    {
         if self.gateway {
             return 0;
         }
-        let cap = match self.policy.rise {
-            Rise::Full => CUT_OFF - 1,
-            Rise::Jump(cap) => cap.min(CUT_OFF - 1),
-        };
-        match self.nearest() {
+        let cap = self.policy.rise.cap();
+        match nearest(&self.links, &self.own) {
             Some(nearest) if nearest < cap => nearest + 1,
             _ => CUT_OFF,
         }
     }
 
-    /// The least distance of a way.
-    fn nearest(&self) -> Option<u32> {
-        let own = &self.own;
-        self.links.iter().filter(|link| link.is_way(own)).map(|link| link.distance).min()
-    }
-
+    /// The index of the link to a neighbour.
     fn index_of(&self, neighbour: u32) -> Option<usize>
         ensures { result ≡ position (leads_to neighbour) self.now.links.items }
     {
         self.links.iter().position(|link| link.neighbour == neighbour)
     }
 
-    fn message(&self, link: &Link) -> Message {
+    /// The message for the neighbour at an index.
+    fn message_at(&self, i: usize) -> Message
+        requires { i < vec_len self.now.links }
+        ensures { (w : ℕ) → position (leads_to w) self.now.links.items ≡ Some i → IsMessageTo self.now w result }
+    {
+        let link = &self.links[i];
         Message {
             from: self.own.me,
             to: link.neighbour,
@@ -211,7 +273,7 @@ impl Node {
     fn may_settle(&self) -> bool {
         let own = &self.own;
         !self.policy.wait
-            || self.links.iter().all(|link| !link.is_open(own) || link.acked >= own.announced_since)
+            || self.links.iter().all(|link| !(link.up && link.has_answered(own)) || link.acked >= own.announced_since)
     }
 
     /// The distance, if the router lowers its height to it.
@@ -266,38 +328,46 @@ impl Node {
     }
 }
 
+/// The least distance of a neighbour to which packets may be sent.
+fn nearest(links: &[Link], own: &Own) -> Option<u32>
+    ensures { MatchOption result (HasNoWay own.now links.now) (IsNearest own.now links.now) }
+{
+    let mut nearest = None;
+    for link in links {
+        if link.is_way(own) {
+            nearest = Some(nearer(nearest, link.distance));
+        }
+    }
+    nearest
+}
+
+/// The lesser of two distances, of which the first may not be known.
+fn nearer(nearest: Option<u32>, distance: u32) -> u32
+    ensures { MatchOption nearest (result ≡ distance) (λ d. result ≡ min d distance) }
+{
+    match nearest {
+        Some(d) => d.min(distance),
+        None => distance,
+    }
+}
+
 /// Whether a link leads to a nearer neighbour than another one: by distance, then by height, then by number.
 fn is_nearer(link: &Link, other: &Link) -> bool {
     (link.distance, link.seen, link.neighbour) < (other.distance, other.seen, other.neighbour)
 }
 
 impl Unwritten {
+    /// The node, whose ways and gates are to be written. It can say nothing.
+    pub fn node(&self) -> &Node
+        ensures { result.now ≡ self.now.node }
+    {
+        &self.node
+    }
+
     /// The caller says that the ways and gates are written.
-    pub fn written(self) -> Node {
+    pub fn written(self) -> Node
+        ensures { result ≡ self.node }
+    {
         self.node
-    }
-
-    /// Whether packets from this neighbour are let in.
-    pub fn lets_in(&self, neighbour: u32) -> bool {
-        self.node.lets_in(neighbour)
-    }
-}
-
-impl Node {
-    /// Whether packets from this neighbour are let in.
-    pub fn lets_in(&self, neighbour: u32) -> bool {
-        match self.index_of(neighbour) {
-            Some(i) if self.gateway => self.links[i].up,
-            Some(i) => self.links[i].is_open(&self.own),
-            None => false,
-        }
-    }
-
-    /// Whether packets may be sent to this neighbour.
-    pub fn is_way(&self, neighbour: u32) -> bool {
-        match self.index_of(neighbour) {
-            Some(i) => !self.gateway && self.links[i].is_way(&self.own),
-            None => false,
-        }
     }
 }

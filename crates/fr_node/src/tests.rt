@@ -13,14 +13,14 @@ fn two_routers(rt: HostRuntime) -> Result<(), Fail> {
     let mut gateway = gateway.link_up(1).written();
     let mut router = router.link_up(0).written();
     assert!(rt; gateway.has_news(1));
-    assert!(rt; !router.is_way(0));
+    assert!(rt; !router.sends_to(0));
     for _ in 0..2 {
         let up = gateway.say(1).ok_or("no message")?;
         router = router.hear(&up).written();
         let down = router.say(0).ok_or("no message")?;
         gateway = gateway.hear(&down).written();
     }
-    assert!(rt; router.is_way(0));
+    assert!(rt; router.sends_to(0));
     assert!(rt; gateway.lets_in(1));
     assert_eq!(rt; router.distance(), 1);
     Ok(())

@@ -1,0 +1,32 @@
+-- Distances from a gateway, by what was heard. The definitions are this project's own.
+use Rattle.std.specs.Prelude.{IsTrue, List, false, length, min, true, ℕ, ◌+◌, ◌-◌, ◌<◌, ◌≡◌, ◌≤◌}
+use Rattle.std.specs.List.{slice_index_or}
+use Rattle.fr_node.specs.declared.link.Link.{Link}
+use Rattle.fr_node.specs.declared.message.TheConstants.{CUT_OFF}
+use Rattle.fr_node.specs.declared.node.Node.{Node}
+use Rattle.fr_node.specs.declared.own.Own.{Own}
+use Rattle.fr_node.specs.declared.policy.Rise.{Rise}
+use Rattle.fr_node.specs.declared.policy.Rise.TheVariants.{Full, Jump}
+use Rattle.fr_node.specs.Links.{is_way, unknown}
+
+-- d is the least distance of the neighbours at these links to which router `own` may send packets
+pub record IsNearest (own : Own) (ls : List Link) (d : ℕ) : Type 0 where
+  pub some : (k : ℕ) × (k < length ls) × (is_way own (slice_index_or ls k unknown) ≡ true)
+      × ((slice_index_or ls k unknown).distance ≡ d)
+  pub least : (k : ℕ) → k < length ls → is_way own (slice_index_or ls k unknown) ≡ true
+      → d ≤ (slice_index_or ls k unknown).distance
+
+-- the router may send packets on none of these links
+abbrev pub HasNoWay : Own → List Link → Type 0
+HasNoWay own ls = (k : ℕ) → k < length ls → is_way own (slice_index_or ls k unknown) ≡ false
+
+-- a node passes on distances below its cap
+abbrev pub cap_of : Rise → ℕ
+cap_of Full = CUT_OFF - 1
+cap_of (Jump cap) = min cap (CUT_OFF - 1)
+
+-- the distance of the node: one more than that of its nearest way, if this is below the cap
+pub record IsDistance (n : Node) (d : ℕ) : Type 0 where
+  pub gateway : IsTrue n.gateway → d ≡ 0
+  pub near : ¬ IsTrue n.gateway → (k : ℕ) → IsNearest n.own n.links.items k → k < cap_of n.policy.rise → d ≡ k + 1
+  pub far : ¬ IsTrue n.gateway → ((k : ℕ) → IsNearest n.own n.links.items k → cap_of n.policy.rise ≤ k) → d ≡ CUT_OFF
