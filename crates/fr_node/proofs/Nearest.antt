@@ -1,6 +1,7 @@
 -- The least distance of the neighbours so far.
-use Rattle.std.proofs.Common.{List, MatchOption, None, Option, Some, arith, false, get_or, length, min, subst, sym, true, ℕ, ⊎_elim, ◌+◌, ◌<◌, ◌≡◌, ◌≤◌, ◌∙◌}
+use Rattle.std.proofs.Common.{List, MatchOption, None, Option, Some, ap, arith, false, get_or, length, min, subst, sym, true, ℕ, ⊎_elim, ◌+◌, ◌<◌, ◌≡◌, ◌≤◌, ◌∙◌}
 use Rattle.std.proofs.lemmas.Bool.{cases_lt}
+use Rattle.std.proofs.lemmas.List.{get_or_default}
 use Rattle.fr_node.specs.declared.link.Link.{Link}
 use Rattle.fr_node.specs.declared.own.Own.{Own}
 use Rattle.fr_node.specs.Distances.{HasNoWay, IsNearest}
@@ -13,7 +14,7 @@ IsNearestOf own ls n (Some d) = ((k : ℕ) × (k < n) × (is_way own (get_or ls 
     × ((k : ℕ) → k < n → is_way own (get_or ls k unknown) ≡ true → d ≤ (get_or ls k unknown).distance)
 
 not_both : (own : Own) (l : Link) → is_way own l ≡ false → is_way own l ≡ true → ⊥
-not_both own l no yes = true_false (sym no ∙ yes)
+not_both own l f t = true_false (sym f ∙ t)
   where
     true_false : false ≡ true → ⊥
     true_false e = cc
@@ -21,32 +22,44 @@ not_both own l no yes = true_false (sym no ∙ yes)
 at_end : (P : ℕ → Type 0) (n : ℕ) → P n → ((k : ℕ) → k < n → P k) → (k : ℕ) → k < n + 1 → P k
 at_end P n here below k l = ⊎_elim (λ b. below k b) (λ e. subst P (omega arith) here) (cases_lt k n)
 
-pub nearest_more : (own : Own) (ls : List Link) (n : ℕ) (r : Option ℕ) (v : ℕ) → IsNearestOf own ls n r
+more : (own : Own) (ls : List Link) (n : ℕ) (r : Option ℕ) (v : ℕ) → IsNearestOf own ls n r
     → is_way own (get_or ls n unknown) ≡ true
     → MatchOption r (v ≡ (get_or ls n unknown).distance) (λ d. v ≡ min d (get_or ls n unknown).distance)
     → IsNearestOf own ls (n + 1) (Some v)
-nearest_more own ls n None v before way e = (
+more own ls n None v before way e = (
   (n, omega arith, way, sym e),
   at_end (λ k. is_way own (get_or ls k unknown) ≡ true → v ≤ (get_or ls k unknown).distance) n
-      (λ _. omega arith) (λ k l yes. absurd (not_both own (get_or ls k unknown) (before k l) yes)),
+      (λ _. omega arith) (λ k l t. absurd (not_both own (get_or ls k unknown) (before k l) t)),
 )
-nearest_more own ls n (Some d) v before way e = (
+more own ls n (Some d) v before way e = (
   ⊎_elim
       (λ less. let k = before.0 in (k.0, omega (arith, k.1), k.2, omega (arith, k.3)))
       (λ more. (n, omega arith, way, omega arith))
       (cases_lt d (get_or ls n unknown).distance),
   at_end (λ k. is_way own (get_or ls k unknown) ≡ true → v ≤ (get_or ls k unknown).distance) n
-      (λ _. omega arith) (λ k l yes. omega (arith, before.1 k l yes)),
+      (λ _. omega arith) (λ k l t. omega (arith, before.1 k l t)),
 )
 
-pub nearest_same : (own : Own) (ls : List Link) (n : ℕ) (r : Option ℕ) → IsNearestOf own ls n r
+pub nearest_more : (own : Own) (ls : List Link) (n : ℕ) (r : Option ℕ) (v : ℕ) (e : Link) → n < length ls
+    → IsNearestOf own ls n r → is_way own (get_or ls n e) ≡ true
+    → MatchOption r (v ≡ (get_or ls n e).distance) (λ d. v ≡ min d (get_or ls n e).distance)
+    → IsNearestOf own ls (n + 1) (Some v)
+nearest_more own ls n r v e h before = subst
+    (λ (x : Link). is_way own x ≡ true → MatchOption r (v ≡ x.distance) (λ d. v ≡ min d x.distance) → IsNearestOf own ls (n + 1) (Some v))
+    (get_or_default ls n unknown e h) (more own ls n r v before)
+
+same : (own : Own) (ls : List Link) (n : ℕ) (r : Option ℕ) → IsNearestOf own ls n r
     → is_way own (get_or ls n unknown) ≡ false → IsNearestOf own ls (n + 1) r
-nearest_same own ls n None before no = at_end (λ k. is_way own (get_or ls k unknown) ≡ false) n no before
-nearest_same own ls n (Some d) before no = (
+same own ls n None before f = at_end (λ k. is_way own (get_or ls k unknown) ≡ false) n f before
+same own ls n (Some d) before f = (
   let k = before.0 in (k.0, omega (arith, k.1), k.2, k.3),
   at_end (λ k. is_way own (get_or ls k unknown) ≡ true → d ≤ (get_or ls k unknown).distance) n
-      (λ yes. absurd (not_both own (get_or ls n unknown) no yes)) before.1,
+      (λ t. absurd (not_both own (get_or ls n unknown) f t)) before.1,
 )
+
+pub nearest_same : (own : Own) (ls : List Link) (n : ℕ) (r : Option ℕ) (e : Link) → n < length ls → IsNearestOf own ls n r
+    → is_way own (get_or ls n e) ≡ false → IsNearestOf own ls (n + 1) r
+nearest_same own ls n r e h before f = same own ls n r before (ap (is_way own) (get_or_default ls n unknown e h) ∙ f)
 
 pub nearest_all : (own : Own) (ls : List Link) (n : ℕ) (r : Option ℕ) → n ≡ length ls → IsNearestOf own ls n r
     → MatchOption r (HasNoWay own ls) (IsNearest own ls)
@@ -64,6 +77,3 @@ nearest_once own ls a b x y = omega (
   x.least y.some.0 y.some.1 y.some.2,
   y.least x.some.0 x.some.1 x.some.2,
 )
-
-pub nearest_or_not : (own : Own) (ls : List Link) (d : ℕ) → HasNoWay own ls → IsNearest own ls d → ⊥
-nearest_or_not own ls d no yes = not_both own (get_or ls yes.some.0 unknown) (no yes.some.0 yes.some.1) yes.some.2

@@ -222,12 +222,12 @@ steps_said w m old new own says = steps [] old new (subst (Announces old.own) (s
     }
 
 is_lower_fact : (own : Own) (l : Link) → IsTrue (is_way own l) → (0 < l.heard) × IsBelow l.seen l.neighbour own.used own.me
-is_lower_fact own l yes = grind (arith, nat_tests)
+is_lower_fact own l t = grind (arith, nat_tests)
 
 pub way_at : (n : Node) (w i : ℕ) (x : Link) → IsAt n.links.items w i x → n.gateway ≡ false → IsTrue (is_way n.own x)
     → (h : ℕ → ℕ) → IsWay (router n h) n.own.me w
-way_at n w i x at no yes h = record {
-  forwards = λ g. true_false (sym no ∙ g);
+way_at n w i x at router_is t h = record {
+  forwards = λ g. true_false (sym router_is ∙ g);
   known = omega (arith, ap (λ (l : Link). l.heard) found, fact.0);
   below = subst (λ v. IsBelow (link_to n.links.items w).seen v n.own.used n.own.me) at.neighbour
       (subst (λ v. IsBelow v x.neighbour n.own.used n.own.me) (sym (ap (λ (l : Link). l.seen) found)) fact.1);
@@ -237,7 +237,7 @@ way_at n w i x at no yes h = record {
     found = found_at n.links.items w i x at
 
     fact : (0 < x.heard) × IsBelow x.seen x.neighbour n.own.used n.own.me
-    fact = is_lower_fact n.own x yes
+    fact = is_lower_fact n.own x t
 
     true_false : false ≡ true → ⊥
     true_false e = cc

@@ -1,12 +1,14 @@
 -- Distances from a gateway, by what was heard. The definitions are this project's own.
-use Rattle.std.specs.Prelude.{IsTrue, List, false, length, min, true, ℕ, ◌+◌, ◌-◌, ◌<◌, ◌≡◌, ◌≤◌}
+use Rattle.std.specs.Prelude.{IsTrue, List, [], false, filter, length, map, min, true, ℕ, ◌+◌, ◌*◌, ◌^◌, ◌-◌, ◌<◌, ◌≡◌, ◌≤◌}
 use Rattle.std.specs.List.{slice_index_or}
+use Rattle.std.specs.List.Sorted.{IsNonDecreasingBy, IsPermutation}
 use Rattle.fr_node.specs.declared.link.Link.{Link}
 use Rattle.fr_node.specs.declared.message.TheConstants.{CUT_OFF}
 use Rattle.fr_node.specs.declared.node.Node.{Node}
 use Rattle.fr_node.specs.declared.own.Own.{Own}
 use Rattle.fr_node.specs.declared.policy.Rise.{Rise}
 use Rattle.fr_node.specs.declared.policy.Rise.TheVariants.{Full, Jump}
+use Rattle.fr_node.specs.declared.way.Way.{Way}
 use Rattle.fr_node.specs.Links.{is_way, unknown}
 
 -- d is the least distance of the neighbours at these links to which router `own` may send packets
@@ -30,3 +32,20 @@ pub record IsDistance (n : Node) (d : ℕ) : Type 0 where
   pub gateway : IsTrue n.gateway → d ≡ 0
   pub near : ¬ IsTrue n.gateway → (k : ℕ) → IsNearest n.own n.links.items k → k < cap_of n.policy.rise → d ≡ k + 1
   pub far : ¬ IsTrue n.gateway → ((k : ℕ) → IsNearest n.own n.links.items k → cap_of n.policy.rise ≤ k) → d ≡ CUT_OFF
+
+-- a link as a way, and the number by which ways are sorted: by distance, and equally near ones by number
+abbrev pub way_of : Link → Way
+way_of l = record { neighbour = l.neighbour; distance = l.distance }
+
+abbrev pub rank_of : Way → ℕ
+rank_of w = w.distance * 2 ^ 32 + w.neighbour
+
+-- the ways of some links, in their order
+abbrev pub ways_of : Own → List Link → List Way
+ways_of own ls = map way_of (filter (is_way own) ls)
+
+-- all ways of the node, nearest first. A gateway has none
+pub record AreWays (n : Node) (ws : List Way) : Type 0 where
+  pub gateway : IsTrue n.gateway → ws ≡ []
+  pub each : ¬ IsTrue n.gateway → IsPermutation (ways_of n.own n.links.items) ws
+  pub order : IsNonDecreasingBy rank_of ws

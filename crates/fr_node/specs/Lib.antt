@@ -1,3 +1,4 @@
+pub mod Bytes  -- messages as bytes
 pub mod Routers  -- networks of routers, and what can happen in them
 pub mod Laws  -- the laws of these networks
 pub mod Links  -- what a node knows of its neighbours

@@ -1,6 +1,7 @@
 //! What a router knows of one neighbour.
 
-ghost use Rattle.std.specs.Prelude.{◌≡◌, ◌≢◌, ◌<◌, ◌≤◌, ◌⊎◌, false};
+ghost use Rattle.std.specs.Prelude.{◌≡◌, ◌≢◌, ◌<◌, ◌≤◌, ◌⊎◌, ◌↔◌, IsTrue, false};
+ghost use Rattle.fr_node.specs.Distances.{way_of};
 ghost use Rattle.fr_node.specs.Links.{IsHeard, has_answered, is_lower, is_way};
 
 use crate::message::{CUT_OFF, Message};
@@ -132,9 +133,19 @@ impl Link {
         self.acked >= own.used_since
     }
 
+    /// Whether this was the last message that was said to the neighbour.
+    pub(crate) fn has_said(&self, message: &Message) -> bool
+        ensures { IsTrue result ↔ (self.now.said ≡ Some message.now) }
+    {
+        match &self.said {
+            Some(said) => *said == *message,
+            None => false,
+        }
+    }
+
     /// The neighbour as a way.
     pub(crate) fn way(&self) -> Way
-        ensures { result ≡ record { neighbour = self.now.neighbour; distance = self.now.distance } }
+        ensures { result ≡ way_of self.now }
     {
         Way {
             neighbour: self.neighbour,

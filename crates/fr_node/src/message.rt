@@ -1,5 +1,8 @@
 //! What routers say to their neighbours.
 
+ghost use Rattle.std.specs.Prelude.{◌≡◌, ◌≢◌, ◌+◌, ◌++◌, ◌≤◌, MatchOption, length, take};
+ghost use Rattle.fr_node.specs.Bytes.{bytes_4, bytes_8, bytes_of, head_of};
+
 /// A distance that is not known, since there is no way.
 pub const CUT_OFF: u32 = u32::MAX;
 
@@ -28,5 +31,98 @@ pub struct Message {
     pub distance: u32,
 }
 
-/// The first four bytes of a message: its kind, and the version of its form.
+
+/// The first four bytes of each message: the letters `FRN`, and the version of the form.
 const HEADER: u32 = 0x4652_4e01;
+
+impl Message {
+    /// The message as bytes: the header, `from`, `to` and `distance` in 4 bytes each; then `boot`, `echo`, `number`,
+    /// `height` and `heard` in 8 bytes each. The highest byte of each comes first. O(1).
+    pub fn write(&self) -> [u8; MESSAGE_LENGTH]
+        ensures { result ≡ bytes_of self.now }
+    {
+        let mut bytes = [0u8; MESSAGE_LENGTH];
+        self.write_head(&mut bytes);
+        self.write_numbers(&mut bytes);
+        bytes
+    }
+
+    /// Writes the first 16 bytes.
+    fn write_head(&self, bytes: &mut [u8])
+        requires { length bytes.old ≡ MESSAGE_LENGTH }
+        ensures { take 16 bytes.new ≡ head_of self.now }
+    {
+        put_4(bytes, 0, HEADER);
+        put_4(bytes, 4, self.from);
+        put_4(bytes, 8, self.to);
+        put_4(bytes, 12, self.distance);
+    }
+
+    /// Writes the bytes from the 17th on.
+    fn write_numbers(&self, bytes: &mut [u8])
+        requires length { length bytes.old ≡ MESSAGE_LENGTH }
+        requires head { take 16 bytes.old ≡ head_of self.now }
+        ensures { bytes.new ≡ bytes_of self.now }
+    {
+        put_8(bytes, 16, self.boot);
+        put_8(bytes, 24, self.echo);
+        put_8(bytes, 32, self.number);
+        put_8(bytes, 40, self.height);
+        put_8(bytes, 48, self.heard);
+    }
+
+    /// The message that these bytes are. `None` if they are none: too few, too many, or with another header. O(1).
+    pub fn read(bytes: &[u8]) -> Option<Message>
+        ensures { MatchOption result ((m : Message) → bytes_of m ≢ bytes.now) (λ m. bytes_of m ≡ bytes.now) }
+    {
+        if bytes.len() != MESSAGE_LENGTH || number_4(bytes, 0) != HEADER {
+            return None;
+        }
+        Some(Message {
+            from: number_4(bytes, 4),
+            to: number_4(bytes, 8),
+            distance: number_4(bytes, 12),
+            boot: number_8(bytes, 16),
+            echo: number_8(bytes, 24),
+            number: number_8(bytes, 32),
+            height: number_8(bytes, 40),
+            heard: number_8(bytes, 48),
+        })
+    }
+}
+
+/// Writes a number in 4 bytes, from an index on.
+fn put_4(bytes: &mut [u8], at: usize, number: u32)
+    requires { at + 4 ≤ length bytes.old }
+    ensures { take (at + 4) bytes.new ≡ take at bytes.old ++ bytes_4 number }
+{
+    bytes[at..at + 4].copy_from_slice(&number.to_be_bytes());
+}
+
+/// Writes a number in 8 bytes, from an index on.
+fn put_8(bytes: &mut [u8], at: usize, number: u64)
+    requires { at + 8 ≤ length bytes.old }
+    ensures { take (at + 8) bytes.new ≡ take at bytes.old ++ bytes_8 number }
+{
+    bytes[at..at + 8].copy_from_slice(&number.to_be_bytes());
+}
+
+/// The number in the 4 bytes from an index on.
+fn number_4(bytes: &[u8], at: usize) -> u32
+    requires { at + 4 ≤ length bytes.now }
+    ensures { take (at + 4) bytes.now ≡ take at bytes.now ++ bytes_4 result }
+{
+    let mut four = [0u8; 4];
+    four.copy_from_slice(&bytes[at..at + 4]);
+    u32::from_be_bytes(four)
+}
+
+/// The number in the 8 bytes from an index on.
+fn number_8(bytes: &[u8], at: usize) -> u64
+    requires { at + 8 ≤ length bytes.now }
+    ensures { take (at + 8) bytes.now ≡ take at bytes.now ++ bytes_8 result }
+{
+    let mut eight = [0u8; 8];
+    eight.copy_from_slice(&bytes[at..at + 8]);
+    u64::from_be_bytes(eight)
+}

@@ -1,11 +1,11 @@
 //! The state machine of one router.
 
-ghost use Rattle.std.specs.Prelude.{◌≡◌, ◌≢◌, ◌<◌, ◌≤◌, ◌+◌, ◌++◌, ◌^◌, ◌↔◌, ◌⊎◌, true, false, IsTrue, IsSome, [], ◌∷◌, IfSome, IfNone, MatchOption, OnErr, OnOk, min, ℕ, vec_len};
+ghost use Rattle.std.specs.Prelude.{◌≡◌, ◌≢◌, ◌<◌, ◌≤◌, ◌+◌, ◌++◌, ◌^◌, ◌↔◌, ◌⊎◌, true, false, IsTrue, IsSome, [], ◌∷◌, IfSome, IfNone, MatchOption, OnErr, OnOk, min, length, ℕ, vec_capacity, vec_len};
 ghost use Rattle.std.specs.List.{position};
 ghost use Rattle.fr_node.specs.Histories.{Announces, IsHistory};
 ghost use Rattle.fr_node.specs.declared.fault.NodeFault.TheVariants.{Itself};
 ghost use Rattle.fr_node.specs.Links.{Hears, IsKnown, Says, SetsUp, leads_to, link_to, unknown};
-ghost use Rattle.fr_node.specs.Distances.{HasNoWay, IsDistance, IsNearest};
+ghost use Rattle.fr_node.specs.Distances.{AreWays, HasNoWay, IsDistance, IsNearest, ways_of};
 ghost use Rattle.fr_node.specs.Nodes.{IsMessageTo, Steps, lets_in, router, sends_to};
 ghost use Rattle.fr_node.specs.Routers.{IsOpen, IsSaidBy, IsWay, Restarts, Router};
 
@@ -14,7 +14,7 @@ use crate::link::Link;
 use crate::message::{CUT_OFF, Message};
 use crate::own::Own;
 use crate::policy::{Policy, Rise};
-use crate::way::Way;
+use crate::way::{Way, sort};
 use std::alloc::Global;
 
 /// One router, for one destination. Its table is written, so its messages may be sent.
@@ -145,7 +145,7 @@ impl Node {
             × (IsTrue result ↔ ((link_to self.now.links.items neighbour).said ≢ Some m)) }
     {
         match self.index_of(neighbour) {
-            Some(i) => self.links[i].up && self.links[i].said != Some(self.message_at(i)),
+            Some(i) => self.links[i].up && !self.links[i].has_said(&self.message_at(i)),
             None => false,
         }
     }
@@ -173,6 +173,27 @@ impl Node {
             Some(i) => !self.gateway && self.links[i].is_way(&self.own),
             None => false,
         }
+    }
+
+    /// Lists the ways, the nearest first, and equally near ones by number. The list keeps its capacity, so no memory is
+    /// taken. O(d log d) for d known neighbours.
+    pub fn list_ways(&self, ways: &mut Vec<Way>)
+        requires { vec_len self.now.links ≤ vec_capacity ways.old }
+        ensures ways { AreWays self.now ways.new.items }
+        ensures room { vec_capacity ways.new ≡ vec_capacity ways.old }
+    {
+        ways.clear();
+        if !self.gateway {
+            push_ways(&self.links, &self.own, ways);
+        }
+        sort(ways);
+    }
+
+    /// How many neighbours are known.
+    pub fn neighbours(&self) -> usize
+        ensures { result ≡ vec_len self.now.links }
+    {
+        self.links.len()
     }
 
     /// The height in use.
@@ -325,6 +346,20 @@ impl Node {
         }
         let nearest = best?;
         if nearest.neighbour < self.own.me { Some(nearest.seen) } else { nearest.seen.checked_add(1) }
+    }
+}
+
+/// Lists the ways among these links.
+fn push_ways(links: &[Link], own: &Own, ways: &mut Vec<Way>)
+    requires none { ways.old.items ≡ [] }
+    requires room { length links.now ≤ vec_capacity ways.old }
+    ensures ways { ways.new.items ≡ ways_of own.now links.now }
+    ensures room { vec_capacity ways.new ≡ vec_capacity ways.old }
+{
+    for link in links {
+        if link.is_way(own) {
+            ways.push_reserved(link.way());
+        }
     }
 }
 
