@@ -1,9 +1,18 @@
 -- What the bytes of a message are.
-use Rattle.std.proofs.Common.{List, ap, arith, drop, length, refl, sym, take, w32, w64, ℕ, ◌<◌, ◌^◌, ◌∙◌, ◌≡◌}
+use Rattle.std.proofs.Common.{List, ap, arith, drop, get_or, length, refl, sym, take, w32, w64, ℕ, ⊎_elim, ◌+◌, ◌<◌, ◌^◌, ◌∙◌, ◌≡◌}
 use Rattle.std.specs.Int.{from_be_bytes}
+use Rattle.std.proofs.lemmas.Bool.{cases_lt}
+use Rattle.std.proofs.lemmas.List.{get_or-drop, get_or-take, get_or_past, length-take}
 use Rattle.std.proofs.lemmas.Nat.{from_be_bytes-to_be_bytes_4, from_be_bytes-to_be_bytes_8}
 use Rattle.fr_node.specs.declared.message.Message.{Message}
 use Rattle.fr_node.specs.Bytes.{OneMessage, bytes_4, bytes_8, bytes_of}
+
+-- a part of some bytes is bytes
+pub piece_fits : (bytes : List ℕ) (at n : ℕ) → ((i : ℕ) → get_or bytes i 0 < 256) → (i : ℕ) → get_or (take n (drop at bytes)) i 0 < 256
+piece_fits bytes at n fits i = ⊎_elim
+    (λ within. omega (arith, get_or-take n (drop at bytes) i 0 within, get_or-drop at bytes i 0, fits (at + i)))
+    (λ past. omega (arith, get_or_past (take n (drop at bytes)) i 0 (omega (arith, past, length-take n (drop at bytes)))))
+    (cases_lt i n)
 
 pub length-bytes_of : (m : Message) → length (bytes_of m) ≡ 56
 unfolding bytes_4 bytes_8

@@ -1,0 +1,256 @@
+//! What a router has to do, written from the rules of the protocol and not from the library. It keeps all announcements
+//! since the one whose height is in use, and looks through them.
+
+use fr_node::{CUT_OFF, Message, Policy, Rise};
+use std::alloc::{AllocError, Global};
+
+/// What a router knows of a neighbour.
+#[derive(Clone, Copy)]
+struct Seen {
+    up: bool,
+    peer: u64,
+    number: u64,
+    height: u64,
+    distance: u32,
+    acked: u64,
+}
+
+/// One announcement: its number and the height.
+#[derive(Clone, Copy)]
+struct Said {
+    number: u64,
+    height: u64,
+}
+
+#[derive(Drop)]
+pub struct Rules {
+    me: u32,
+    boot: u64,
+    gateway: bool,
+    policy: Policy,
+    used: u64,
+    said: Vec<Said>,
+    seen: Vec<Seen>,
+}
+
+impl Rules {
+    pub fn start(
+        alloc: Global,
+        (me, routers): (u32, u32),
+        boot: u64,
+        gateway: bool,
+        policy: Policy,
+    ) -> Result<Rules, AllocError> {
+        let used = if gateway { 0 } else { u64::from(me) };
+        let mut said = Vec::new(alloc);
+        said.push(Said { number: 1, height: used })?;
+        let mut seen = Vec::new(alloc);
+        for _ in 0..routers {
+            seen.push(Seen { up: false, peer: 0, number: 0, height: 0, distance: CUT_OFF, acked: 0 })?;
+        }
+        Ok(Rules { me, boot, gateway, policy, used, said, seen })
+    }
+
+    pub fn height(&self) -> u64 {
+        self.used
+    }
+
+    pub fn set_up(&mut self, w: u32, up: bool) {
+        if let Some(seen) = self.seen.get_mut(w as usize) {
+            seen.up = up;
+        }
+    }
+
+    pub fn hear(&mut self, m: &Message) {
+        let last = self.last().number;
+        if m.to != self.me {
+            return;
+        }
+        let Some(seen) = self.seen.get_mut(m.from as usize) else {
+            return;
+        };
+        if m.boot < seen.peer {
+            return;
+        }
+        if m.boot > seen.peer {
+            seen.peer = m.boot;
+            seen.number = 0;
+            seen.height = 0;
+            seen.acked = 0;
+            seen.distance = CUT_OFF;
+        }
+        if m.echo != self.boot {
+            return;
+        }
+        if m.heard <= last {
+            seen.acked = seen.acked.max(m.heard);
+        }
+        if m.number >= seen.number {
+            seen.number = m.number;
+            seen.height = m.height;
+            seen.distance = m.distance;
+        }
+    }
+
+    fn last(&self) -> Said {
+        self.said.last().copied().unwrap_or(Said { number: 1, height: 0 })
+    }
+
+    fn seen(&self, w: u32) -> Option<Seen> {
+        self.seen.get(w as usize).copied()
+    }
+
+    fn is_lower(&self, w: u32, seen: Seen, than: u64) -> bool {
+        seen.number > 0 && (seen.height < than || seen.height == than && w < self.me)
+    }
+
+    pub fn sends_to(&self, w: u32) -> bool {
+        self.seen(w).is_some_and(|seen| !self.gateway && seen.up && self.is_lower(w, seen, self.used))
+    }
+
+    /// The least height that the neighbour may have in mind. `None`: not known.
+    fn floor(&self, seen: Seen) -> Option<u64> {
+        let first = self.said.first().map(|said| said.number)?;
+        if seen.acked < first {
+            return None;
+        }
+        let mut floor = None;
+        for said in &self.said {
+            if said.number >= seen.acked {
+                floor = Some(said.height.min(floor.unwrap_or(said.height)));
+            }
+        }
+        floor
+    }
+
+    pub fn lets_in(&self, w: u32) -> bool {
+        match self.seen(w) {
+            Some(seen) => seen.up && (self.gateway || self.floor(seen).is_some_and(|floor| floor >= self.used)),
+            None => false,
+        }
+    }
+
+    fn cap(&self) -> u32 {
+        match self.policy.rise {
+            Rise::Full => CUT_OFF - 1,
+            Rise::Jump(cap) => cap.min(CUT_OFF - 1),
+        }
+    }
+
+    pub fn distance(&self) -> u32 {
+        if self.gateway {
+            return 0;
+        }
+        let mut least = CUT_OFF;
+        for (w, seen) in self.seen.iter().enumerate() {
+            if self.sends_to(w as u32) {
+                least = least.min(seen.distance);
+            }
+        }
+        if least < self.cap() { least.saturating_add(1) } else { CUT_OFF }
+    }
+
+    pub fn message(&self, w: u32) -> Option<Message> {
+        let seen = self.seen(w)?;
+        if !seen.up {
+            return None;
+        }
+        let last = self.last();
+        Some(Message {
+            from: self.me,
+            to: w,
+            boot: self.boot,
+            echo: seen.peer,
+            number: last.number,
+            height: last.height,
+            heard: seen.number,
+            distance: self.distance(),
+        })
+    }
+
+    /// Announces a height by the policy, and uses it if it may.
+    pub fn act(&mut self) -> Result<(), AllocError> {
+        if self.gateway {
+            return Ok(());
+        }
+        let last = self.last();
+        if last.height == self.used {
+            let number = last.number.saturating_add(1);
+            if let Some(height) = self.lower() {
+                self.said.push(Said { number, height })?;
+                self.used = height;
+            } else if let Some(height) = self.raise() {
+                if height > self.used {
+                    self.said.push(Said { number, height })?;
+                }
+            }
+        }
+        let last = self.last();
+        if last.height != self.used && self.may_use(last.height) {
+            self.used = last.height;
+            self.said.clear();
+            self.said.push(last)?;
+        }
+        Ok(())
+    }
+
+    fn may_use(&self, height: u64) -> bool {
+        for (w, seen) in self.seen.iter().enumerate() {
+            let is_open = self.lets_in(w as u32);
+            if self.policy.wait && is_open && !self.floor(*seen).is_some_and(|floor| floor >= height) {
+                return false;
+            }
+        }
+        true
+    }
+
+    fn lower(&self) -> Option<u64> {
+        let distance = self.distance();
+        let height = u64::from(distance);
+        if !self.policy.lower || distance == CUT_OFF || height >= self.used {
+            return None;
+        }
+        for (w, seen) in self.seen.iter().enumerate() {
+            let w = w as u32;
+            if self.sends_to(w) && seen.distance < distance && self.is_lower(w, *seen, height) {
+                return Some(height);
+            }
+        }
+        None
+    }
+
+    fn raise(&self) -> Option<u64> {
+        match self.policy.rise {
+            Rise::Full => self.above_all(),
+            Rise::Jump(cap) => self.above_nearest(cap),
+        }
+    }
+
+    fn above_all(&self) -> Option<u64> {
+        let mut most = None;
+        for (w, seen) in self.seen.iter().enumerate() {
+            if seen.up {
+                if seen.number == 0 || self.is_lower(w as u32, *seen, self.used) {
+                    return None;
+                }
+                most = Some(seen.height.max(most.unwrap_or(0)));
+            }
+        }
+        most?.checked_add(1)
+    }
+
+    fn above_nearest(&self, cap: u32) -> Option<u64> {
+        if self.distance() != CUT_OFF {
+            return None;
+        }
+        let mut best: Option<(u32, u64, u32)> = None;
+        for (w, seen) in self.seen.iter().enumerate() {
+            let key = (seen.distance, seen.height, w as u32);
+            if seen.up && seen.number > 0 && seen.distance < cap && best.is_none_or(|b| key < b) {
+                best = Some(key);
+            }
+        }
+        let (_, height, w) = best?;
+        if w < self.me { Some(height) } else { height.checked_add(1) }
+    }
+}
