@@ -67,16 +67,16 @@ height_heard : (own : Own) (m : Message) (l k : Link) → IsHeard own m l k → 
 unfolding Height
 height_heard own m l k h from now = ⊎_elim
     (λ echo. ⊎_elim
-        (λ even. ⊎_elim
-            (λ later. let e = h.uninformed even (inr later) in inl (omega (arith, h.start now, even), e.0, e.1))
-            (λ good. took echo (λ _. good))
-            (cases_lt m.number l.heard))
-        (λ less. took echo (λ e. absurd (omega (arith, e, less))))
-        (eq-or-lt_of_le now))
+    (λ even. ⊎_elim
+    (λ later. let e = h.uninformed even (inr later) in inl (omega (arith, h.start now, even), e.0, e.1))
+    (λ good. took echo (λ _. good))
+    (cases_lt m.number l.heard))
+    (λ less. took echo (λ e. absurd (omega (arith, e, less))))
+    (eq-or-lt_of_le now))
     (λ other. ⊎_elim
-        (λ even. let e = h.uninformed even (inl other) in inl (omega (arith, h.start now, even), e.0, e.1))
-        (λ less. inr (inl (omega (arith, less, h.start now), (h.forgotten less other).0)))
-        (eq-or-lt_of_le now))
+    (λ even. let e = h.uninformed even (inl other) in inl (omega (arith, h.start now, even), e.0, e.1))
+    (λ less. inr (inl (omega (arith, less, h.start now), (h.forgotten less other).0)))
+    (eq-or-lt_of_le now))
     (same_or_not m.echo own.boot)
   where
     took : m.echo ≡ own.boot → (l.peer ≡ m.boot → l.heard ≤ m.number) → Height own m l k
@@ -88,15 +88,15 @@ answer_heard : (own : Own) (m : Message) (l k : Link) → IsHeard own m l k → 
 unfolding Answer
 answer_heard own m l k h from now = ⊎_elim
     (λ echo. ⊎_elim
-        (λ many. kept (inr many))
-        (λ few. ⊎_elim
-            (λ even. ⊎_elim
-                (λ more. given echo few (λ _. more))
-                (λ old. inl (omega (arith, h.start now, even), h.unanswered even (inr (inr old))))
-                (cases_lt l.acked m.heard))
-            (λ less. given echo few (λ e. absurd (omega (arith, e, less))))
-            (eq-or-lt_of_le now))
-        (cases_lt own.number m.heard))
+    (λ many. kept (inr many))
+    (λ few. ⊎_elim
+    (λ even. ⊎_elim
+    (λ more. given echo few (λ _. more))
+    (λ old. inl (omega (arith, h.start now, even), h.unanswered even (inr (inr old))))
+    (cases_lt l.acked m.heard))
+    (λ less. given echo few (λ e. absurd (omega (arith, e, less))))
+    (eq-or-lt_of_le now))
+    (cases_lt own.number m.heard))
     (λ other. kept (inl other))
     (same_or_not m.echo own.boot)
   where
@@ -129,7 +129,7 @@ takes_hears : (own : Own) (m : Message) (ls ks : List Link) → Hears own m ls k
 takes_hears own m ls ks h w = ⊎_elim
     (λ here. subst (λ v. Takes (m ∷ []) own.me own.boot v (link_to ls v) (link_to ks v)) (sym here) from_it)
     (λ other. takes_none (m ∷ []) own.me own.boot w (link_to ls w) (link_to ks w)
-        (same (link_to ls w) (link_to ks w) (h.others w other)))
+    (same (link_to ls w) (link_to ks w) (h.others w other)))
     (same_or_not w m.from)
   where
     unchanged : ks ≡ ls → Takes (m ∷ []) own.me own.boot m.from (link_to ls m.from) (link_to ks m.from)
@@ -139,9 +139,9 @@ takes_hears own m ls ks h w = ⊎_elim
     from_it : Takes (m ∷ []) own.me own.boot m.from (link_to ls m.from) (link_to ks m.from)
     from_it = ⊎_elim
         (λ to. ⊎_elim
-            (λ known. takes_heard own m (link_to ls m.from) (link_to ks m.from) (h.heard to known) to)
-            (λ past. unchanged (h.stranger (inr (λ known. omega (arith, past, known)))))
-            (cases_lt (place_of ls m.from) (length ls)))
+        (λ known. takes_heard own m (link_to ls m.from) (link_to ks m.from) (h.heard to known) to)
+        (λ past. unchanged (h.stranger (inr (λ known. omega (arith, past, known)))))
+        (cases_lt (place_of ls m.from) (length ls)))
         (λ away. unchanged (h.stranger (inl away)))
         (same_or_not m.to own.me)
 
@@ -149,10 +149,10 @@ takes_up : (pool : List Message) (y boot w : ℕ) (up : Bool) (ls ks : List Link
     → (v : ℕ) → Takes pool y boot v (link_to ls v) (link_to ks v)
 takes_up pool y boot w up ls ks s v = takes_none pool y boot v (link_to ls v) (link_to ks v) (⊎_elim
     (λ here. ⊎_elim
-        (λ known. known_up (subst (λ u. link_to ks u ≡ record (link_to ls u) { up = up }) (sym here) (s.itself known)))
-        (λ past. same (link_to ls v) (link_to ks v)
-            (ap (λ (js : List Link). link_to js v) (s.stranger (λ known. omega (arith, past, known)))))
-        (cases_lt (place_of ls w) (length ls)))
+    (λ known. known_up (subst (λ u. link_to ks u ≡ record (link_to ls u) { up = up }) (sym here) (s.itself known)))
+    (λ past. same (link_to ls v) (link_to ks v)
+    (ap (λ (js : List Link). link_to js v) (s.stranger (λ known. omega (arith, past, known)))))
+    (cases_lt (place_of ls w) (length ls)))
     (λ other. same (link_to ls v) (link_to ks v) (s.others v other))
     (same_or_not v w))
   where
@@ -190,7 +190,7 @@ in_turn : (pool : List Message) (old mid new : Node) → mid ≡ record old { li
 in_turn pool old mid new first second says takes = steps pool old new
     (subst (λ (o : Own). Announces o new.own) (ap (λ (n : Node). n.own) first) says)
     (λ w. subst (λ (ks : List Link). Takes pool old.own.me old.own.boot w (link_to old.links.items w) (link_to ks w))
-        (sym (ap (λ (n : Node). n.links.items) second)) (takes w))
+    (sym (ap (λ (n : Node). n.links.items) second)) (takes w))
 
 pub steps_heard : (m : Message) (old mid new : Node) → mid ≡ record old { links = mid.links }
     → Hears old.own m old.links.items mid.links.items → new ≡ record mid { own = new.own } → Announces mid.own new.own
@@ -208,9 +208,9 @@ pub steps_said : (w : ℕ) (m : Message) (old new : Node) → new.own ≡ old.ow
     → Steps [] old new
 steps_said w m old new own says = steps [] old new (subst (Announces old.own) (sym own) (Announces-none old.own))
     (λ v. takes_none [] old.own.me old.own.boot v (link_to old.links.items v) (link_to new.links.items v) (⊎_elim
-        (λ here. told v (subst (λ u. link_to new.links.items u ≡ record (link_to old.links.items u) { said = Some m }) (sym here) says.itself))
-        (λ other. same (link_to old.links.items v) (link_to new.links.items v) (says.others v other))
-        (same_or_not v w)))
+    (λ here. told v (subst (λ u. link_to new.links.items u ≡ record (link_to old.links.items u) { said = Some m }) (sym here) says.itself))
+    (λ other. same (link_to old.links.items v) (link_to new.links.items v) (says.others v other))
+    (same_or_not v w)))
   where
     told : (v : ℕ) → link_to new.links.items v ≡ record (link_to old.links.items v) { said = Some m }
         → KnowsSame (link_to old.links.items v) (link_to new.links.items v)

@@ -11,17 +11,16 @@
 //! acknowledgements and the law are this project's own.
 #![tactic(auto)]
 
-pub mod laws;
 mod fault;
+pub mod laws;
 mod link;
 mod message;
 mod node;
 mod own;
 mod policy;
-mod way;
-
 #[cfg(test)]
 mod tests;
+mod way;
 
 pub use fault::NodeFault;
 pub use message::{CUT_OFF, MESSAGE_LENGTH, Message};

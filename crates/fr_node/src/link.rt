@@ -30,8 +30,16 @@ pub(crate) struct Link {
 impl Link {
     /// A link that is down, to a neighbour of which nothing is known.
     pub(crate) fn new(neighbour: u32) -> Link
-        ensures { result ≡ record { neighbour = neighbour; up = false; peer = 0; heard = 0; seen = 0; distance = CUT_OFF;
-            acked = 0; said = None } }
+        ensures { result ≡ record {
+          neighbour = neighbour;
+          up = false;
+          peer = 0;
+          heard = 0;
+          seen = 0;
+          distance = CUT_OFF;
+          acked = 0;
+          said = None;
+        } }
     {
         Link {
             neighbour,
@@ -97,8 +105,11 @@ impl Link {
     /// With the neighbour's announcement, if no later one was heard. The same one may come with another distance.
     fn informed(self, message: &Message) -> Link
         ensures kept { message.now.number < self.heard → result ≡ self }
-        ensures taken { self.heard ≤ message.now.number → result ≡ record self { heard = message.now.number;
-            seen = message.now.height; distance = message.now.distance } }
+        ensures taken { self.heard ≤ message.now.number → result ≡ record self {
+          heard = message.now.number;
+          seen = message.now.height;
+          distance = message.now.distance;
+        } }
     {
         if message.number < self.heard {
             return self;

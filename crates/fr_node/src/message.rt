@@ -31,7 +31,6 @@ pub struct Message {
     pub distance: u32,
 }
 
-
 /// The first four bytes of each message: the letters `FRN`, and the version of the form.
 const HEADER: u32 = 0x4652_4e01;
 

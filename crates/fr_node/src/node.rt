@@ -92,6 +92,8 @@ impl Node {
 
     /// The link to a neighbour comes up.
     pub fn link_up(mut self, neighbour: u32) -> Unwritten
+        ensures set { SetsUp neighbour true self.links.items result.node.links.items }
+        ensures same { (result.node.gateway ≡ self.gateway) × (result.node.policy ≡ self.policy) }
         ensures step { Steps [] self result.node }
     {
         self.set_up(neighbour, true);
@@ -101,6 +103,8 @@ impl Node {
 
     /// The link to a neighbour goes down.
     pub fn link_down(mut self, neighbour: u32) -> Unwritten
+        ensures set { SetsUp neighbour false self.links.items result.node.links.items }
+        ensures same { (result.node.gateway ≡ self.gateway) × (result.node.policy ≡ self.policy) }
         ensures step { Steps [] self result.node }
     {
         self.set_up(neighbour, false);
@@ -110,6 +114,8 @@ impl Node {
 
     /// Hears a message.
     pub fn hear(mut self, message: &Message) -> Unwritten
+        ensures heard { Hears self.own message.now self.links.items result.node.links.items }
+        ensures same { (result.node.gateway ≡ self.gateway) × (result.node.policy ≡ self.policy) }
         ensures step { Steps (message.now ∷ []) self result.node }
     {
         self.take(message);
@@ -221,7 +227,9 @@ impl Node {
     fn index_of(&self, neighbour: u32) -> Option<usize>
         ensures { result ≡ position (leads_to neighbour) self.now.links.items }
     {
-        self.links.iter().position(|link| link.neighbour == neighbour)
+        self.links
+            .iter()
+            .position(|link| link.neighbour == neighbour)
     }
 
     /// The message for the neighbour at an index.
@@ -294,7 +302,8 @@ impl Node {
     fn may_settle(&self) -> bool {
         let own = &self.own;
         !self.policy.wait
-            || self.links.iter().all(|link| !(link.up && link.has_answered(own)) || link.acked >= own.announced_since)
+            || self.links.iter().all(|link| !(link.up && link.has_answered(own))
+                || link.acked >= own.announced_since)
     }
 
     /// The distance, if the router lowers its height to it.
@@ -326,10 +335,19 @@ impl Node {
     /// Above all neighbours, if all are known to be higher.
     fn above_all(&self) -> Option<u64> {
         let own = &self.own;
-        if self.links.iter().any(|link| link.up && (link.heard == 0 || link.is_lower(own))) {
+        if self
+            .links
+            .iter()
+            .any(|link| link.up && (link.heard == 0 || link.is_lower(own)))
+        {
             return None;
         }
-        let most = self.links.iter().filter(|link| link.up).map(|link| link.seen).max()?;
+        let most = self
+            .links
+            .iter()
+            .filter(|link| link.up)
+            .map(|link| link.seen)
+            .max()?;
         most.checked_add(1)
     }
 
@@ -340,12 +358,20 @@ impl Node {
         }
         let mut best: Option<Link> = None;
         for link in &self.links {
-            if link.up && link.heard > 0 && link.distance < cap && best.is_none_or(|b| is_nearer(link, &b)) {
+            if link.up
+                && link.heard > 0
+                && link.distance < cap
+                && best.is_none_or(|b| is_nearer(link, &b))
+            {
                 best = Some(*link);
             }
         }
         let nearest = best?;
-        if nearest.neighbour < self.own.me { Some(nearest.seen) } else { nearest.seen.checked_add(1) }
+        if nearest.neighbour < self.own.me {
+            Some(nearest.seen)
+        } else {
+            nearest.seen.checked_add(1)
+        }
     }
 }
 

@@ -5,7 +5,11 @@ use std::test::Fail;
 
 #[test]
 fn two_routers(rt: HostRuntime) -> Result<(), Fail> {
-    let policy = Policy { rise: Rise::Full, lower: false, wait: true };
+    let policy = Policy {
+        rise: Rise::Full,
+        lower: false,
+        wait: true,
+    };
     let mut gateway = Node::gateway(rt.alloc(), 0, 1);
     let mut router = Node::new(rt.alloc(), 1, 1, 1, policy);
     gateway.know(1)?;

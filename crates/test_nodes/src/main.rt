@@ -29,14 +29,27 @@ fn main(rt: HostRuntime) -> io::Result<()> {
 /// Prints what happens with one policy.
 fn tell<R: Alloc<A = Global> + Print>(rt: &R, steps: u32, choice: u32) -> io::Result<()> {
     let policy = Policy {
-        rise: if choice % 2 == 0 { Rise::Full } else { Rise::Jump(9) },
+        rise: if choice % 2 == 0 {
+            Rise::Full
+        } else {
+            Rise::Jump(9)
+        },
         lower: choice / 2 % 2 == 1,
         wait: choice / 4 % 2 == 1,
     };
     match run(rt.alloc(), policy, steps) {
         Ok(found) => {
-            let Found { steps, heard, restarts, used, differ, loops } = found;
-            println!(rt; "  {policy:?}: {steps} steps, {heard} heard, {restarts} restarts, {used} used; {differ} differ, {loops} loops")
+            let Found {
+                steps,
+                heard,
+                restarts,
+                used,
+                differ,
+                loops,
+            } = found;
+            println!(rt;
+                "  {policy:?}: {steps} steps, {heard} heard, {restarts} restarts, {used} used; {differ} differ, {loops} loops"
+            )
         }
         Err(fault) => rt.println(fault),
     }
@@ -46,7 +59,13 @@ fn tell<R: Alloc<A = Global> + Print>(rt: &R, steps: u32, choice: u32) -> io::Re
 fn run(alloc: Global, policy: Policy, steps: u32) -> Result<Found, NodeFault> {
     let mut all = Found::default();
     for world in 0..6u32 {
-        let mut world = World::new(alloc, policy, 4 + world % 2, world / 2, u64::from(world) + 1)?;
+        let mut world = World::new(
+            alloc,
+            policy,
+            4 + world % 2,
+            world / 2,
+            u64::from(world) + 1,
+        )?;
         for _ in 0..steps / 6 {
             world.step()?;
         }

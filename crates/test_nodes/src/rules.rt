@@ -43,12 +43,30 @@ impl Rules {
     ) -> Result<Rules, AllocError> {
         let used = if gateway { 0 } else { u64::from(me) };
         let mut said = Vec::new(alloc);
-        said.push(Said { number: 1, height: used })?;
+        said.push(Said {
+            number: 1,
+            height: used,
+        })?;
         let mut seen = Vec::new(alloc);
         for _ in 0..routers {
-            seen.push(Seen { up: false, peer: 0, number: 0, height: 0, distance: CUT_OFF, acked: 0 })?;
+            seen.push(Seen {
+                up: false,
+                peer: 0,
+                number: 0,
+                height: 0,
+                distance: CUT_OFF,
+                acked: 0,
+            })?;
         }
-        Ok(Rules { me, boot, gateway, policy, used, said, seen })
+        Ok(Rules {
+            me,
+            boot,
+            gateway,
+            policy,
+            used,
+            said,
+            seen,
+        })
     }
 
     pub fn height(&self) -> u64 {
@@ -93,7 +111,10 @@ impl Rules {
     }
 
     fn last(&self) -> Said {
-        self.said.last().copied().unwrap_or(Said { number: 1, height: 0 })
+        self.said.last().copied().unwrap_or(Said {
+            number: 1,
+            height: 0,
+        })
     }
 
     fn seen(&self, w: u32) -> Option<Seen> {
@@ -105,7 +126,9 @@ impl Rules {
     }
 
     pub fn sends_to(&self, w: u32) -> bool {
-        self.seen(w).is_some_and(|seen| !self.gateway && seen.up && self.is_lower(w, seen, self.used))
+        self.seen(w).is_some_and(|seen| !self.gateway
+            && seen.up
+            && self.is_lower(w, seen, self.used))
     }
 
     /// The least height that the neighbour may have in mind. `None`: not known.
@@ -125,7 +148,8 @@ impl Rules {
 
     pub fn lets_in(&self, w: u32) -> bool {
         match self.seen(w) {
-            Some(seen) => seen.up && (self.gateway || self.floor(seen).is_some_and(|floor| floor >= self.used)),
+            Some(seen) => seen.up
+                && (self.gateway || self.floor(seen).is_some_and(|floor| floor >= self.used)),
             None => false,
         }
     }
@@ -147,7 +171,11 @@ impl Rules {
                 least = least.min(seen.distance);
             }
         }
-        if least < self.cap() { least.saturating_add(1) } else { CUT_OFF }
+        if least < self.cap() {
+            least.saturating_add(1)
+        } else {
+            CUT_OFF
+        }
     }
 
     pub fn message(&self, w: u32) -> Option<Message> {
@@ -197,7 +225,10 @@ impl Rules {
     fn may_use(&self, height: u64) -> bool {
         for (w, seen) in self.seen.iter().enumerate() {
             let is_open = self.lets_in(w as u32);
-            if self.policy.wait && is_open && !self.floor(*seen).is_some_and(|floor| floor >= height) {
+            if self.policy.wait
+                && is_open
+                && !self.floor(*seen).is_some_and(|floor| floor >= height)
+            {
                 return false;
             }
         }
@@ -251,6 +282,10 @@ impl Rules {
             }
         }
         let (_, height, w) = best?;
-        if w < self.me { Some(height) } else { height.checked_add(1) }
+        if w < self.me {
+            Some(height)
+        } else {
+            height.checked_add(1)
+        }
     }
 }

@@ -106,7 +106,13 @@ impl World {
         self.boots = self.boots.wrapping_add(1);
         self.found.restarts = self.found.restarts.wrapping_add(1);
         let routers = self.routers.len() as u32;
-        let anew = start(self.alloc, self.policy, (x, routers), self.boots, x < self.gateways)?;
+        let anew = start(
+            self.alloc,
+            self.policy,
+            (x, routers),
+            self.boots,
+            x < self.gateways,
+        )?;
         if let Some(both) = self.routers.get_mut(x as usize) {
             *both = anew;
         }
@@ -124,7 +130,11 @@ impl World {
         both.rules.set_up(w, up);
         both.rules.act()?;
         if let Some(node) = both.node.take() {
-            let unwritten = if up { node.link_up(w) } else { node.link_down(w) };
+            let unwritten = if up {
+                node.link_up(w)
+            } else {
+                node.link_down(w)
+            };
             both.node = Some(unwritten.written());
         }
         Ok(())
@@ -248,7 +258,10 @@ fn start(
         }
     }
     let rules = Rules::start(alloc, (x, routers), boot, gateway, policy)?;
-    Ok(Both { node: Some(node), rules })
+    Ok(Both {
+        node: Some(node),
+        rules,
+    })
 }
 
 fn is_same(both: &Both, routers: u32) -> bool {

@@ -11,5 +11,12 @@ returns c =
     let three = c.put_8-3.ensures ∙ ap (λ (p : List ℕ). p ++ bytes_8 m.number) two in
     let four = c.put_8-4.ensures ∙ ap (λ (p : List ℕ). p ++ bytes_8 m.height) three in
     let five = c.put_8-5.ensures ∙ ap (λ (p : List ℕ). p ++ bytes_8 m.heard) four in
-    sym (take_all 56 c.put_8-5.new.bytes (omega (arith, c.requires.length, c.put_8.auto.bytes, c.put_8-2.auto.bytes,
-    c.put_8-3.auto.bytes, c.put_8-4.auto.bytes, c.put_8-5.auto.bytes))) ∙ five
+    sym (take_all 56 c.put_8-5.new.bytes (omega (
+      arith,
+      c.requires.length,
+      c.put_8.auto.bytes,
+      c.put_8-2.auto.bytes,
+      c.put_8-3.auto.bytes,
+      c.put_8-4.auto.bytes,
+      c.put_8-5.auto.bytes,
+    ))) ∙ five

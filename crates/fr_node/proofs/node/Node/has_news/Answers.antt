@@ -14,9 +14,8 @@ not_at false never = refl
 pub returns-then-index-clause-news : goal.returns-then-index-clause-news
 returns-then-index-clause-news c = λ up.
     let at = is_at c.args.self.now.links.items c.args.neighbour c.in-Some.i c.index-then-index.result.now c.in-Some.ensures
-        c.index-then-index.ensures in
-    let said = ap (λ (l : Link). l.said) (found_at _ _ _ _ at) in
-    (
+    c.index-then-index.ensures in
+    let said = ap (λ (l : Link). l.said) (found_at _ _ _ _ at) in (
       c.message_at.result,
       c.message_at.ensures c.args.neighbour (sym c.in-Some.ensures),
       (
