@@ -8,10 +8,19 @@ use Rattle.fr_node.specs.declared.message.Message.{Message}
 use Rattle.fr_node.specs.Bytes.{OneMessage, bytes_4, bytes_8, bytes_of}
 
 -- a part of some bytes is bytes
-pub piece_fits : (bytes : List ℕ) (at n : ℕ) → ((i : ℕ) → get_or bytes i 0 < 256) → (i : ℕ) → get_or (take n (drop at bytes)) i 0 < 256
+pub piece_fits : (bytes : List ℕ) (at n : ℕ) → ((i : ℕ) → get_or bytes i 0 < 256) → (i : ℕ)
+    → get_or (take n (drop at bytes)) i 0 < 256
 piece_fits bytes at n fits i = ⊎_elim
     (λ within. omega (arith, get_or-take n (drop at bytes) i 0 within, get_or-drop at bytes i 0, fits (at + i)))
-    (λ past. omega (arith, get_or_past (take n (drop at bytes)) i 0 (omega (arith, past, length-take n (drop at bytes)))))
+    (λ past. omega (
+      arith,
+      get_or_past (take n (drop at bytes)) i 0 (omega (
+        arith,
+        past,
+        length-take n
+            (drop at bytes),
+      )),
+    ))
     (cases_lt i n)
 
 pub length-bytes_of : (m : Message) → length (bytes_of m) ≡ 56
@@ -24,11 +33,13 @@ header_first m = refl
 
 pub bytes_4-once : (n k : ℕ) → n < 2 ^ 32 → k < 2 ^ 32 → bytes_4 n ≡ bytes_4 k → n ≡ k
 unfolding bytes_4
-bytes_4-once n k a b e = sym (from_be_bytes-to_be_bytes_4 n a) ∙ ap (from_be_bytes w32) e ∙ from_be_bytes-to_be_bytes_4 k b
+bytes_4-once n k a b e = sym (from_be_bytes-to_be_bytes_4 n a) ∙ ap (from_be_bytes w32) e
+    ∙ from_be_bytes-to_be_bytes_4 k b
 
 bytes_8-once : (n k : ℕ) → n < 2 ^ 64 → k < 2 ^ 64 → bytes_8 n ≡ bytes_8 k → n ≡ k
 unfolding bytes_8
-bytes_8-once n k a b e = sym (from_be_bytes-to_be_bytes_8 n a) ∙ ap (from_be_bytes w64) e ∙ from_be_bytes-to_be_bytes_8 k b
+bytes_8-once n k a b e = sym (from_be_bytes-to_be_bytes_8 n a) ∙ ap (from_be_bytes w64) e
+    ∙ from_be_bytes-to_be_bytes_8 k b
 
 part_4 : (at : ℕ) → List ℕ → List ℕ
 part_4 at bs = take 4 (drop at bs)

@@ -9,8 +9,10 @@ less_or_same : (a b : ℕ) → a ≤ b → (a < b) ⊎ (a ≡ b)
 less_or_same a b l = grind (arith, l)
 
 -- the heart: a router that lets a neighbour in has a height that is no greater than the last that the neighbour heard
-heard_is_met : (s : Net) → KeepsRule s → (x w : ℕ) → 0 < (s.router x).heard w → LetsIn (s.router w) x → (s.router w).height ≤ (s.router x).seen w
-heard_is_met s rule x w known gate = ⊎_elim over now (less_or_same k.boot ((s.router k.from).boot) (rule.boots k a.from.said).0)
+heard_is_met : (s : Net) → KeepsRule s → (x w : ℕ) → 0 < (s.router x).heard w → LetsIn (s.router w) x
+    → (s.router w).height ≤ (s.router x).seen w
+heard_is_met s rule x w known gate = ⊎_elim over now (less_or_same k.boot ((s.router k.from).boot)
+    (rule.boots k a.from.said).0)
   where
     a : HasAnswer s w x
     a = rule.acked_by w x gate.acked
@@ -25,7 +27,15 @@ heard_is_met s rule x w known gate = ⊎_elim over now (less_or_same k.boot ((s.
     m = b.message
 
     now : k.boot ≡ (s.router k.from).boot → (s.router w).height ≤ (s.router x).seen w
-    now e = omega (arith, b.height, numbers.1, ap (λ y. (s.router y).announced m.number) b.from.from, gate.high m.number (omega (arith, a.most, told, b.number)) (omega (arith, numbers.0, ap (λ (y : ℕ). (s.router y).number) b.from.from)))
+    now e = omega (
+      arith,
+      b.height,
+      numbers.1,
+      ap (λ y.
+          (s.router y).announced m.number) b.from.from,
+      gate.high m.number (omega (arith, a.most, told, b.number))
+          (omega (arith, numbers.0, ap (λ (y : ℕ). (s.router y).number) b.from.from)),
+    )
       where
         peer_at : (s.router k.from).peer k.to ≡ (s.router x).peer w
         peer_at = ap (λ y. (s.router y).peer k.to) a.from.from ∙ ap ((s.router x).peer) a.from.to
@@ -34,17 +44,35 @@ heard_is_met s rule x w known gate = ⊎_elim over now (less_or_same k.boot ((s.
         start = omega (arith, rule.knew k a.from.said e, rule.peers x w, a.echo, peer_at)
 
         told : k.heard ≤ (s.router x).heard w
-        told = omega (arith, rule.told k a.from.said e (omega (arith, a.echo, start, peer_at)), ap (λ y. (s.router y).heard k.to) a.from.from, ap ((s.router x).heard) a.from.to)
+        told = omega (
+          arith,
+          rule.told k a.from.said e (omega (arith, a.echo, start, peer_at)),
+          ap (λ y.
+              (s.router y).heard k.to) a.from.from,
+          ap ((s.router x).heard) a.from.to,
+        )
 
         numbers : (m.number ≤ (s.router m.from).number) × (m.height ≡ (s.router m.from).announced m.number)
-        numbers = rule.numbers m b.from.said (omega (arith, b.boot, start, ap (λ (y : ℕ). (s.router y).boot) b.from.from))
+        numbers = rule.numbers m b.from.said (omega (
+          arith,
+          b.boot,
+          start,
+          ap (λ (y : ℕ).
+              (s.router y).boot) b.from.from,
+        ))
 
     over : k.boot < (s.router k.from).boot → (s.router w).height ≤ (s.router x).seen w
     over l = absurd (⊎_elim earlier same (less_or_same m.boot ((s.router m.from).boot) (rule.boots m b.from.said).0))
       where
         earlier : m.boot < (s.router m.from).boot → ⊥
-        earlier h = rule.apart m k b.from.said a.from.said (b.from.from ∙ sym a.from.to) (b.from.to ∙ sym a.from.from) h l
-            (omega (arith, b.echo, ap (λ (y : ℕ). (s.router y).boot) b.from.to)) (omega (arith, a.echo, ap (λ (y : ℕ). (s.router y).boot) a.from.to))
+        earlier h = rule.apart m k b.from.said a.from.said (b.from.from ∙ sym a.from.to) (b.from.to
+            ∙ sym a.from.from) h l
+            (omega (arith, b.echo, ap (λ (y : ℕ). (s.router y).boot) b.from.to)) (omega (
+              arith,
+              a.echo,
+              ap (λ
+                  (y : ℕ). (s.router y).boot) a.from.to,
+            ))
 
         same : m.boot ≡ (s.router m.from).boot → ⊥
         same e = omega (
@@ -101,7 +129,8 @@ walk_down : (s : Net) → KeepsRule s → (u : ℕ) (vs : List ℕ) → IsWalk s
 unfolding IsAtMost
 walk_down s rule u [] h last = inr (refl, omega arith)
 walk_down s rule u (v ∷ vs) h last = at_most s (end_of v vs) u
-    (after_down s (end_of v vs) v u (walk_down s rule v vs h.1 last) (step_down s rule u v h.0 (sends_on s v vs h.1 last)))
+    (after_down s (end_of v vs) v u (walk_down s rule v vs h.1 last) (step_down s rule u v h.0
+    (sends_on s v vs h.1 last)))
 
 not_itself : (s : Net) (u w : ℕ) → w ≡ u → ¬ IsBelow (s.router w).height w (s.router u).height u
 not_itself s u w e (inl l) = omega (arith, l, ap (λ (y : ℕ). (s.router y).height) e)
@@ -109,7 +138,8 @@ not_itself s u w e (inr r) = omega (arith, r.1, e)
 
 no_loop : (s : Net) → KeepsRule s → HasNoLoop s
 no_loop s rule u v vs h back = not_itself s u (end_of v vs) back
-    (after_down s (end_of v vs) v u (walk_down s rule v vs h.1 last) (step_down s rule u v h.0 (sends_on s v vs h.1 last)))
+    (after_down s (end_of v vs) v u (walk_down s rule v vs h.1 last) (step_down s rule u v h.0
+    (sends_on s v vs h.1 last)))
   where
     last : ¬ IsTrue (s.router (end_of v vs)).gateway
     last = subst (λ y. ¬ IsTrue (s.router y).gateway) (sym back) h.0.way.forwards

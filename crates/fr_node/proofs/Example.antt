@@ -82,14 +82,16 @@ true_back m e = subst (λ (k : Message). IsSaidBy (s2.router k.from) k) e
 
 step1 : IsStep s0 s1
 step1 = record {
-  routers = λ y. idle [] y (s0.router y) (s1.router y) refl (omega arith) (λ n l. refl) (λ w. refl) (λ w. inl (refl, refl, refl))
+  routers = λ y. idle [] y (s0.router y) (s1.router y) refl (omega arith) (λ n l. refl) (λ w. refl) (λ w. inl
+      (refl, refl, refl))
       (λ w. inl (refl, refl));
   kept = λ m h. tail m up [] h;
   new = λ m h. ⊎_elim (λ e. inr (true_up m e)) (λ o. inl o) (cases m up [] h);
 }
 
 hears : (y w : ℕ) → TakesHeight s1.pool y (s1.router y) (s2.router y) w
-hears (suc zero) zero = inr (inr (up, record { said = head up []; from = refl; to = refl }, refl, refl, refl, refl, λ e. omega arith))
+hears (suc zero) zero = inr (inr
+    (up, record { said = head up []; from = refl; to = refl }, refl, refl, refl, refl, λ e. omega arith))
 hears zero w = inl (refl, refl, refl)
 hears (suc zero) (suc w) = inl (refl, refl, refl)
 hears (suc (suc y)) w = inl (refl, refl, refl)
@@ -104,21 +106,34 @@ step2 = record {
 
 step3 : IsStep s2 s3
 step3 = record {
-  routers = λ y. idle s2.pool y (s2.router y) (s3.router y) refl (omega arith) (λ n l. refl) (λ w. refl) (λ w. inl (refl, refl, refl))
+  routers = λ y. idle s2.pool y (s2.router y) (s3.router y) refl (omega arith) (λ n l. refl) (λ w. refl)
+      (λ w. inl (refl, refl, refl))
       (λ w. inl (refl, refl));
   kept = λ m h. tail m back (up ∷ []) h;
   new = λ m h. ⊎_elim (λ e. inr (true_back m e)) (λ o. inl o) (cases m back (up ∷ []) h);
 }
 
 answers : (y w : ℕ) → TakesAnswer s3.pool y (s3.router y) (s4.router y) w
-answers zero (suc zero) = inr (inr (back, record { said = head back (up ∷ []); from = refl; to = refl }, refl, refl, refl))
+answers zero (suc zero) = inr (inr (
+  back,
+  record {
+    said = head back
+        (up ∷ []);
+    from = refl;
+    to = refl;
+  },
+  refl,
+  refl,
+  refl,
+))
 answers zero zero = inl (refl, refl)
 answers zero (suc (suc w)) = inl (refl, refl)
 answers (suc y) w = inl (refl, refl)
 
 step4 : IsStep s3 s4
 step4 = record {
-  routers = λ y. idle s3.pool y (s3.router y) (s4.router y) refl (omega arith) (λ n l. refl) (λ w. refl) (λ w. inl (refl, refl, refl))
+  routers = λ y. idle s3.pool y (s3.router y) (s4.router y) refl (omega arith) (λ n l. refl) (λ w. refl)
+      (λ w. inl (refl, refl, refl))
       (answers y);
   kept = λ m h. h;
   new = λ m h. inl h;

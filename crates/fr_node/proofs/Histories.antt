@@ -61,14 +61,22 @@ Announces-lowered own v lower = record {
   );
 }
 
-pub Announces-settled : (own : Own) → Announces own (record own { used = own.announced; used_since = own.announced_since })
+pub Announces-settled : (own : Own)
+    → Announces own (record own { used = own.announced; used_since = own.announced_since })
 Announces-settled own = record {
   me = refl;
   boot = refl;
   number = omega arith;
   history = λ h b. (
     h,
-    record { last = b.last; used = b.announced; announced = b.announced; order = omega arith; begins = (b.begins.1, b.begins.1) },
+    record {
+      last = b.last;
+      used = b.announced;
+      announced = b.announced;
+      order = omega arith;
+      begins =
+          (b.begins.1, b.begins.1);
+    },
     λ n l. refl,
   );
 }

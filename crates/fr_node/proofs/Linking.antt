@@ -35,7 +35,8 @@ is_there ls w i e = record {
         × ((k : ℕ) → k < i → leads_to w (get_or ls k unknown) ≡ false)
     found = position-Some (leads_to w) ls i unknown e
 
-pub is_at : (ls : List Link) (w i : ℕ) (x : Link) → Some i ≡ position (leads_to w) ls → x ≡ get_or ls i x → IsAt ls w i x
+pub is_at : (ls : List Link) (w i : ℕ) (x : Link) → Some i ≡ position (leads_to w) ls → x ≡ get_or ls i x
+    → IsAt ls w i x
 is_at ls w i x e r = subst (IsAt ls w i) here there
   where
     there : IsAt ls w i (get_or ls i unknown)
@@ -53,13 +54,16 @@ place_of-set : (ls : List Link) (w i : ℕ) (x k : Link) → IsAt ls w i x → k
 place_of-set ls w i x k at same v = position_or_len-set (leads_to v) ls i k unknown
     (ap (λ (n : ℕ). n == v) (same ∙ sym (ap (λ (l : Link). l.neighbour) at.here)))
 
-pub link_to-set : (ls : List Link) (w i : ℕ) (x k : Link) → IsAt ls w i x → k.neighbour ≡ x.neighbour → link_to (set ls i k) w ≡ k
-link_to-set ls w i x k at same = ap (λ (n : ℕ). get_or (set ls i k) n unknown) (place_of-set ls w i x k at same w ∙ at.place)
+pub link_to-set : (ls : List Link) (w i : ℕ) (x k : Link) → IsAt ls w i x → k.neighbour ≡ x.neighbour
+    → link_to (set ls i k) w ≡ k
+link_to-set ls w i x k at same = ap (λ (n : ℕ). get_or (set ls i k) n unknown)
+    (place_of-set ls w i x k at same w ∙ at.place)
     ∙ get_or-set_same ls i k unknown at.within
 
 pub link_to-set_other : (ls : List Link) (w i : ℕ) (x k : Link) → IsAt ls w i x → k.neighbour ≡ x.neighbour
     → (v : ℕ) → v ≢ w → link_to (set ls i k) v ≡ link_to ls v
-link_to-set_other ls w i x k at same v other = ap (λ (n : ℕ). get_or (set ls i k) n unknown) (place_of-set ls w i x k at same v)
+link_to-set_other ls w i x k at same v other = ap (λ (n : ℕ). get_or (set ls i k) n unknown)
+    (place_of-set ls w i x k at same v)
     ∙ get_or-set_other ls i (place_of ls v) k unknown elsewhere
   where
     elsewhere : place_of ls v ≢ i

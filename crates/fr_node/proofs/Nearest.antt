@@ -10,7 +10,8 @@ use Rattle.fr_node.specs.Links.{is_way, unknown}
 -- r is the least distance of the first n links on which packets may be sent
 abbrev pub IsNearestOf : Own → List Link → ℕ → Option ℕ → Type 0
 IsNearestOf own ls n None = (k : ℕ) → k < n → is_way own (get_or ls k unknown) ≡ false
-IsNearestOf own ls n (Some d) = ((k : ℕ) × (k < n) × (is_way own (get_or ls k unknown) ≡ true) × ((get_or ls k unknown).distance ≡ d))
+IsNearestOf own ls n (Some d) = ((k : ℕ) × (k < n) × (is_way own (get_or ls k unknown) ≡ true)
+    × ((get_or ls k unknown).distance ≡ d))
     × ((k : ℕ) → k < n → is_way own (get_or ls k unknown) ≡ true → d ≤ (get_or ls k unknown).distance)
 
 not_both : (own : Own) (l : Link) → is_way own l ≡ false → is_way own l ≡ true → ⊥
@@ -45,7 +46,8 @@ pub nearest_more : (own : Own) (ls : List Link) (n : ℕ) (r : Option ℕ) (v : 
     → MatchOption r (v ≡ (get_or ls n e).distance) (λ d. v ≡ min d (get_or ls n e).distance)
     → IsNearestOf own ls (n + 1) (Some v)
 nearest_more own ls n r v e h before = subst
-    (λ (x : Link). is_way own x ≡ true → MatchOption r (v ≡ x.distance) (λ d. v ≡ min d x.distance) → IsNearestOf own ls (n + 1) (Some v))
+    (λ (x : Link). is_way own x ≡ true → MatchOption r (v ≡ x.distance) (λ d. v ≡ min d x.distance)
+    → IsNearestOf own ls (n + 1) (Some v))
     (get_or_default ls n unknown e h) (more own ls n r v before)
 
 same : (own : Own) (ls : List Link) (n : ℕ) (r : Option ℕ) → IsNearestOf own ls n r
@@ -57,7 +59,8 @@ same own ls n (Some d) before f = (
       (λ t. absurd (not_both own (get_or ls n unknown) f t)) before.1,
 )
 
-pub nearest_same : (own : Own) (ls : List Link) (n : ℕ) (r : Option ℕ) (e : Link) → n < length ls → IsNearestOf own ls n r
+pub nearest_same : (own : Own) (ls : List Link) (n : ℕ) (r : Option ℕ) (e : Link) → n < length ls
+    → IsNearestOf own ls n r
     → is_way own (get_or ls n e) ≡ false → IsNearestOf own ls (n + 1) r
 nearest_same own ls n r e h before f = same own ls n r before (ap (is_way own) (get_or_default ls n unknown e h) ∙ f)
 

@@ -23,12 +23,15 @@ pub record HasAnswer (s : Net) (x w : ℕ) : Type 0 where
 pub record KeepsRule (s : Net) : Type 0 where
   pub boots : (m : Message) → Contains s.pool m → (m.boot ≤ (s.router m.from).boot) × (m.echo ≤ (s.router m.to).boot)
   pub peers : (x w : ℕ) → (s.router x).peer w ≤ (s.router w).boot
-  pub told : (m : Message) → Contains s.pool m → m.boot ≡ (s.router m.from).boot → m.echo ≡ (s.router m.from).peer m.to → m.heard ≤ (s.router m.from).heard m.to
+  pub told : (m : Message) → Contains s.pool m → m.boot ≡ (s.router m.from).boot
+      → m.echo ≡ (s.router m.from).peer m.to → m.heard ≤ (s.router m.from).heard m.to
   pub knew : (m : Message) → Contains s.pool m → m.boot ≡ (s.router m.from).boot → m.echo ≤ (s.router m.from).peer m.to
-  pub numbers : (m : Message) → Contains s.pool m → m.boot ≡ (s.router m.from).boot → (m.number ≤ (s.router m.from).number) × (m.height ≡ (s.router m.from).announced m.number)
+  pub numbers : (m : Message) → Contains s.pool m → m.boot ≡ (s.router m.from).boot
+      → (m.number ≤ (s.router m.from).number) × (m.height ≡ (s.router m.from).announced m.number)
   -- of two routers not each has said for the other's present start what it said at a start of its own that is over
   pub apart : (m k : Message) → Contains s.pool m → Contains s.pool k → m.from ≡ k.to → m.to ≡ k.from
-      → m.boot < (s.router m.from).boot → k.boot < (s.router k.from).boot → m.echo ≡ (s.router m.to).boot → k.echo ≡ (s.router k.to).boot → ⊥
+      → m.boot < (s.router m.from).boot → k.boot < (s.router k.from).boot → m.echo ≡ (s.router m.to).boot
+      → k.echo ≡ (s.router k.to).boot → ⊥
   pub heard_by : (x w : ℕ) → 0 < (s.router x).heard w → HasHeard s x w
   pub acked_by : (x w : ℕ) → 0 < (s.router x).acked w → HasAnswer s x w
 
@@ -55,12 +58,18 @@ rises : (s t : Net) → IsStep s t → (y : ℕ) → (s.router y).boot ≤ (t.ro
 rises s t step y = ⊎_elim (λ g. omega (arith, g.boot)) (λ r. omega (arith, r.boot)) (step.routers y)
 
 -- after a step the messages still know no start that was not there before it
-bounded : (s t : Net) → KeepsRule s → IsStep s t → (m : Message) → Contains t.pool m → (m.boot ≤ (s.router m.from).boot) × (m.echo ≤ (s.router m.to).boot)
+bounded : (s t : Net) → KeepsRule s → IsStep s t → (m : Message) → Contains t.pool m
+    → (m.boot ≤ (s.router m.from).boot) × (m.echo ≤ (s.router m.to).boot)
 bounded s t rule step m h = ⊎_elim (λ old. rule.boots m old)
-    (λ (new : IsSaidBy (s.router m.from) m). (omega (arith, new.boot), omega (arith, new.echo, rule.peers m.from m.to))) (step.new m h)
+    (λ (new : IsSaidBy (s.router m.from) m). (
+      omega (arith, new.boot),
+      omega
+          (arith, new.echo, rule.peers m.from m.to),
+    )) (step.new m h)
 
 peers_kept : (s t : Net) → KeepsRule s → IsStep s t → (x w : ℕ) → (t.router x).peer w ≤ (t.router w).boot
-peers_kept s t rule step x w = ⊎_elim goes (λ (r : Restarts (s.router x) (t.router x)). omega (arith, r.peer w)) (step.routers x)
+peers_kept s t rule step x w = ⊎_elim goes (λ (r : Restarts (s.router x) (t.router x)). omega (arith, r.peer w))
+    (step.routers x)
   where
     up : (s.router w).boot ≤ (t.router w).boot
     up = rises s t step w
@@ -68,10 +77,12 @@ peers_kept s t rule step x w = ⊎_elim goes (λ (r : Restarts (s.router x) (t.r
     goes : GoesOn s.pool x (s.router x) (t.router x) → (t.router x).peer w ≤ (t.router w).boot
     goes g = ⊎_elim (λ e. omega (arith, e, up, rule.peers x w)) taken ((g.start w).1)
       where
-        taken : (m : Message) × IsFrom s.pool x w m × ((t.router x).peer w ≡ m.boot) → (t.router x).peer w ≤ (t.router w).boot
+        taken : (m : Message) × IsFrom s.pool x w m × ((t.router x).peer w ≡ m.boot)
+            → (t.router x).peer w ≤ (t.router w).boot
         taken (m, f, e) = omega (arith, e, up, (rule.boots m f.said).0, ap (λ (y : ℕ). (s.router y).boot) f.from)
 
-told_kept : (s t : Net) → KeepsRule s → IsStep s t → (m : Message) → Contains t.pool m → m.boot ≡ (t.router m.from).boot → m.echo ≡ (t.router m.from).peer m.to → m.heard ≤ (t.router m.from).heard m.to
+told_kept : (s t : Net) → KeepsRule s → IsStep s t → (m : Message) → Contains t.pool m
+    → m.boot ≡ (t.router m.from).boot → m.echo ≡ (t.router m.from).peer m.to → m.heard ≤ (t.router m.from).heard m.to
 told_kept s t rule step m h now echo = ⊎_elim goes restarts (step.routers m.from)
   where
     restarts : Restarts (s.router m.from) (t.router m.from) → m.heard ≤ (t.router m.from).heard m.to
@@ -81,30 +92,49 @@ told_kept s t rule step m h now echo = ⊎_elim goes restarts (step.routers m.fr
     goes g = ⊎_elim same (⊎_elim (λ e. absurd (omega (arith, e.0, echo, known))) taken) (g.height m.to)
       where
         known : m.echo ≤ (s.router m.from).peer m.to
-        known = ⊎_elim (λ old. rule.knew m old (omega (arith, now, g.boot))) (λ (new : IsSaidBy (s.router m.from) m). omega (arith, new.echo)) (step.new m h)
+        known = ⊎_elim (λ old. rule.knew m old (omega (arith, now, g.boot))) (λ (new : IsSaidBy
+            (s.router m.from) m). omega (arith, new.echo)) (step.new m h)
 
         before : (t.router m.from).peer m.to ≡ (s.router m.from).peer m.to → m.heard ≤ (s.router m.from).heard m.to
-        before e = ⊎_elim (λ old. rule.told m old (omega (arith, now, g.boot)) (omega (arith, e, echo))) (λ (new : IsSaidBy (s.router m.from) m). omega (arith, new.heard)) (step.new m h)
+        before e = ⊎_elim (λ old. rule.told m old (omega (arith, now, g.boot)) (omega (arith, e, echo))) (λ
+            (new : IsSaidBy (s.router m.from) m). omega (arith, new.heard)) (step.new m h)
 
-        same : ((t.router m.from).peer m.to ≡ (s.router m.from).peer m.to) × ((t.router m.from).heard m.to ≡ (s.router m.from).heard m.to) × ((t.router m.from).seen m.to ≡ (s.router m.from).seen m.to) → m.heard ≤ (t.router m.from).heard m.to
+        same : ((t.router m.from).peer m.to ≡ (s.router m.from).peer m.to)
+            × ((t.router m.from).heard m.to ≡ (s.router m.from).heard m.to)
+            × ((t.router m.from).seen m.to ≡ (s.router m.from).seen m.to) → m.heard ≤ (t.router m.from).heard m.to
         same e = omega (arith, e.1, before e.0)
 
-        taken : (k : Message) × IsFrom s.pool m.from m.to k × (k.echo ≡ (s.router m.from).boot) × ((t.router m.from).peer m.to ≡ k.boot) × ((t.router m.from).heard m.to ≡ k.number)
-            × ((t.router m.from).seen m.to ≡ k.height) × ((t.router m.from).peer m.to ≡ (s.router m.from).peer m.to → (s.router m.from).heard m.to ≤ k.number) → m.heard ≤ (t.router m.from).heard m.to
+        taken : (k : Message) × IsFrom s.pool m.from m.to k × (k.echo ≡ (s.router m.from).boot)
+            × ((t.router m.from).peer m.to ≡ k.boot) × ((t.router m.from).heard m.to ≡ k.number)
+            × ((t.router m.from).seen m.to ≡ k.height)
+            × ((t.router m.from).peer m.to ≡ (s.router m.from).peer m.to
+            → (s.router m.from).heard m.to ≤ k.number) → m.heard ≤ (t.router m.from).heard m.to
         taken (k, f, e, b, n, v, up) =
-            let peers : (t.router m.from).peer m.to ≡ (s.router m.from).peer m.to = omega (arith, known, echo, (g.start m.to).0) in
+            let peers : (t.router m.from).peer m.to ≡ (s.router m.from).peer m.to = omega (
+              arith,
+              known,
+              echo,
+              (g.start m.to).0,
+            ) in
             omega (arith, n, up peers, before peers)
 
-numbers_kept : (s t : Net) → KeepsRule s → IsStep s t → (m : Message) → Contains t.pool m → m.boot ≡ (t.router m.from).boot → (m.number ≤ (t.router m.from).number) × (m.height ≡ (t.router m.from).announced m.number)
-numbers_kept s t rule step m h now = ⊎_elim goes (λ (r : Restarts (s.router m.from) (t.router m.from)). absurd (omega (arith, now, r.boot, (bounded s t rule step m h).0))) (step.routers m.from)
+numbers_kept : (s t : Net) → KeepsRule s → IsStep s t → (m : Message) → Contains t.pool m
+    → m.boot ≡ (t.router m.from).boot → (m.number ≤ (t.router m.from).number)
+    × (m.height ≡ (t.router m.from).announced m.number)
+numbers_kept s t rule step m h now = ⊎_elim goes (λ (r : Restarts (s.router m.from) (t.router m.from)). absurd
+    (omega (arith, now, r.boot, (bounded s t rule step m h).0))) (step.routers m.from)
   where
-    goes : GoesOn s.pool m.from (s.router m.from) (t.router m.from) → (m.number ≤ (t.router m.from).number) × (m.height ≡ (t.router m.from).announced m.number)
-    goes g = ⊎_elim (λ old. from (rule.numbers m old (omega (arith, now, g.boot)))) (λ (new : IsSaidBy (s.router m.from) m). from (new.number, new.height)) (step.new m h)
+    goes : GoesOn s.pool m.from (s.router m.from) (t.router m.from) → (m.number ≤ (t.router m.from).number)
+        × (m.height ≡ (t.router m.from).announced m.number)
+    goes g = ⊎_elim (λ old. from (rule.numbers m old (omega (arith, now, g.boot)))) (λ (new : IsSaidBy
+        (s.router m.from) m). from (new.number, new.height)) (step.new m h)
       where
-        from : (m.number ≤ (s.router m.from).number) × (m.height ≡ (s.router m.from).announced m.number) → (m.number ≤ (t.router m.from).number) × (m.height ≡ (t.router m.from).announced m.number)
+        from : (m.number ≤ (s.router m.from).number) × (m.height ≡ (s.router m.from).announced m.number)
+            → (m.number ≤ (t.router m.from).number) × (m.height ≡ (t.router m.from).announced m.number)
         from p = (omega (arith, p.0, g.number), omega (arith, p.1, g.announced m.number p.0))
 
-knew_kept : (s t : Net) → KeepsRule s → IsStep s t → (m : Message) → Contains t.pool m → m.boot ≡ (t.router m.from).boot → m.echo ≤ (t.router m.from).peer m.to
+knew_kept : (s t : Net) → KeepsRule s → IsStep s t → (m : Message) → Contains t.pool m
+    → m.boot ≡ (t.router m.from).boot → m.echo ≤ (t.router m.from).peer m.to
 knew_kept s t rule step m h now = ⊎_elim goes restarts (step.routers m.from)
   where
     restarts : Restarts (s.router m.from) (t.router m.from) → m.echo ≤ (t.router m.from).peer m.to
@@ -115,21 +145,45 @@ knew_kept s t rule step m h now = ⊎_elim goes restarts (step.routers m.from)
         (λ (new : IsSaidBy (s.router m.from) m). omega (arith, (g.start m.to).0, new.echo)) (step.new m h)
 
 -- a router whose new start some message knows has not restarted in this step
-same_start : (s t : Net) → KeepsRule s → IsStep s t → (m : Message) → Contains t.pool m → m.echo ≡ (t.router m.to).boot → (t.router m.to).boot ≡ (s.router m.to).boot
+same_start : (s t : Net) → KeepsRule s → IsStep s t → (m : Message) → Contains t.pool m
+    → m.echo ≡ (t.router m.to).boot → (t.router m.to).boot ≡ (s.router m.to).boot
 same_start s t rule step m h e = ⊎_elim (λ (g : GoesOn s.pool m.to (s.router m.to) (t.router m.to)). g.boot)
-    (λ (r : Restarts (s.router m.to) (t.router m.to)). absurd (omega (arith, e, r.boot, (bounded s t rule step m h).1))) (step.routers m.to)
+    (λ (r : Restarts (s.router m.to) (t.router m.to)). absurd (omega (
+      arith,
+      e,
+      r.boot,
+      (bounded s t rule step m h).1,
+    ))) (step.routers m.to)
 
 -- a message of a start that was over is not new
-is_old : (s t : Net) → IsStep s t → (m : Message) → Contains t.pool m → m.boot < (s.router m.from).boot → Contains s.pool m
-is_old s t step m h l = ⊎_elim (λ old. old) (λ (new : IsSaidBy (s.router m.from) m). absurd (omega (arith, l, new.boot))) (step.new m h)
+is_old : (s t : Net) → IsStep s t → (m : Message) → Contains t.pool m → m.boot < (s.router m.from).boot
+    → Contains s.pool m
+is_old s t step m h l = ⊎_elim (λ old. old) (λ (new : IsSaidBy (s.router m.from) m). absurd (omega
+    (arith, l, new.boot))) (step.new m h)
 
-apart_kept : (s t : Net) → KeepsRule s → IsStep s t → (m k : Message) → Contains t.pool m → Contains t.pool k → m.from ≡ k.to → m.to ≡ k.from
-    → m.boot < (t.router m.from).boot → k.boot < (t.router k.from).boot → m.echo ≡ (t.router m.to).boot → k.echo ≡ (t.router k.to).boot → ⊥
+apart_kept : (s t : Net) → KeepsRule s → IsStep s t → (m k : Message) → Contains t.pool m → Contains t.pool k
+    → m.from ≡ k.to → m.to ≡ k.from
+    → m.boot < (t.router m.from).boot → k.boot < (t.router k.from).boot → m.echo ≡ (t.router m.to).boot
+    → k.echo ≡ (t.router k.to).boot → ⊥
 apart_kept s t rule step m k hm hk a b lm lk em ek =
     let to_m = same_start s t rule step m hm em in
     let to_k = same_start s t rule step k hk ek in
-    let before_m : m.boot < (s.router m.from).boot = omega (arith, lm, to_k, ap (λ (y : ℕ). (s.router y).boot) a, ap (λ (y : ℕ). (t.router y).boot) a) in
-    let before_k : k.boot < (s.router k.from).boot = omega (arith, lk, to_m, ap (λ (y : ℕ). (s.router y).boot) b, ap (λ (y : ℕ). (t.router y).boot) b) in
+    let before_m : m.boot < (s.router m.from).boot = omega (
+      arith,
+      lm,
+      to_k,
+      ap (λ (y : ℕ).
+          (s.router y).boot) a,
+      ap (λ (y : ℕ). (t.router y).boot) a,
+    ) in
+    let before_k : k.boot < (s.router k.from).boot = omega (
+      arith,
+      lk,
+      to_m,
+      ap (λ (y : ℕ).
+          (s.router y).boot) b,
+      ap (λ (y : ℕ). (t.router y).boot) b,
+    ) in
     rule.apart m k (is_old s t step m hm before_m) (is_old s t step k hk before_k) a b before_m before_k
     (omega (arith, em, to_m)) (omega (arith, ek, to_k))
 
@@ -137,12 +191,14 @@ still : (s t : Net) → IsStep s t → (x w : ℕ) (m : Message) → IsFrom s.po
 still s t step x w m f = record { said = step.kept m f.said; from = f.from; to = f.to }
 
 heard_kept : (s t : Net) → KeepsRule s → IsStep s t → (x w : ℕ) → 0 < (t.router x).heard w → HasHeard t x w
-heard_kept s t rule step x w p = ⊎_elim goes (λ (r : Restarts (s.router x) (t.router x)). absurd (omega (arith, p, r.heard w))) (step.routers x)
+heard_kept s t rule step x w p = ⊎_elim goes (λ (r : Restarts (s.router x) (t.router x)). absurd (omega
+    (arith, p, r.heard w))) (step.routers x)
   where
     goes : GoesOn s.pool x (s.router x) (t.router x) → HasHeard t x w
     goes g = ⊎_elim same (⊎_elim (λ e. absurd (omega (arith, p, e.1))) taken) (g.height w)
       where
-        same : ((t.router x).peer w ≡ (s.router x).peer w) × ((t.router x).heard w ≡ (s.router x).heard w) × ((t.router x).seen w ≡ (s.router x).seen w) → HasHeard t x w
+        same : ((t.router x).peer w ≡ (s.router x).peer w) × ((t.router x).heard w ≡ (s.router x).heard w)
+            × ((t.router x).seen w ≡ (s.router x).seen w) → HasHeard t x w
         same e = let b = rule.heard_by x w (omega (arith, p, e.1)) in record {
           message = b.message;
           from = still s t step x w b.message b.from;
@@ -152,8 +208,10 @@ heard_kept s t rule step x w p = ⊎_elim goes (λ (r : Restarts (s.router x) (t
           height = omega (arith, b.height, e.2);
         }
 
-        taken : (m : Message) × IsFrom s.pool x w m × (m.echo ≡ (s.router x).boot) × ((t.router x).peer w ≡ m.boot) × ((t.router x).heard w ≡ m.number)
-            × ((t.router x).seen w ≡ m.height) × ((t.router x).peer w ≡ (s.router x).peer w → (s.router x).heard w ≤ m.number) → HasHeard t x w
+        taken : (m : Message) × IsFrom s.pool x w m × (m.echo ≡ (s.router x).boot)
+            × ((t.router x).peer w ≡ m.boot) × ((t.router x).heard w ≡ m.number)
+            × ((t.router x).seen w ≡ m.height) × ((t.router x).peer w ≡ (s.router x).peer w
+            → (s.router x).heard w ≤ m.number) → HasHeard t x w
         taken (m, f, e, b, n, v, up) = record {
           message = m;
           from = still s t step x w m f;
@@ -164,12 +222,14 @@ heard_kept s t rule step x w p = ⊎_elim goes (λ (r : Restarts (s.router x) (t
         }
 
 acked_kept : (s t : Net) → KeepsRule s → IsStep s t → (x w : ℕ) → 0 < (t.router x).acked w → HasAnswer t x w
-acked_kept s t rule step x w p = ⊎_elim goes (λ (r : Restarts (s.router x) (t.router x)). absurd (omega (arith, p, r.acked w))) (step.routers x)
+acked_kept s t rule step x w p = ⊎_elim goes (λ (r : Restarts (s.router x) (t.router x)). absurd (omega
+    (arith, p, r.acked w))) (step.routers x)
   where
     goes : GoesOn s.pool x (s.router x) (t.router x) → HasAnswer t x w
     goes g = ⊎_elim same (⊎_elim (λ e. absurd (omega (arith, p, e))) taken) (g.answer w)
       where
-        same : ((t.router x).peer w ≡ (s.router x).peer w) × ((t.router x).acked w ≡ (s.router x).acked w) → HasAnswer t x w
+        same : ((t.router x).peer w ≡ (s.router x).peer w) × ((t.router x).acked w ≡ (s.router x).acked w)
+            → HasAnswer t x w
         same e = let b = rule.acked_by x w (omega (arith, p, e.1)) in record {
           message = b.message;
           from = still s t step x w b.message b.from;
@@ -178,7 +238,8 @@ acked_kept s t rule step x w p = ⊎_elim goes (λ (r : Restarts (s.router x) (t
           most = omega (arith, b.most, e.1);
         }
 
-        taken : (m : Message) × IsFrom s.pool x w m × (m.echo ≡ (s.router x).boot) × ((t.router x).peer w ≡ m.boot) × ((t.router x).acked w ≡ m.heard) → HasAnswer t x w
+        taken : (m : Message) × IsFrom s.pool x w m × (m.echo ≡ (s.router x).boot)
+            × ((t.router x).peer w ≡ m.boot) × ((t.router x).acked w ≡ m.heard) → HasAnswer t x w
         taken (m, f, e, b, v) = record {
           message = m;
           from = still s t step x w m f;

@@ -62,7 +62,8 @@ Answer own m l k = ((k.peer ≡ l.peer) × (k.acked ≡ l.acked))
     ⊎ (k.acked ≡ 0)
     ⊎ ((n : Message) × IsFrom (m ∷ []) own.me m.from n × (n.echo ≡ own.boot) × (k.peer ≡ n.boot) × (k.acked ≡ n.heard))
 
-height_heard : (own : Own) (m : Message) (l k : Link) → IsHeard own m l k → IsFrom (m ∷ []) own.me m.from m → l.peer ≤ m.boot
+height_heard : (own : Own) (m : Message) (l k : Link) → IsHeard own m l k → IsFrom (m ∷ []) own.me m.from m
+    → l.peer ≤ m.boot
     → Height own m l k
 unfolding Height
 height_heard own m l k h from now = ⊎_elim
@@ -83,7 +84,8 @@ height_heard own m l k h from now = ⊎_elim
     took echo good = let e = h.informed now echo good in
         inr (inr (m, from, echo, h.start now, e.0, e.1, λ s. good (omega (arith, s, h.start now))))
 
-answer_heard : (own : Own) (m : Message) (l k : Link) → IsHeard own m l k → IsFrom (m ∷ []) own.me m.from m → l.peer ≤ m.boot
+answer_heard : (own : Own) (m : Message) (l k : Link) → IsHeard own m l k → IsFrom (m ∷ []) own.me m.from m
+    → l.peer ≤ m.boot
     → Answer own m l k
 unfolding Answer
 answer_heard own m l k h from now = ⊎_elim
@@ -184,9 +186,11 @@ steps pool old new says takes = record {
 }
 
 -- the links change first, and then what the node knows of itself
-in_turn : (pool : List Message) (old mid new : Node) → mid ≡ record old { links = mid.links } → new ≡ record mid { own = new.own }
+in_turn : (pool : List Message) (old mid new : Node) → mid ≡ record old { links = mid.links }
+    → new ≡ record mid { own = new.own }
     → Announces mid.own new.own
-    → ((w : ℕ) → Takes pool old.own.me old.own.boot w (link_to old.links.items w) (link_to mid.links.items w)) → Steps pool old new
+    → ((w : ℕ) → Takes pool old.own.me old.own.boot w (link_to old.links.items w) (link_to mid.links.items w))
+    → Steps pool old new
 in_turn pool old mid new first second says takes = steps pool old new
     (subst (λ (o : Own). Announces o new.own) (ap (λ (n : Node). n.own) first) says)
     (λ w. subst (λ (ks : List Link). Takes pool old.own.me old.own.boot w (link_to old.links.items w) (link_to ks w))
@@ -208,7 +212,8 @@ pub steps_said : (w : ℕ) (m : Message) (old new : Node) → new.own ≡ old.ow
     → Steps [] old new
 steps_said w m old new own says = steps [] old new (subst (Announces old.own) (sym own) (Announces-none old.own))
     (λ v. takes_none [] old.own.me old.own.boot v (link_to old.links.items v) (link_to new.links.items v) (⊎_elim
-    (λ here. told v (subst (λ u. link_to new.links.items u ≡ record (link_to old.links.items u) { said = Some m }) (sym here) says.itself))
+    (λ here. told v (subst (λ u. link_to new.links.items u ≡ record
+    (link_to old.links.items u) { said = Some m }) (sym here) says.itself))
     (λ other. same (link_to old.links.items v) (link_to new.links.items v) (says.others v other))
     (same_or_not v w)))
   where
@@ -221,7 +226,8 @@ steps_said w m old new own says = steps [] old new (subst (Announces old.own) (s
       acked = ap (λ (l : Link). l.acked) e;
     }
 
-is_lower_fact : (own : Own) (l : Link) → IsTrue (is_way own l) → (0 < l.heard) × IsBelow l.seen l.neighbour own.used own.me
+is_lower_fact : (own : Own) (l : Link) → IsTrue (is_way own l) → (0 < l.heard)
+    × IsBelow l.seen l.neighbour own.used own.me
 is_lower_fact own l t = grind (arith, nat_tests)
 
 pub way_at : (n : Node) (w i : ℕ) (x : Link) → IsAt n.links.items w i x → n.gateway ≡ false → IsTrue (is_way n.own x)

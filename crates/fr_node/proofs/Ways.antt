@@ -17,11 +17,13 @@ one_more own ls x = filter-append (is_way own) ls (x ∷ [])
 pub ways_more : (own : Own) (ls : List Link) (n : ℕ) (e : Link) → n < length ls → is_way own (get_or ls n e) ≡ true
     → ways_of own (take (n + 1) ls) ≡ ways_of own (take n ls) ++ way_of (get_or ls n e) ∷ []
 ways_more own ls n e h t = ap (ways_of own) (take_more ls n e h)
-    ∙ ap (map way_of) (one_more own (take n ls) (get_or ls n e) ∙ ap (λ b. filter (is_way own) (take n ls) ++ cond b (get_or ls n e ∷ []) []) t)
+    ∙ ap (map way_of) (one_more own (take n ls) (get_or ls n e)
+    ∙ ap (λ b. filter (is_way own) (take n ls) ++ cond b (get_or ls n e ∷ []) []) t)
     ∙ map_push way_of (filter (is_way own) (take n ls)) (get_or ls n e)
 
 pub ways_same : (own : Own) (ls : List Link) (n : ℕ) (e : Link) → n < length ls → is_way own (get_or ls n e) ≡ false
     → ways_of own (take (n + 1) ls) ≡ ways_of own (take n ls)
 ways_same own ls n e h f = ap (ways_of own) (take_more ls n e h)
-    ∙ ap (map way_of) (one_more own (take n ls) (get_or ls n e) ∙ ap (λ b. filter (is_way own) (take n ls) ++ cond b (get_or ls n e ∷ []) []) f
+    ∙ ap (map way_of) (one_more own (take n ls) (get_or ls n e)
+    ∙ ap (λ b. filter (is_way own) (take n ls) ++ cond b (get_or ls n e ∷ []) []) f
     ∙ append-nil (filter (is_way own) (take n ls)))

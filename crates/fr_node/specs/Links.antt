@@ -56,8 +56,8 @@ pub record IsHeard (own : Own) (m : Message) (l k : Link) : Type 0 where
       → k.acked ≡ l.acked
   pub unacked : l.peer < m.boot → (m.echo ≢ own.boot) ⊎ (own.number < m.heard) → k.acked ≡ 0
 
--- router `own` has heard the message m, and its links ls have become ks. Only a message for this router from a neighbour
--- changes a link, and only the one to this neighbour
+-- router `own` has heard the message m, and its links ls have become ks. Only a message for this router from a
+-- neighbour changes a link, and only the one to this neighbour
 pub record Hears (own : Own) (m : Message) (ls ks : List Link) : Type 0 where
   pub neighbours : map (λ l. l.neighbour) ks ≡ map (λ l. l.neighbour) ls
   pub others : (w : ℕ) → w ≢ m.from → link_to ks w ≡ link_to ls w

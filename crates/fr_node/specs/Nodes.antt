@@ -1,4 +1,5 @@
--- Which router of the laws a node is, and what a step of a node is in these laws. The definitions are this project's own.
+-- Which router of the laws a node is, and what a step of a node is in these laws. The definitions are this project's
+-- own.
 use Rattle.std.specs.Prelude.{Bool, ℕ, List, not, ◌&&◌, ◌||◌, ◌≡◌}
 use Rattle.fr_node.specs.declared.message.Message.{Message}
 use Rattle.fr_node.specs.declared.node.Node.{Node}

@@ -53,7 +53,8 @@ impl Link {
         }
     }
 
-    /// After a message from this neighbour. What it says of an earlier start, of its own or of the router's, is ignored.
+    /// After a message from this neighbour. What it says of an earlier start, of its own or of the router's, is
+    /// ignored.
     pub(crate) fn after(self, message: &Message, own: &Own) -> Link
         ensures { IsHeard own.now message.now self result }
     {

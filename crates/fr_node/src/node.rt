@@ -1,6 +1,7 @@
 //! The state machine of one router.
 
-ghost use Rattle.std.specs.Prelude.{◌≡◌, ◌≢◌, ◌<◌, ◌≤◌, ◌+◌, ◌++◌, ◌^◌, ◌↔◌, ◌⊎◌, true, false, IsTrue, IsSome, [], ◌∷◌, IfSome, IfNone, MatchOption, OnErr, OnOk, min, length, ℕ, vec_capacity, vec_len};
+ghost use Rattle.std.specs.Prelude.{◌≡◌, ◌≢◌, ◌<◌, ◌≤◌, ◌+◌, ◌++◌, ◌^◌, ◌↔◌, ◌⊎◌, true, false, [], ◌∷◌, min, length, ℕ};
+ghost use Rattle.std.specs.Prelude.{IsTrue, IsSome, IfSome, IfNone, MatchOption, OnErr, OnOk, vec_capacity, vec_len};
 ghost use Rattle.std.specs.List.{position};
 ghost use Rattle.fr_node.specs.Histories.{Announces, IsHistory};
 ghost use Rattle.fr_node.specs.declared.fault.NodeFault.TheVariants.{Itself};
@@ -34,9 +35,11 @@ pub struct Unwritten {
 }
 
 impl Node {
-    /// A router that starts. `boot` must be greater than at each of its earlier starts.
+    /// A router that starts with this height. `me` is its number, which no other router has. `boot` must be greater than
+    /// at each of its earlier starts: then it is a restart of the law, whatever it knew before. It takes no memory. O(1).
     pub fn new(alloc: Global, me: u32, boot: u64, height: u64, policy: Policy) -> Node
-        ensures who { (result.own.me ≡ me) × (result.own.boot ≡ boot) × (result.gateway ≡ false) × (result.policy ≡ policy) }
+        ensures who { (result.own.me ≡ me) × (result.own.boot ≡ boot) × (result.gateway ≡ false)
+            × (result.policy ≡ policy) }
         ensures height { result.own.used ≡ height }
         ensures links { result.links.items ≡ [] }
         ensures announced { IsHistory result.own (λ _. height) }
@@ -50,7 +53,8 @@ impl Node {
         }
     }
 
-    /// A gateway that starts: it takes packets out of the network and sends on nothing.
+    /// A gateway that starts: it takes packets out of the network and sends on nothing. Several routers may be gateways
+    /// for one destination. `boot` as for [`Node::new`]. O(1).
     pub fn gateway(alloc: Global, me: u32, boot: u64) -> Node
         ensures who { (result.own.me ≡ me) × (result.own.boot ≡ boot) × (result.gateway ≡ true) }
         ensures height { result.own.used ≡ 0 }
@@ -70,7 +74,11 @@ impl Node {
         }
     }
 
-    /// Makes a neighbour known. The link to it is down.
+    /// Makes a neighbour known. The link to it is down, until it comes up. A neighbour that is known stays as it is. This
+    /// is the only call that takes memory. O(d) for d known neighbours.
+    ///
+    /// Fails with `Itself` if the neighbour is this router, and with `Memory` if an allocation was refused. Then nothing
+    /// has changed.
     pub fn know(&mut self, neighbour: u32) -> Result<(), NodeFault>
         ensures itself { neighbour ≡ self.old.own.me ↔ (result ≡ Err Itself) }
         ensures known { neighbour ≢ self.old.own.me → IsKnown self.old.links.items neighbour → self.new ≡ self.old }
@@ -90,7 +98,8 @@ impl Node {
         Ok(())
     }
 
-    /// The link to a neighbour comes up.
+    /// The link to a neighbour comes up. Nothing happens to a router that is not known. The height may change by the
+    /// policy. It takes no memory. O(d) for d known neighbours.
     pub fn link_up(mut self, neighbour: u32) -> Unwritten
         ensures set { SetsUp neighbour true self.links.items result.node.links.items }
         ensures same { (result.node.gateway ≡ self.gateway) × (result.node.policy ≡ self.policy) }
@@ -101,7 +110,7 @@ impl Node {
         Unwritten { node: self }
     }
 
-    /// The link to a neighbour goes down.
+    /// The link to a neighbour goes down: it is no way, and its gate closes. What was heard stays known. O(d).
     pub fn link_down(mut self, neighbour: u32) -> Unwritten
         ensures set { SetsUp neighbour false self.links.items result.node.links.items }
         ensures same { (result.node.gateway ≡ self.gateway) × (result.node.policy ≡ self.policy) }
@@ -112,7 +121,8 @@ impl Node {
         Unwritten { node: self }
     }
 
-    /// Hears a message.
+    /// Hears a message. It changes what is known of its sender, if it is for this router and from a known neighbour, and
+    /// not from an earlier start of either. Then the height may change by the policy. It takes no memory. O(d).
     pub fn hear(mut self, message: &Message) -> Unwritten
         ensures heard { Hears self.own message.now self.links.items result.node.links.items }
         ensures same { (result.node.gateway ≡ self.gateway) × (result.node.policy ≡ self.policy) }
@@ -123,7 +133,8 @@ impl Node {
         Unwritten { node: self }
     }
 
-    /// The message for a neighbour now. `None` if it is not known, or the link to it is down.
+    /// The message for a neighbour now. `None` if the neighbour is not known, or the link to it is down. It may be said as
+    /// often as the caller likes. O(d).
     pub fn say(&mut self, neighbour: u32) -> Option<Message>
         ensures up { IsSome result ↔ IsTrue (link_to self.old.links.items neighbour).up }
         ensures content { IfSome result (IsMessageTo self.old neighbour) }
@@ -144,11 +155,12 @@ impl Node {
         Some(message)
     }
 
-    /// Whether there is news for a neighbour: the message for it is not the last one that was said.
+    /// Whether there is news for a neighbour: its link is up, and the message for it is not the last one that was said.
+    /// O(d).
     pub fn has_news(&self, neighbour: u32) -> bool
         ensures down { ¬ IsTrue (link_to self.now.links.items neighbour).up → ¬ IsTrue result }
-        ensures news { IsTrue (link_to self.now.links.items neighbour).up → (m : Message) × IsMessageTo self.now neighbour m
-            × (IsTrue result ↔ ((link_to self.now.links.items neighbour).said ≢ Some m)) }
+        ensures news { IsTrue (link_to self.now.links.items neighbour).up
+            → (m : Message) × IsMessageTo self.now neighbour m × (IsTrue result ↔ ((link_to self.now.links.items neighbour).said ≢ Some m)) }
     {
         match self.index_of(neighbour) {
             Some(i) => self.links[i].up && !self.links[i].has_said(&self.message_at(i)),
@@ -156,7 +168,7 @@ impl Node {
         }
     }
 
-    /// Whether packets from this neighbour are let in: a gate for them is to be open. All other packets are dropped.
+    /// Whether packets from this neighbour are let in: a gate for them is to be open. All other packets are dropped. O(d).
     pub fn lets_in(&self, neighbour: u32) -> bool
         ensures open { result ≡ lets_in self.now neighbour }
         ensures safe { IsTrue result → (h : ℕ → ℕ) → IsHistory self.now.own h → IsOpen (router self.now h) neighbour }
@@ -170,7 +182,7 @@ impl Node {
         }
     }
 
-    /// Whether packets may be sent to this neighbour.
+    /// Whether packets may be sent to this neighbour. O(d).
     pub fn sends_to(&self, neighbour: u32) -> bool
         ensures way { result ≡ sends_to self.now neighbour }
         ensures safe { IsTrue result → (h : ℕ → ℕ) → IsWay (router self.now h) self.now.own.me neighbour }
@@ -209,7 +221,8 @@ impl Node {
         self.own.used
     }
 
-    /// How many links a packet crosses from this router to a gateway, by what it has heard. `CUT_OFF` if it has no way.
+    /// How many links a packet crosses from this router to a gateway, by what it has heard: 0 at a gateway, else one more
+    /// than at the nearest way. `CUT_OFF` if it has no way, or if that is not below the cap of the policy. O(d).
     pub fn distance(&self) -> u32
         ensures { IsDistance self.now result }
     {
@@ -298,7 +311,8 @@ impl Node {
         }
     }
 
-    /// Whether the last height that was announced may be used: without waiting always, else if each open gate stays open.
+    /// Whether the last height that was announced may be used: always if the policy does not wait, else if each open gate
+    /// stays open.
     fn may_settle(&self) -> bool {
         let own = &self.own;
         !self.policy.wait

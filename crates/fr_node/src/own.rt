@@ -48,7 +48,11 @@ impl Own {
     /// After the announcement of a greater height, which is not in use yet.
     pub(crate) fn raised(self, height: u64) -> Own
         requires { self.number + 1 < 2 ^ 64 }
-        ensures { result ≡ record self { announced = height; number = self.number + 1; announced_since = self.number + 1 } }
+        ensures { result ≡ record self {
+          announced = height;
+          number = self.number + 1;
+          announced_since = self.number + 1;
+        } }
     {
         Own {
             announced: height,

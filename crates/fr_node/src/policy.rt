@@ -8,8 +8,8 @@ use crate::message::CUT_OFF;
 /// When a router raises its height.
 #[derive(Clone, Copy, Debug, PartialEq, Eq)]
 pub enum Rise {
-    /// It raises its height if it has no way, above all neighbours. This is full link reversal. Routers that are cut off
-    /// from all gateways raise their heights for ever.
+    /// It raises its height if it has no way, above all neighbours. This is full link reversal. Routers that are cut
+    /// off from all gateways raise their heights for ever.
     Full,
     /// It raises its height if it knows no distance, to send packets to the neighbour with the least distance, if that
     /// is below this cap.

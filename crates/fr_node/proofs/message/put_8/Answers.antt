@@ -9,5 +9,6 @@ returns c =
     let at = c.args.at in
     let bytes = c.args.bytes.now in
     let written = c.copy_from_slice.ensures.after ∙ c.to_be_bytes.ensures in
-    take-put_mid at (at + 8 - at) bytes c.copy_from_slice.new.self (at + 8) (omega (arith, ap length written)) (omega (arith, c.requires))
+    take-put_mid at (at + 8 - at) bytes c.copy_from_slice.new.self (at + 8) (omega (arith, ap length written))
+    (omega (arith, c.requires))
     ∙ ap (λ (piece : List ℕ). take at bytes ++ piece) written

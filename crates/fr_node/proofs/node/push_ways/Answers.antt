@@ -23,6 +23,7 @@ loop-link-preserved c =
       | else-is_way w ↦ rw w.ways-is (record {
         room = before.room;
         few = omega (arith, before.few);
-        listed = before.listed ∙ sym (ways_same own links _ _ c.loop-link-test.true (sym c.is_way.ensures ∙ w.if-is_way.false));
+        listed = before.listed ∙ sym (ways_same own links _ _ c.loop-link-test.true (sym c.is_way.ensures
+            ∙ w.if-is_way.false));
       })
     ]

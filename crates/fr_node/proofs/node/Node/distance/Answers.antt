@@ -9,7 +9,8 @@ returns-in-Some c =
     let own = c.args.self.now.own in
     let links = c.args.self.now.links.items in
     let n = c.in-Some.nearest in
-    let at : IsNearest own links n = subst (λ (ls : List Link). IsNearest own ls n) c.deref.ensures.value c.in-Some.ensures in
+    let at : IsNearest own links n = subst (λ
+    (ls : List Link). IsNearest own ls n) c.deref.ensures.value c.in-Some.ensures in
     record {
       gateway = λ g. cc (c.if-self.false);
       near = λ _ k is less. omega (arith, nearest_once own links n k at is);

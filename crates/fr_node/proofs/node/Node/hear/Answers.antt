@@ -5,7 +5,8 @@ use Rattle.fr_node.proofs.Stepping.{steps_heard}
 use Rattle.fr_node.proofs.node.Node.hear.Goals as goal
 
 pub returns-clause-heard : goal.returns-clause-heard
-returns-clause-heard c = subst (λ (n : Node). Hears c.args.self.own c.args.message.now c.args.self.links.items n.links.items)
+returns-clause-heard c = subst (λ
+    (n : Node). Hears c.args.self.own c.args.message.now c.args.self.links.items n.links.items)
     (sym c.act.ensures.same) c.take.ensures.heard
 
 pub returns-clause-same : goal.returns-clause-same

@@ -10,4 +10,5 @@ pub returns-clause-said : goal.returns-clause-said
 returns-clause-said c = says_at _ _ _ _ _ (is_at _ _ _ _ c.in-Some.ensures c.index_mut.ensures.value)
 
 pub returns-clause-step : goal.returns-clause-step
-returns-clause-step c = steps_said _ _ _ _ refl (says_at _ _ _ _ _ (is_at _ _ _ _ c.in-Some.ensures c.index_mut.ensures.value))
+returns-clause-step c = steps_said _ _ _ _ refl (says_at _ _ _ _ _
+    (is_at _ _ _ _ c.in-Some.ensures c.index_mut.ensures.value))
