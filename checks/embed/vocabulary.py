@@ -20,7 +20,7 @@ ways     | revroute_ways revroute_all_ways | Network::ways Session::ways | Netwo
 nearest  | revroute_nearest | Network::nearest Session::nearest | Network.nearest Session.nearest
 net      | revroute_open | Network::new | Network
 pushes   | revroute_pushes | Network::pushes Session::pushes | Network.pushes Session.pushes
-distance | | Network::distance Session::distance | Network.distance Session.distance
+distance | revroute_distance | Network::distance Session::distance | Network.distance Session.distance
 next_hop | revroute_next_hop revroute_reader_next_hop | Network::next_hop Network::try_next_hop Session::next_hop Reader::next_hop Reader::try_next_hop | Network.next_hop Session.next_hop Reader.next_hop
 changed  | revroute_changed | Network::changed Session::changed | Network.changed Session.changed
 push_order | revroute_push_order | push_order | push_order

@@ -375,9 +375,12 @@ revroute_status revroute_walk(revroute *session, uint32_t node, uint32_t *nodes,
  * d links at the node. */
 revroute_status revroute_ways(revroute *session, uint32_t node, uint32_t *ways, size_t room, size_t *length);
 
+/* Returns the distance of a node: the fewest links that lead from it down to the destination. Otherwise returns
+ * REVROUTE_CUT_OFF, REVROUTE_NO_SUCH_NODE or REVROUTE_NO_HOP, which are greater than all distances. O(1). */
+uint32_t revroute_distance(revroute *session, uint32_t node);
+
 /* Writes the nodes on the nearest route from a node to the destination, both included: each is the first way of the one
- * before. No route along the links is shorter, so the distance of the node is *length - 1. With a room of 0 the call
- * only reports this length. REVROUTE_NO_ROUTE if there is no route. REVROUTE_NO_MEMORY if memory ran out. O(r d) for r
+ * before. No route along the links is shorter, so *length - 1 is the distance of the node. REVROUTE_NO_ROUTE if there is no route. REVROUTE_NO_MEMORY if memory ran out. O(r d) for r
  * nodes on the route with at most d links each. */
 revroute_status revroute_nearest(revroute *session, uint32_t node, uint32_t *nodes, size_t room, size_t *length);
 
@@ -388,7 +391,8 @@ revroute_status revroute_nearest(revroute *session, uint32_t node, uint32_t *nod
  *
  * There are at most as many ways as links, so a room of the number of links is enough for `ways`. REVROUTE_TOO_SHORT if
  * one of the arrays is too short; *length is then the length of `ways` that is needed. REVROUTE_NO_MEMORY if memory ran
- * out. After any result but REVROUTE_ANSWERED both arrays are unchanged. O(n + m log m). */
+ * out. After any result but REVROUTE_ANSWERED both arrays are unchanged. O(n + m log d) if no node has
+ * more than d links. */
 revroute_status revroute_all_ways(revroute *session, size_t *starts, size_t starts_room, uint32_t *ways,
                                   size_t ways_room, size_t *length);
 

@@ -25,11 +25,14 @@ Pushed old new differ nodes x y = (Contains nodes x → new x y)
 -- a packet moves while nodes are pushed
 abbrev pub IsMove : (ℕ → ℕ → Type 0) → (ℕ → ℕ → Type 0) → (ℕ → Type 0) → (ℕ → List ℕ) → ℕ → List ℕ → Type 0
 IsMove old new differ pushed x [] = Unit {0}
-IsMove old new differ pushed x (y ∷ ys) = Pushed old new differ (pushed 0) x y × IsMove old new differ (λ k. pushed (k + 1)) y ys
+IsMove old new differ pushed x (y ∷ ys) =
+    Pushed old new differ (pushed 0) x y × IsMove old new differ (λ k. pushed (k + 1)) y ys
 
-module _ (old new : ℕ → ℕ → Type 0) (differ : ℕ → Type 0) (same : (x : ℕ) → ((y : ℕ) → old x y → new x y) ⊎ differ x) where
+module _ (old new : ℕ → ℕ → Type 0) (differ : ℕ → Type 0)
+    (same : (x : ℕ) → ((y : ℕ) → old x y → new x y) ⊎ differ x) where
   clean_next : (nodes : List ℕ) (x y : ℕ) → IsClean new differ nodes x → new x y → IsClean new differ nodes y
-  clean_next nodes x y clean sends z down = clean z (record { by = y ∷ down.by; goes = (sends, down.goes); ends = down.ends })
+  clean_next nodes x y clean sends z down =
+      clean z (record { by = y ∷ down.by; goes = (sends, down.goes); ends = down.ends })
 
   -- a clean node sends on as the new table says
   pub clean_sends : (nodes : List ℕ) (x y : ℕ) → IsClean new differ nodes x → Pushed old new differ nodes x y → new x y
@@ -43,7 +46,8 @@ module _ (old new : ℕ → ℕ → Type 0) (differ : ℕ → Type 0) (same : (x
       (sends.1 out))
       (cases_member nodes x)
 
-  module _ (nodes : List ℕ) (table : ℕ → ℕ → Type 0) (pushed : (x y : ℕ) → table x y → Pushed old new differ nodes x y) where
+  module _ (nodes : List ℕ) (table : ℕ → ℕ → Type 0)
+      (pushed : (x y : ℕ) → table x y → Pushed old new differ nodes x y) where
     -- so its walks are those of the new table
     pub clean_walk : (x : ℕ) (ys : List ℕ) → IsClean new differ nodes x → IsWalk table x ys → IsWalk new x ys
     clean_walk x [] clean goes = tt
@@ -52,13 +56,15 @@ module _ (old new : ℕ → ℕ → Type 0) (differ : ℕ → Type 0) (same : (x
         (sends, clean_walk y ys (clean_next nodes x y clean sends) goes.1)
 
     -- and end at clean nodes
-    clean_end : (x : ℕ) (ys : List ℕ) → IsClean new differ nodes x → IsWalk table x ys → IsClean new differ nodes (end_of x ys)
+    clean_end : (x : ℕ) (ys : List ℕ) → IsClean new differ nodes x → IsWalk table x ys
+        → IsClean new differ nodes (end_of x ys)
     clean_end x [] clean goes = clean
     clean_end x (y ∷ ys) clean goes =
         clean_end y ys (clean_next nodes x y clean (clean_sends nodes x y clean (pushed x y goes.0))) goes.1
 
     -- a walk follows the old table as well, or it ends at a clean node
-    walk_cases : AreClosed new differ nodes → (x : ℕ) (ys : List ℕ) → IsWalk table x ys → IsWalk old x ys ⊎ IsClean new differ nodes (end_of x ys)
+    walk_cases : AreClosed new differ nodes → (x : ℕ) (ys : List ℕ) → IsWalk table x ys
+        → IsWalk old x ys ⊎ IsClean new differ nodes (end_of x ys)
     walk_cases closed x [] goes = inl tt
     walk_cases closed x (y ∷ ys) goes = ⊎_elim
         (λ inside. inr (clean_end x (y ∷ ys) (closed x inside) goes))
@@ -68,7 +74,8 @@ module _ (old new : ℕ → ℕ → Type 0) (differ : ℕ → Type 0) (same : (x
         ((pushed x y goes.0).1 out))
         (cases_member nodes x)
 
-    pub no_cycle_is_new : AreClosed new differ nodes → (cycle : List ℕ) → IsCycleFree new → IsCycle table cycle → IsCycle old cycle
+    pub no_cycle_is_new : AreClosed new differ nodes → (cycle : List ℕ) → IsCycleFree new → IsCycle table cycle
+        → IsCycle old cycle
     no_cycle_is_new closed [] free is = is
     no_cycle_is_new closed (x ∷ xs) free is = ⊎_elim
         (λ walk. walk)
@@ -77,7 +84,8 @@ module _ (old new : ℕ → ℕ → Type 0) (differ : ℕ → Type 0) (same : (x
         (walk_cases closed x (xs ++ x ∷ []) is)
 
   -- a packet at a clean node moves along the new table
-  moves_clean : (pushed : ℕ → List ℕ) (x : ℕ) (ys : List ℕ) → ((k y : ℕ) → Contains (pushed k) y → Contains (pushed (k + 1)) y)
+  moves_clean : (pushed : ℕ → List ℕ) (x : ℕ) (ys : List ℕ)
+      → ((k y : ℕ) → Contains (pushed k) y → Contains (pushed (k + 1)) y)
       → IsClean new differ (pushed 0) x → IsMove old new differ pushed x ys → IsWalk new x ys
   moves_clean pushed x [] grows clean moves = tt
   moves_clean pushed x (y ∷ ys) grows clean moves =
@@ -97,14 +105,19 @@ module _ (old new : ℕ → ℕ → Type 0) (differ : ℕ → Type 0) (same : (x
       (λ inside. ([], y ∷ ys, refl, tt, moves_clean pushed x (y ∷ ys) grows (closed 0 x inside) moves))
       (λ out. ⊎_elim
       (λ was.
-      let (us, vs, is, first, last) = moves_split (λ k. pushed (k + 1)) y ys (λ k. closed (k + 1)) (λ k. grows (k + 1)) moves.1 in
+      let (us, vs, is, first, last) =
+      moves_split (λ k. pushed (k + 1)) y ys (λ k. closed (k + 1)) (λ k. grows (k + 1)) moves.1 in
       (y ∷ us, vs, ap (λ (ws : List ℕ). y ∷ ws) is, (was, first), last))
       (λ early. (
         [],
         y ∷ ys,
         refl,
         tt,
-        (early.0, moves_clean (λ k. pushed (k + 1)) y ys (λ k. grows (k + 1)) (λ z down differs. grows 0 z (early.1 z down differs)) moves.1),
+        (
+          early.0,
+          moves_clean (λ k. pushed (k + 1)) y ys (λ k. grows (k + 1))
+              (λ z down differs. grows 0 z (early.1 z down differs)) moves.1,
+        ),
       ))
       (moves.0.1 out))
       (cases_member (pushed 0) x)
@@ -116,7 +129,14 @@ module _ (old new : ℕ → ℕ → Type 0) (differ : ℕ → Type 0) (same : (x
       let (us, vs, is, first, last) = moves_split pushed x ys closed grows moves in
       let whole : count_by (eqb z) (x ∷ ys) ≡ count_by (eqb z) (x ∷ us) + count_by (eqb z) vs =
       ap (λ (ws : List ℕ). count_by (eqb z) (x ∷ ws)) is ∙ sum_by-append (λ (y : ℕ). cond (eqb z y) 1 0) (x ∷ us) vs in
-      omega (arith, whole, come_once old z x us was first, come_more z (end_of x us) vs, come_once new z (end_of x us) vs free last)
+      omega (
+        arith,
+        whole,
+        come_once old z x us was first,
+        come_more z (end_of x us) vs,
+        come_once new z
+            (end_of x us) vs free last,
+      )
 
 -- the other direction, where nothing is dropped
 module _ (old new : ℕ → ℕ → Type 0) (differ : ℕ → Type 0) (back : (x : ℕ) → ((y : ℕ) → new x y → old x y) ⊎ differ x)
@@ -131,5 +151,6 @@ module _ (old new : ℕ → ℕ → Type 0) (differ : ℕ → Type 0) (back : (x
         (λ differs. absurd (out (clean x (record { by = []; goes = tt; ends = refl }) differs)))
         (back x))
         (cases_member nodes x),
-    walk_clean y ys (λ z down. clean z (record { by = y ∷ down.by; goes = (goes.0, down.goes); ends = down.ends })) goes.1,
+    walk_clean y ys (λ z down. clean z
+        (record { by = y ∷ down.by; goes = (goes.0, down.goes); ends = down.ends })) goes.1,
   )

@@ -1,5 +1,6 @@
 -- Walks along any relation: where they lead, and that without cycles they visit no node twice and are short.
-use Rattle.std.proofs.Common.{All, Bool, Contains, List, [], ap, arith, cond, drop, eqb, false, get_or, inl, inr, length, ne_eqb, refl, subst, suc, sym}
+use Rattle.std.proofs.Common.{All, Bool, Contains, List, [], ap, arith, cond, drop, eqb, false, get_or, inl, inr}
+use Rattle.std.proofs.Common.{length, ne_eqb, refl, subst, suc, sym}
 use Rattle.std.proofs.Common.{true, zero, ℕ, ⊎_elim, ◌++◌, ◌+◌, ◌<◌, ◌∙◌, ◌∷◌, ◌≡◌, ◌≤◌}
 use Rattle.std.specs.List.{IsDistinct, count_by}
 use Rattle.std.proofs.lemmas.Bool.{cases_Bool, eqb-true}
@@ -24,11 +25,14 @@ abbrev pub IsSimple : ℕ → List ℕ → Type 0
 IsSimple x [] = Unit {0}
 IsSimple x (y ∷ ys) = ¬ Contains (y ∷ ys) x × IsSimple y ys
 
-simple_apart : (x : ℕ) (ys : List ℕ) → IsSimple x ys → (i j d : ℕ) → i < j → j < length (x ∷ ys) → ¬ (get_or (x ∷ ys) i d ≡ get_or (x ∷ ys) j d)
+simple_apart : (x : ℕ) (ys : List ℕ) → IsSimple x ys → (i j d : ℕ) → i < j → j < length (x ∷ ys)
+    → ¬ (get_or (x ∷ ys) i d ≡ get_or (x ∷ ys) j d)
 simple_apart x ys simple i zero d lt low same = omega (arith, lt)
 simple_apart x [] simple i (suc j) d lt low same = omega (arith, low)
-simple_apart x (y ∷ ys) simple zero (suc j) d lt low same = simple.0 (j, omega (arith, low), get_or_default (y ∷ ys) j x d (omega (arith, low)) ∙ sym same)
-simple_apart x (y ∷ ys) simple (suc i) (suc j) d lt low same = simple_apart y ys simple.1 i j d (omega (arith, lt)) (omega (arith, low)) same
+simple_apart x (y ∷ ys) simple zero (suc j) d lt low same =
+    simple.0 (j, omega (arith, low), get_or_default (y ∷ ys) j x d (omega (arith, low)) ∙ sym same)
+simple_apart x (y ∷ ys) simple (suc i) (suc j) d lt low same =
+    simple_apart y ys simple.1 i j d (omega (arith, lt)) (omega (arith, low)) same
 
 pub simple_distinct : (x : ℕ) (ys : List ℕ) → IsSimple x ys → IsDistinct eqb (x ∷ ys)
 simple_distinct x ys simple = IsDistinct-from_apart eqb (x ∷ ys)
@@ -49,16 +53,24 @@ come_never : (z : ℕ) (xs : List ℕ) → ¬ Contains xs z → count_by (eqb z)
 come_never z [] out = refl
 come_never z (x ∷ xs) out = elim (cases_Bool (eqb z x)) [
   | inl t ↦ absurd (out (subst (Contains (x ∷ xs)) (sym (eqb-true z x t)) (Contains-head x xs)))
-  | inr f ↦ omega (arith, come_more z x xs, none_more z x f, come_never z xs (λ found. out (Contains-tail z x xs found)))
+  | inr f ↦ omega (
+    arith,
+    come_more z x xs,
+    none_more z x f,
+    come_never z xs
+        (λ found. out (Contains-tail z x xs found)),
+  )
 ]
 
 module _ (sends : ℕ → ℕ → Type 0) where
-  pub walk_append : (x : ℕ) (ys zs : List ℕ) → IsWalk sends x ys → IsWalk sends (end_of x ys) zs → IsWalk sends x (ys ++ zs)
+  pub walk_append : (x : ℕ) (ys zs : List ℕ) → IsWalk sends x ys → IsWalk sends (end_of x ys) zs
+      → IsWalk sends x (ys ++ zs)
   walk_append x [] zs goes more = more
   walk_append x (y ∷ ys) zs goes more = (goes.0, walk_append y ys zs goes.1 more)
 
   -- up to one of its nodes
-  pub walk_to : (x : ℕ) (ys : List ℕ) (z : ℕ) → IsWalk sends x ys → Contains ys z → (xs : List ℕ) × IsWalk sends x (xs ++ z ∷ [])
+  pub walk_to : (x : ℕ) (ys : List ℕ) (z : ℕ) → IsWalk sends x ys → Contains ys z
+      → (xs : List ℕ) × IsWalk sends x (xs ++ z ∷ [])
   walk_to x [] z goes found = absurd (Contains-none z found)
   walk_to x (y ∷ ys) z goes found = elim (Contains-cases z y ys found) [
     | inl e ↦ ([], (subst (sends x) e goes.0, tt))
@@ -141,18 +153,23 @@ module _ (sends : ℕ → ℕ → Type 0) where
   trail_front [] y trail = tt
   trail_front (x ∷ xs) y trail = walk_front x xs y trail
 
-  pub trail_push : (xs : List ℕ) (y z : ℕ) → IsTrail sends (xs ++ y ∷ []) → sends y z → IsTrail sends ((xs ++ y ∷ []) ++ z ∷ [])
+  pub trail_push : (xs : List ℕ) (y z : ℕ) → IsTrail sends (xs ++ y ∷ []) → sends y z
+      → IsTrail sends ((xs ++ y ∷ []) ++ z ∷ [])
   trail_push [] y z trail more = (more, tt)
   trail_push (x ∷ xs) y z trail more =
-      walk_append x (xs ++ y ∷ []) (z ∷ []) trail (subst (λ (w : ℕ). IsWalk sends w (z ∷ [])) (sym (end_append x xs (y ∷ []))) (more, tt))
+      walk_append x (xs ++ y ∷ []) (z ∷ []) trail
+      (subst (λ (w : ℕ). IsWalk sends w (z ∷ [])) (sym (end_append x xs (y ∷ []))) (more, tt))
 
   -- the node before the last sends on to the last
   pub trail_last : (xs : List ℕ) (y z : ℕ) → IsTrail sends ((xs ++ y ∷ []) ++ z ∷ []) → sends y z
   trail_last [] y z trail = trail.0
-  trail_last (x ∷ xs) y z trail = subst (λ (w : ℕ). sends w z) (end_append x xs (y ∷ [])) (walk_last x (xs ++ y ∷ []) z trail)
+  trail_last (x ∷ xs) y z trail =
+      subst (λ (w : ℕ). sends w z) (end_append x xs (y ∷ [])) (walk_last x (xs ++ y ∷ []) z trail)
 
   -- if the last node sends on to a node of the walk, the part from this node on is a cycle
-  pub cycle_from : (xs : List ℕ) (k y : ℕ) → k < length xs → get_or xs k 0 ≡ y → IsTrail sends (xs ++ y ∷ []) → IsCycle sends (drop k xs)
+  pub cycle_from : (xs : List ℕ) (k y : ℕ) → k < length xs → get_or xs k 0 ≡ y → IsTrail sends (xs ++ y ∷ [])
+      → IsCycle sends (drop k xs)
   cycle_from [] k y low at trail = absurd (omega (arith, low))
   cycle_from (x ∷ xs) zero y low at trail = subst (λ (w : ℕ). IsWalk sends x (xs ++ w ∷ [])) (sym at) trail
-  cycle_from (x ∷ xs) (suc k) y low at trail = cycle_from xs k y (omega (arith, low)) at (walk_tail x (xs ++ y ∷ []) trail)
+  cycle_from (x ∷ xs) (suc k) y low at trail =
+      cycle_from xs k y (omega (arith, low)) at (walk_tail x (xs ++ y ∷ []) trail)

@@ -1,12 +1,14 @@
 -- First ways, where ways are listed by their distances from the destination.
-use Rattle.std.proofs.Common.{List, [], ap, arith, get_or, inl, inr, length, refl, slice_get, Some, subst, suc, sym, zero, ℕ, ◌<◌, ◌∙◌, ◌∷◌, ◌≡◌, ◌≤◌}
+use Rattle.std.proofs.Common.{List, [], ap, arith, get_or, inl, inr, length, refl, slice_get, Some, subst, suc, sym}
+use Rattle.std.proofs.Common.{zero, ℕ, ◌<◌, ◌∙◌, ◌∷◌, ◌≡◌, ◌≤◌}
 use Rattle.std.proofs.lemmas.Bool.{cases_eq}
 use Rattle.std.proofs.lemmas.List.{get_or_default}
 use Rattle.std.proofs.lemmas.Option.{get_or_from_slice_get, slice_get-get_or, slice_get_within}
 use Rattle.fr_tables.specs.Walks.{IsWalk, end_of}
 use Rattle.fr_ways.specs.Ways.{IsDistance, IsNearestFirst, Sends, SendsFirst, ways}
 
-first_sends : (table : List (List ℕ)) (x : ℕ) (ys : List ℕ) → IsWalk (SendsFirst table) x ys → IsWalk (Sends table) x ys
+first_sends : (table : List (List ℕ)) (x : ℕ) (ys : List ℕ) → IsWalk (SendsFirst table) x ys
+    → IsWalk (Sends table) x ys
 first_sends table x [] goes = tt
 first_sends table x (y ∷ ys) goes = (
   (0, slice_get_within (ways table x) 0 y goes.0, get_or_from_slice_get (ways table x) 0 y y goes.0),
@@ -73,6 +75,11 @@ module _ (table : List (List ℕ)) (d : ℕ) where
         | inl e ↦ ([], tt, here x is.walk is.arrives (omega (arith, is.number, e)), omega (arith, e))
         | inr some ↦
             let (y, k, first, of_y, lower) = first_nearer x steps nearest (omega (arith, some)) is in
-            let (ys, goes, ends, long) = go fuel y k (omega (arith, lower, few)) of_y in
-            (y ∷ ys, (first, goes), ends, omega (arith, long, lower, is.fewest (y ∷ ys) (first_sends table x (y ∷ ys) (first, goes)) ends))
+            let (ys, goes, ends, long) = go fuel y k (omega (arith, lower, few)) of_y in (
+              y ∷ ys,
+              (first, goes),
+              ends,
+              omega
+                  (arith, long, lower, is.fewest (y ∷ ys) (first_sends table x (y ∷ ys) (first, goes)) ends),
+            )
       ]

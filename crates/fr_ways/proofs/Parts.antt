@@ -1,10 +1,12 @@
 -- Parts of tables without cycles, and what follows links. Their walks are short and arrive, whichever ways they take.
-use Rattle.std.proofs.Common.{Contains, List, [], arith, eqb, inl, inr, length, refl, suc, zero, ℕ, ◌++◌, ◌<◌, ◌∙◌, ◌∷◌, ◌≡◌, ◌⊎◌}
+use Rattle.std.proofs.Common.{Contains, List, [], arith, eqb, inl, inr, length, refl, suc, zero, ℕ, ◌++◌, ◌<◌, ◌∙◌}
+use Rattle.std.proofs.Common.{◌∷◌, ◌≡◌, ◌⊎◌}
 use Rattle.std.specs.List.{IsDistinct}
 use Rattle.std.proofs.lemmas.Bool.{cases_eq}
 use Rattle.fr_tables.specs.Walks.{IsCycle, IsCycleFree, IsDownstream, IsWalk, end_of}
 use Rattle.fr_tables.proofs.Members.{Contains-head, Contains-tail}
-use Rattle.fr_tables.proofs.Relations.{Contains-end, all_below, end_append, free_short, free_simple, here_downstream, next_downstream}
+use Rattle.fr_tables.proofs.Relations.{Contains-end, all_below, end_append, free_short, free_simple, here_downstream}
+use Rattle.fr_tables.proofs.Relations.{next_downstream}
 use Rattle.fr_tables.proofs.Relations.{simple_distinct, walk_append}
 use Rattle.fr_ways.specs.Ways.{HasCycle, HasLostAll, HasNoCycle, IsInRange, IsPartOf, IsWholeWalk, LeadsOnTo, Sends}
 
@@ -21,16 +23,19 @@ module _ (part whole : ℕ → ℕ → Type 0) (is : (x y : ℕ) → part x y �
   pub part_free : IsCycleFree whole → IsCycleFree part
   part_free free cycle has = free cycle (part_cycle cycle has)
 
-pub part_has : (part table : List (List ℕ)) (cycle : List ℕ) → IsPartOf part table → HasCycle part cycle → HasCycle table cycle
+pub part_has : (part table : List (List ℕ)) (cycle : List ℕ) → IsPartOf part table → HasCycle part cycle
+    → HasCycle table cycle
 part_has part table cycle is = part_cycle (Sends part) (Sends table) is cycle
 
-pub links_free : (points : ℕ → ℕ → Type 0) (table : List (List ℕ)) → IsCycleFree points → ((x y : ℕ) → Sends table x y → points x y)
+pub links_free : (points : ℕ → ℕ → Type 0) (table : List (List ℕ)) → IsCycleFree points
+    → ((x y : ℕ) → Sends table x y → points x y)
     → HasNoCycle table
 links_free points table free is = part_free (Sends table) points is free
 
 pub walks_short : (table : List (List ℕ)) (x : ℕ) (ys : List ℕ) → IsInRange table → HasNoCycle table → x < length table
     → IsWalk (Sends table) x ys → length ys < length table
-walks_short table x ys range free low goes = omega (arith, free_short (Sends table) (length table) range x ys free low goes)
+walks_short table x ys range free low goes =
+    omega (arith, free_short (Sends table) (length table) range x ys free low goes)
 
 -- a walk of so many steps, or one that arrives earlier
 walk_on : (table : List (List ℕ)) (d n x : ℕ) → LeadsOnTo table d x

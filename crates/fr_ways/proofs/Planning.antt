@@ -1,5 +1,6 @@
 -- The pushes for one more node, and the phases once all nodes are planned.
-use Rattle.std.proofs.Common.{Bool, Global, List, Vec, [], ap, append-nil, arith, cond, false, inl, inr, length, map, refl, subst, sym, true, ℕ, ◌++◌, ◌+◌, ◌∙◌, ◌∷◌, ◌≡◌, ◌≢◌}
+use Rattle.std.proofs.Common.{Bool, Global, List, Vec, [], ap, append-nil, arith, cond, false, inl, inr, length, map}
+use Rattle.std.proofs.Common.{refl, subst, sym, true, ℕ, ◌++◌, ◌+◌, ◌∙◌, ◌∷◌, ◌≡◌, ◌≢◌}
 use Rattle.std.specs.List.{filter, range_with_len}
 use Rattle.std.specs.Prelude.{bytes_eq, not, ◌&&◌}
 use Rattle.std.proofs.lemmas.Bool.{cases_Bool, false≢true}
@@ -44,12 +45,14 @@ and_right true b t = t
 and_right false b t = absurd (false≢true t)
 
 -- pushes under a test
-pub pushed_no : (x : ℕ) (list : List ℕ) (test : Bool) (before after : Pushes) → test ≡ false → after ≡ before → IsPushedIf test x list before after
+pub pushed_no : (x : ℕ) (list : List ℕ) (test : Bool) (before after : Pushes) → test ≡ false → after ≡ before
+    → IsPushedIf test x list before after
 pushed_no x list test before after fails same = subst (λ (a : Pushes). IsPushedIf test x list before a) (sym same)
     (subst (λ (b : Bool). IsPushedIf b x list before before) (sym fails)
     (record { nodes = sym (append-nil before.nodes.items); lists = sym (append-nil before.lists) }))
 
-pub pushed_yes : (x : ℕ) (list : List ℕ) (test : Bool) (before after : Pushes) → test ≡ true → after.nodes.items ≡ before.nodes.items ++ x ∷ []
+pub pushed_yes : (x : ℕ) (list : List ℕ) (test : Bool) (before after : Pushes) → test ≡ true
+    → after.nodes.items ≡ before.nodes.items ++ x ∷ []
     → after.lists ≡ before.lists ++ list ∷ [] → IsPushedIf test x list before after
 pushed_yes x list test before after passes nodes lists =
     subst (λ (b : Bool). IsPushedIf b x list before after) (sym passes) (record { nodes = nodes; lists = lists })
@@ -60,16 +63,19 @@ map_id (x ∷ xs) = ap (λ (ys : List ℕ). x ∷ ys) (map_id xs)
 
 range_more : (x : ℕ) → range_with_len 0 (x + 1) ≡ range_with_len 0 x ++ x ∷ []
 range_more x = sym (map_id (range_with_len 0 (x + 1)))
-    ∙ (map-range_with_len_more (λ (k : ℕ). k) 0 x x (omega arith) ∙ ap (λ (ys : List ℕ). ys ++ x ∷ []) (map_id (range_with_len 0 x)))
+    ∙ (map-range_with_len_more (λ (k : ℕ). k) 0 x x (omega arith)
+    ∙ ap (λ (ys : List ℕ). ys ++ x ∷ []) (map_id (range_with_len 0 x)))
 
-filter_range : (p : ℕ → Bool) (x : ℕ) → filter p (range_with_len 0 (x + 1)) ≡ filter p (range_with_len 0 x) ++ cond (p x) (x ∷ []) []
+filter_range : (p : ℕ → Bool) (x : ℕ)
+    → filter p (range_with_len 0 (x + 1)) ≡ filter p (range_with_len 0 x) ++ cond (p x) (x ∷ []) []
 filter_range p x = ap (filter p) (range_more x) ∙ filter-append p (range_with_len 0 x) (x ∷ [])
 
 map_cond : (f : ℕ → List ℕ) (x : ℕ) (b : Bool) → map f (cond b (x ∷ []) []) ≡ cond b (f x ∷ []) []
 map_cond f x true = refl
 map_cond f x false = refl
 
-pushes_more : (p : ℕ → Bool) (f : ℕ → List ℕ) (x : ℕ) (before after : Pushes) → ArePushes (filter p (range_with_len 0 x)) f before
+pushes_more : (p : ℕ → Bool) (f : ℕ → List ℕ) (x : ℕ) (before after : Pushes)
+    → ArePushes (filter p (range_with_len 0 x)) f before
     → IsPushedIf (p x) x (f x) before after → ArePushes (filter p (range_with_len 0 (x + 1))) f after
 pushes_more p f x before after are is = record {
   these = is.nodes ∙ (ap (λ (ys : List ℕ). ys ++ cond (p x) (x ∷ []) []) are.these ∙ sym (filter_range p x));
@@ -89,47 +95,57 @@ module _ (old new : List (List ℕ)) (x : ℕ) (before after : Plan) (is : IsPla
     shrink = pushes_more (sheds old new) (kept old new) x before.phases.shrink after.phases.shrink is.shrink
         (subst (λ (b : Bool). IsPushedIf b x (kept old new x) before.phases.shrink after.phases.shrink)
         (sym (ap (λ (b : Bool). b && not (is_empty (kept old new x))) t)) shrinks);
-    emptied = emptied ∙ (ap (λ (b : Bool). before.emptied.items ++ cond b (x ∷ []) []) (sym (ap (λ (b : Bool). b && is_empty (kept old new x)) t))
-        ∙ (ap (λ (ys : List ℕ). ys ++ cond (empties old new x) (x ∷ []) []) is.emptied ∙ sym (filter_range (empties old new) x)));
+    emptied = emptied ∙ (ap (λ (b : Bool). before.emptied.items ++ cond b (x ∷ []) [])
+        (sym (ap (λ (b : Bool). b && is_empty (kept old new x)) t))
+        ∙ (ap (λ (ys : List ℕ). ys ++ cond (empties old new x) (x ∷ []) []) is.emptied
+        ∙ sym (filter_range (empties old new) x)));
     grow = pushes_more (grows old new) (ways new) x before.phases.grow after.phases.grow is.grow
-        (subst (λ (ys : List ℕ). IsPushedIf (differs ys (ways new x)) x (ways new x) before.phases.grow after.phases.grow)
+        (subst (λ (ys : List ℕ). IsPushedIf (differs ys (ways new x)) x
+        (ways new x) before.phases.grow after.phases.grow)
         (sym (shrunk_loser old new x t)) grows_too);
   }
 
   -- any other node
-  pub plan_other : loses old new x ≡ false → after.phases.shrink ≡ before.phases.shrink → after.emptied ≡ before.emptied
+  pub plan_other : loses old new x ≡ false → after.phases.shrink ≡ before.phases.shrink
+      → after.emptied ≡ before.emptied
       → IsPushedIf (differs (ways old x) (ways new x)) x (ways new x) before.phases.grow after.phases.grow
       → IsPlan old new (x + 1) after
   plan_other f same_shrink same_emptied grows_too = record {
     shrink = pushes_more (sheds old new) (kept old new) x before.phases.shrink after.phases.shrink is.shrink
         (pushed_no x (kept old new x) (sheds old new x) before.phases.shrink after.phases.shrink
         (ap (λ (b : Bool). b && not (is_empty (kept old new x))) f) same_shrink);
-    emptied = ap (λ (v : Vec ℕ Global). v.items) same_emptied ∙ (is.emptied ∙ (sym (append-nil (filter (empties old new) (range_with_len 0 x)))
+    emptied = ap (λ (v : Vec ℕ Global). v.items) same_emptied
+        ∙ (is.emptied ∙ (sym (append-nil (filter (empties old new) (range_with_len 0 x)))
         ∙ (ap (λ (b : Bool). filter (empties old new) (range_with_len 0 x) ++ cond b (x ∷ []) [])
         (sym (ap (λ (b : Bool). b && is_empty (kept old new x)) f)) ∙ sym (filter_range (empties old new) x))));
     grow = pushes_more (grows old new) (ways new) x before.phases.grow after.phases.grow is.grow
-        (subst (λ (ys : List ℕ). IsPushedIf (differs ys (ways new x)) x (ways new x) before.phases.grow after.phases.grow)
+        (subst (λ (ys : List ℕ). IsPushedIf (differs ys (ways new x)) x
+        (ways new x) before.phases.grow after.phases.grow)
         (sym (shrunk_other old new x f)) grows_too);
   }
 
 -- nodes that keep no way have empty lists
-emptied_lists : (old new : List (List ℕ)) (xs : List ℕ) → map (λ (x : ℕ). []) (filter (empties old new) xs) ≡ map (kept old new) (filter (empties old new) xs)
+emptied_lists : (old new : List (List ℕ)) (xs : List ℕ)
+    → map (λ (x : ℕ). []) (filter (empties old new) xs) ≡ map (kept old new) (filter (empties old new) xs)
 emptied_lists old new [] = refl
 emptied_lists old new (x ∷ xs) = elim (cases_Bool (empties old new x)) [
   | inl t ↦
       let is : filter (empties old new) (x ∷ xs) ≡ x ∷ filter (empties old new) xs =
       ap (λ (b : Bool). cond b (x ∷ filter (empties old new) xs) (filter (empties old new) xs)) t in
-      let none : kept old new x ≡ [] = empty_is (kept old new x) (and_right (loses old new x) (is_empty (kept old new x)) t) in
+      let none : kept old new x ≡ [] =
+      empty_is (kept old new x) (and_right (loses old new x) (is_empty (kept old new x)) t) in
       ap (map (λ (y : ℕ). [])) is
       ∙ (ap (λ (t : List (List ℕ)). [] ∷ t) (emptied_lists old new xs)
-      ∙ (ap (λ (ys : List ℕ). ys ∷ map (kept old new) (filter (empties old new) xs)) (sym none) ∙ sym (ap (map (kept old new)) is)))
+      ∙ (ap (λ (ys : List ℕ). ys ∷ map (kept old new) (filter (empties old new) xs)) (sym none)
+      ∙ sym (ap (map (kept old new)) is)))
   | inr f ↦
       let is : filter (empties old new) (x ∷ xs) ≡ filter (empties old new) xs =
       ap (λ (b : Bool). cond b (x ∷ filter (empties old new) xs) (filter (empties old new) xs)) f in
       ap (map (λ (y : ℕ). [])) is ∙ (emptied_lists old new xs ∙ sym (ap (map (kept old new)) is))
 ]
 
-pub phases_from : (old new : List (List ℕ)) (below : ℕ) (plan : Plan) (phases : TwoPhases) → IsPlan old new below plan → below ≡ length new
+pub phases_from : (old new : List (List ℕ)) (below : ℕ) (plan : Plan) (phases : TwoPhases)
+    → IsPlan old new below plan → below ≡ length new
     → phases.shrink.nodes.items ≡ plan.phases.shrink.nodes.items ++ plan.emptied.items
     → phases.shrink.lists ≡ plan.phases.shrink.lists ++ map (λ (x : ℕ). []) plan.emptied.items
     → phases.grow ≡ plan.phases.grow → ArePhases old new phases
@@ -139,11 +155,14 @@ phases_from old new below plan phases is all nodes lists grow =
     let last = filter (empties old new) (range_with_len 0 (length new)) in
     record {
       shrink = record {
-        these = nodes ∙ (ap (λ (ys : List ℕ). ys ++ plan.emptied.items) whole.shrink.these ∙ ap (λ (ys : List ℕ). first ++ ys) whole.emptied);
+        these = nodes ∙ (ap (λ (ys : List ℕ). ys ++ plan.emptied.items) whole.shrink.these
+            ∙ ap (λ (ys : List ℕ). first ++ ys) whole.emptied);
         lists = lists ∙ (ap (λ (t : List (List ℕ)). t ++ map (λ (x : ℕ). []) plan.emptied.items) whole.shrink.lists
             ∙ (ap (λ (ys : List ℕ). map (kept old new) first ++ map (λ (x : ℕ). []) ys) whole.emptied
-            ∙ (ap (λ (t : List (List ℕ)). map (kept old new) first ++ t) (emptied_lists old new (range_with_len 0 (length new)))
+            ∙ (ap (λ (t : List (List ℕ)). map (kept old new) first ++ t)
+            (emptied_lists old new (range_with_len 0 (length new)))
             ∙ sym (map-append (kept old new) first last))));
       };
-      grow = subst (ArePushes (filter (grows old new) (range_with_len 0 (length new))) (ways new)) (sym grow) whole.grow;
+      grow = subst (ArePushes (filter (grows old new) (range_with_len 0 (length new))) (ways new))
+          (sym grow) whole.grow;
     }

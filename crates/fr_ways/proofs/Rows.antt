@@ -1,8 +1,10 @@
 -- A table of ways in two lists: where each row lies, and what one more row adds.
-use Rattle.std.proofs.Common.{Contains, List, [], ap, arith, drop, get_or, length, length-append, length-drop, refl, subst, suc, sym, take, zero, ℕ}
+use Rattle.std.proofs.Common.{Contains, List, [], ap, arith, drop, get_or, length, length-append, length-drop, refl}
+use Rattle.std.proofs.Common.{subst, suc, sym, take, zero, ℕ}
 use Rattle.std.proofs.Common.{◌++◌, ◌+◌, ◌-◌, ◌<◌, ◌∙◌, ◌∷◌, ◌≡◌, ◌≤◌}
 use Rattle.std.specs.List.{concat}
-use Rattle.std.proofs.lemmas.List.{drop-append-le, drop-drop, drop_all, drop_at, length-take-le, take-append-drop, take-append-le, take_all}
+use Rattle.std.proofs.lemmas.List.{drop-append-le, drop-drop, drop_all, drop_at, length-take-le, take-append-drop}
+use Rattle.std.proofs.lemmas.List.{take-append-le, take_all}
 use Rattle.std.proofs.lemmas.List.Elements.{Contains-append_left, Contains-append_right}
 use Rattle.fr_tables.proofs.Members.{Contains-none}
 use Rattle.fr_ways.specs.Rows.{AreRows, AreStarts, DoNotFall, rows_from, rows_of}
@@ -27,12 +29,14 @@ module _ (last : ℕ) where
   places_rise start (end ∷ ends) zero rise low = (rise.0, begins_low end ends rise.1)
   places_rise start (end ∷ ends) (suc x) rise low = places_rise end ends x rise.1 (omega (arith, low))
 
-  pub one_more_place : (next start : ℕ) (ends : List ℕ) → last ≤ next → DoNotFall start ends last → DoNotFall start (ends ++ next ∷ []) next
+  pub one_more_place : (next start : ℕ) (ends : List ℕ) → last ≤ next → DoNotFall start ends last
+      → DoNotFall start (ends ++ next ∷ []) next
   one_more_place next start [] le rise = (omega (arith, le, rise), refl)
   one_more_place next start (end ∷ ends) le rise = (rise.0, one_more_place next end ends le rise.1)
 
 row_from : (list : List ℕ) (start : ℕ) (ends : List ℕ) (x : ℕ) → x < length ends
-    → take (get_or ends x 0 - get_or (start ∷ ends) x 0) (drop (get_or (start ∷ ends) x 0) list) ≡ get_or (rows_from list start ends) x []
+    → take (get_or ends x 0 - get_or (start ∷ ends) x 0) (drop (get_or (start ∷ ends) x 0) list) ≡ get_or
+    (rows_from list start ends) x []
 row_from list start [] x low = absurd (omega (arith, low))
 row_from list start (end ∷ ends) zero low = refl
 row_from list start (end ∷ ends) (suc x) low = row_from list end ends x (omega (arith, low))
@@ -41,7 +45,8 @@ row_from list start (end ∷ ends) (suc x) low = row_from list end ends x (omega
 pub record IsRow (list starts : List ℕ) (x : ℕ) : Type 0 where
   pub rise : get_or starts x 0 ≤ get_or starts (x + 1) 0
   pub high : get_or starts (x + 1) 0 ≤ length list
-  pub is : take (get_or starts (x + 1) 0 - get_or starts x 0) (drop (get_or starts x 0) list) ≡ ways (rows_of list starts) x
+  pub is : take (get_or starts (x + 1) 0 - get_or starts x 0) (drop (get_or starts x 0) list) ≡ ways
+      (rows_of list starts) x
 
 pub row_at : (list starts : List ℕ) (x : ℕ) → AreRows list starts → x + 1 < length starts → IsRow list starts x
 row_at list [] x are low = absurd are
@@ -55,19 +60,22 @@ row_at list (start ∷ ends) x are low =
     }
 
 -- all rows one after another
-concat_from : (list : List ℕ) (start : ℕ) (ends : List ℕ) → DoNotFall start ends (length list) → concat (rows_from list start ends) ≡ drop start list
+concat_from : (list : List ℕ) (start : ℕ) (ends : List ℕ) → DoNotFall start ends (length list)
+    → concat (rows_from list start ends) ≡ drop start list
 concat_from list start [] rise = sym (drop_all start list (omega (arith, rise)))
 concat_from list start (end ∷ ends) rise =
     let there : start + (end - start) ≡ end = omega (arith, rise.0) in
     ap (λ (ys : List ℕ). take (end - start) (drop start list) ++ ys)
-    (concat_from list end ends rise.1 ∙ (ap (λ (k : ℕ). drop k list) (sym there) ∙ sym (drop-drop (end - start) start list)))
+    (concat_from list end ends rise.1
+    ∙ (ap (λ (k : ℕ). drop k list) (sym there) ∙ sym (drop-drop (end - start) start list)))
     ∙ take-append-drop (end - start) (drop start list)
 
 pub concat_rows : (list starts : List ℕ) → AreRows list starts → list ≡ concat (rows_of list starts)
 concat_rows list [] are = absurd are
 concat_rows list (start ∷ ends) are = sym (concat_from list start ends are.1 ∙ ap (λ (k : ℕ). drop k list) are.0)
 
-starts_from : (list : List ℕ) (start : ℕ) (ends : List ℕ) (x : ℕ) → DoNotFall start ends (length list) → x ≤ length ends
+starts_from : (list : List ℕ) (start : ℕ) (ends : List ℕ) (x : ℕ) → DoNotFall start ends (length list)
+    → x ≤ length ends
     → get_or (start ∷ ends) x 0 ≡ start + length (concat (take x (rows_from list start ends)))
 starts_from list start ends zero rise low = omega arith
 starts_from list start [] (suc x) rise low = absurd (omega (arith, low))
@@ -75,14 +83,20 @@ starts_from list start (end ∷ ends) (suc x) rise low =
     let row = take (end - start) (drop start list) in
     let more = concat (take x (rows_from list end ends)) in
     let high = begins_low (length list) end ends rise.1 in
-    let long : length row ≡ end - start = length-take-le (end - start) (drop start list) (omega (arith, length-drop start list, high)) in
+    let long : length row ≡ end - start =
+    length-take-le (end - start) (drop start list) (omega (arith, length-drop start list, high)) in
     omega (arith, starts_from list end ends x rise.1 (omega (arith, low)), length-append row more, long, rise.0)
 
 pub starts_are : (list starts : List ℕ) → AreRows list starts → AreStarts (rows_of list starts) starts
 starts_are list [] are = absurd are
 starts_are list (start ∷ ends) are = record {
   one_more = length_rows list (start ∷ ends) are;
-  each = λ x low. omega (arith, starts_from list start ends x are.1 (omega (arith, low, length_from list start ends)), are.0);
+  each = λ x low. omega (
+    arith,
+    starts_from list start ends x are.1
+        (omega (arith, low, length_from list start ends)),
+    are.0,
+  );
 }
 
 -- one more row
@@ -91,12 +105,14 @@ push_from : (list row : List ℕ) (start : ℕ) (ends : List ℕ) → DoNotFall 
 push_from list row start [] rise =
     let few : length row ≤ length (list ++ row) - start = omega (arith, length-append list row, rise) in
     ap (λ (ys : List ℕ). ys ∷ [])
-    (ap (take (length (list ++ row) - start)) (drop_at list row start (sym rise)) ∙ take_all (length (list ++ row) - start) row few)
+    (ap (take (length (list ++ row) - start)) (drop_at list row start (sym rise))
+    ∙ take_all (length (list ++ row) - start) row few)
 push_from list row start (end ∷ ends) rise =
     let high = begins_low (length list) end ends rise.1 in
     let few : end - start ≤ length (drop start list) = omega (arith, length-drop start list, high) in
     let first : take (end - start) (drop start (list ++ row)) ≡ take (end - start) (drop start list) =
-    ap (take (end - start)) (drop-append-le start list row (omega (arith, rise.0, high))) ∙ take-append-le (end - start) (drop start list) row few in
+    ap (take (end - start)) (drop-append-le start list row (omega (arith, rise.0, high)))
+    ∙ take-append-le (end - start) (drop start list) row few in
     ap (λ (ys : List ℕ). ys ∷ rows_from (list ++ row) end (ends ++ length (list ++ row) ∷ [])) first
     ∙ ap (λ (rest : List (List ℕ)). take (end - start) (drop start list) ∷ rest) (push_from list row end ends rise.1)
 
@@ -105,10 +121,14 @@ pub row_pushed : (list starts row : List ℕ) → AreRows list starts
 row_pushed list [] row are = absurd are
 row_pushed list (start ∷ ends) row are = push_from list row start ends are.1
 
-pub still_rows : (list starts row : List ℕ) → AreRows list starts → AreRows (list ++ row) (starts ++ length (list ++ row) ∷ [])
+pub still_rows : (list starts row : List ℕ) → AreRows list starts
+    → AreRows (list ++ row) (starts ++ length (list ++ row) ∷ [])
 still_rows list [] row are = absurd are
-still_rows list (start ∷ ends) row are =
-    (are.0, one_more_place (length list) (length (list ++ row)) start ends (omega (arith, length-append list row)) are.1)
+still_rows list (start ∷ ends) row are = (
+  are.0,
+  one_more_place (length list) (length (list ++ row)) start ends
+      (omega (arith, length-append list row)) are.1,
+)
 
 -- each way is in the list of all ways
 pub way_listed : (table : List (List ℕ)) (x y : ℕ) → Sends table x y → Contains (concat table) y

@@ -1,10 +1,12 @@
 -- The search for a cycle: what it knows while it opens and leaves nodes.
-use Rattle.std.proofs.Common.{All, Bool, Contains, List, None, Option, [], ap, arith, cond, drop, eqb, false, get_or, inl, inr, length, length-set, refl, replicate}
+use Rattle.std.proofs.Common.{All, Bool, Contains, List, None, Option, [], ap, arith, cond, drop, eqb, false, get_or}
+use Rattle.std.proofs.Common.{inl, inr, length, length-set, refl, replicate}
 use Rattle.std.proofs.Common.{set, subst, suc, sym, take, zero, ℕ, ◌++◌, ◌+◌, ◌<◌, ◌∙◌, ◌∷◌, ◌≡◌, ◌≢◌, ◌≤◌}
 use Rattle.std.specs.Cmp.{nat_eq_equiv}
 use Rattle.std.specs.List.{IsDistinct, count_by}
 use Rattle.std.proofs.lemmas.Bool.{cases_eq, cases_lt, false≢true}
-use Rattle.std.proofs.lemmas.List.{get_or-replicate, get_or-set_other, get_or-set_same, get_or_append_left, get_or_default, get_or_past, get_or_push}
+use Rattle.std.proofs.lemmas.List.{get_or-replicate, get_or-set_other, get_or-set_same, get_or_append_left}
+use Rattle.std.proofs.lemmas.List.{get_or_default, get_or_past, get_or_push}
 use Rattle.std.proofs.lemmas.List.{get_or_read, length-replicate, length_push, take_all, take_more}
 use Rattle.std.proofs.lemmas.List.Elements.{Contains-append_left, Contains-push, Contains-push_cases}
 use Rattle.std.proofs.lemmas.List.Sums.{sum_by-set}
@@ -13,7 +15,8 @@ use Rattle.fr_tables.specs.Walks.{IsTrail, IsWalk}
 use Rattle.fr_tables.proofs.Members.{Contains-none, not_any}
 use Rattle.fr_tables.proofs.Relations.{cycle_from, end_append, trail_front, trail_push, walk_append}
 use Rattle.fr_ways.specs.Faults.{IsOnceRound}
-use Rattle.fr_ways.specs.Searches.{AreRead, HasReadOn, IsBack, IsDone, IsGrounded, IsSearch, IsSearchAt, is_fresh, mark_of}
+use Rattle.fr_ways.specs.Searches.{AreRead, HasReadOn, IsBack, IsDone, IsGrounded, IsSearch, IsSearchAt, is_fresh}
+use Rattle.fr_ways.specs.Searches.{mark_of}
 use Rattle.fr_ways.specs.Searches.IsGrounded.{grounded}
 use Rattle.fr_ways.specs.Ways.{HasNoCycle, IsInRange, Sends, ways}
 use Rattle.fr_ways.specs.declared.search.Mark.{Mark}
@@ -21,7 +24,8 @@ use Rattle.fr_ways.specs.declared.search.Mark.TheVariants.{Done, Fresh, Open}
 use Rattle.fr_ways.specs.declared.search.Search.{Search}
 
 -- no cycle goes through a node from which every walk ends
-pub grounded_no_cycle : (new : List (List ℕ)) (x : ℕ) → IsGrounded new x → (xs : List ℕ) → ¬ IsWalk (Sends new) x (xs ++ x ∷ [])
+pub grounded_no_cycle : (new : List (List ℕ)) (x : ℕ) → IsGrounded new x → (xs : List ℕ)
+    → ¬ IsWalk (Sends new) x (xs ++ x ∷ [])
 grounded_no_cycle new x (grounded next) [] goes = grounded_no_cycle new x (next x goes.0) [] goes
 grounded_no_cycle new x (grounded next) (y ∷ ys) goes = grounded_no_cycle new y (next y goes.0) (ys ++ x ∷ [])
     (walk_append (Sends new) y (ys ++ x ∷ []) (y ∷ []) goes.1
@@ -43,11 +47,13 @@ distinct_last : (xs : List ℕ) (y : ℕ) → IsDistinct eqb (xs ++ y ∷ []) �
 distinct_last xs y once (i, low, is) =
     let apart : eqb (get_or (xs ++ y ∷ []) i y) (get_or (xs ++ y ∷ []) (length xs) y) ≡ false =
     apart_from_distinct eqb (xs ++ y ∷ []) i (length xs) y once low (omega (arith, length_push xs y)) in
-    let same : eqb y y ≡ false = rw (get_or_append_left xs (y ∷ []) y i low, is, get_or_push xs y y (length xs) refl) at apart in
+    let same : eqb y y ≡ false = rw
+    (get_or_append_left xs (y ∷ []) y i low, is, get_or_push xs y y (length xs) refl) at apart in
     false≢true (sym same ∙ nat_eq_equiv.refl y)
 
 -- a path that comes back to one of its nodes has a cycle
-pub back_cycle : (new : List (List ℕ)) (path : List ℕ) (y k : ℕ) → IsBack new path y → k < length path → get_or path k 0 ≡ y
+pub back_cycle : (new : List (List ℕ)) (path : List ℕ) (y k : ℕ) → IsBack new path y → k < length path
+    → get_or path k 0 ≡ y
     → IsOnceRound new (drop k path)
 back_cycle new path y k is low at = record {
   is_cycle = cycle_from (Sends new) path k y low at is.trail;
@@ -72,10 +78,12 @@ fewer_fresh marks x l f =
     let one : count_by is_fresh (mark_of marks x ∷ []) ≡ 1 = rw f refl in
     omega (arith, count_by-set is_fresh marks x Open l, one)
 
-pub no_more_fresh : (marks : List Mark) (x : ℕ) → x < length marks → count_by is_fresh (set marks x Done) ≤ count_by is_fresh marks
+pub no_more_fresh : (marks : List Mark) (x : ℕ) → x < length marks
+    → count_by is_fresh (set marks x Done) ≤ count_by is_fresh marks
 no_more_fresh marks x l = omega (arith, count_by-set is_fresh marks x Done l)
 
-pub seen_set : (marks : List Mark) (x : ℕ) (m : Mark) → m ≢ Fresh → x < length marks → (y : ℕ) → mark_of marks y ≢ Fresh
+pub seen_set : (marks : List Mark) (x : ℕ) (m : Mark) → m ≢ Fresh → x < length marks → (y : ℕ)
+    → mark_of marks y ≢ Fresh
     → mark_of (set marks x m) y ≢ Fresh
 seen_set marks x m some low y seen = elim (cases_eq y x) [
   | inl e ↦ λ is. some (sym (marked_same marks x m low) ∙ subst (λ (z : ℕ). mark_of (set marks x m) z ≡ Fresh) e is)
@@ -84,7 +92,8 @@ seen_set marks x m some low y seen = elim (cases_eq y x) [
 
 -- a node is opened
 pub opens : (new : List (List ℕ)) (marks : List Mark) (next path : List ℕ) (y : ℕ) → IsSearchAt new marks next path
-    → y < length marks → mark_of marks y ≡ Fresh → IsTrail (Sends new) (path ++ y ∷ []) → IsSearchAt new (set marks y Open) next (path ++ y ∷ [])
+    → y < length marks → mark_of marks y ≡ Fresh → IsTrail (Sends new) (path ++ y ∷ [])
+    → IsSearchAt new (set marks y Open) next (path ++ y ∷ [])
 opens new marks next path y before low fresh trail =
     let apart : (x : ℕ) → IsDone marks x → x ≢ y = λ x is e. cc (is, fresh, ap (mark_of marks) e) in
     record {
@@ -108,10 +117,12 @@ opens new marks next path y before low fresh trail =
         ],
         λ is. elim (cases_eq x y) [
           | inl e ↦ subst (Contains (path ++ y ∷ [])) (sym e) (Contains-push path y)
-          | inr other ↦ Contains-append_left path (y ∷ []) x ((before.open_on_path x).1 (sym (marked_other marks y x Open other) ∙ is))
+          | inr other ↦ Contains-append_left path (y ∷ []) x
+              ((before.open_on_path x).1 (sym (marked_other marks y x Open other) ∙ is))
         ],
       );
-      once = IsDistinct-push {eq = eqb} nat_eq_equiv path y before.once (not_any y path (λ found. cc ((before.open_on_path y).0 found, fresh)));
+      once = IsDistinct-push {eq = eqb} nat_eq_equiv path y before.once
+          (not_any y path (λ found. cc ((before.open_on_path y).0 found, fresh)));
       known = λ x is. elim (cases_eq x y) [
         | inl e ↦ absurd (cc (is, marked_same marks y Open low, ap (mark_of (set marks y Open)) e))
         | inr other ↦ before.known x (sym (marked_other marks y x Open other) ∙ is)
@@ -119,7 +130,8 @@ opens new marks next path y before low fresh trail =
     }
 
 -- the last node is left, and is done
-pub leaves : (new : List (List ℕ)) (marks : List Mark) (next rest : List ℕ) (x : ℕ) → IsSearchAt new marks next (rest ++ x ∷ [])
+pub leaves : (new : List (List ℕ)) (marks : List Mark) (next rest : List ℕ) (x : ℕ)
+    → IsSearchAt new marks next (rest ++ x ∷ [])
     → x < length marks → IsGrounded new x → IsSearchAt new (set marks x Done) next rest
 leaves new marks next rest x before low is_grounded = record {
   range = before.range;
@@ -142,10 +154,11 @@ leaves new marks next rest x before low is_grounded = record {
         marked_other marks x y Done apart ∙ (before.open_on_path y).0 (Contains-append_left rest (x ∷ []) y found),
     λ is. elim (cases_eq y x) [
       | inl e ↦ absurd (cc (is, marked_same marks x Done low, ap (mark_of (set marks x Done)) e))
-      | inr other ↦ elim (Contains-push_cases rest x y ((before.open_on_path y).1 (sym (marked_other marks x y Done other) ∙ is))) [
-        | inl was ↦ was
-        | inr e ↦ absurd (other (sym e))
-      ]
+      | inr other ↦ elim (Contains-push_cases rest x y
+          ((before.open_on_path y).1 (sym (marked_other marks x y Done other) ∙ is))) [
+            | inl was ↦ was
+            | inr e ↦ absurd (other (sym e))
+          ]
     ],
   );
   once = distinct_front rest x before.once;
@@ -188,13 +201,15 @@ none_met new marks next path no_mark no_place no_node range = rw (no_mark, no_pl
     none : (x : ℕ) → ◌≡◌ {A = ℕ} (get_or (replicate (length new) 0) x 0) 0
     none x = elim (cases_lt x (length new)) [
       | inl low ↦ get_or-replicate (length new) x 0 0 low
-      | inr out ↦ get_or_past (replicate (length new) 0) x 0 (omega (arith, out, length-replicate {A = ℕ} (length new) 0))
+      | inr out ↦ get_or_past (replicate (length new) 0) x 0
+          (omega (arith, out, length-replicate {A = ℕ} (length new) 0))
     ]
 
     fresh : (x : ℕ) → mark_of (replicate (length new) Fresh) x ≡ Fresh
     fresh x = elim (cases_lt x (length new)) [
       | inl low ↦ get_or-replicate (length new) x Fresh Fresh low
-      | inr out ↦ get_or_past (replicate (length new) Fresh) x Fresh (omega (arith, out, length-replicate (length new) Fresh))
+      | inr out ↦ get_or_past (replicate (length new) Fresh) x Fresh
+          (omega (arith, out, length-replicate (length new) Fresh))
     ]
 
 -- at rest, each node that was met is done
@@ -228,7 +243,8 @@ done_free new marks known all (x ∷ xs) is = grounded_no_cycle new x (known x (
 pub last_split : (xs : List ℕ) (i : ℕ) → i + 1 ≡ length xs → xs ≡ take i xs ++ get_or xs i 0 ∷ []
 last_split xs i is = sym (take_all (i + 1) xs (omega (arith, is))) ∙ take_more xs i 0 (omega (arith, is))
 
-pub top_split : (path : List ℕ) (i top : ℕ) → i + 1 ≡ length path → top ≡ get_or path i top → path ≡ take i path ++ top ∷ []
+pub top_split : (path : List ℕ) (i top : ℕ) → i + 1 ≡ length path → top ≡ get_or path i top
+    → path ≡ take i path ++ top ∷ []
 top_split path i top full is = last_split path i full
     ∙ ap (λ (y : ℕ). take i path ++ y ∷ []) (sym (get_or_read path i top (omega (arith, full)) is 0))
 
@@ -244,7 +260,8 @@ module _ (new : List (List ℕ)) (s : Search) (is : IsSearch new s) (i top : ℕ
   pub top_inside : top < length new
   top_inside =
       let split = top_split s.path.items i top full at in
-      let found : Contains s.path.items top = subst (λ (ys : List ℕ). Contains ys top) (sym split) (Contains-push (take i s.path.items) top) in
+      let found : Contains s.path.items top =
+      subst (λ (ys : List ℕ). Contains ys top) (sym split) (Contains-push (take i s.path.items) top) in
       omega (arith, open_inside s.marks.items top ((is.open_on_path top).0 found), is.read.marks_each)
 
   -- it leads on to one of its ways
@@ -255,13 +272,15 @@ module _ (new : List (List ℕ)) (s : Search) (is : IsSearch new s) (i top : ℕ
       (trail_push (Sends new) (take i s.path.items) top y (subst (IsTrail (Sends new)) split is.trail) sends)
 
 -- more of the row of x was read
-module _ (new : List (List ℕ)) (s after : Search) (x : ℕ) (way : Option ℕ) (is : IsSearch new s) (e : HasReadOn new s after x way) where
+module _ (new : List (List ℕ)) (s after : Search) (x : ℕ) (way : Option ℕ) (is : IsSearch new s)
+    (e : HasReadOn new s after x way) where
   pub read_search : IsSearch new after
   read_search = rw (e.marks, e.path)
       (reads new s.marks.items s.next.items after.next.items s.path.items is (rw e.marks at e.read))
 
 -- if all of it was read, every walk from x ends
-pub top_grounded : (new : List (List ℕ)) (s after : Search) (x : ℕ) → IsSearch new s → HasReadOn new s after x None → IsGrounded new x
+pub top_grounded : (new : List (List ℕ)) (s after : Search) (x : ℕ) → IsSearch new s → HasReadOn new s after x None
+    → IsGrounded new x
 top_grounded new s after x is e = grounded (λ y (k, low, at).
     is.known y (subst (IsDone s.marks.items) (get_or_default (ways new x) k 0 y low ∙ at) (e.none k low)))
 
@@ -273,8 +292,10 @@ met_open marks x seen none = by_mark (mark_of marks x) refl
     by_mark Open at = at
     by_mark Done at = absurd (none at)
 
-pub read_more : (new : List (List ℕ)) (marks : List Mark) (next : List ℕ) (x place : ℕ) → AreRead new marks next → x < length new
-    → place ≤ length (ways new x) → ((k : ℕ) → get_or next x 0 ≤ k → k < place → IsDone marks (get_or (ways new x) k 0))
+pub read_more : (new : List (List ℕ)) (marks : List Mark) (next : List ℕ) (x place : ℕ) → AreRead new marks next
+    → x < length new
+    → place ≤ length (ways new x) →
+    ((k : ℕ) → get_or next x 0 ≤ k → k < place → IsDone marks (get_or (ways new x) k 0))
     → AreRead new marks (set next x place)
 read_more new marks next x place before low few more =
     let inside : x < length next = omega (arith, low, before.next_each) in

@@ -1,5 +1,6 @@
 -- What nodes have after each phase.
-use Rattle.std.proofs.Common.{Bool, Contains, List, [], ap, cond, eqb, false, inl, inr, refl, subst, sym, true, ℕ, ⊎_elim, ◌∙◌, ◌∷◌, ◌≡◌, ◌⊎◌}
+use Rattle.std.proofs.Common.{Bool, Contains, List, [], ap, cond, eqb, false, inl, inr, refl, subst, sym, true, ℕ}
+use Rattle.std.proofs.Common.{⊎_elim, ◌∙◌, ◌∷◌, ◌≡◌, ◌⊎◌}
 use Rattle.std.specs.Cmp.{nat_eq_equiv}
 use Rattle.std.specs.List.{filter, list_any}
 use Rattle.std.specs.Prelude.{not, ◌||◌}
@@ -34,7 +35,8 @@ module _ (p : ℕ → Bool) where
   any_yes (x ∷ xs) y found passes = elim (cases_Bool (p x)) [
     | inl here ↦ ap (λ (b : Bool). b || list_any p xs) here
     | inr fails ↦ ap (λ (b : Bool). b || list_any p xs) fails ∙ any_yes xs y
-        (⊎_elim (λ e. absurd (false≢true (sym fails ∙ (ap p e ∙ passes)))) (λ later. later) (Contains-cases y x xs found)) passes
+        (⊎_elim (λ e. absurd (false≢true (sym fails ∙ (ap p e ∙ passes)))) (λ later. later)
+        (Contains-cases y x xs found)) passes
   ]
 
   pub filter_from : (xs : List ℕ) (y : ℕ) → Contains (filter p xs) y → Contains xs y × (p y ≡ true)
@@ -44,10 +46,12 @@ module _ (p : ℕ → Bool) where
         (λ e. (subst (Contains (x ∷ xs)) e (Contains-head x xs), ap p (sym e) ∙ passes))
         (λ later. let (was, is) = filter_from xs y later in (Contains-tail y x xs was, is))
         (Contains-cases y x (filter p xs)
-        (subst (λ (ys : List ℕ). Contains ys y) (ap (λ (b : Bool). cond b (x ∷ filter p xs) (filter p xs)) passes) found))
+        (subst (λ (ys : List ℕ). Contains ys y)
+        (ap (λ (b : Bool). cond b (x ∷ filter p xs) (filter p xs)) passes) found))
     | inr fails ↦
         let (was, is) = filter_from xs y
-        (subst (λ (ys : List ℕ). Contains ys y) (ap (λ (b : Bool). cond b (x ∷ filter p xs) (filter p xs)) fails) found) in
+        (subst (λ (ys : List ℕ). Contains ys y)
+        (ap (λ (b : Bool). cond b (x ∷ filter p xs) (filter p xs)) fails) found) in
         (Contains-tail y x xs was, is)
   ]
 
@@ -75,7 +79,8 @@ module _ (old new : List (List ℕ)) (x : ℕ) where
   shrunk_both : (y : ℕ) → Contains (shrunk old new x) y → Sends old x y × Sends new x y
   shrunk_both y found = elim (cases_Bool (loses old new x)) [
     | inl t ↦
-        let (of_new, was) = filter_from (is_way (ways old x)) (ways new x) y (subst (λ (ys : List ℕ). Contains ys y) (shrunk_loser t) found) in
+        let (of_new, was) = filter_from (is_way (ways old x)) (ways new x) y
+        (subst (λ (ys : List ℕ). Contains ys y) (shrunk_loser t) found) in
         (way_true (ways old x) y was, of_new)
     | inr f ↦
         let was : Sends old x y = subst (λ (ys : List ℕ). Contains ys y) (shrunk_other f) found in
@@ -97,8 +102,10 @@ growing_new old new table is x y sends = ⊎_elim
 pub phases_free : (old new table part : List (List ℕ)) → HasNoCycle old → HasNoCycle new
     → IsShrinking old new table ⊎ IsGrowing old new table → IsPartOf part table → HasNoCycle part
 phases_free old new table part was free phase is = ⊎_elim
-    (λ shrinks. part_free (Sends part) (Sends old) (λ x y sends. shrinking_old old new table shrinks x y (is x y sends)) was)
-    (λ grows. part_free (Sends part) (Sends new) (λ x y sends. growing_new old new table grows x y (is x y sends)) free)
+    (λ shrinks. part_free (Sends part) (Sends old)
+    (λ x y sends. shrinking_old old new table shrinks x y (is x y sends)) was)
+    (λ grows. part_free (Sends part) (Sends new)
+    (λ x y sends. growing_new old new table grows x y (is x y sends)) free)
     phase
 
 pub loser_done : (old new : List (List ℕ)) (x : ℕ) → ((y : ℕ) → Sends new x y → Sends old x y)

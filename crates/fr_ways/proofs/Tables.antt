@@ -1,5 +1,6 @@
 -- Pushes of tables of ways.
-use Rattle.std.proofs.Common.{Contains, List, [], arith, eqb, inl, inr, length, length-set, refl, set, subst, sym, ℕ, ⊎_elim}
+use Rattle.std.proofs.Common.{Contains, List, [], arith, eqb, inl, inr, length, length-set, refl, set, subst, sym, ℕ}
+use Rattle.std.proofs.Common.{⊎_elim}
 use Rattle.std.proofs.Common.{◌++◌, ◌+◌, ◌<◌, ◌∙◌, ◌∷◌, ◌≡◌, ◌≤◌, ◌↔◌, ◌⊎◌}
 use Rattle.std.specs.List.{count_by}
 use Rattle.std.specs.Prelude.{bytes_eq}
@@ -20,14 +21,17 @@ cases_differ old new x = ⊎_elim
     (cases_Bool (bytes_eq (ways old x) (ways new x)))
 
 -- what a table sends on, if it has the ways of another
-pub sends_as : (table other : List (List ℕ)) (x y : ℕ) → ways table x ≡ ways other x → Sends table x y → Sends other x y
+pub sends_as : (table other : List (List ℕ)) (x y : ℕ) → ways table x ≡ ways other x → Sends table x y
+    → Sends other x y
 sends_as table other x y same sends = subst (λ (ys : List ℕ). Contains ys y) same sends
 
 keeps_or_differs : (old new : List (List ℕ)) (x : ℕ) → ((y : ℕ) → Sends old x y → Sends new x y) ⊎ DifferAt old new x
-keeps_or_differs old new x = ⊎_elim (λ same. inl (λ y. sends_as old new x y same)) (λ differs. inr differs) (cases_differ old new x)
+keeps_or_differs old new x = ⊎_elim (λ same. inl (λ y. sends_as old new x y same)) (λ differs. inr differs)
+    (cases_differ old new x)
 
 keeps_back : (old new : List (List ℕ)) (x : ℕ) → ((y : ℕ) → Sends new x y → Sends old x y) ⊎ DifferAt old new x
-keeps_back old new x = ⊎_elim (λ same. inl (λ y. sends_as new old x y (sym same))) (λ differs. inr differs) (cases_differ old new x)
+keeps_back old new x = ⊎_elim (λ same. inl (λ y. sends_as new old x y (sym same))) (λ differs. inr differs)
+    (cases_differ old new x)
 
 pub no_new_cycle : (old new : List (List ℕ)) (nodes : List ℕ) (table : List (List ℕ)) (cycle : List ℕ) → HasNoCycle new
     → IsClosedDownstream old new nodes → ((x y : ℕ) → Sends table x y → SendsMeanwhile old new nodes x y)
@@ -43,36 +47,48 @@ pushed_sends old new nodes table pushed x y sends = record {
   other = λ out. sends_as table old x y (pushed.others x out) sends;
 }
 
-pub never_cycles : (old new : List (List ℕ)) (nodes : List ℕ) (table part : List (List ℕ)) → HasNoCycle old → HasNoCycle new
+pub never_cycles : (old new : List (List ℕ)) (nodes : List ℕ) (table part : List (List ℕ)) → HasNoCycle old
+    → HasNoCycle new
     → IsClosedDownstream old new nodes → IsPushed old new nodes table → IsPartOf part table → HasNoCycle part
 never_cycles old new nodes table part was free closed pushed is cycle has = was cycle
     (no_new_cycle old new nodes part cycle free closed
-    (λ x y sends. let one = pushed_sends old new nodes table pushed x y (is x y sends) in record { pushed = one.pushed; other = λ out. inl (one.other out) }) has)
+    (λ x y sends. let one = pushed_sends old new nodes table pushed x y (is x y sends) in
+    record { pushed = one.pushed; other = λ out. inl (one.other out) }) has)
 
 pub pushed_right : (old new : List (List ℕ)) (nodes : List ℕ) (table : List (List ℕ)) (x : ℕ) (ys : List ℕ)
     → IsClosedDownstream old new nodes
     → IsPushed old new nodes table → Contains nodes x → IsWalk (Sends table) x ys ↔ IsWalk (Sends new) x ys
 pushed_right old new nodes table x ys closed pushed inside = (
   clean_walk (Sends old) (Sends new) (DifferAt old new) (keeps_or_differs old new) nodes (Sends table)
-      (λ u v s. let is = pushed_sends old new nodes table pushed u v s in (is.pushed, λ out. inl (is.other out))) x ys (closed x inside),
+      (λ u v s. let is = pushed_sends old new nodes table pushed u v s in
+      (is.pushed, λ out. inl (is.other out))) x ys (closed x inside),
   walk_clean (Sends old) (Sends new) (DifferAt old new) (keeps_back old new) nodes (Sends table)
-      (λ u v here. sends_as new table u v (sym (pushed.these u here))) (λ u v out. sends_as old table u v (sym (pushed.others u out))) x ys (closed x inside),
+      (λ u v here. sends_as new table u v (sym (pushed.these u here)))
+      (λ u v out. sends_as old table u v (sym (pushed.others u out))) x ys (closed x inside),
 )
 
 moves_is : (old new : List (List ℕ)) (pushed : ℕ → List ℕ) (x : ℕ) (ys : List ℕ) → Moves old new pushed x ys
     → IsMove (Sends old) (Sends new) (DifferAt old new) pushed x ys
 moves_is old new pushed x [] moves = tt
-moves_is old new pushed x (y ∷ ys) moves = ((moves.0.pushed, moves.0.other), moves_is old new (λ k. pushed (k + 1)) y ys moves.1)
+moves_is old new pushed x (y ∷ ys) moves =
+    ((moves.0.pushed, moves.0.other), moves_is old new (λ k. pushed (k + 1)) y ys moves.1)
 
-pub moves_twice : (old new : List (List ℕ)) (pushed : ℕ → List ℕ) (x : ℕ) (ys : List ℕ) (z : ℕ) → HasNoCycle old → HasNoCycle new
+pub moves_twice : (old new : List (List ℕ)) (pushed : ℕ → List ℕ) (x : ℕ) (ys : List ℕ) (z : ℕ) → HasNoCycle old
+    → HasNoCycle new
     → ((k : ℕ) → IsClosedDownstream old new (pushed k)) → Grows pushed → Moves old new pushed x ys
     → count_by (eqb z) (x ∷ ys) ≤ 2
 moves_twice old new pushed x ys z was free closed grows moves =
-    comes_twice (Sends old) (Sends new) (DifferAt old new) (keeps_or_differs old new) pushed x ys z was free closed grows
+    comes_twice (Sends old) (Sends new) (DifferAt old new)
+    (keeps_or_differs old new) pushed x ys z was free closed grows
     (moves_is old new pushed x ys moves)
 
 pub starts_as_old : (old new : List (List ℕ)) → IsPushed old new [] old
-starts_as_old old new = record { one_length = refl; these = λ x found. absurd (Contains-none x found); others = λ x out. refl }
+starts_as_old old new = record {
+  one_length = refl;
+  these = λ x found. absurd (Contains-none x found);
+  others =
+      λ x out. refl;
+}
 
 pub push_is_one_more : (old new : List (List ℕ)) (nodes : List ℕ) (table : List (List ℕ)) (x : ℕ)
     → length old ≡ length new → x < length new → IsPushed old new nodes table
@@ -84,8 +100,10 @@ push_is_one_more old new nodes table x same low pushed =
     record {
       one_length = length-set table x (ways new x) ∙ pushed.one_length;
       these = λ y found. ⊎_elim
-          (λ e. subst (λ (z : ℕ). ways (set table x (ways new x)) z ≡ ways new z) (sym e) (get_or-set_same table x (ways new x) [] inside))
-          (λ apart. ⊎_elim (λ was. there y apart ∙ pushed.these y was) (λ e. absurd (apart (sym e))) (Contains-push_cases nodes x y found))
+          (λ e. subst (λ (z : ℕ). ways (set table x (ways new x)) z ≡ ways new z) (sym e)
+          (get_or-set_same table x (ways new x) [] inside))
+          (λ apart. ⊎_elim (λ was. there y apart ∙ pushed.these y was) (λ e. absurd (apart (sym e)))
+          (Contains-push_cases nodes x y found))
           (cases_eq y x);
       others = λ y out.
           let apart : ¬ (y ≡ x) = λ e. out (subst (Contains (nodes ++ x ∷ [])) (sym e) (Contains-push nodes x)) in

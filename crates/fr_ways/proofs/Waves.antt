@@ -1,5 +1,6 @@
 -- Waves: they fall downstream, and in a table without cycles each node has one, which is at most the number of nodes.
-use Rattle.std.proofs.Common.{Bool, Contains, List, [], ap, arith, cond, inl, inr, length, subst, suc, sym, zero, ℕ, ⊎_elim}
+use Rattle.std.proofs.Common.{Bool, Contains, List, [], ap, arith, cond, inl, inr, length, subst, suc, sym, zero, ℕ}
+use Rattle.std.proofs.Common.{⊎_elim}
 use Rattle.std.proofs.Common.{◌++◌, ◌+◌, ◌<◌, ◌∷◌, ◌≡◌, ◌≤◌, ◌⊎◌}
 use Rattle.std.specs.Prelude.{bytes_eq, not}
 use Rattle.std.specs.List.{count_by}
@@ -26,12 +27,15 @@ step_differs old new x differs = ⊎_elim
     (λ f. ap (λ (b : Bool). cond (not b) 1 0) f)
     (cases_Bool (bytes_eq (ways old x) (ways new x)))
 
-pub count_more : (old new : List (List ℕ)) (x : ℕ) (xs : List ℕ) → differing old new (x ∷ xs) ≡ step old new x + differing old new xs
+pub count_more : (old new : List (List ℕ)) (x : ℕ) (xs : List ℕ)
+    → differing old new (x ∷ xs) ≡ step old new x + differing old new xs
 count_more old new x xs = sum_by-cons (λ (y : ℕ). cond (differ_at old new y) 1 0) x xs
 
-count_tail : (old new : List (List ℕ)) (z : ℕ) (zs walk : List ℕ) → differing old new (end_of z zs ∷ walk) ≤ differing old new (z ∷ (zs ++ walk))
+count_tail : (old new : List (List ℕ)) (z : ℕ) (zs walk : List ℕ)
+    → differing old new (end_of z zs ∷ walk) ≤ differing old new (z ∷ (zs ++ walk))
 count_tail old new z [] walk = omega arith
-count_tail old new z (y ∷ ys) walk = omega (arith, count_tail old new y ys walk, count_more old new z (y ∷ (ys ++ walk)))
+count_tail old new z (y ∷ ys) walk =
+    omega (arith, count_tail old new y ys walk, count_more old new z (y ∷ (ys ++ walk)))
 
 pub wave_unique : (old new : List (List ℕ)) (x k l : ℕ) → IsWave old new x k → IsWave old new x l → k ≡ l
 wave_unique old new x k l v w = omega (arith, v.number, w.number, v.most w.walk w.goes, w.most v.walk v.goes)
@@ -133,20 +137,23 @@ wave_within old new zero x = (
   },
 )
   where
-    most : (other : List ℕ) → IsWalk (Sends new) x other → length other ≤ 0 → differing old new (x ∷ other) ≤ step old new x
+    most : (other : List ℕ) → IsWalk (Sends new) x other → length other ≤ 0
+        → differing old new (x ∷ other) ≤ step old new x
     most [] goes short = omega (arith, count_more old new x [])
     most (y ∷ ys) goes short = omega (arith, short)
 wave_within old new (suc n) x =
     let (k, best) = best_of old new n x (wave_within old new n) (ways new x) (λ z found. found) in
     (k, record { walk = best.walk; goes = best.goes; number = best.number; most = most k best })
   where
-    most : (k : ℕ) → IsBest old new n x (ways new x) k → (other : List ℕ) → IsWalk (Sends new) x other → length other ≤ suc n
+    most : (k : ℕ) → IsBest old new n x (ways new x) k → (other : List ℕ) → IsWalk (Sends new) x other
+        → length other ≤ suc n
         → differing old new (x ∷ other) ≤ k
     most k best [] goes short = omega (arith, count_more old new x [], best.here)
     most k best (y ∷ ys) goes short = best.most y ys goes.0 goes.1 (omega (arith, short))
 
 -- without cycles each node has a wave
-pub free_wave : (old new : List (List ℕ)) (x : ℕ) → IsInRange new → HasNoCycle new → x < length new → (k : ℕ) × IsWave old new x k
+pub free_wave : (old new : List (List ℕ)) (x : ℕ) → IsInRange new → HasNoCycle new → x < length new
+    → (k : ℕ) × IsWave old new x k
 free_wave old new x range free low =
     let (k, w) = wave_within old new (length new) x in (
       k,
@@ -154,13 +161,21 @@ free_wave old new x range free low =
         walk = w.walk;
         goes = w.goes;
         number = w.number;
-        most = λ other goes. w.most other goes (omega (arith, free_short (Sends new) (length new) range x other free low goes));
+        most = λ other goes. w.most other goes
+            (omega (arith, free_short (Sends new) (length new) range x other free low goes));
       },
     )
 
-pub wave_low : (old new : List (List ℕ)) (x k : ℕ) → IsInRange new → HasNoCycle new → x < length new → IsWave old new x k → k ≤ length new
+pub wave_low : (old new : List (List ℕ)) (x k : ℕ) → IsInRange new → HasNoCycle new → x < length new
+    → IsWave old new x k → k ≤ length new
 wave_low old new x k range free low w =
-    omega (arith, w.number, count_by-le-length (differ_at old new) (x ∷ w.walk), free_short (Sends new) (length new) range x w.walk free low w.goes)
+    omega (
+      arith,
+      w.number,
+      count_by-le-length (differ_at old new) (x ∷ w.walk),
+      free_short (Sends new)
+          (length new) range x w.walk free low w.goes,
+    )
 
 -- so does each node downstream of one that has a wave
 pub downstream_wave : (old new : List (List ℕ)) (x y k : ℕ) → IsInRange new → HasNoCycle new → IsWave old new x k
@@ -170,4 +185,5 @@ downstream_wave old new x y k range free w down = go down.by down.goes down.ends
     go : (by : List ℕ) → IsWalk (Sends new) x by → end_of x by ≡ y → (l : ℕ) × IsWave old new y l
     go [] goes ends = (k, subst (λ (u : ℕ). IsWave old new u k) ends w)
     go (z ∷ zs) goes ends = free_wave old new y range free
-        (walk_below (Sends new) (length new) range x (z ∷ zs) y goes (subst (Contains (z ∷ zs)) ends (Contains-end z zs)))
+        (walk_below (Sends new) (length new) range x (z ∷ zs) y goes
+        (subst (Contains (z ∷ zs)) ends (Contains-end z zs)))

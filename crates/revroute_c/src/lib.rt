@@ -27,7 +27,7 @@ ghost use Rattle.revroute_c.specs.Statuses.{REVROUTE_ANSWERED, REVROUTE_BLANK, R
 ghost use Rattle.revroute_c.specs.Statuses.{REVROUTE_NO_MEMORY, REVROUTE_NO_NETWORK, REVROUTE_NO_ROUTE};
 ghost use Rattle.revroute_c.specs.Statuses.{REVROUTE_REFUSED, REVROUTE_NO_WALK, REVROUTE_BEGUN, REVROUTE_NO_TABLE};
 ghost use Rattle.revroute_c.specs.Tables.{ArePushesOf, IsNoTable};
-ghost use Rattle.revroute_c.specs.Ways.{AreWaysFrom, GivesAllWays, HasRoute, IsNearestFrom};
+ghost use Rattle.revroute_c.specs.Ways.{AreWaysFrom, GivesAllWays, HasRoute, IsNearestFrom, TellsDistance};
 
 mod closed_walks;
 mod engine;
@@ -63,7 +63,7 @@ use rounds::{NewNetwork, change_in, is_too_large, move_dest_in, open_anew, open_
 use statuses::{ANSWERED, BLANK, NO_MEMORY, NO_NETWORK, REFUSED, TOO_SHORT};
 use std::alloc::Global;
 use tables::pushes_in;
-use ways::{all_ways_in, nearest_in, ways_in};
+use ways::{all_ways_in, distance_in, nearest_in, ways_in};
 
 /// Answers a line, given without its newline. A null handle is a session without a network. Writes the answer, without
 /// a newline, to the front of the buffer, and its length to `size`. Returns `ANSWERED`, or:
@@ -520,6 +520,20 @@ pub extern "C" fn revroute_ways(
             size,
         ),
         None => NO_NETWORK,
+    }
+}
+
+/// Returns the distance of a node: the fewest links that lead from it down to the destination. If it has none, returns
+/// one of the named values of [`revroute_next_hop`], which are greater than all distances. It accepts any number and
+/// any session. O(1).
+#[unsafe(no_mangle)]
+pub extern "C" fn revroute_distance(handle: &mut Handle, node: u32) -> u32
+    ensures distance { TellsDistance handle.old.session node result }
+    ensures same { IsUnchanged handle.old handle.new }
+{
+    match handle.engine_mut() {
+        Some(engine) => distance_in(engine.session(), node),
+        None => HOP_OF_NO_NETWORK,
     }
 }
 

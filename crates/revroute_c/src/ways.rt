@@ -5,8 +5,9 @@ ghost use Rattle.std.specs.List.{concat};
 ghost use Rattle.revroute_c.specs.Questions.{HasNoRoute};
 ghost use Rattle.revroute_c.specs.Replies.{outcome, GivesList};
 ghost use Rattle.revroute_c.specs.Ways.{AreRowsWritten, AreWaysFrom, GivesAllWays, HasRoute};
-ghost use Rattle.revroute_c.specs.Ways.{IsNearestFrom, IsTooLong, SaysWhyNone};
+ghost use Rattle.revroute_c.specs.Ways.{IsNearestFrom, IsTooLong, SaysWhyNone, TellsDistance};
 
+use crate::questions::{CUT_OFF, HOP_OF_NO_NETWORK, HOP_OF_NO_NODE};
 use crate::replies::hand_out;
 use crate::statuses::{ANSWERED, NO_MEMORY, NO_NETWORK, NO_ROUTE, TOO_SHORT};
 use fr_route::{Hop, Router, Session, Walked};
@@ -55,6 +56,19 @@ pub(crate) fn ways_in(
         Ok(()) => hand_out(list, ways, size),
         Err(_memory) => NO_MEMORY,
     }
+}
+
+/// The distance of any node in any session, or the value that says why there is none.
+pub(crate) fn distance_in(session: &Session, node: u32) -> u32
+    ensures { TellsDistance session.now node result }
+{
+    let Some(router) = session.router() else {
+        return HOP_OF_NO_NETWORK;
+    };
+    if node >= router.net().nodes() {
+        return HOP_OF_NO_NODE;
+    }
+    router.distance(node).unwrap_or(CUT_OFF)
 }
 
 /// Writes the nodes of the nearest route from a node to the destination, if there is one. `size` must be 0.

@@ -7,6 +7,7 @@ use std::alloc::{AllocError, Global};
 /// What a router knows of a neighbour.
 #[derive(Clone, Copy)]
 struct Seen {
+    neighbour: u32,
     up: bool,
     peer: u64,
     number: u64,
@@ -48,8 +49,9 @@ impl Rules {
             height: used,
         })?;
         let mut seen = Vec::new(alloc);
-        for _ in 0..routers {
+        for neighbour in 0..routers {
             seen.push(Seen {
+                neighbour,
                 up: false,
                 peer: 0,
                 number: 0,
@@ -121,14 +123,12 @@ impl Rules {
         self.seen.get(w as usize).copied()
     }
 
-    fn is_lower(&self, w: u32, seen: Seen, than: u64) -> bool {
-        seen.number > 0 && (seen.height < than || seen.height == than && w < self.me)
+    fn is_lower(&self, seen: Seen, than: u64) -> bool {
+        seen.number > 0 && (seen.height < than || seen.height == than && seen.neighbour < self.me)
     }
 
     pub fn sends_to(&self, w: u32) -> bool {
-        self.seen(w).is_some_and(|seen| !self.gateway
-            && seen.up
-            && self.is_lower(w, seen, self.used))
+        self.seen(w).is_some_and(|seen| !self.gateway && seen.up && self.is_lower(seen, self.used))
     }
 
     /// The least height that the neighbour may have in mind. `None`: not known.
@@ -166,8 +166,8 @@ impl Rules {
             return 0;
         }
         let mut least = CUT_OFF;
-        for (w, seen) in self.seen.iter().enumerate() {
-            if self.sends_to(w as u32) {
+        for seen in &self.seen {
+            if self.sends_to(seen.neighbour) {
                 least = least.min(seen.distance);
             }
         }
@@ -223,8 +223,8 @@ impl Rules {
     }
 
     fn may_use(&self, height: u64) -> bool {
-        for (w, seen) in self.seen.iter().enumerate() {
-            let is_open = self.lets_in(w as u32);
+        for seen in &self.seen {
+            let is_open = self.lets_in(seen.neighbour);
             if self.policy.wait
                 && is_open
                 && !self.floor(*seen).is_some_and(|floor| floor >= height)
@@ -241,9 +241,11 @@ impl Rules {
         if !self.policy.lower || distance == CUT_OFF || height >= self.used {
             return None;
         }
-        for (w, seen) in self.seen.iter().enumerate() {
-            let w = w as u32;
-            if self.sends_to(w) && seen.distance < distance && self.is_lower(w, *seen, height) {
+        for seen in &self.seen {
+            if self.sends_to(seen.neighbour)
+                && seen.distance < distance
+                && self.is_lower(*seen, height)
+            {
                 return Some(height);
             }
         }
@@ -259,9 +261,9 @@ impl Rules {
 
     fn above_all(&self) -> Option<u64> {
         let mut most = None;
-        for (w, seen) in self.seen.iter().enumerate() {
+        for seen in &self.seen {
             if seen.up {
-                if seen.number == 0 || self.is_lower(w as u32, *seen, self.used) {
+                if seen.number == 0 || self.is_lower(*seen, self.used) {
                     return None;
                 }
                 most = Some(seen.height.max(most.unwrap_or(0)));
@@ -275,8 +277,8 @@ impl Rules {
             return None;
         }
         let mut best: Option<(u32, u64, u32)> = None;
-        for (w, seen) in self.seen.iter().enumerate() {
-            let key = (seen.distance, seen.height, w as u32);
+        for seen in &self.seen {
+            let key = (seen.distance, seen.height, seen.neighbour);
             if seen.up && seen.number > 0 && seen.distance < cap && best.is_none_or(|b| key < b) {
                 best = Some(key);
             }

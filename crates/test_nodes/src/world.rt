@@ -44,6 +44,7 @@ impl Found {
 pub struct World {
     alloc: Global,
     policy: Policy,
+    count: u32,
     gateways: u32,
     boots: u64,
     routers: Vec<Both>,
@@ -70,6 +71,7 @@ impl World {
         Ok(World {
             alloc,
             policy,
+            count: routers,
             gateways,
             boots: 1,
             routers: all,
@@ -85,14 +87,14 @@ impl World {
 
     /// Draws what happens next, and looks for loops and differences.
     pub fn step(&mut self) -> Result<(), NodeFault> {
-        let routers = self.routers.len() as u32;
+        let routers = self.count;
         let x = self.draws.below(routers);
         let w = self.draws.below(routers);
-        match self.draws.below(100) {
+        match self.draws.below(400) {
             0 => self.restart(x)?,
             1..=3 => self.set_up(x, w, false)?,
-            4..=15 => self.set_up(x, w, true)?,
-            16..=55 => self.say(x, w)?,
+            4..=40 => self.set_up(x, w, true)?,
+            41..=200 => self.say(x, w)?,
             _ => self.hear()?,
         }
         self.found.steps = self.found.steps.wrapping_add(1);
@@ -105,7 +107,7 @@ impl World {
     fn restart(&mut self, x: u32) -> Result<(), NodeFault> {
         self.boots = self.boots.wrapping_add(1);
         self.found.restarts = self.found.restarts.wrapping_add(1);
-        let routers = self.routers.len() as u32;
+        let routers = self.count;
         let anew = start(
             self.alloc,
             self.policy,
@@ -169,7 +171,7 @@ impl World {
 
     /// A drawn message of the pool is heard, as bytes. It stays in the pool.
     fn hear(&mut self) -> Result<(), NodeFault> {
-        let at = self.draws.below(self.pool.len() as u32);
+        let at = self.draws.below(POOL as u32);
         let Some(message) = self.pool.get(at as usize).copied() else {
             return Ok(());
         };
@@ -191,7 +193,7 @@ impl World {
 
     /// Compares what the library and the rules say of each router.
     fn compare(&mut self) {
-        let routers = self.routers.len() as u32;
+        let routers = self.count;
         let mut same = true;
         for both in &self.routers {
             same = same && is_same(both, routers);
@@ -214,7 +216,7 @@ impl World {
     /// Looks for a loop of used links: takes away routers that use no link to one that is left, as often as there are
     /// routers. Those that are left are on a loop, or lead to one.
     fn look_for_loops(&mut self) {
-        let routers = (self.routers.len() as u32).min(16);
+        let routers = self.count.min(16);
         let mut left = [true; 16];
         for _ in 0..routers {
             for x in 0..routers {

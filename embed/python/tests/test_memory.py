@@ -93,14 +93,14 @@ class MemoryTest(unittest.TestCase):
         left = ctypes.c_long.in_dll(library, "refusing_left")
         with revroute.Session() as session:
             session.answer(CHAIN)
-            for question, wanted in ((session.nearest, [3, 2, 1, 0]), (session.distance, 3), (session.ways, [2])):
+            for question, wanted in ((session.nearest, [3, 2, 1, 0]), (session.ways, [2])):
                 left.value = 1
                 self.assertRaises(MemoryError, question, 3)
                 left.value = 0
                 self.assertEqual(question(3), wanted)
-            # The session keeps the room for a list of this length.
+            # The session keeps the room for a list of this length, and a distance needs none.
             left.value = 1
-            self.assertEqual(session.ways(2), [1])
+            self.assertEqual((session.ways(2), session.distance(3)), ([1], 3))
             left.value = 0
 
     def test_pieces_go_on_where_memory_was_missing(self):

@@ -2,7 +2,6 @@
 
 use crate::{Hop, NoMemory, Reader, Report, Size, TableFault, listed, sys, table};
 use std::cell::UnsafeCell;
-use std::ptr::NonNull;
 
 /// The owner of a handle. A question changes nothing, but the library needs exclusive access to the handle for it. So
 /// the handle is in a cell, and no two threads can ask at once.
@@ -98,19 +97,12 @@ impl Engine {
         })
     }
 
-    /// The number of links of the nearest route. A route has at least one node, so without room the call only reports
-    /// how many nodes it has.
-    pub fn distance(&self, node: u32) -> Result<Option<u32>, NoMemory> {
-        let (nowhere, mut length) = (NonNull::dangling().as_ptr(), 0);
-        // SAFETY: the handle is new or the library's own, no other call has it, and there are no places.
-        let status =
-            unsafe { sys::revroute_nearest(self.handle.get(), node, nowhere, 0, &mut length) };
-        match status {
-            sys::TOO_SHORT => Ok(Some(length as u32 - 1)),
-            sys::NO_MEMORY => Err(NoMemory),
-            sys::NO_NETWORK | sys::NO_ROUTE => Ok(None),
-            _ => unreachable!("no route fits into no room"),
-        }
+    /// The distance of a node. `None` if it is cut off, or if there is no such node.
+    #[inline]
+    pub fn distance(&self, node: u32) -> Option<u32> {
+        // SAFETY: the handle is new or the library's own, and no other call has it.
+        let distance = unsafe { sys::revroute_distance(self.handle.get(), node) };
+        (distance < sys::NO_HOP).then_some(distance)
     }
 
     pub fn report(&self) -> Option<Report> {

@@ -364,25 +364,22 @@ impl Network {
     }
 
     /// The distance of a node: the fewest links that lead from it down to the destination. `None` if the node is cut
-    /// off. It costs what [`nearest`](Network::nearest) costs.
+    /// off. `O(1)`, and needs no memory.
     ///
     /// ```
     /// let network = revroute::Network::new(4, 0, &[(1, 0), (2, 1)])?;
-    /// assert_eq!([network.distance(0)?, network.distance(2)?, network.distance(3)?], [Some(0), Some(2), None]);
+    /// let distances = [0, 1, 2, 3].map(|node| network.distance(node));
+    /// assert_eq!(distances, [Some(0), Some(1), Some(2), None]);
     /// # Ok::<(), revroute::Refused>(())
     /// ```
-    ///
-    /// # Errors
-    ///
-    /// If memory runs out.
     ///
     /// # Panics
     ///
     /// If there is no such node.
+    #[inline]
     #[track_caller]
-    pub fn distance(&self, node: u32) -> Result<Option<u32>, NoMemory> {
-        let distance = self.engine.distance(node)?;
-        Ok(self.found_of(node, distance))
+    pub fn distance(&self, node: u32) -> Option<u32> {
+        self.found_of(node, self.engine.distance(node))
     }
 
     /// What was found of a node. Panics if nothing was found because there is no such node.

@@ -195,19 +195,15 @@ impl Session {
     }
 
     /// The distance of a node: the fewest links that lead from it down to the destination. `None` if the node is cut
-    /// off, or if there is no such node. It costs what [`nearest`](Session::nearest) costs.
+    /// off, or if there is no such node. `O(1)`, and needs no memory.
     ///
     /// ```
     /// let mut session = revroute::Session::new();
     /// session.answer(r#"["net",3,0,[[1,0],[2,1]]]"#)?;
-    /// assert_eq!([session.distance(2)?, session.distance(3)?], [Some(2), None]);
+    /// assert_eq!([session.distance(2), session.distance(3)], [Some(2), None]);
     /// # Ok::<(), revroute::NoMemory>(())
     /// ```
-    ///
-    /// # Errors
-    ///
-    /// If memory runs out.
-    pub fn distance(&mut self, node: u32) -> Result<Option<u32>, NoMemory> {
+    pub fn distance(&mut self, node: u32) -> Option<u32> {
         self.engine.distance(node)
     }
 

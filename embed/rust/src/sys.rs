@@ -244,6 +244,8 @@ unsafe extern "C" {
         length: *mut usize,
     ) -> u32;
 
+    pub fn revroute_distance(session: *mut Handle, node: u32) -> u32;
+
     pub fn revroute_nearest(
         session: *mut Handle,
         node: u32,

@@ -193,7 +193,7 @@ fn tells_routes(session: &mut Session, nodes: u32) -> Result<(), NoMemory> {
     assert_eq!(session.walk(nodes)?, None);
     assert_eq!(session.ways(nodes)?, None);
     assert_eq!(session.nearest(nodes)?, None);
-    assert_eq!(session.distance(nodes)?, None);
+    assert_eq!(session.distance(nodes), None);
     Ok(())
 }
 
@@ -207,7 +207,7 @@ fn tells_nearest(session: &mut Session, x: u32) -> Result<(), NoMemory> {
     let line = format!("[\"nearest\",{x}]");
     assert_eq!(session.answer(line)?, Some(&*format!("nearest{told}")));
     let distance = route.map(|it| it.len() as u32 - 1);
-    assert_eq!(session.distance(x)?, distance);
+    assert_eq!(session.distance(x), distance);
     let ways = match session.ways(x)? {
         None => String::from("cut"),
         Some(ways) if ways.is_empty() => String::from("here"),
@@ -317,7 +317,7 @@ fn before_the_first_network_there_is_nothing_to_tell() -> Result<(), NoMemory> {
     assert_eq!(session.links()?, []);
     assert_eq!(session.walk(0)?, None);
     assert_eq!((session.ways(0)?, session.nearest(0)?), (None, None));
-    assert_eq!(session.distance(0)?, None);
+    assert_eq!(session.distance(0), None);
     assert_eq!((session.report(), session.size()), (None, None));
     assert_eq!(session.dest(), None);
     assert_eq!(Hop::To(7).node(), Some(7));

@@ -70,6 +70,7 @@ _WORDS: dict[str, list[Any]] = {
     "links": [_handle, ctypes.POINTER(Link), _size, _length],
     "walk": [_handle, _number, _numbers, _size, _length],
     "ways": [_handle, _number, _numbers, _size, _length],
+    "distance": [_handle, _number],
     "nearest": [_handle, _number, _numbers, _size, _length],
     "report": [_handle, ctypes.POINTER(Round)],
     "dest": [_handle],

@@ -95,10 +95,10 @@ class Network(Generic[Name]):
 
     Costs, for n nodes and m links:
 
-    - `next_hop`, `dest`, `size` and `report`: O(1).
+    - `next_hop`, `distance`, `dest`, `size` and `report`: O(1).
     - `reader`: O(4,096) for the first reader, and O(1) for each later one.
     - `walk` and `changed`: linear in the length of the result.
-    - `ways`: O(d log d) for d links at the node. `nearest` and `distance`: O(k d) for a nearest route of k nodes.
+    - `ways`: O(d log d) for d links at the node. `nearest`: O(k d) for a route of k nodes.
     - `hops`, `hops_into`, `table`, `pushes` and `counts`: O(n).
     - `links` and `copy`: O(n + m).
     - `move_dest` and a new network: O(n + m), plus the round.

@@ -173,10 +173,10 @@ class Session:
 
     Costs, for n nodes and m links:
 
-    - `next_hop`, `dest`, `size` and `report`: O(1).
+    - `next_hop`, `distance`, `dest`, `size` and `report`: O(1).
     - `reader`: O(4,096) for the first reader, and O(1) for each later one.
     - `walk` and `changed`: linear in the length of the result.
-    - `ways`: O(d log d) for d links at the node. `nearest` and `distance`: O(k d) for a nearest route of k nodes.
+    - `ways`: O(d log d) for d links at the node. `nearest`: O(k d) for a route of k nodes.
     - `hops`, `pushes` and `counts`: O(n).
     - `links`: O(n + m).
     - `answer`, `take` and `finish`: O(b) for b bytes of lines and answers, plus the same calls of a Network.
@@ -406,16 +406,20 @@ class Session:
 
         Raises NoSuchNode if there is no such node. Before the first network there are none.
         """
+        return _hop(self._number_of(questions.revroute_next_hop, node))
+
+    def _number_of(self, question: Any, node: int) -> int:
+        """The number with which a question about a node is answered."""
         number = index(node)
         with self._lock:
             self._begin_call()
             try:
-                value = questions.revroute_next_hop(self._at, number) if 0 <= number < _calls.NO_HOP else _calls.NO_SUCH_NODE
+                value = int(question(self._at, number)) if 0 <= number < _calls.NO_HOP else _calls.NO_SUCH_NODE
             finally:
                 self._caller = None
         if value in (_calls.NO_SUCH_NODE, _calls.NO_HOP):
             raise NoSuchNode(number)
-        return _hop(value)
+        return value
 
     def reader(self) -> Reader[int]:
         """A reader of the next hops, for another thread. It keeps working when a later network replaces this one. It
@@ -560,8 +564,8 @@ class Session:
 
         Raises NoSuchNode if there is no such node.
         """
-        route = self.nearest(node)
-        return None if route is None else len(route) - 1
+        distance = self._number_of(questions.revroute_distance, node)
+        return None if distance == _calls.CUT_OFF else distance
 
     @property
     def report(self) -> Optional[Report]:

@@ -9,7 +9,8 @@ returns c =
     let n : ℕ = length c.args.noted.now in
     let noted = c.loop-y.noted in
     let none = drop_all c.loop-y.y-index c.args.ways.now (omega (arith, c.loop-y-test.false)) in
-    ext_get_or false noted (replicate n false) (omega (arith, c.loop-y.invariant.one_each, length-replicate n false)) (λ x low.
+    ext_get_or false noted (replicate n false)
+    (omega (arith, c.loop-y.invariant.one_each, length-replicate n false)) (λ x low.
     ⊎_elim
     (λ t. absurd (Contains-none x (subst (λ (xs : List ℕ). Contains xs x) none (c.loop-y.invariant.left x t))))
     (λ f. f ∙ sym (get_or-replicate n x false false (omega (arith, low, c.loop-y.invariant.one_each))))

@@ -15,7 +15,8 @@ loop-y-preserved c =
     elim c.if-y-noted.branch [
       | then-y-noted w ↦ rw w.noted-is (record {
         one_each = length-set noted y true ∙ before.one_each;
-        noted = subst (λ (ys : List ℕ). AreNoted ys (set noted y true)) (sym (take_more ways i 0 c.loop-y-test.true)) (noted_more _ noted y before.noted);
+        noted = subst (λ (ys : List ℕ). AreNoted ys (set noted y true))
+            (sym (take_more ways i 0 c.loop-y-test.true)) (noted_more _ noted y before.noted);
       })
       | else-y-noted w ↦ rw w.noted-is (record {
         one_each = before.one_each;

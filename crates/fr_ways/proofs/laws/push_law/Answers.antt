@@ -1,4 +1,5 @@
-use Rattle.fr_ways.proofs.Tables.{moves_twice, never_cycles, no_new_cycle, push_is_one_more, pushed_right, starts_as_old}
+use Rattle.fr_ways.proofs.Tables.{moves_twice, never_cycles, no_new_cycle, push_is_one_more, pushed_right}
+use Rattle.fr_ways.proofs.Tables.{starts_as_old}
 use Rattle.fr_ways.proofs.laws.push_law.Goals as goal
 
 pub returns-clause-start : goal.returns-clause-start

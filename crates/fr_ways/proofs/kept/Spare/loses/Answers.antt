@@ -12,10 +12,12 @@ returns-clause-loses c =
     let new = c.args.new.now in
     let noted = c.note.new.noted in
     let (nodes, clear, inside) = c.requires.clear in
-    let long : length noted ≡ nodes = c.note.ensures.one_each ∙ ap length (c.deref_mut.ensures.value ∙ clear) ∙ length-replicate nodes false in
+    let long : length noted ≡ nodes = c.note.ensures.one_each ∙ ap length (c.deref_mut.ensures.value ∙ clear)
+    ∙ length-replicate nodes false in
     let below : (z : ℕ) → Contains new z → z < length noted =
     λ z found. omega (arith, long, All-contains (λ (y : ℕ). y < nodes) new z inside found) in
-    let whole = c.deref.ensures.value ∙ take_at noted _ _ (omega (arith, c.note.ensures.one_each, c.deref_mut.ensures.len)) in
+    let whole = c.deref.ensures.value
+    ∙ take_at noted _ _ (omega (arith, c.note.ensures.one_each, c.deref_mut.ensures.len)) in
     let is : (y : ℕ) → get_or c.deref.result.now y false ≡ is_way new y =
     λ y. ap (λ (bs : List Bool). get_or bs y false) whole ∙ noted_any new noted y c.note.ensures.noted below in
     c.has_other-loses.ensures

@@ -1,4 +1,5 @@
-use Rattle.std.proofs.Common.{All, Global, List, Vec, [], ap, cond, false, length, subst, sym, true, ℕ, ◌++◌, ◌<◌, ◌∙◌, ◌∷◌, ◌≡◌}
+use Rattle.std.proofs.Common.{All, Global, List, Vec, [], ap, cond, false, length, subst, sym, true, ℕ, ◌++◌, ◌<◌}
+use Rattle.std.proofs.Common.{◌∙◌, ◌∷◌, ◌≡◌}
 use Rattle.std.specs.Prelude.{not}
 use Rattle.std.proofs.lemmas.List.Elements.{Contains-get_or}
 use Rattle.fr_ways.specs.Phases.{differs, is_empty, kept, loses}
@@ -14,7 +15,12 @@ inside table x range k d low = range x _ (Contains-get_or (ways table x) k d low
 
 pub loses-requires : goal.loses-requires
 loses-requires c = record {
-  clear = (length c.args.new.now, c.requires.spare, rw c.row-now.ensures (inside c.args.new.now c.args.x c.requires.range));
+  clear = (
+    length c.args.new.now,
+    c.requires.spare,
+    rw c.row-now.ensures
+        (inside c.args.new.now c.args.x c.requires.range),
+  );
 }
 
 pub keep-requires : goal.keep-requires
@@ -34,7 +40,8 @@ returns-then-not-loses-clause-plan c =
     let e = c.in_ok-grow.ensures in
     let none : loses c.args.old.now c.args.new.now c.args.x ≡ false =
     sym (test (goal.at.returns-then-not-loses-clause-plan c).After-loses) ∙ c.if-not-loses.true in
-    plan_other c.args.old.now c.args.new.now c.args.x c.args.self.now c.grow.new.self c.requires.plan none e.shrink e.emptied
+    plan_other c.args.old.now c.args.new.now c.args.x c.args.self.now c.grow.new.self c.requires.plan none e.shrink
+    e.emptied
     (rw (c.row-was.ensures, c.row-now.ensures) at e.grow)
 
 pub returns-clause-plan : goal.returns-clause-plan
@@ -46,18 +53,26 @@ returns-clause-plan c =
     let after = c.grow-2.new.self in
     let first = c.in_ok-shrink.ensures in
     let second = c.in_ok-grow-2.ensures in
-    let some : loses old new x ≡ true = sym (test (goal.at.returns-clause-plan c).After-loses) ∙ c.if-not-loses.false in
-    let is : c.keep.new.self.kept.items ≡ kept old new x = rw (c.row-was.ensures, c.row-now.ensures) at c.in_ok-keep.ensures.kept in
+    let some : loses old new x ≡ true = sym (test (goal.at.returns-clause-plan c).After-loses)
+    ∙ c.if-not-loses.false in
+    let is : c.keep.new.self.kept.items ≡ kept old new x =
+    rw (c.row-was.ensures, c.row-now.ensures) at c.in_ok-keep.ensures.kept in
     let here : c.deref.result.now ≡ kept old new x = c.deref.ensures.value ∙ is in
     let again : c.deref-2.result.now ≡ kept old new x = c.deref-2.ensures.value ∙ is in
-    let shrinks : IsPushedIf (not (is_empty (kept old new x))) x (kept old new x) before.phases.shrink after.phases.shrink =
-    subst (λ (p : Pushes). IsPushedIf (not (is_empty (kept old new x))) x (kept old new x) before.phases.shrink p) (sym second.shrink)
-    (subst (λ (ys : List ℕ). IsPushedIf (not (is_empty ys)) x ys before.phases.shrink c.shrink.new.self.phases.shrink) here first.shrink) in
+    let shrinks : IsPushedIf (not (is_empty (kept old new x))) x
+    (kept old new x) before.phases.shrink after.phases.shrink =
+    subst (λ (p : Pushes). IsPushedIf (not (is_empty (kept old new x))) x (kept old new x) before.phases.shrink p)
+    (sym second.shrink)
+    (subst (λ (ys : List ℕ). IsPushedIf
+    (not (is_empty ys)) x ys before.phases.shrink c.shrink.new.self.phases.shrink) here first.shrink) in
     let emptied : after.emptied.items ≡ before.emptied.items ++ cond (is_empty (kept old new x)) (x ∷ []) [] =
     ap (λ (v : Vec ℕ Global). v.items) second.emptied
     ∙ (first.emptied ∙ ap (λ (ys : List ℕ). before.emptied.items ++ cond (is_empty ys) (x ∷ []) []) here) in
-    let grows : IsPushedIf (differs (kept old new x) (ways new x)) x (ways new x) before.phases.grow after.phases.grow =
-    subst (λ (p : Pushes). IsPushedIf (differs (kept old new x) (ways new x)) x (ways new x) p after.phases.grow) first.grow
-    (subst (λ (ys : List ℕ). IsPushedIf (differs ys (ways new x)) x (ways new x) c.shrink.new.self.phases.grow after.phases.grow) again
+    let grows : IsPushedIf (differs (kept old new x) (ways new x)) x
+    (ways new x) before.phases.grow after.phases.grow =
+    subst (λ (p : Pushes). IsPushedIf (differs (kept old new x) (ways new x)) x
+    (ways new x) p after.phases.grow) first.grow
+    (subst (λ (ys : List ℕ). IsPushedIf (differs ys (ways new x)) x
+    (ways new x) c.shrink.new.self.phases.grow after.phases.grow) again
     (rw c.row-now.ensures at second.grow)) in
     plan_loser old new x before after c.requires.plan some shrinks emptied grows

@@ -23,7 +23,8 @@ from : (c : After-first_not_done-place) → c.index.result.now ≡ get_or c.args
 from c = get_or_read c.args.self.now.next.items c.args.x c.index.result.now
     (omega (arith, c.requires.node, c.requires.read.next_each)) c.index.ensures 0
 
-passed : (c : After-first_not_done-place) (k : ℕ) → get_or c.args.self.now.next.items c.args.x 0 ≤ k → k < c.first_not_done-place.result
+passed : (c : After-first_not_done-place) (k : ℕ) → get_or c.args.self.now.next.items c.args.x 0 ≤ k
+    → k < c.first_not_done-place.result
     → IsDone c.args.self.now.marks.items (get_or (ways c.args.table.now c.args.x) k 0)
 passed c = rw (c.row-ways.ensures, c.deref.ensures.value, from c) at c.first_not_done-place.ensures.passed
 

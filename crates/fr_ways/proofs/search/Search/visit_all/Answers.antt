@@ -8,4 +8,5 @@ returns-clause-free c =
     let s = c.loop-root.self in
     done_free c.args.table.now s.marks.items inv.rest.search.known
     (λ x low. met_done c.args.table.now s.marks.items s.next.items x
-    (rw inv.rest.empty at inv.rest.search) (inv.met x (omega (arith, low, c.len-root-end.ensures, c.loop-root-test.false))))
+    (rw inv.rest.empty at inv.rest.search)
+    (inv.met x (omega (arith, low, c.len-root-end.ensures, c.loop-root-test.false))))

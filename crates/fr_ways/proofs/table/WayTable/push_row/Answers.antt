@@ -4,7 +4,12 @@ use Rattle.fr_ways.proofs.table.WayTable.push_row.Goals as goal
 use Rattle.fr_ways.proofs.table.WayTable.push_row.Goals.{After-push_reserved}
 
 long : (c : After-push_reserved) → c.len.result ≡ length (c.self.inside.list.items ++ c.args.ways.now)
-long c = omega (arith, c.len.ensures, c.extend_from_slice.new.self.ok.0, ap length c.in_ok-extend_from_slice.ensures.items)
+long c = omega (
+  arith,
+  c.len.ensures,
+  c.extend_from_slice.new.self.ok.0,
+  ap length c.in_ok-extend_from_slice.ensures.items,
+)
 
 pub invariant_of-self-2 : goal.invariant_of-self-2
 invariant_of-self-2 c = rw (

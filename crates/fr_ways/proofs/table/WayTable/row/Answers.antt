@@ -21,7 +21,8 @@ index-end-requires c = omega (arith, low (goal.at.index-end-requires c).After-in
 record IsPart (c : After-deref) : Type 0 where
   low : c.index-start.result.now ≤ c.index-end.result.now
   high : c.index-end.result.now ≤ length c.deref.result.now
-  is : take (c.index-end.result.now - c.index-start.result.now) (drop c.index-start.result.now c.deref.result.now) ≡ ways c.args.self.now c.args.x
+  is : take (c.index-end.result.now - c.index-start.result.now)
+      (drop c.index-start.result.now c.deref.result.now) ≡ ways c.args.self.now c.args.x
 
 part : (c : After-deref) → IsPart c
 part c =
