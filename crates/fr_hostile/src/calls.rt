@@ -3,8 +3,10 @@
 ghost use Rattle.std.specs.Prelude.{◌≡◌, IfSome, replicate};
 
 use crate::logs::{logged, recorded};
+use crate::nodes::known;
 use crate::published::published;
 use crate::telling::{Answer, say};
+use crate::ways::{listed, measured, phased};
 use fr_core::{Entry, Machine, Target, check_run, play};
 use fr_crew::{
     Crew, OpenGate, Plan, Settled, live_walk, settle, settle_alone, settled_counts,
@@ -81,10 +83,14 @@ pub enum Call {
     Recorded,
     Published,
     PushedTo,
+    Listed,
+    Measured,
+    Phased,
+    Known,
 }
 
 /// The calls in the order in which they are made.
-pub const CALLS: [Call; 29] = [
+pub const CALLS: [Call; 33] = [
     Call::Network,
     Call::CutNetwork,
     Call::LinkedNetwork,
@@ -114,6 +120,10 @@ pub const CALLS: [Call; 29] = [
     Call::Recorded,
     Call::Published,
     Call::PushedTo,
+    Call::Listed,
+    Call::Measured,
+    Call::Phased,
+    Call::Known,
 ];
 
 /// Makes a call, and appends its result to the answer.
@@ -132,6 +142,10 @@ pub fn make<R: Threads + Wait + Sync + Alloc<A = Global> + Print + Eprint>(
         Call::Pushed => pushed(rt, answer),
         Call::Shared => shared(rt, answer),
         Call::Published => published(rt, answer),
+        Call::Listed => listed(rt, answer),
+        Call::Measured => measured(rt, answer),
+        Call::Phased => phased(rt, answer),
+        Call::Known => known(rt, answer),
         _ => {
             if let Some(net) = answer.told(rt, Net::new(rt.alloc(), 4, &CHAIN)) {
                 make_on(rt, answer, net, call);

@@ -6,9 +6,11 @@
 
 mod calls;
 mod logs;
+mod nodes;
 mod published;
 mod sessions;
 mod telling;
+mod ways;
 
 use calls::{CALLS, Call, make};
 use sessions::tell_session;

@@ -10,13 +10,14 @@ use std::sync::Wait;
 use std::thread::Threads;
 
 /// A settled chain is parted, and closed again from its other end. A batch moves a link, and then the destination
-/// moves. At last two nodes are joined by a link that cannot point from the first to the second.
-const LINES: [&str; 16] = [
+/// moves. Then two nodes are joined by a link that cannot point from the first to the second, so one node has two ways.
+const LINES: [&str; 20] = [
     r#"["net",4,0,[[1,0],[2,1],[3,2]]]"#,
     r#"["links"]"#,
     r#"["cut",1,0]"#,
     r#"["links"]"#,
     r#"["walk",3]"#,
+    r#"["nearest",3]"#,
     r#"["add",3,0]"#,
     r#"["counts"]"#,
     r#"["links"]"#,
@@ -28,6 +29,9 @@ const LINES: [&str; 16] = [
     r#"["dest",3]"#,
     r#"["join",3,1]"#,
     r#"["links"]"#,
+    r#"["ways"]"#,
+    r#"["ways",1]"#,
+    r#"["nearest",0]"#,
 ];
 
 /// Writes the answers to the lines, as text and then as JSON.
