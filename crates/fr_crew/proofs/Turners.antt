@@ -88,11 +88,13 @@ module _ {G : Type 0} (passed : G → ℕ → ℕ → Type 0) where
       → Each (λ (p : ℕ × ℕ). AreCallsWithin s.budget (passed s.gate) history p.0) (map number_and_turns workers)
   done_within s history [] parts done = tt
   done_within s history (k ∷ ks) parts done =
-      let own : part k.number history ≡ part k.number k.known = parts.0.own in
-      (record {
-        few = subst (λ (h : List Entry). length h ≤ s.budget) (sym own) done.0.few;
-        each_passed = subst (λ (h : List Entry). EachBefore (length h + 1) (passed s.gate k.number)) (sym own) done.0.each_passed;
-      }, done_within s history ks parts.1 done.1)
+      let own : part k.number history ≡ part k.number k.known = parts.0.own in (
+        record {
+          few = subst (λ (h : List Entry). length h ≤ s.budget) (sym own) done.0.few;
+          each_passed = subst (λ (h : List Entry). EachBefore (length h + 1) (passed s.gate k.number)) (sym own) done.0.each_passed;
+        },
+        done_within s history ks parts.1 done.1,
+      )
 
   -- when a round is closed that was opened with this setup
   pub closed_turned : (opened r : OpenRound) (asked : Setup) (plan : Plan) (gate : G) (workers : List Knowledge)
@@ -123,8 +125,12 @@ turns_within : (m : ℕ) (passed : ℕ → ℕ → Type 0) (history : List Entry
     → Each (λ (p : ℕ × ℕ). AreCallsWithin m passed history p.0) turned → sum_by turns turned ≤ length turned * m
 turns_within m passed history [] own calls = omega arith
 turns_within m passed history (p ∷ ps) own calls =
-    let one : p.1 ≤ m = omega (arith, own.0, calls.0.few,
-        count_by-le-length (λ (e : Entry). is_turned e.reply) (part p.0 history)) in
+    let one : p.1 ≤ m = omega (
+      arith,
+      own.0,
+      calls.0.few,
+      count_by-le-length (λ (e : Entry). is_turned e.reply) (part p.0 history),
+    ) in
     let rest = turns_within m passed history ps own.1 calls.1 in
     subst (λ (n : ℕ). n ≤ suc (length ps) * m) (sym (sum_by-cons turns p ps)) (omega (arith, one, rest))
 

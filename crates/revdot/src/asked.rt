@@ -117,11 +117,7 @@ fn push_question(story: &mut String, question: Question) -> Result<(), AllocErro
     }
 }
 
-fn push_node_question(
-    story: &mut String,
-    question: NodeQuestion,
-    x: u32,
-) -> Result<(), AllocError>
+fn push_node_question(story: &mut String, question: NodeQuestion, x: u32) -> Result<(), AllocError>
     ensures { OnOk result (string_bytes story.new
         ≡ string_bytes story.old ++ (node_question_text question ++ (codes " " ++ decimal x))) }
 {

@@ -171,10 +171,7 @@ fn makes_round(request: &Request) -> bool
 {
     !matches!(
         request,
-        Request::Walk { .. }
-            | Request::Ask(_)
-            | Request::AskNode { .. }
-            | Request::Pushes { .. }
+        Request::Walk { .. } | Request::Ask(_) | Request::AskNode { .. } | Request::Pushes { .. }
     )
 }
 
