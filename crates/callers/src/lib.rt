@@ -8,6 +8,7 @@ pub mod crews;
 pub mod histories;
 pub mod logs;
 pub mod networks;
+pub mod nodes;
 pub mod plays;
 pub mod rounds;
 pub mod routes;
