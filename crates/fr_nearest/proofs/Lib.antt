@@ -1,7 +1,9 @@
 pub mod Measuring  -- numbers that agree with the links are the distances
 pub mod Reaching  -- the search keeps its state
+pub mod Entries  -- the entries of a row, and the links of its node
+pub mod Listing  -- which nodes an update lists first, and that the others agree
 pub mod Updating  -- an update keeps its state
 pub mod Noting  -- nodes that are noted, one by one
-pub mod Renewing  -- how an update begins, and what it leaves
+pub mod Renewing  -- what an update leaves
 pub mod Walking  -- what the definitions of distances and ways imply
 pub mod Ranking  -- the ways of a node, from its row

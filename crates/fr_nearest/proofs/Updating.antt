@@ -3,9 +3,9 @@ use Rattle.std.proofs.Common.{Contains, List, [], ap, arith, drop, get_or, get_o
 use Rattle.std.proofs.Common.{subst, sym, ℕ, ⊎_elim, ◌++◌, ◌+◌, ◌<◌, ◌∙◌, ◌∷◌, ◌≡◌, ◌≢◌, ◌≤◌, ◌⊎◌}
 use Rattle.std.proofs.lemmas.Bool.{cases_eq, cases_lt}
 use Rattle.std.proofs.lemmas.List.{append-nil, append_assoc, drop-append-le, drop_all, drop_more, get_or_default}
-use Rattle.std.proofs.lemmas.List.Elements.{Contains-append_left, Contains-append_right, Contains-get_or, Contains-push}
+use Rattle.std.proofs.lemmas.List.Elements.{Contains-append_left, Contains-append_right, Contains-get_or}
 use Rattle.fr_graph.proofs.Members.{Contains-cases, Contains-none}
-use Rattle.fr_graph.proofs.Neighbours.{cases_points, entry_is, out_of_row, row_of_in, row_of_out}
+use Rattle.fr_graph.proofs.Neighbours.{cases_points, entry_is, out_of_row}
 use Rattle.fr_graph.specs.Limits.{most_nodes}
 use Rattle.fr_graph.specs.Links.{IsNet, Points}
 use Rattle.fr_graph.specs.Network.{Network}
@@ -14,7 +14,9 @@ use Rattle.fr_graph.specs.declared.first.First.{First}
 use Rattle.fr_graph.specs.declared.first.First.TheVariants.{Inward, Outward}
 use Rattle.fr_nearest.specs.Distances.{no_distance}
 use Rattle.fr_nearest.specs.Local.{Agrees, IsByLinks, IsSmall, one_farther}
-use Rattle.fr_nearest.specs.Update.{IsLeast, IsListed, IsPending, IsUnaffected, KeepsOthers, ListsAffected, ListsSome, UpdatesOne}
+use Rattle.fr_nearest.specs.Update.{IsLeast, IsListed, IsListedIfAffected, IsPending, IsUnaffected, KeepsOthers}
+use Rattle.fr_nearest.specs.Update.{ListsAffected, ListsOne, ListsSome, UpdatesOne}
+use Rattle.fr_nearest.proofs.Entries.{hold_in, hold_more, hold_out}
 use Rattle.fr_nearest.proofs.Measuring.{AllAgree}
 
 -- The least number of the nodes to which links point
@@ -22,48 +24,45 @@ use Rattle.fr_nearest.proofs.Measuring.{AllAgree}
 pub least_none : (table : List ℕ) (entries : List (ℕ × First)) → IsLeast table entries 0 no_distance
 least_none table entries = record { near = λ k e lt. absurd (omega arith); from = λ some. absurd (some refl) }
 
-pub least_out : {table : List ℕ} {entries : List (ℕ × First)} {place least : ℕ} → IsLeast table entries place least → place < length entries
-    → (get_or entries place (0, Outward)).1 ≡ Outward
+-- a link points to the node of this entry
+pub least_out : {table : List ℕ} {entries : List (ℕ × First)} {place least : ℕ} → IsLeast table entries place least
+    → place < length entries → (get_or entries place (0, Outward)).1 ≡ Outward
     → IsLeast table entries (place + 1) (min least (slice_index table (get_or entries place (0, Outward)).0))
 least_out {table} {entries} {place} {least} is inside out =
     let e = get_or entries place (0, Outward) in
     let own = slice_index table e.0 in
     record {
-      near = λ k d lt outward. elim (cases_lt k place) [
-        | inl less ↦ omega (arith, is.near k d less outward)
-        | inr past ↦
-            let at : get_or entries k d ≡ e = let k_is : k ≡ place = omega arith in rw k_is (get_or_default entries place d (0, Outward) inside) in
-            rw at (omega arith)
-      ];
+      near = hold_more (λ q. q.1 ≡ Outward → min least own ≤ slice_index table q.0) entries place inside
+          (λ k d lt outward. omega (arith, is.near k d lt outward)) (λ _. omega arith);
       from = λ some. elim (cases_lt own least) [
         | inl less ↦
-            let listed : Contains entries (e.0, Outward) = (place, inside, get_or_default entries place (e.0, Outward) (0, Outward) inside ∙ entry_is e Outward out) in
+            let listed : Contains entries (e.0, Outward) =
+            (place, inside, get_or_default entries place (e.0, Outward) (0, Outward) inside ∙ entry_is e Outward out) in
             (e.0, listed, omega arith)
-        | inr past ↦ let was = is.from (λ none. some (omega (arith, none, past))) in (was.0, was.1, omega (arith, was.2, past))
+        | inr past ↦
+            let was = is.from (λ none. some (omega (arith, none, past))) in
+            (was.0, was.1, omega (arith, was.2, past))
       ];
     }
 
-pub least_in : {table : List ℕ} {entries : List (ℕ × First)} {place least : ℕ} → IsLeast table entries place least → place < length entries
-    → ¬ ((get_or entries place (0, Outward)).1 ≡ Outward) → IsLeast table entries (place + 1) least
+-- none does
+pub least_in : {table : List ℕ} {entries : List (ℕ × First)} {place least : ℕ} → IsLeast table entries place least
+    → place < length entries → ¬ ((get_or entries place (0, Outward)).1 ≡ Outward)
+    → IsLeast table entries (place + 1) least
 least_in {table} {entries} {place} {least} is inside out = record {
-  near = λ k d lt outward. elim (cases_lt k place) [
-    | inl less ↦ is.near k d less outward
-    | inr past ↦
-        let at : get_or entries k d ≡ get_or entries place (0, Outward) = let k_is : k ≡ place = omega arith in rw k_is (get_or_default entries place d (0, Outward) inside) in
-        absurd (out (rw at at outward))
-  ];
+  near = hold_more (λ q. q.1 ≡ Outward → least ≤ slice_index table q.0) entries place inside is.near
+      (λ outward. absurd (out outward));
   from = is.from;
 }
 
 pub by_least : {net : Network} {d x : ℕ} {table : List ℕ} {least : ℕ} → IsNet net.nodes net.links → ¬ (x ≡ d)
-    → IsLeast table (row net.nodes net.links x) (length (row net.nodes net.links x)) least → IsByLinks net.links d table x (one_farther least)
+    → IsLeast table (row net.nodes net.links x) (length (row net.nodes net.links x)) least
+    → IsByLinks net.links d table x (one_farther least)
 by_least {net} {d} {x} {table} {least} is_net apart is = record {
   home = λ e. absurd (apart e);
   near = λ _ w link.
-      let (k, l, e) = row_of_out net.nodes net.links x w is_net link in
       let Near : ℕ × First → Type 0 = λ q. q.1 ≡ Outward → least ≤ slice_index table q.0 in
-      let near : Near (w, Outward) = subst Near e (is.near k (w, Outward) l) in
-      let close : least ≤ slice_index table w = near refl in
+      let close : least ≤ slice_index table w = hold_out Near net.nodes net.links x w is_net is.near link refl in
       omega (arith, close);
   from = λ _ some.
       let far : least ≢ no_distance = λ e. some (rw e refl) in
@@ -73,48 +72,52 @@ by_least {net} {d} {x} {table} {least} is_net apart is = record {
 
 -- The nodes that may be affected
 
-pub listed_more : {table : List ℕ} {old new : ℕ} {entries : List (ℕ × First)} {place : ℕ} {list more : List ℕ} → ListsSome table old new entries place list more
-    → place < length entries
-    → ListsSome table old new entries (place + 1) list (more ++ (get_or entries place (0, Outward)).0 ∷ [])
-listed_more {table} {old} {new} {entries} {place} {list} {more} is inside =
-    let y = (get_or entries place (0, Outward)).0 in
-    record {
-      added = is.added ++ y ∷ [];
-      all = rw is.all (append_assoc list is.added (y ∷ []));
-      passed = λ k e lt inward. elim (cases_lt k place) [
-        | inl less ↦ ⊎_elim (λ h. inl (Contains-append_left is.added (y ∷ []) _ h)) (λ u. inr u) (is.passed k e less inward)
-        | inr past ↦
-            let at : get_or entries k e ≡ get_or entries place (0, Outward) = let k_is : k ≡ place = omega arith in rw k_is (get_or_default entries place e (0, Outward) inside) in
-            rw at (inl (Contains-push is.added y))
-      ];
-    }
-
-pub listed_none : {table : List ℕ} {old new : ℕ} {entries : List (ℕ × First)} {place : ℕ} {list more : List ℕ} → ListsSome table old new entries place list more
-    → place < length entries
-    → ((get_or entries place (0, Outward)).1 ≡ Inward → IsUnaffected (slice_index table (get_or entries place (0, Outward)).0) old new)
-    → ListsSome table old new entries (place + 1) list more
-listed_none {table} {old} {new} {entries} {place} is inside same = record {
-  added = is.added;
-  all = is.all;
-  passed = λ k e lt inward. elim (cases_lt k place) [
-    | inl less ↦ is.passed k e less inward
-    | inr past ↦
-        let at : get_or entries k e ≡ get_or entries place (0, Outward) = let k_is : k ≡ place = omega arith in rw k_is (get_or_default entries place e (0, Outward) inside) in
-        rw at (inr (same (rw at at inward)))
-  ];
+pub some_none : (table : List ℕ) (old new : ℕ) (entries : List (ℕ × First)) (list : List ℕ)
+    → ListsSome table old new entries 0 list list
+some_none table old new entries list = record {
+  added = [];
+  all = sym (append-nil list);
+  passed = λ k e lt. absurd (omega arith);
 }
 
-pub affected_all : {net : Network} {x old : ℕ} {table list more : List ℕ} → IsNet net.nodes net.links → IsListed net.nodes more
-    → ListsSome table old (slice_index table x) (row net.nodes net.links x) (length (row net.nodes net.links x)) list more → ListsAffected net x old table list more
+-- this neighbour may be affected: it is listed if it is
+pub some_more : {n : ℕ} {table : List ℕ} {old new : ℕ} {entries : List (ℕ × First)} {place : ℕ} {list more last : List ℕ}
+    → ListsSome table old new entries place list more → place < length entries
+    → ListsOne n table (get_or entries place (0, Outward)).0 old new more last
+    → ListsSome table old new entries (place + 1) list last
+some_more {n} {table} {old} {new} {entries} {place} {list} {more} {last} is inside one =
+    let e = get_or entries place (0, Outward) in
+    let all = is.added ++ one.added in
+    record {
+      added = all;
+      all = one.all ∙ rw is.all (append_assoc list is.added one.added);
+      passed = hold_more (IsListedIfAffected table old new all) entries place inside
+          (λ k d lt inward. ⊎_elim (λ h. inl (Contains-append_left is.added one.added _ h)) (λ u. inr u)
+          (is.passed k d lt inward))
+          (λ _. ⊎_elim (λ h. inl (Contains-append_right is.added one.added e.0 h)) (λ u. inr u) one.affected);
+    }
+
+-- no link points from this neighbour
+pub some_other : {table : List ℕ} {old new : ℕ} {entries : List (ℕ × First)} {place : ℕ} {list more : List ℕ}
+    → ListsSome table old new entries place list more → place < length entries
+    → ¬ ((get_or entries place (0, Outward)).1 ≡ Inward) → ListsSome table old new entries (place + 1) list more
+some_other {table} {old} {new} {entries} {place} is inside out = record {
+  added = is.added;
+  all = is.all;
+  passed = hold_more (IsListedIfAffected table old new is.added) entries place inside is.passed
+      (λ inward. absurd (out inward));
+}
+
+pub affected_all : {net : Network} {x old : ℕ} {table list more : List ℕ} → IsNet net.nodes net.links
+    → IsListed net.nodes more
+    → ListsSome table old (slice_index table x) (row net.nodes net.links x) (length (row net.nodes net.links x)) list more
+    → ListsAffected net x old table list more
 affected_all {net} {x} {old} {table} is_net listed is = record {
   added = is.added;
   all = is.all;
   listed = listed;
-  affected = λ y link.
-      let (k, l, e) = row_of_in net.nodes net.links x y is_net link in
-      let Done : ℕ × First → Type 0 = λ q. q.1 ≡ Inward → Contains is.added q.0 ⊎ IsUnaffected (slice_index table q.0) old (slice_index table x) in
-      let done : Done (y, Inward) = subst Done e (is.passed k (y, Inward) l) in
-      done refl;
+  affected = λ y link. hold_in (IsListedIfAffected table old (slice_index table x) is.added) net.nodes net.links x y
+      is_net is.passed link refl;
 }
 
 -- One node gets its number

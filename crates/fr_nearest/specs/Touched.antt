@@ -1,26 +1,56 @@
--- Which nodes a change touches, and when a table is out of date only there. This project's own.
-use Rattle.std.specs.Prelude.{◌≡◌, ℕ, ◌<◌, ◌⊎◌, ◌↔◌, List}
+-- How links change between two updates, and when a table is out of date only for that. This project's own.
+use Rattle.std.specs.Prelude.{◌≡◌, ℕ, ◌<◌, ◌⊎◌, List}
 use Rattle.std.specs.List.{All, Contains}
-use Rattle.fr_graph.specs.Links.{Joins, Points}
+use Rattle.fr_graph.specs.Links.{Points}
 use Rattle.fr_graph.specs.Network.{Network}
-use Rattle.fr_nearest.specs.Distances.{AreDistances, Measured}
+use Rattle.fr_graph.specs.declared.edit.Edit.{Edit}
+use Rattle.fr_graph.specs.declared.edit.Edit.TheVariants.{Add, Cut, Join}
+use Rattle.fr_nearest.specs.Distances.{AreDistances}
 use Rattle.fr_nearest.specs.declared.update.Touched.{Touched}
 
--- x is touched: it is one of the single nodes, it has turned, or a neighbour has
-abbrev pub IsTouched : List (ℕ × ℕ) → Touched → ℕ → Type 0
-IsTouched links touched x =
-    Contains touched.nodes.now x ⊎ ((y : ℕ) × (Contains touched.turned.now y × ((x ≡ y) ⊎ Joins links x y)))
+-- x and w are u and v, in either order
+abbrev pub AreEnds : ℕ → ℕ → ℕ → ℕ → Type 0
+AreEnds u v x w = ((x ≡ u) × (w ≡ v)) ⊎ ((x ≡ v) × (w ≡ u))
 
--- only nodes of the network are given
-pub record AreTouchedBelow (n : ℕ) (touched : Touched) : Type 0 where
-  pub nodes : All (λ (x : ℕ). x < n) touched.nodes.now
-  pub turned : All (λ (x : ℕ). x < n) touched.turned.now
+-- the edit removes the link between x and w
+abbrev pub Cuts : Edit → ℕ → ℕ → Type 0
+Cuts (Cut u v) x w = AreEnds u v x w
+Cuts (Add u v) x w = ⊥
+Cuts (Join u v) x w = ⊥
 
--- The table has the distances in earlier links to an earlier destination. Except at touched nodes, the links that leave
--- a node are the same as then, and a node is the destination exactly if it was.
-pub record IsOutOfDate (net : Network) (d : ℕ) (touched : Touched) (m : Measured) : Type 0 where
+-- the edit adds a link between x and w
+abbrev pub Adds : Edit → ℕ → ℕ → Type 0
+Adds (Cut u v) x w = ⊥
+Adds (Add u v) x w = AreEnds u v x w
+Adds (Join u v) x w = AreEnds u v x w
+
+-- one of these edits removes a link between x and w
+abbrev pub IsCut : List Edit → ℕ → ℕ → Type 0
+IsCut edits x w = (e : Edit) × Contains edits e × Cuts e x w
+
+-- one of these edits adds a link between x and w
+abbrev pub IsAdded : List Edit → ℕ → ℕ → Type 0
+IsAdded edits x w = (e : Edit) × Contains edits e × Adds e x w
+
+-- the ends of the edited link are nodes
+abbrev pub HasEndsBelow : ℕ → Edit → Type 0
+HasEndsBelow n (Cut u v) = (u < n) × (v < n)
+HasEndsBelow n (Add u v) = (u < n) × (v < n)
+HasEndsBelow n (Join u v) = (u < n) × (v < n)
+
+-- x or w has turned
+abbrev pub HasTurned : Touched → ℕ → ℕ → Type 0
+HasTurned touched x w = Contains touched.turned.now x ⊎ Contains touched.turned.now w
+
+-- The table has the distances in earlier links to d. Each of those links has been cut, or it is there now, or it has
+-- been reversed at an end that has turned. Each link now has been added, or it was there, or an end of it has turned.
+pub record IsOutOfDate (net : Network) (touched : Touched) (d : ℕ) (table : List ℕ) : Type 0 where
   pub links : List (ℕ × ℕ)
-  pub were : AreDistances net.nodes links m.dest m.table
-  pub below : AreTouchedBelow net.nodes touched
-  pub same : (x w : ℕ) → x < net.nodes → ¬ IsTouched net.links touched x → Points links x w ↔ Points net.links x w
-  pub home : (x : ℕ) → x < net.nodes → ¬ IsTouched net.links touched x → (x ≡ m.dest) ↔ (x ≡ d)
+  pub node : d < net.nodes
+  pub were : AreDistances net.nodes links d table
+  pub edits : All (HasEndsBelow net.nodes) touched.edits.now
+  pub turned : All (λ (x : ℕ). x < net.nodes) touched.turned.now
+  pub kept : (x w : ℕ) → Points links x w
+      → IsCut touched.edits.now x w ⊎ (Points net.links x w ⊎ (Points net.links w x × HasTurned touched x w))
+  pub new : (x w : ℕ) → Points net.links x w
+      → IsAdded touched.edits.now x w ⊎ (Points links x w ⊎ HasTurned touched x w)

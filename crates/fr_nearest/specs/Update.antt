@@ -1,13 +1,11 @@
 -- The steps of an update of distances. For proofs only.
-use Rattle.std.specs.Prelude.{◌≡◌, ◌≢◌, ℕ, ◌<◌, ◌≤◌, ◌++◌, ◌⊎◌, List, drop, length, slice_index, slice_index_or}
+use Rattle.std.specs.Prelude.{◌≡◌, ◌≢◌, ℕ, ◌<◌, ◌≤◌, ◌+◌, ◌++◌, ◌⊎◌, List, drop, length, slice_index, slice_index_or}
 use Rattle.std.specs.List.{All, Contains}
-use Rattle.fr_graph.specs.Links.{Joins, Points}
+use Rattle.fr_graph.specs.Links.{Points}
 use Rattle.fr_graph.specs.Network.{Network}
 use Rattle.fr_graph.specs.declared.first.First.{First}
 use Rattle.fr_graph.specs.declared.first.First.TheVariants.{Inward, Outward}
 use Rattle.fr_nearest.specs.Distances.{AreDistances, no_distance}
-use Rattle.fr_nearest.specs.Touched.{IsTouched}
-use Rattle.fr_nearest.specs.declared.update.Touched.{Touched}
 use Rattle.fr_nearest.specs.Local.{Agrees, IsSmall, one_farther}
 
 -- a node with this number still agrees after one of its ways has got the number `new` in place of `old`
@@ -38,40 +36,78 @@ pub record IsUpdated (net : Network) (d : ℕ) (before table list : List ℕ) : 
   pub listed : IsListed net.nodes list
   pub others : KeepsOthers before table list
 
--- each node that is not touched agrees
-abbrev pub AgreeOutside : Network → ℕ → Touched → List ℕ → Type 0
-AgreeOutside net d touched table =
-    (x : ℕ) → x < net.nodes → ¬ IsTouched net.links touched x → Agrees net.links d table x
+-- the same holds of the entries before this place of a row
+abbrev pub HoldTo : List (ℕ × First) → ℕ → (ℕ × First → Type 0) → Type 0
+HoldTo entries place P = (k : ℕ) (e : ℕ × First) → k < place → P (slice_index_or entries k e)
 
--- x and its neighbours are listed, and nothing is removed
-pub record ListsNear (net : Network) (x : ℕ) (list more : List ℕ) : Type 0 where
-  pub listed : IsListed net.nodes more
-  pub keeps : (y : ℕ) → Contains list y → Contains more y
-  pub near : (y : ℕ) → (y ≡ x) ⊎ Joins net.links y x → Contains more y
+-- x is appended, unless its number agrees after one of its ways has got the number `new` in place of `old`
+pub record ListsOne (n : ℕ) (table : List ℕ) (x old new : ℕ) (list more : List ℕ) : Type 0 where
+  pub added : List ℕ
+  pub all : more ≡ list ++ added
+  pub listed : IsListed n more
+  pub affected : Contains added x ⊎ IsUnaffected (slice_index table x) old new
 
--- the same for several nodes
-pub record ListsTurned (net : Network) (turned list more : List ℕ) : Type 0 where
-  pub listed : IsListed net.nodes more
+-- x is listed, or it agrees after it has lost the way w
+abbrev pub IsListedLoser : List ℕ → List ℕ → ℕ → ℕ → Type 0
+IsListedLoser table list x w = Contains list x ⊎ IsUnaffected (slice_index table x) (slice_index table w) no_distance
+
+-- x is listed, or it agrees after it has gained the way w
+abbrev pub IsListedGainer : List ℕ → List ℕ → ℕ → ℕ → Type 0
+IsListedGainer table list x w = Contains list x ⊎ IsUnaffected (slice_index table x) no_distance (slice_index table w)
+
+-- The list has grown. A node is listed if a way that it may have lost or gained can make its number wrong.
+pub record Lists (n : ℕ) (table : List ℕ) (Lost Gained : ℕ → ℕ → Type 0) (list more : List ℕ) : Type 0 where
+  pub listed : IsListed n more
   pub keeps : (y : ℕ) → Contains list y → Contains more y
-  pub near : (x y : ℕ) → Contains turned x → (y ≡ x) ⊎ Joins net.links y x → Contains more y
+  pub lost : (x w : ℕ) → Lost x w → IsListedLoser table more x w
+  pub gained : (x w : ℕ) → Gained x w → IsListedGainer table more x w
+
+-- w is this node, and points to y
+abbrev pub IsFrom : List (ℕ × ℕ) → ℕ → ℕ → ℕ → Type 0
+IsFrom links x y w = (w ≡ x) × Points links w y
+
+-- w is this node, and y points to it
+abbrev pub IsTo : List (ℕ × ℕ) → ℕ → ℕ → ℕ → Type 0
+IsTo links x y w = (w ≡ x) × Points links y w
+
+-- w has turned, and points to y
+abbrev pub IsFromTurned : List (ℕ × ℕ) → List ℕ → ℕ → ℕ → Type 0
+IsFromTurned links turned y w = Contains turned w × Points links w y
+
+-- w has turned, and y points to it
+abbrev pub IsToTurned : List (ℕ × ℕ) → List ℕ → ℕ → ℕ → Type 0
+IsToTurned links turned y w = Contains turned w × Points links y w
+
+-- the neighbour of this entry of the row of x is listed, or it agrees whichever way the link to x pointed before
+pub record IsNear (table : List ℕ) (x : ℕ) (list : List ℕ) (entry : ℕ × First) : Type 0 where
+  pub lost : entry.1 ≡ Outward → IsListedLoser table list entry.0 x
+  pub gained : entry.1 ≡ Inward → IsListedGainer table list entry.0 x
+
+-- x is appended, and the neighbours of the entries of its row before this place that do not agree
+pub record ListsRow (n : ℕ) (table : List ℕ) (x : ℕ) (entries : List (ℕ × First)) (place : ℕ) (list more : List ℕ)
+    : Type 0 where
+  pub short : length more ≤ length list + 1 + place
+  pub below : All (λ (y : ℕ). y < n) more
+  pub keeps : (y : ℕ) → Contains list y → Contains more y
+  pub here : Contains more x
+  pub near : HoldTo entries place (IsNear table x more)
 
 -- `least` is the least number of the nodes to which the links before this place of a row point
 pub record IsLeast (table : List ℕ) (row : List (ℕ × First)) (place least : ℕ) : Type 0 where
-  pub near : (k : ℕ) (e : ℕ × First) → k < place → (slice_index_or row k e).1 ≡ Outward
-      → least ≤ slice_index table (slice_index_or row k e).0
+  pub near : HoldTo row place (λ e. e.1 ≡ Outward → least ≤ slice_index table e.0)
   pub from : least ≢ no_distance → (w : ℕ) × Contains row (w, Outward) × (least ≡ slice_index table w)
 
--- the neighbours that x may affect have been listed, of those before this place of its row
-abbrev pub HasListed : List ℕ → ℕ → ℕ → List (ℕ × First) → ℕ → List ℕ → Type 0
-HasListed table old new row place added = (k : ℕ) (e : ℕ × First) → k < place → (slice_index_or row k e).1 ≡ Inward
-    → Contains added (slice_index_or row k e).0 ⊎ IsUnaffected (slice_index table (slice_index_or row k e).0) old new
+-- the neighbour of this entry of the row of x is listed if x may affect it
+abbrev pub IsListedIfAffected : List ℕ → ℕ → ℕ → List ℕ → ℕ × First → Type 0
+IsListedIfAffected table old new added entry =
+    entry.1 ≡ Inward → Contains added entry.0 ⊎ IsUnaffected (slice_index table entry.0) old new
 
--- the same, where the list has grown from `list` to `more`
+-- the list has grown by the neighbours that x may affect, of those before this place of its row
 pub record ListsSome (table : List ℕ) (old new : ℕ) (row : List (ℕ × First)) (place : ℕ) (list more : List ℕ)
     : Type 0 where
   pub added : List ℕ
   pub all : more ≡ list ++ added
-  pub passed : HasListed table old new row place added
+  pub passed : HoldTo row place (IsListedIfAffected table old new added)
 
 -- all nodes that x may affect are listed, after those that were in the list
 pub record ListsAffected (net : Network) (x old : ℕ) (table list more : List ℕ) : Type 0 where

@@ -88,21 +88,25 @@ impl Distances {
         })
     }
 
-    /// Updates the distances after a change of the links or of the destination. Each node whose outgoing links have
-    /// changed must be touched, and so must the old and the new destination if they differ. The number of nodes must be
-    /// the same as before. It cannot fail and does not allocate.
+    /// Updates the distances after a change of the links or of the destination. Each earlier link must be removed by
+    /// one of the edits, still be there, or be reversed at a node that has turned. Each link of the network must be
+    /// added by one of the edits, have been there, or have an end that has turned. The number of nodes must be the same
+    /// as before. It cannot fail and does not allocate.
     ///
-    /// O(t d + c d) for t touched nodes and c changes of distances, at most O(n + m): a change that takes more than n
-    /// steps is measured anew.
+    /// O(e + (l + c d) d) for e edits, l nodes that a lost or gained way can make wrong, and c changes of distances. Of
+    /// an edited link that is only the farther end, if at all. Of a node that has turned, it is the node itself and
+    /// neighbours that are farther from the destination. If more than n nodes have to be looked at, the distances are
+    /// measured anew, in O(n + m).
     pub fn renew(&mut self, net: &Net, dest: u32, touched: &Touched<'_>)
         requires node { dest < net.now.nodes }
-        requires old { IsOutOfDate net.now dest touched.now self.old }
+        requires old { IsOutOfDate net.now touched.now self.old.dest self.old.table }
         ensures { IsRenewed net.now dest self.old self.new }
     {
         net.network_law();
+        let last = self.dest;
         self.dest = dest;
         self.changes.forget(&self.of);
-        if update(net, dest, touched, &mut self.of, &mut self.list) {
+        if update(net, last, dest, touched, &mut self.of, &mut self.list) {
             self.changes.note_some(&self.of, &self.list);
         } else {
             measure_all(net, dest, &mut self.of, &mut self.list);

@@ -1,4 +1,5 @@
 use Rattle.std.proofs.Common.{arith, get_or, length, refl, rules, ◌∙◌, ◌≡◌}
+use Rattle.fr_nearest.proofs.Entries.{entry_inside}
 use Rattle.fr_graph.proofs.SideRows.{entry_below}
 use Rattle.fr_graph.specs.Rows.{row}
 use Rattle.fr_graph.specs.declared.first.First.TheVariants.{Inward, Outward}
@@ -8,14 +9,9 @@ use Rattle.fr_nearest.proofs.search.reach_from.Goals as goal
 use Rattle.fr_nearest.proofs.search.reach_from.Goals.{then-eq+then-distances-y, else-eq, else-eq-via-then-eq+else-distances-y, else-eq-via-else-eq}
 
 pub bounds-distances-y : goal.bounds-distances-y
-bounds-distances-y c =
-    let net = c.args.net.now in
-    omega (
-      arith,
-      entry_below net.nodes net.links c.index.result.now c.row-row.result.now c.loop-y.y-index (0, Outward) c.row-row.ensures c.loop-y-test.true,
-      c.loop-y.invariant.reading.one_each,
-      c.requires.search.1.one_each,
-    )
+bounds-distances-y c = entry_inside c.args.net.now c.index.result.now c.row-row.result.now c.loop-y.y-index
+    c.loop-y.distances c.row-row.ensures c.loop-y-test.true
+    (c.loop-y.invariant.reading.one_each ∙ c.requires.search.1.one_each)
 
 pub push_reserved-requires : goal.push_reserved-requires
 push_reserved-requires c =

@@ -1,29 +1,60 @@
-use Rattle.std.proofs.Common.{List, ap, arith, length, subst, ◌∙◌, ◌≤◌, ◌≡◌, ℕ}
+use Rattle.std.proofs.Common.{arith, inr, length, rules, ◌∙◌, ◌≡◌, ◌≤◌}
 use Rattle.fr_graph.proofs.SideRows.{entry_below}
 use Rattle.fr_graph.specs.Rows.{row}
-use Rattle.fr_graph.specs.declared.first.First.{First}
 use Rattle.fr_graph.specs.declared.first.First.TheVariants.{Outward}
-use Rattle.fr_nearest.proofs.Renewing.{ListsRow, near_all, row_more}
+use Rattle.fr_nearest.specs.Update.{ListsRow}
+use Rattle.fr_nearest.proofs.Entries.{entry_inside}
+use Rattle.fr_nearest.proofs.Listing.{row_all, row_first, row_listed, row_none}
 use Rattle.fr_nearest.proofs.update.list_near.Goals as goal
+use Rattle.fr_nearest.proofs.update.list_near.Goals.{then-is_affected_now, else-is_affected_now}
+
+pub bounds-distances-w : goal.bounds-distances-w
+bounds-distances-w c = entry_inside c.args.net.now c.args.x c.row-row.result.now c.loop-w.w-index c.args.distances.now
+    c.row-row.ensures c.loop-w-test.true c.requires.one_each
+
+pub loop-w-init : goal.loop-w-init
+loop-w-init c =
+    let push = c.push_reserved.ensures in
+    record {
+      row = rw push.items (row_first c.args.net.now.nodes c.args.distances.now c.args.x c.row-row.result.now
+          c.args.list.now.items c.requires.node c.requires.listed.below);
+      room = push.capacity;
+    }
 
 pub loop-w-preserved : goal.loop-w-preserved
 loop-w-preserved c =
     let net = c.args.net.now in
     let inv = c.loop-w.invariant in
-    let push = c.push_reserved-in-loop-w.ensures in
-    let low = entry_below net.nodes net.links c.args.x c.row-row.result.now c.loop-w.w-index (0, Outward) c.row-row.ensures c.loop-w-test.true in
-    record {
-      row = rw push.items (row_more (0, Outward) c.loop-w-test.true low inv.row);
-      room = push.capacity ∙ inv.room;
-    }
+    let low = entry_below net.nodes net.links c.args.x c.row-row.result.now c.loop-w.w-index (0, Outward)
+    c.row-row.ensures c.loop-w-test.true in
+    elim c.if-is_affected_now.branch [
+      | then-is_affected_now w ↦
+          let push = w.push_reserved-then-is_affected_now.ensures in
+          rw w.list-is record {
+            row = rw push.items (row_listed c.loop-w-test.true low inv.row);
+            room = push.capacity ∙ inv.room;
+          }
+      | else-is_affected_now w ↦
+          let same = c.is_affected_now.ensures in
+          rw w.list-is record {
+            row = row_none c.loop-w-test.true
+                (record {
+                  lost = λ outward. inr (same.lost (λ e. search rules) outward);
+                  gained = λ inward. inr (same.gained (λ e. search rules) inward);
+                })
+                inv.row;
+            room = inv.room;
+          }
+    ]
 
-pub returns-clause-near : goal.returns-clause-near
-returns-clause-near c =
+pub returns-clause-listed : goal.returns-clause-listed
+returns-clause-listed c =
     let net = c.args.net.now in
     let inv = c.loop-w.invariant in
     let all : c.loop-w.w-index ≡ length c.row-row.result.now = omega arith in
-    let listed : ListsRow net (row net.nodes net.links c.args.x) c.loop-w.w-index c.args.x c.args.list.now.items c.loop-w.list.items =
-    subst (λ (es : List (ℕ × First)). ListsRow net es c.loop-w.w-index c.args.x c.args.list.now.items c.loop-w.list.items) c.row-row.ensures inv.row in
     let short : length c.loop-w.list.items ≤ net.nodes =
-    omega (arith, inv.row.long, all, c.if-len-row.false, c.len.ensures, c.nodes.ensures.value, c.args.list.now.ok.0) in
-    λ _. near_all c.loop-w.w-index c.network_law.ensures.is_net (omega (arith, all, ap length c.row-row.ensures)) short listed
+    omega (arith, inv.row.short, all, c.if-len-row.false, c.len.ensures, c.requires.one_each, c.args.list.now.ok.0) in
+    let entries = row net.nodes net.links c.args.x in
+    let whole : ListsRow net.nodes c.args.distances.now c.args.x entries (length entries) c.args.list.now.items
+    c.loop-w.list.items = rw (all, c.row-row.ensures) at inv.row in
+    λ _. row_all c.network_law.ensures.is_net short whole

@@ -1,5 +1,5 @@
 use Rattle.std.proofs.Common.{List, ap, arith, get_or, length, refl, rules, subst, sym, ℕ, ◌∙◌, ◌≡◌}
-use Rattle.fr_graph.proofs.SideRows.{entry_below}
+use Rattle.fr_nearest.proofs.Entries.{entry_inside}
 use Rattle.fr_graph.specs.Rows.{row}
 use Rattle.fr_graph.specs.declared.first.First.{First}
 use Rattle.fr_graph.specs.declared.first.First.TheVariants.{Outward}
@@ -9,13 +9,8 @@ use Rattle.fr_nearest.proofs.ways.list_ways.Goals as goal
 use Rattle.fr_nearest.proofs.ways.list_ways.Goals.{then-eq+then-distances-w, else-eq, else-eq-via-then-eq+else-distances-w, else-eq-via-else-eq}
 
 pub bounds-distances-w : goal.bounds-distances-w
-bounds-distances-w c =
-    let net = c.args.net.now in
-    omega (
-      arith,
-      entry_below net.nodes net.links c.args.x c.row-row.result.now c.loop-w.w-index (0, Outward) c.row-row.ensures c.loop-w-test.true,
-      c.requires.one_each,
-    )
+bounds-distances-w c = entry_inside c.args.net.now c.args.x c.row-row.result.now c.loop-w.w-index c.args.distances.now
+    c.row-row.ensures c.loop-w-test.true c.requires.one_each
 
 pub push_reserved-requires : goal.push_reserved-requires
 push_reserved-requires c =

@@ -1,5 +1,5 @@
-use Rattle.std.proofs.Common.{ap, arith, get_or, length, rules, slice_index, ◌≡◌, ◌≤◌}
-use Rattle.fr_graph.proofs.SideRows.{entry_below}
+use Rattle.std.proofs.Common.{ap, arith, get_or, length, rules, slice_index, ◌∙◌, ◌≡◌, ◌≤◌}
+use Rattle.fr_nearest.proofs.Entries.{entry_inside}
 use Rattle.fr_graph.specs.declared.first.First.TheVariants.{Outward}
 use Rattle.fr_nearest.specs.Distances.{no_distance}
 use Rattle.fr_nearest.proofs.Ranking.{best_other, best_way, nearest_answer}
@@ -7,14 +7,9 @@ use Rattle.fr_nearest.proofs.distances.Distances.first_way.Goals as goal
 use Rattle.fr_nearest.proofs.distances.Distances.first_way.Goals.{then-eq+then-distance-least, else-eq, else-eq-via-then-eq+else-distance-least, else-eq-via-else-eq}
 
 pub bounds-distances-w : goal.bounds-distances-w
-bounds-distances-w c =
-    let net = c.args.net.now in
-    omega (
-      arith,
-      entry_below net.nodes net.links c.args.x c.row-row.result.now c.loop-w.w-index (0, Outward) c.row-row.ensures c.loop-w-test.true,
-      c.requires.measured.one_each,
-      ap length c.numbers-distances.ensures,
-    )
+bounds-distances-w c = entry_inside c.args.net.now c.args.x c.row-row.result.now c.loop-w.w-index
+    c.numbers-distances.result.now c.row-row.ensures c.loop-w-test.true
+    (ap length c.numbers-distances.ensures ∙ c.requires.measured.one_each)
 
 pub loop-w-preserved : goal.loop-w-preserved
 loop-w-preserved c =

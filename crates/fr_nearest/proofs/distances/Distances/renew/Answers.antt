@@ -4,15 +4,14 @@ use Rattle.std.specs.Vec.{with_items}
 use Rattle.fr_nearest.specs.Changes.{AreAllNoted, IsForgotten}
 use Rattle.fr_nearest.specs.Distances.{IsRenewed, Measured}
 use Rattle.fr_nearest.specs.Touched.{IsOutOfDate}
-use Rattle.fr_nearest.specs.Inside.{measured_in}
 use Rattle.fr_nearest.specs.Local.{IsSmall}
-use Rattle.fr_nearest.specs.Update.{AgreeOutside, KeepsOthers}
-use Rattle.fr_nearest.proofs.Renewing.{agree_outside, renewed}
+use Rattle.fr_nearest.specs.Update.{KeepsOthers}
+use Rattle.fr_nearest.proofs.Renewing.{renewed}
 use Rattle.fr_nearest.proofs.distances.Distances.renew.Goals as goal
 use Rattle.fr_nearest.proofs.distances.Distances.renew.Goals.{After-forget, After-deref-then-update}
 
-old : (c : After-forget) → IsOutOfDate c.args.net.now c.args.dest c.args.touched.now (measured_in c.self.inside)
-old c = rw c.self.view_is c.requires.old
+old : (c : After-forget) → IsOutOfDate c.args.net.now c.args.touched.now c.self.inside.dest c.self.inside.of.items
+old c = subst (λ (m : Measured). IsOutOfDate c.args.net.now c.args.touched.now m.dest m.table) (sym c.self.view_is) c.requires.old
 
 one_each : (c : After-forget) → length c.self.inside.of.items ≡ c.args.net.now.nodes
 one_each c = (old c).were.one_each
@@ -26,12 +25,11 @@ forgotten c = rw c.deref.ensures.value at c.forget.ensures
 small : (c : After-forget) → IsSmall c.args.net.now.nodes c.self.inside.of.items
 small c = subst (λ (n : ℕ). IsSmall n c.self.inside.of.items) (one_each c) c.self.invariant.small
 
-pub update-requires-clause-agree : goal.update-requires-clause-agree
-update-requires-clause-agree c =
-    let at = (goal.at.update-requires-clause-agree c).After-forget in
-    let net = c.args.net.now in
-    subst (λ (xs : List ℕ). AgreeOutside net c.args.dest c.args.touched.now xs) (sym c.deref_mut.ensures.value)
-    (agree_outside net c.args.dest c.args.touched.now (measured_in c.self.inside) c.network_law.ensures.is_net c.network_law.ensures.limits.nodes_few (small at) (old at))
+pub update-requires-clause-old : goal.update-requires-clause-old
+update-requires-clause-old c =
+    let at = (goal.at.update-requires-clause-old c).After-forget in
+    subst (λ (xs : List ℕ). IsOutOfDate c.args.net.now c.args.touched.now c.self.inside.dest xs)
+    (sym c.deref_mut.ensures.value) (old at)
 
 -- the table after an update
 table_is : (c : After-deref-then-update) → (with_items c.self.inside.of c.update.new.distances).items ≡ c.update.new.distances

@@ -1,0 +1,29 @@
+use Rattle.std.proofs.Common.{List, arith, length, refl, subst, ◌∙◌}
+use Rattle.std.proofs.lemmas.List.{take_all}
+use Rattle.fr_graph.specs.declared.edit.Edit.{Edit}
+use Rattle.fr_nearest.specs.Touched.{IsAdded, IsCut}
+use Rattle.fr_nearest.specs.Update.{Lists}
+use Rattle.fr_nearest.proofs.Listing.{edits_more, edits_none}
+use Rattle.fr_nearest.proofs.update.list_edits.Goals as goal
+
+pub loop-edit-init : goal.loop-edit-init
+loop-edit-init c = record {
+  lists = edits_none (length c.args.distances.now) c.args.distances.now c.args.list.now.items c.requires.listed;
+  room = refl;
+}
+
+pub loop-edit-preserved : goal.loop-edit-preserved
+loop-edit-preserved c =
+    let inv = c.loop-edit.invariant in
+    record {
+      lists = edits_more c.args.edits.now c.loop-edit.edit-index _ c.loop-edit-test.true inv.lists
+          (c.list_ends.ensures.listed c.if-not-list_ends.false);
+      room = c.list_ends.ensures.room ∙ inv.room;
+    }
+
+pub returns-clause-listed : goal.returns-clause-listed
+returns-clause-listed c =
+    let n = length c.args.distances.now in
+    let table = c.args.distances.now in
+    λ _. subst (λ (es : List Edit). Lists n table (IsCut es) (IsAdded es) c.args.list.now.items c.loop-edit.list.items)
+    (take_all c.loop-edit.edit-index c.args.edits.now (omega (arith, c.loop-edit-test.false))) c.loop-edit.invariant.lists
