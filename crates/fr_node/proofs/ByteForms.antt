@@ -1,6 +1,7 @@
 -- What the bytes of a message are.
-use Rattle.std.proofs.Common.{List, ap, arith, drop, get_or, length, refl, sym, take, w32, w64, ℕ, ⊎_elim, ◌+◌, ◌<◌, ◌^◌, ◌∙◌, ◌≡◌}
+use Rattle.std.proofs.Common.{List, ap, arith, drop, get_or, length, refl, subst, sym, take, w32, w64, ℕ, ⊎_elim, ◌+◌, ◌++◌, ◌-◌, ◌<◌, ◌^◌, ◌∙◌, ◌≡◌}
 use Rattle.std.specs.Int.{from_be_bytes}
+use Rattle.std.proofs.Math.Seq.{take-add}
 use Rattle.std.proofs.lemmas.Bool.{cases_lt}
 use Rattle.std.proofs.lemmas.List.{get_or-drop, get_or-take, get_or_past, length-take}
 use Rattle.std.proofs.lemmas.Nat.{from_be_bytes-to_be_bytes_4, from_be_bytes-to_be_bytes_8}
@@ -8,7 +9,7 @@ use Rattle.fr_node.specs.declared.message.Message.{Message}
 use Rattle.fr_node.specs.Bytes.{OneMessage, bytes_4, bytes_8, bytes_of}
 
 -- a part of some bytes is bytes
-pub piece_fits : (bytes : List ℕ) (at n : ℕ) → ((i : ℕ) → get_or bytes i 0 < 256) → (i : ℕ)
+piece_fits : (bytes : List ℕ) (at n : ℕ) → ((i : ℕ) → get_or bytes i 0 < 256) → (i : ℕ)
     → get_or (take n (drop at bytes)) i 0 < 256
 piece_fits bytes at n fits i = ⊎_elim
     (λ within. omega (arith, get_or-take n (drop at bytes) i 0 within, get_or-drop at bytes i 0, fits (at + i)))
@@ -22,6 +23,20 @@ piece_fits bytes at n fits i = ⊎_elim
       )),
     ))
     (cases_lt i n)
+
+-- the n bytes of `piece` were copied from index `at` on
+pub copied_fits : (bytes piece : List ℕ) (at n : ℕ) → piece ≡ take (at + n - at) (drop at bytes)
+    → ((i : ℕ) → get_or bytes i 0 < 256) → (i : ℕ) → get_or piece i 0 < 256
+copied_fits bytes piece at n e fits = subst (λ (p : List ℕ). (i : ℕ) → get_or p i 0 < 256) (sym e)
+    (piece_fits bytes at (at + n - at) fits)
+
+pub copied_after : (bytes piece : List ℕ) (at n : ℕ) → piece ≡ take (at + n - at) (drop at bytes)
+    → take (at + n) bytes ≡ take at bytes ++ piece
+copied_after bytes piece at n e = take-add at n bytes ∙ ap (λ (p : List ℕ). take at bytes ++ p)
+    (ap (λ (k : ℕ). take k (drop at bytes)) width ∙ sym e)
+  where
+    width : n ≡ at + n - at
+    width = omega arith
 
 pub length-bytes_of : (m : Message) → length (bytes_of m) ≡ 56
 unfolding bytes_4 bytes_8

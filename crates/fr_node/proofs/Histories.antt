@@ -2,7 +2,7 @@
 use Rattle.std.proofs.Common.{arith, cond, ltb, refl, ℕ, ⊎_elim, ◌+◌, ◌<◌, ◌≡◌, ◌≤◌}
 use Rattle.std.proofs.lemmas.Bool.{cases_lt, le-ltb, lt-ltb}
 use Rattle.fr_node.specs.declared.own.Own.{Own}
-use Rattle.fr_node.specs.Histories.{Announces, IsHistory}
+use Rattle.fr_node.specs.Histories.{Announces}
 
 -- h up to number n, and v under later numbers
 abbrev followed_by : (ℕ → ℕ) → ℕ → ℕ → ℕ → ℕ
@@ -14,6 +14,14 @@ followed_by-before h n v m l = rw (le-ltb n m l) refl
 followed_by-after : (h : ℕ → ℕ) (n v m : ℕ) → n < m → followed_by h n v m ≡ v
 followed_by-after h n v m l = rw (lt-ltb n m l) refl
 
+-- if the heights under some numbers are at least `low`, and v is too, then they are with v under the next number
+still_at_least : (h : ℕ → ℕ) (last v low since : ℕ) → low ≤ v → ((n : ℕ) → since ≤ n → n ≤ last → low ≤ h n)
+    → (n : ℕ) → since ≤ n → n ≤ last + 1 → low ≤ followed_by h last v n
+still_at_least h last v low since here before n from upto = ⊎_elim
+    (λ l. omega (arith, followed_by-after h last v n l, here))
+    (λ l. omega (arith, followed_by-before h last v n l, before n from l))
+    (cases_lt last n)
+
 pub Announces-raised : (own : Own) (v : ℕ) → own.announced < v
     → Announces own (record own { announced = v; number = own.number + 1; announced_since = own.number + 1 })
 Announces-raised own v higher = record {
@@ -24,10 +32,7 @@ Announces-raised own v higher = record {
     followed_by h own.number v,
     record {
       last = followed_by-after h own.number v (own.number + 1) (omega arith);
-      used = λ n since upto. ⊎_elim
-          (λ l. omega (arith, followed_by-after h own.number v n l, b.order))
-          (λ l. omega (arith, followed_by-before h own.number v n l, b.used n since l))
-          (cases_lt own.number n);
+      used = still_at_least h own.number v own.used own.used_since (omega (arith, b.order)) b.used;
       announced = λ n since upto. omega (arith, followed_by-after h own.number v n (omega arith));
       order = omega (arith, b.order);
       begins = (b.begins.0, omega arith);
@@ -46,14 +51,10 @@ Announces-lowered own v lower = record {
     followed_by h own.number v,
     record {
       last = followed_by-after h own.number v (own.number + 1) (omega arith);
-      used = λ n since upto. ⊎_elim
-          (λ l. omega (arith, followed_by-after h own.number v n l))
-          (λ l. omega (arith, followed_by-before h own.number v n l, b.used n since l))
-          (cases_lt own.number n);
-      announced = λ n since upto. ⊎_elim
-          (λ l. omega (arith, followed_by-after h own.number v n l))
-          (λ l. omega (arith, followed_by-before h own.number v n l, b.announced n since l, b.order))
-          (cases_lt own.number n);
+      used = still_at_least h own.number v v own.used_since (omega arith)
+          (λ n since upto. omega (arith, b.used n since upto));
+      announced = still_at_least h own.number v v own.announced_since (omega arith)
+          (λ n since upto. omega (arith, b.announced n since upto, b.order));
       order = omega arith;
       begins = b.begins;
     },

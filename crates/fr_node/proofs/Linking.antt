@@ -1,6 +1,6 @@
 -- One link of a list has changed.
-use Rattle.std.proofs.Common.{Bool, List, None, Some, ap, arith, false, get_or, inl, inr, length, map, refl, set, subst, sym, true, ℕ, ⊎_elim, ◌<◌, ◌==◌, ◌≡◌, ◌≢◌, ◌⊎◌, ◌∙◌}
-use Rattle.std.specs.List.{position, position_or_len}
+use Rattle.std.proofs.Common.{Bool, List, Some, ap, arith, false, get_or, length, map, refl, set, subst, sym, true, ℕ, ⊎_elim, ◌<◌, ◌==◌, ◌≡◌, ◌≢◌, ◌∙◌}
+use Rattle.std.specs.List.{position}
 use Rattle.std.proofs.Math.Seq.{map-set_same}
 use Rattle.std.proofs.lemmas.Bool.{lt-ltb}
 use Rattle.std.proofs.lemmas.Bool.Decides.{nat_tests}

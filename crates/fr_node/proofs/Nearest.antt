@@ -1,10 +1,11 @@
 -- The least distance of the neighbours so far.
-use Rattle.std.proofs.Common.{List, MatchOption, None, Option, Some, ap, arith, false, get_or, length, min, subst, sym, true, ℕ, ⊎_elim, ◌+◌, ◌<◌, ◌≡◌, ◌≤◌, ◌∙◌}
-use Rattle.std.proofs.lemmas.Bool.{cases_lt}
+use Rattle.std.proofs.Common.{IsTrue, List, MatchOption, None, Option, Some, add-one, ap, arith, false, get_or, length, min, refl, subst, suc, sym, true, zero, ℕ, ⊎_elim, ◌+◌, ◌<◌, ◌≡◌, ◌≤◌, ◌∙◌}
+use Rattle.std.proofs.lemmas.Bool.{cases_Bool, cases_lt}
 use Rattle.std.proofs.lemmas.List.{get_or_default}
 use Rattle.fr_node.specs.declared.link.Link.{Link}
+use Rattle.fr_node.specs.declared.node.Node.{Node}
 use Rattle.fr_node.specs.declared.own.Own.{Own}
-use Rattle.fr_node.specs.Distances.{HasNoWay, IsNearest}
+use Rattle.fr_node.specs.Distances.{HasNoWay, IsDistance, IsNearest, cap_of}
 use Rattle.fr_node.specs.Links.{is_way, unknown}
 
 -- r is the least distance of the first n links on which packets may be sent
@@ -80,3 +81,46 @@ nearest_once own ls a b x y = omega (
   x.least y.some.0 y.some.1 y.some.2,
   y.least x.some.0 x.some.1 x.some.2,
 )
+
+nearer_of : Option ℕ → ℕ → ℕ
+nearer_of None d = d
+nearer_of (Some k) d = min k d
+
+nearer_is : (r : Option ℕ) (d : ℕ) → MatchOption r (nearer_of r d ≡ d) (λ k. nearer_of r d ≡ min k d)
+unfolding nearer_of
+nearer_is None d = refl
+nearer_is (Some k) d = refl
+
+-- some number is the least distance of the first n links, or there is none
+some_nearest : (own : Own) (ls : List Link) (n : ℕ) → (r : Option ℕ) × IsNearestOf own ls n r
+some_nearest own ls zero = (None, λ k l. absurd (omega (arith, l)))
+some_nearest own ls (suc n) = let before = some_nearest own ls n in rw (← add-one n) (⊎_elim
+    (λ t. (
+      Some (nearer_of before.0 (get_or ls n unknown).distance),
+      more own ls n before.0 (nearer_of before.0 (get_or ls n unknown).distance) before.1 t
+          (nearer_is before.0 (get_or ls n unknown).distance),
+    ))
+    (λ f. (before.0, same own ls n before.0 before.1 f))
+    (cases_Bool (is_way own (get_or ls n unknown))))
+
+by_nearest : (n : Node) (a b : ℕ) (r : Option ℕ) → ¬ IsTrue n.gateway
+    → MatchOption r (HasNoWay n.own n.links.items) (IsNearest n.own n.links.items)
+    → IsDistance n a → IsDistance n b → a ≡ b
+by_nearest n a b None router none x y = let far : (k : ℕ) → IsNearest n.own n.links.items k → cap_of n.policy.rise ≤ k
+    = λ k k_is. absurd (not_both n.own (get_or n.links.items k_is.some.0 unknown) (none k_is.some.0 k_is.some.1)
+    k_is.some.2) in
+    omega (arith, x.far router far, y.far router far)
+by_nearest n a b (Some d) router at x y = ⊎_elim
+    (λ less. omega (arith, x.near router d at less, y.near router d at less))
+    (λ more. let far : (k : ℕ) → IsNearest n.own n.links.items k → cap_of n.policy.rise ≤ k
+    = λ k k_is. omega (arith, more, nearest_once n.own n.links.items k d k_is at) in
+    omega (arith, x.far router far, y.far router far))
+    (cases_lt d (cap_of n.policy.rise))
+
+-- a node has one distance
+pub distance_once : (n : Node) (a b : ℕ) → IsDistance n a → IsDistance n b → a ≡ b
+distance_once n a b x y = ⊎_elim
+    (λ g. omega (arith, x.gateway g, y.gateway g))
+    (λ f. let found = some_nearest n.own n.links.items (length n.links.items) in
+    by_nearest n a b found.0 (λ g. cc) (nearest_all n.own n.links.items (length n.links.items) found.0 refl found.1) x y)
+    (cases_Bool n.gateway)

@@ -1,5 +1,5 @@
 -- What holds at every moment, and that each step keeps it.
-use Rattle.std.proofs.Common.{Contains, List, [], ap, arith, subst, ℕ, ⊎_elim, ◌≡◌, ◌<◌, ◌≤◌}
+use Rattle.std.proofs.Common.{Contains, List, [], ap, arith, subst, sym, ℕ, ⊎_elim, ◌≡◌, ◌<◌, ◌≤◌}
 use Rattle.fr_node.specs.declared.message.Message.{Message}
 use Rattle.fr_node.specs.Routers.{GoesOn, IsFrom, IsSaidBy, IsStart, IsStep, Net, Restarts}
 
@@ -161,6 +161,17 @@ is_old : (s t : Net) → IsStep s t → (m : Message) → Contains t.pool m → 
 is_old s t step m h l = ⊎_elim (λ old. old) (λ (new : IsSaidBy (s.router m.from) m). absurd (omega
     (arith, l, new.boot))) (step.new m h)
 
+-- a start of m's router that is over was over before, if the router has not restarted
+was_over : (s t : Net) (m k : Message) → m.from ≡ k.to → m.boot < (t.router m.from).boot
+    → (t.router k.to).boot ≡ (s.router k.to).boot → m.boot < (s.router m.from).boot
+was_over s t m k e l same = omega (
+  arith,
+  l,
+  same,
+  ap (λ (y : ℕ). (s.router y).boot) e,
+  ap (λ (y : ℕ). (t.router y).boot) e,
+)
+
 apart_kept : (s t : Net) → KeepsRule s → IsStep s t → (m k : Message) → Contains t.pool m → Contains t.pool k
     → m.from ≡ k.to → m.to ≡ k.from
     → m.boot < (t.router m.from).boot → k.boot < (t.router k.from).boot → m.echo ≡ (t.router m.to).boot
@@ -168,22 +179,8 @@ apart_kept : (s t : Net) → KeepsRule s → IsStep s t → (m k : Message) → 
 apart_kept s t rule step m k hm hk a b lm lk em ek =
     let to_m = same_start s t rule step m hm em in
     let to_k = same_start s t rule step k hk ek in
-    let before_m : m.boot < (s.router m.from).boot = omega (
-      arith,
-      lm,
-      to_k,
-      ap (λ (y : ℕ).
-          (s.router y).boot) a,
-      ap (λ (y : ℕ). (t.router y).boot) a,
-    ) in
-    let before_k : k.boot < (s.router k.from).boot = omega (
-      arith,
-      lk,
-      to_m,
-      ap (λ (y : ℕ).
-          (s.router y).boot) b,
-      ap (λ (y : ℕ). (t.router y).boot) b,
-    ) in
+    let before_m = was_over s t m k a lm to_k in
+    let before_k = was_over s t k m (sym b) lk to_m in
     rule.apart m k (is_old s t step m hm before_m) (is_old s t step k hk before_k) a b before_m before_k
     (omega (arith, em, to_m)) (omega (arith, ek, to_k))
 

@@ -7,10 +7,11 @@ use Rattle.fr_node.specs.declared.link.Link.{Link}
 use Rattle.fr_node.specs.declared.message.Message.{Message}
 use Rattle.fr_node.specs.declared.node.Node.{Node}
 use Rattle.fr_node.specs.declared.own.Own.{Own}
-use Rattle.fr_node.specs.Histories.{Announces, IsHistory}
-use Rattle.fr_node.specs.Links.{Hears, IsHeard, IsKnown, Says, SetsUp, is_way, link_to, place_of}
+use Rattle.fr_node.specs.Histories.{Announces}
+use Rattle.fr_node.specs.Links.{Hears, IsHeard, Says, SetsUp, is_way, link_to, place_of}
 use Rattle.fr_node.specs.Nodes.{Steps, router}
-use Rattle.fr_node.specs.Routers.{GoesOn, IsBelow, IsFrom, IsWay, TakesAnswer, TakesHeight, TakesStart}
+use Rattle.fr_node.specs.Policies.{Acts}
+use Rattle.fr_node.specs.Routers.{IsBelow, IsFrom, IsWay}
 use Rattle.fr_node.proofs.Histories.{Announces-none}
 use Rattle.fr_node.proofs.Linking.{IsAt, found_at}
 
@@ -185,27 +186,43 @@ steps pool old new says takes = record {
   );
 }
 
--- the links change first, and then what the node knows of itself
-in_turn : (pool : List Message) (old mid new : Node) → mid ≡ record old { links = mid.links }
-    → new ≡ record mid { own = new.own }
-    → Announces mid.own new.own
-    → ((w : ℕ) → Takes pool old.own.me old.own.boot w (link_to old.links.items w) (link_to mid.links.items w))
-    → Steps pool old new
-in_turn pool old mid new first second says takes = steps pool old new
-    (subst (λ (o : Own). Announces o new.own) (ap (λ (n : Node). n.own) first) says)
-    (λ w. subst (λ (ks : List Link). Takes pool old.own.me old.own.boot w (link_to old.links.items w) (link_to ks w))
-    (sym (ap (λ (n : Node). n.links.items) second)) (takes w))
+-- the links of a node change first, and then what it knows of itself
+pub record InTurn (old mid new : Node) : Type 0 where
+  pub links : mid ≡ record old { links = mid.links }
+  pub own : new ≡ record mid { own = new.own }
+  pub announces : Announces mid.own new.own
+  pub acts : Acts mid new.own
 
-pub steps_heard : (m : Message) (old mid new : Node) → mid ≡ record old { links = mid.links }
-    → Hears old.own m old.links.items mid.links.items → new ≡ record mid { own = new.own } → Announces mid.own new.own
-    → Steps (m ∷ []) old new
-steps_heard m old mid new first hears second says = in_turn (m ∷ []) old mid new first second says
+-- what holds of the node then
+pub record IsEvent (pool : List Message) (old new : Node) : Type 0 where
+  pub same : (new.gateway ≡ old.gateway) × (new.policy ≡ old.policy)
+  pub policy : Acts (record old { links = new.links }) new.own
+  pub step : Steps pool old new
+
+in_turn : (pool : List Message) (old mid new : Node) → InTurn old mid new
+    → ((w : ℕ) → Takes pool old.own.me old.own.boot w (link_to old.links.items w) (link_to mid.links.items w))
+    → IsEvent pool old new
+in_turn pool old mid new turn takes = record {
+  same = (
+    ap (λ (n : Node). n.gateway) turn.own ∙ ap (λ (n : Node). n.gateway) turn.links,
+    ap (λ (n : Node). n.policy) turn.own ∙ ap (λ (n : Node). n.policy) turn.links,
+  );
+  policy = subst (λ (n : Node). Acts n new.own)
+      (turn.links ∙ ap (λ ls. record old { links = ls }) (sym (ap (λ (n : Node). n.links) turn.own))) turn.acts;
+  step = steps pool old new
+      (subst (λ (o : Own). Announces o new.own) (ap (λ (n : Node). n.own) turn.links) turn.announces)
+      (λ w. subst (λ (ks : List Link). Takes pool old.own.me old.own.boot w (link_to old.links.items w) (link_to ks w))
+      (sym (ap (λ (n : Node). n.links.items) turn.own)) (takes w));
+}
+
+pub after_hearing : (m : Message) (old mid new : Node) → InTurn old mid new
+    → Hears old.own m old.links.items mid.links.items → IsEvent (m ∷ []) old new
+after_hearing m old mid new turn hears = in_turn (m ∷ []) old mid new turn
     (takes_hears old.own m old.links.items mid.links.items hears)
 
-pub steps_up : (w : ℕ) (up : Bool) (old mid new : Node) → mid ≡ record old { links = mid.links }
-    → SetsUp w up old.links.items mid.links.items → new ≡ record mid { own = new.own } → Announces mid.own new.own
-    → Steps [] old new
-steps_up w up old mid new first sets second says = in_turn [] old mid new first second says
+pub after_setting : (w : ℕ) (up : Bool) (old mid new : Node) → InTurn old mid new
+    → SetsUp w up old.links.items mid.links.items → IsEvent [] old new
+after_setting w up old mid new turn sets = in_turn [] old mid new turn
     (takes_up [] old.own.me old.own.boot w up old.links.items mid.links.items sets)
 
 pub steps_said : (w : ℕ) (m : Message) (old new : Node) → new.own ≡ old.own → Says w m old.links.items new.links.items

@@ -1,11 +1,10 @@
 -- The ways of some links, and of one link more.
-use Rattle.std.proofs.Common.{List, [], ap, cond, false, get_or, length, map, sym, take, true, ℕ, ◌++◌, ◌+◌, ◌<◌, ◌∷◌, ◌∙◌, ◌≡◌}
+use Rattle.std.proofs.Common.{List, [], ap, cond, false, get_or, length, map, take, true, ℕ, ◌++◌, ◌+◌, ◌<◌, ◌∷◌, ◌∙◌, ◌≡◌}
 use Rattle.std.specs.List.{filter}
 use Rattle.std.proofs.lemmas.List.{append-nil, map_push, take_more}
 use Rattle.std.proofs.lemmas.List.Elements.{filter-append}
 use Rattle.fr_node.specs.declared.link.Link.{Link}
 use Rattle.fr_node.specs.declared.own.Own.{Own}
-use Rattle.fr_node.specs.declared.way.Way.{Way}
 use Rattle.fr_node.specs.Distances.{way_of, ways_of}
 use Rattle.fr_node.specs.Links.{is_way}
 

@@ -4,4 +4,6 @@ pub mod Laws  -- the laws of these networks
 pub mod Links  -- what a node knows of its neighbours
 pub mod Histories  -- what a node has announced
 pub mod Distances  -- how far a node is from a gateway
+pub mod Policies  -- which height a node announces, and when it uses it
 pub mod Nodes  -- which router of the laws a node is
+pub mod Arrivals  -- where packets end, once nothing more happens

@@ -1,5 +1,5 @@
 -- What a node knows of its neighbours, and how a message changes it. The definitions are this project's own.
-use Rattle.std.specs.Prelude.{Bool, IsTrue, None, Some, ℕ, List, map, length, ◌≡◌, ◌≢◌, ◌==◌, ◌<◌, ◌≤◌, ◌⊎◌, ◌&&◌, ◌||◌, false, nat_le, nat_lt}
+use Rattle.std.specs.Prelude.{Bool, None, Some, ℕ, List, map, length, ◌≡◌, ◌≢◌, ◌==◌, ◌<◌, ◌≤◌, ◌⊎◌, ◌&&◌, ◌||◌, false, nat_le, nat_lt}
 use Rattle.std.specs.List.{position_or_len, slice_index_or}
 use Rattle.fr_node.specs.declared.message.TheConstants.{CUT_OFF}
 use Rattle.fr_node.specs.declared.link.Link.{Link}

@@ -1,13 +1,19 @@
 //! The laws of networks of routers. Each clause is a law of `specs/Laws.antt`, proved. The functions do nothing.
 
 ghost use Rattle.fr_node.specs.Bytes.{OneMessage};
-ghost use Rattle.fr_node.specs.Laws.{NeverALoop, SomeLinkIsUsed};
+ghost use Rattle.fr_node.specs.Laws.{NeverALoop, PacketsArrive, SomeLinkIsUsed};
 
 /// At no moment do the links that routers use contain a loop, whatever happens to messages and whichever routers
 /// restart. In some run a link is used.
 pub fn routers_law()
     ensures safe { NeverALoop }
     ensures possible { SomeLinkIsUsed }
+{}
+
+/// In a network of routers with `Rise::Full`, once all messages have arrived and no router raises its height, each
+/// router that has a link has a way. Packets come to a gateway, whichever ways they take.
+pub fn ways_law()
+    ensures { PacketsArrive }
 {}
 
 /// No two messages have the same bytes. So `Message::read` returns the message that `Message::write` wrote.

@@ -1,12 +1,13 @@
 //! The state machine of one router.
 
-ghost use Rattle.std.specs.Prelude.{◌≡◌, ◌≢◌, ◌<◌, ◌≤◌, ◌+◌, ◌++◌, ◌^◌, ◌↔◌, ◌⊎◌, true, false, [], ◌∷◌, min, length, ℕ};
+ghost use Rattle.std.specs.Prelude.{◌≡◌, ◌≢◌, ◌<◌, ◌≤◌, ◌+◌, ◌++◌, ◌^◌, ◌↔◌, ◌⊎◌, ◌&&◌, ◌||◌, true, false, not, [], ◌∷◌, min, length, nat_le, nat_lt, ℕ};
 ghost use Rattle.std.specs.Prelude.{IsTrue, IsSome, IfSome, IfNone, MatchOption, OnErr, OnOk, vec_capacity, vec_len};
-ghost use Rattle.std.specs.List.{position};
+ghost use Rattle.std.specs.List.{list_all, list_any, position};
 ghost use Rattle.fr_node.specs.Histories.{Announces, IsHistory};
 ghost use Rattle.fr_node.specs.declared.fault.NodeFault.TheVariants.{Itself};
-ghost use Rattle.fr_node.specs.Links.{Hears, IsKnown, Says, SetsUp, leads_to, link_to, unknown};
+ghost use Rattle.fr_node.specs.Links.{Hears, IsKnown, Says, SetsUp, has_answered, is_lower, is_way, leads_to, link_to, unknown};
 ghost use Rattle.fr_node.specs.Distances.{AreWays, HasNoWay, IsDistance, IsNearest, ways_of};
+ghost use Rattle.fr_node.specs.Policies.{Acts, Announcement, FallsTo, IsAboveAll, IsAboveNearest, IsBestOrNone, MaySettle, RisesTo, better_of, has_distance, is_higher, is_nearer, is_up};
 ghost use Rattle.fr_node.specs.Nodes.{IsMessageTo, Steps, lets_in, router, sends_to};
 ghost use Rattle.fr_node.specs.Routers.{IsOpen, IsSaidBy, IsWay, Restarts, Router};
 
@@ -103,6 +104,7 @@ impl Node {
     pub fn link_up(mut self, neighbour: u32) -> Unwritten
         ensures set { SetsUp neighbour true self.links.items result.node.links.items }
         ensures same { (result.node.gateway ≡ self.gateway) × (result.node.policy ≡ self.policy) }
+        ensures policy { Acts (record self { links = result.node.links }) result.node.own }
         ensures step { Steps [] self result.node }
     {
         self.set_up(neighbour, true);
@@ -114,6 +116,7 @@ impl Node {
     pub fn link_down(mut self, neighbour: u32) -> Unwritten
         ensures set { SetsUp neighbour false self.links.items result.node.links.items }
         ensures same { (result.node.gateway ≡ self.gateway) × (result.node.policy ≡ self.policy) }
+        ensures policy { Acts (record self { links = result.node.links }) result.node.own }
         ensures step { Steps [] self result.node }
     {
         self.set_up(neighbour, false);
@@ -126,6 +129,7 @@ impl Node {
     pub fn hear(mut self, message: &Message) -> Unwritten
         ensures heard { Hears self.own message.now self.links.items result.node.links.items }
         ensures same { (result.node.gateway ≡ self.gateway) × (result.node.policy ≡ self.policy) }
+        ensures policy { Acts (record self { links = result.node.links }) result.node.own }
         ensures step { Steps (message.now ∷ []) self result.node }
     {
         self.take(message);
@@ -160,7 +164,8 @@ impl Node {
     pub fn has_news(&self, neighbour: u32) -> bool
         ensures down { ¬ IsTrue (link_to self.now.links.items neighbour).up → ¬ IsTrue result }
         ensures news { IsTrue (link_to self.now.links.items neighbour).up
-            → (m : Message) × IsMessageTo self.now neighbour m × (IsTrue result ↔ ((link_to self.now.links.items neighbour).said ≢ Some m)) }
+            → (m : Message) × IsMessageTo self.now neighbour m
+            × (IsTrue result ↔ ((link_to self.now.links.items neighbour).said ≢ Some m)) }
     {
         match self.index_of(neighbour) {
             Some(i) => self.links[i].up && !self.links[i].has_said(&self.message_at(i)),
@@ -288,6 +293,7 @@ impl Node {
     fn act(&mut self)
         ensures same { self.new ≡ record self.old { own = self.new.own } }
         ensures own { Announces self.old.own self.new.own }
+        ensures policy { Acts self.old self.new.own }
     {
         self.own = self.announced();
         if self.may_settle() {
@@ -297,7 +303,8 @@ impl Node {
 
     /// What the router knows of itself after an announcement, if the policy wants one.
     fn announced(&self) -> Own
-        ensures { Announces self.now.own result }
+        ensures own { Announces self.now.own result }
+        ensures policy { Announcement self.now result }
     {
         if self.gateway || self.own.number == u64::MAX || !self.own.is_settled() {
             return self.own;
@@ -311,35 +318,38 @@ impl Node {
         }
     }
 
-    /// Whether the last height that was announced may be used: always if the policy does not wait, else if each open gate
-    /// stays open.
-    fn may_settle(&self) -> bool {
-        let own = &self.own;
-        !self.policy.wait
-            || self.links.iter().all(|link| !(link.up && link.has_answered(own))
-                || link.acked >= own.announced_since)
+    /// Whether the last height that was announced may be used: always if the policy does not wait, and otherwise if each
+    /// open gate stays open.
+    fn may_settle(&self) -> bool
+        ensures { IsTrue result ↔ MaySettle self.now }
+    {
+        !self.policy.wait || stay_open(&self.links, &self.own)
     }
 
     /// The distance, if the router lowers its height to it.
     fn lower_height(&self) -> Option<u64>
-        ensures { IfSome result (λ h. h < self.now.own.used) }
+        ensures { MatchOption result ((v : ℕ) → ¬ FallsTo self.now v) (FallsTo self.now) }
     {
         let distance = self.distance();
         let height = distance as u64;
         if !self.policy.lower || distance == CUT_OFF || height >= self.own.used {
             return None;
         }
-        let own = &self.own;
-        let stays = self.links.iter().any(|link| {
-            link.is_way(own)
-                && link.distance < distance
-                && (link.seen < height || link.seen == height && link.neighbour < own.me)
-        });
-        if stays { Some(height) } else { None }
+        let lower = Own {
+            used: height,
+            ..self.own
+        };
+        if has_way(&self.links, &lower, distance) {
+            Some(height)
+        } else {
+            None
+        }
     }
 
     /// The height to which the policy raises the router.
-    fn greater_height(&self) -> Option<u64> {
+    fn greater_height(&self) -> Option<u64>
+        ensures { MatchOption result ((v : ℕ) → ¬ RisesTo self.now v) (RisesTo self.now) }
+    {
         match self.policy.rise {
             Rise::Full => self.above_all(),
             Rise::Jump(cap) => self.above_nearest(cap),
@@ -347,45 +357,102 @@ impl Node {
     }
 
     /// Above all neighbours, if all are known to be higher.
-    fn above_all(&self) -> Option<u64> {
-        let own = &self.own;
-        if self
-            .links
-            .iter()
-            .any(|link| link.up && (link.heard == 0 || link.is_lower(own)))
-        {
+    fn above_all(&self) -> Option<u64>
+        ensures { MatchOption result ((v : ℕ) → ¬ IsAboveAll self.now v) (IsAboveAll self.now) }
+    {
+        if !is_sink(&self.links, &self.own) {
             return None;
         }
-        let most = self
-            .links
-            .iter()
-            .filter(|link| link.up)
-            .map(|link| link.seen)
-            .max()?;
-        most.checked_add(1)
+        let highest = highest(&self.links)?;
+        highest.seen.checked_add(1)
     }
 
     /// Above the neighbour with the least distance below the cap, if the router knows no distance.
-    fn above_nearest(&self, cap: u32) -> Option<u64> {
+    fn above_nearest(&self, cap: u32) -> Option<u64>
+        ensures { MatchOption result ((v : ℕ) → ¬ IsAboveNearest self.now cap v) (IsAboveNearest self.now cap) }
+    {
         if self.distance() != CUT_OFF {
             return None;
         }
-        let mut best: Option<Link> = None;
-        for link in &self.links {
-            if link.up
-                && link.heard > 0
-                && link.distance < cap
-                && best.is_none_or(|b| is_nearer(link, &b))
-            {
-                best = Some(*link);
-            }
-        }
-        let nearest = best?;
+        let nearest = nearest_below(&self.links, cap)?;
         if nearest.neighbour < self.own.me {
             Some(nearest.seen)
         } else {
             nearest.seen.checked_add(1)
         }
+    }
+}
+
+/// Whether each neighbour that is let in has acknowledged the last height that was announced.
+fn stay_open(links: &[Link], own: &Own) -> bool
+    ensures { result
+        ≡ list_all (λ l. not (l.up && has_answered own.now l) || nat_le own.now.announced_since l.acked) links.now }
+{
+    links.iter().all(|link| !(link.up && link.has_answered(own))
+        || link.acked >= own.announced_since)
+}
+
+/// Whether there is a way to a neighbour whose distance is less than this one.
+fn has_way(links: &[Link], own: &Own, distance: u32) -> bool
+    ensures { result ≡ list_any (λ l. is_way own.now l && nat_lt l.distance distance) links.now }
+{
+    links
+        .iter()
+        .any(|link| link.is_way(own) && link.distance < distance)
+}
+
+/// Whether each neighbour at a link that is up has been heard, and none is lower.
+fn is_sink(links: &[Link], own: &Own) -> bool
+    ensures { result ≡ list_all (λ l. not l.up || (nat_lt 0 l.heard && not (is_lower own.now l))) links.now }
+{
+    links
+        .iter()
+        .all(|link| !link.up || link.heard > 0 && !link.is_lower(own))
+}
+
+/// A link that is up, with the greatest height that was heard on such links.
+fn highest(links: &[Link]) -> Option<Link>
+    ensures { IsBestOrNone is_up is_higher links.now result }
+{
+    let mut best = None;
+    for link in links {
+        if link.up {
+            best = Some(higher(best, *link));
+        }
+    }
+    best
+}
+
+/// The link with the greater height, of which the first may not be known.
+fn higher(best: Option<Link>, link: Link) -> Link
+    ensures { MatchOption best (result ≡ link) (λ b. result ≡ better_of is_higher b link) }
+{
+    match best {
+        Some(b) if link.seen <= b.seen => b,
+        _ => link,
+    }
+}
+
+/// The link to the nearest neighbour, of those whose distance is below the cap.
+fn nearest_below(links: &[Link], cap: u32) -> Option<Link>
+    ensures { IsBestOrNone (has_distance cap) is_nearer links.now result }
+{
+    let mut best = None;
+    for link in links {
+        if link.has_distance(cap) {
+            best = Some(closer(best, *link));
+        }
+    }
+    best
+}
+
+/// The link to the nearer neighbour, of which the first may not be known.
+fn closer(best: Option<Link>, link: Link) -> Link
+    ensures { MatchOption best (result ≡ link) (λ b. result ≡ better_of is_nearer b link) }
+{
+    match best {
+        Some(b) if !link.is_nearer(&b) => b,
+        _ => link,
     }
 }
 
@@ -424,11 +491,6 @@ fn nearer(nearest: Option<u32>, distance: u32) -> u32
         Some(d) => d.min(distance),
         None => distance,
     }
-}
-
-/// Whether a link leads to a nearer neighbour than another one: by distance, then by height, then by number.
-fn is_nearer(link: &Link, other: &Link) -> bool {
-    (link.distance, link.seen, link.neighbour) < (other.distance, other.seen, other.neighbour)
 }
 
 impl Unwritten {

@@ -1,4 +1,4 @@
-use Rattle.std.proofs.Common.{List, ap, arith, length, sym, take, [], ◌++◌, ◌+◌, ◌∷◌, ◌∙◌}
+use Rattle.std.proofs.Common.{List, ap, arith, length, sym, take, [], ◌++◌, ◌∷◌, ◌∙◌}
 use Rattle.std.proofs.lemmas.List.{length_push}
 use Rattle.fr_node.specs.declared.way.Way.{Way}
 use Rattle.fr_node.specs.Distances.{ways_of}

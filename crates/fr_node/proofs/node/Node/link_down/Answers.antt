@@ -1,18 +1,21 @@
-use Rattle.std.proofs.Common.{ap, subst, sym, false, ◌∙◌}
+use Rattle.std.proofs.Common.{false, subst, sym}
 use Rattle.fr_node.specs.declared.node.Node.{Node}
 use Rattle.fr_node.specs.Links.{SetsUp}
-use Rattle.fr_node.proofs.Stepping.{steps_up}
+use Rattle.fr_node.proofs.Stepping.{InTurn, after_setting}
 use Rattle.fr_node.proofs.node.Node.link_down.Goals as goal
 
-pub returns-clause-set : goal.returns-clause-set
-returns-clause-set c = subst (λ (n : Node). SetsUp c.args.neighbour false c.args.self.links.items n.links.items)
-    (sym c.act.ensures.same) c.set_up.ensures.set
-
-pub returns-clause-same : goal.returns-clause-same
-returns-clause-same c = (
-  ap (λ (n : Node). n.gateway) c.act.ensures.same ∙ ap (λ (n : Node). n.gateway) c.set_up.ensures.same,
-  ap (λ (n : Node). n.policy) c.act.ensures.same ∙ ap (λ (n : Node). n.policy) c.set_up.ensures.same,
-)
-
-pub returns-clause-step : goal.returns-clause-step
-returns-clause-step c = steps_up _ _ _ c.set_up.new.self _ c.set_up.ensures.same c.set_up.ensures.set c.act.ensures.same c.act.ensures.own
+pub returns : goal.returns
+returns c =
+    let turn : InTurn c.args.self c.set_up.new.self c.act.new.self = record {
+      links = c.set_up.ensures.same;
+      own = c.act.ensures.same;
+      announces = c.act.ensures.own;
+      acts = c.act.ensures.policy;
+    } in
+    let after = after_setting c.args.neighbour false _ _ _ turn c.set_up.ensures.set in record {
+      set = subst (λ (n : Node). SetsUp c.args.neighbour false c.args.self.links.items n.links.items)
+          (sym c.act.ensures.same) c.set_up.ensures.set;
+      same = after.same;
+      policy = after.policy;
+      step = after.step;
+    }
