@@ -57,6 +57,7 @@ pub fn listed<R: Alloc<A = Global> + Print + Eprint>(rt: &R, answer: &mut Answer
     if router.net().nodes() == 4 {
         list_some(rt, answer, &router);
         list_all(rt, answer, &router);
+        put_way_pushes(rt, answer, &router);
     }
 }
 
@@ -81,6 +82,17 @@ fn list_all<R: Alloc<A = Global> + Eprint>(rt: &R, answer: &mut Answer, router: 
     }
     if let Some(walked) = answer.told(rt, router.nearest(rt.alloc(), 3)) {
         answer.put(&walked);
+    }
+}
+
+/// Appends the pushes that lead from other ways to those of a router to the answer.
+fn put_way_pushes<R: Alloc<A = Global> + Eprint>(rt: &R, answer: &mut Answer, router: &Router) {
+    let held = WayTable::from_rows(rt.alloc(), &[0, 0, 1, 3, 5], &[0, 0, 1, 1, 2]);
+    if let Some(Some(held)) = answer.told(rt, held) {
+        match router.phases(rt.alloc(), &held) {
+            Ok(plan) => put_plan(answer, &plan),
+            Err(fault) => answer.lack(rt, fault),
+        }
     }
 }
 

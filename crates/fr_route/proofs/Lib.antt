@@ -10,6 +10,7 @@ pub mod TablePushes
 pub mod ShortestPaths  -- that a node with a path has a distance
 pub mod WaysExist  -- that a node has a list of ways, and a walk by first ways
 pub mod NodeWays  -- the same for the nodes of a state
+pub mod WayPushes  -- all ways as a table
 pub mod Determined
 pub mod OneTelling
 pub mod Asking

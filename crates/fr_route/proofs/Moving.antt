@@ -1,6 +1,6 @@
 -- Which nodes can be sinks after edits are made or the destination moves, and where the others send on to. The others
 -- are not touched, and the last round left each of them that has links with a way home.
-use Rattle.std.proofs.Common.{List, arith, inl, inr, refl, slice_index, subst, sym, ℕ, ⊎_elim, ◌<◌, ◌∙◌, ◌∷◌, ◌≡◌, ◌↔◌, Contains}
+use Rattle.std.proofs.Common.{List, arith, inl, inr, refl, slice_index, subst, sym, ℕ, ⊎_elim, ◌<◌, ◌∙◌, ◌∷◌, ◌≡◌, ◌↔◌, ◌⊎◌, Contains}
 use Rattle.std.specs.List.{All}
 use Rattle.std.proofs.lemmas.Bool.{cases_eq}
 use Rattle.std.proofs.lemmas.List.Elements.{All-append, All-cons, Contains-append_left, Contains-append_right}
@@ -15,7 +15,8 @@ use Rattle.fr_graph.specs.Counts.{links_at}
 use Rattle.fr_graph.proofs.Ordering.{into_order, out_of_order}
 use Rattle.fr_crew.specs.Settlements.{HoldsSinks, IsCounted}
 use Rattle.fr_nearest.specs.Distances.{AreDistances, Measured}
-use Rattle.fr_route.specs.NodeWays.{AreOldDistances, HasDistances}
+use Rattle.fr_nearest.specs.Touched.{HasEndsBelow, IsAdded, IsCut}
+use Rattle.fr_route.specs.NodeWays.{AreOldDistances, HasDistances, HasTurnedEnd}
 use Rattle.fr_route.specs.Outcomes.{HoldsMoved, IsStale, cut_off_nodes, ends_of, movable, settled_state, touched}
 use Rattle.fr_route.specs.Routes.{AreHops, IsHop}
 use Rattle.fr_route.specs.States.{IsAfterRound, IsRound, State, net_at}
@@ -24,14 +25,15 @@ use Rattle.fr_tables.specs.declared.hop.Hop.TheVariants.{CutOff, Here, To}
 use Rattle.fr_route.proofs.Changing.{made_nodes}
 use Rattle.fr_route.proofs.CutNodes.{capped_cut, cut_below, ended}
 use Rattle.fr_route.proofs.RoundEnds.{hop_leads_on, linked_joined, linked_out, round_joined, round_joins, round_net, still_cut_off}
-use Rattle.fr_route.proofs.Touched.{AreAt, HaveSameAt, edits_at}
+use Rattle.fr_route.proofs.Touched.{AreAt, HaveSameAt, edits_at, edits_keep, ends_below}
 
 here : (s : State) → IsAfterRound s → IsNet s.nodes s.links
 here s after = round_net s.nodes s.dest after.first s after.is_net after.dest after.round
 
 -- edits of the network after a round make a network
 pub made_net : (s : State) (edits : List Edit) (net : Network) → IsAfterRound s → AreMade (net_at s) edits net → IsNet net.nodes net.links
-made_net s edits net after made = let left : AreAt (net_at s) (ends_of edits) net = edits_at (net_at s) edits net (here s after) made in left.is_net
+made_net s edits net after made =
+    let left : AreAt (net_at s) edits net = edits_at (net_at s) edits net (here s after) made in left.is_net
 
 module _ (s : State) (after : IsAfterRound s) where
   -- a node with links that do not change has a link that points away from it, unless it was cut off or is the
@@ -43,7 +45,7 @@ module _ (s : State) (after : IsAfterRound s) where
       sink.1 out.0 ((same.out out.0).0 out.1)
 
   module _ (edits : List Edit) (net : Network) (d : ℕ) (below : d < s.nodes) (made : AreMade (net_at s) edits net) where
-    left : AreAt (net_at s) (ends_of edits) net
+    left : AreAt (net_at s) edits net
     left = edits_at (net_at s) edits net (here s after) made
 
     same_nodes : net.nodes ≡ s.nodes
@@ -54,7 +56,8 @@ module _ (s : State) (after : IsAfterRound s) where
     untouched x none = (
       (λ e. none (subst (Contains (touched s d edits)) (sym e) (Contains-head s.dest (d ∷ ends_of edits)))),
       (λ e. none (subst (Contains (touched s d edits)) (sym e) (Contains-tail d s.dest (d ∷ ends_of edits) (Contains-head d (ends_of edits))))),
-      left.keeps x (λ h. none (Contains-tail x s.dest (d ∷ ends_of edits) (Contains-tail x d (ends_of edits) h))),
+      edits_keep (net_at s) edits net x left
+          (λ h. none (Contains-tail x s.dest (d ∷ ends_of edits) (Contains-tail x d (ends_of edits) h))),
     )
 
     -- a node that cannot move is not touched, and was not cut off with links
@@ -67,7 +70,7 @@ module _ (s : State) (after : IsAfterRound s) where
     movable_below : All (λ (x : ℕ). x < net.nodes) (movable s d edits)
     movable_below = subst (λ (n : ℕ). All (λ (x : ℕ). x < n) (movable s d edits)) (sym same_nodes)
         (All-append (λ (x : ℕ). x < s.nodes) (touched s d edits) (cut_off_nodes s)
-        (All-cons (λ (x : ℕ). x < s.nodes) s.dest (d ∷ ends_of edits) after.dest (All-cons (λ (x : ℕ). x < s.nodes) d (ends_of edits) below left.below))
+        (All-cons (λ (x : ℕ). x < s.nodes) s.dest (d ∷ ends_of edits) after.dest (All-cons (λ (x : ℕ). x < s.nodes) d (ends_of edits) below (ends_below s.nodes edits left.below)))
         (cut_below s after))
 
     -- each sink can move
@@ -124,30 +127,53 @@ module _ (s : State) (after : IsAfterRound s) where
           h.1 ((round_joined s.nodes s.dest after.first s after.is_net after.dest after.round x).0
           (linked_joined s.nodes s.dest after.first s after.is_net after.dest after.round x w joins free)))
 
-      -- the links that lead from a node stay, unless it can move or turns, or a neighbour turns
-      unmoved_links : (x w : ℕ) → ¬ Contains (movable s d edits) x → slice_index counts x ≡ 0
-          → ((y : ℕ) → Joins (settled_state net d counts).links x y → slice_index counts y ≡ 0)
-          → Points s.links x w ↔ Points (settled_state net d counts).links x w
-      unmoved_links x w none rests near =
-          let same = (untouched x (unmoved x none).0).2 in
-          let joins = round_joins net.nodes d net.links (settled_state net d counts) left.is_net counted.destination round x w in (
-            (λ h. let link = (same.out w).0 h in still_away x w rests (near w (joins.0 (inl link))) link),
-            (λ h. (same.out w).1 (was_away x w rests h)),
-          )
+      -- whether one of two nodes has turned
+      turned_end : (x w : ℕ) → HasTurnedEnd counts x w ⊎ ((slice_index counts x ≡ 0) × (slice_index counts w ≡ 0))
+      turned_end x w = elim (cases_eq (slice_index counts x) 0) [
+        | inl rests ↦ elim (cases_eq (slice_index counts w) 0) [
+          | inl stays ↦ inr (rests, stays)
+          | inr some ↦ inl (inr (omega (arith, some)))
+        ]
+        | inr some ↦ inl (inl (omega (arith, some)))
+      ]
 
-      -- so distances are out of date only near nodes that can move or turn
+      -- a link that no edit removes is there after the round, reversed only if one of its ends has turned
+      link_kept : (x w : ℕ) → Points s.links x w
+          → IsCut edits x w
+          ⊎ (Points (settled_state net d counts).links x w
+          ⊎ (Points (settled_state net d counts).links w x × HasTurnedEnd counts x w))
+      link_kept x w h = elim (left.kept x w h) [
+        | inl cut ↦ inl cut
+        | inr stays ↦ elim ((round_joins net.nodes d net.links (settled_state net d counts) left.is_net counted.destination
+            round x w).0 (inl stays)) [
+              | inl same ↦ inr (inl same)
+              | inr back ↦ elim (turned_end x w) [
+                | inl turned ↦ inr (inr (back, turned))
+                | inr rest ↦ inr (inl (still_away x w rest.0 rest.1 stays))
+              ]
+            ]
+      ]
+
+      -- a link after the round is one that an edit has added, or it was there, unless one of its ends has turned
+      link_new : (x w : ℕ) → Points (settled_state net d counts).links x w
+          → IsAdded edits x w ⊎ (Points s.links x w ⊎ HasTurnedEnd counts x w)
+      link_new x w h = elim (turned_end x w) [
+        | inl turned ↦ inr (inr turned)
+        | inr rest ↦ ⊎_elim (λ add. inl add) (λ was. inr (inl was)) (left.new x w (was_away x w rest.0 h))
+      ]
+
+      -- so distances are out of date only for the edits and the turns
       pub old_distances : (m : Measured) → HasDistances s m
-          → AreOldDistances (net_of net.nodes (links_at net.links counts)) d counts (movable s d edits) m
+          → AreOldDistances (net_of net.nodes (links_at net.links counts)) counts edits m
       old_distances m has = record {
         links = s.links;
+        node = subst (λ (n : ℕ). m.dest < n) (sym same_nodes) (subst (λ (e : ℕ). e < s.nodes) (sym has.dest) after.dest);
         were = subst (λ (n : ℕ). AreDistances n s.links m.dest m.table) (sym same_nodes)
             (subst (λ (e : ℕ). AreDistances s.nodes s.links e m.table) (sym has.dest) has.table);
         counted = counted.settled.one_each;
-        below = movable_below;
-        same = unmoved_links;
-        home = λ x none.
-            let not = untouched x (unmoved x none).0 in
-            ((λ e. absurd (not.0 (e ∙ has.dest))), (λ e. absurd (not.1 e)));
+        ends = subst (λ (n : ℕ). All (HasEndsBelow n) edits) (sym same_nodes) left.below;
+        kept = link_kept;
+        new = link_new;
       }
 
       -- the hop of each node that cannot move stays right, unless it is stale

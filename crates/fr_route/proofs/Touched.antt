@@ -1,11 +1,12 @@
 -- What edits and a new destination touch: the links of every other node are unchanged, and so is its hop.
-use Rattle.std.proofs.Common.{Bool, Contains, List, [], ap, append_assoc, get_or, inl, inr, length, refl, subst, sym, take, true, ℕ, ⊎_elim, ◌+◌}
-use Rattle.std.proofs.Common.{◌++◌, ◌<◌, ◌↔◌, ◌∙◌, ◌∷◌, ◌≡◌, ◌⊎◌}
+use Rattle.std.proofs.Common.{Contains, List, [], ap, append_assoc, get_or, inl, inr, length, refl, subst, sym, take}
+use Rattle.std.proofs.Common.{ℕ, ⊎_elim, ◌+◌, ◌++◌, ◌<◌, ◌↔◌, ◌∙◌, ◌∷◌, ◌≡◌, ◌⊎◌}
 use Rattle.std.specs.Prelude.{not}
 use Rattle.std.specs.List.{All}
 use Rattle.std.proofs.lemmas.Bool.{cases_Bool}
 use Rattle.std.proofs.lemmas.List.{take_more}
-use Rattle.std.proofs.lemmas.List.Elements.{All-cons, All-nil, Contains-append_left, Contains-push, Contains-push_cases}
+use Rattle.std.proofs.lemmas.List.Elements.{All-cons, All-contains, All-nil, All-tail, Contains-append_left}
+use Rattle.std.proofs.lemmas.List.Elements.{Contains-push, Contains-push_cases}
 use Rattle.fr_graph.specs.Batches.{AreMade, IsMade}
 use Rattle.fr_graph.specs.Edits.{without}
 use Rattle.fr_graph.specs.Faults.{IsNetworkOf}
@@ -18,9 +19,10 @@ use Rattle.fr_graph.proofs.Building.{permuted_net}
 use Rattle.fr_graph.proofs.Editing.{from_filter}
 use Rattle.fr_graph.proofs.Lists.{into_filter}
 use Rattle.fr_graph.proofs.Linking.{joined_below, joined_from, link_below}
-use Rattle.fr_graph.proofs.Members.{Contains-head, Contains-tail}
+use Rattle.fr_graph.proofs.Members.{Contains-cases, Contains-head, Contains-none, Contains-tail}
 use Rattle.fr_graph.proofs.Ordering.{in_order_order}
 use Rattle.fr_core.proofs.SameLinks.{same_from_permutation}
+use Rattle.fr_nearest.specs.Touched.{Adds, AreEnds, Cuts, HasEndsBelow, IsAdded, IsCut}
 use Rattle.fr_route.specs.Outcomes.{ends_of}
 
 -- the same links join x with others in both lists, in the same direction
@@ -28,66 +30,28 @@ pub record HaveSameAt (some other : List (ℕ × ℕ)) (x : ℕ) : Type 0 where
   pub out : (w : ℕ) → Points some x w ↔ Points other x w
   pub into : (w : ℕ) → Points some w x ↔ Points other w x
 
-same_at : (links : List (ℕ × ℕ)) (x : ℕ) → HaveSameAt links links x
-same_at links x = record { out = λ w. ((λ h. h), (λ h. h)); into = λ w. ((λ h. h), (λ h. h)) }
+-- An edit removes or adds a link only between its own ends
 
-then_at : (a b c : List (ℕ × ℕ)) (x : ℕ) → HaveSameAt a b x → HaveSameAt b c x → HaveSameAt a c x
-then_at a b c x h g = record {
-  out = λ w. ((λ p. (g.out w).0 ((h.out w).0 p)), (λ p. (h.out w).1 ((g.out w).1 p)));
-  into = λ w. ((λ p. (g.into w).0 ((h.into w).0 p)), (λ p. (h.into w).1 ((g.into w).1 p)));
-}
+cut_pair : (links : List (ℕ × ℕ)) (u v x w : ℕ) → Points links x w → AreEnds u v x w ⊎ Points (without u v links) x w
+cut_pair links u v x w h = elim (cases_Bool (is_between u v (x, w))) [
+  | inl e ↦ inl (joined_from u v (x, w) e)
+  | inr e ↦ inr (into_filter (λ l. not (is_between u v l)) links (x, w) h (ap not e))
+]
 
--- the links in the order of the list
-listed_at : (a listed : List (ℕ × ℕ)) (n : ℕ) (net : Network) (x : ℕ) → IsNetworkOf n listed net → HaveSameAt a listed x → HaveSameAt a net.links x
-listed_at a listed n net x made h =
-    let same : HaveSameLinks listed net.links = same_from_permutation listed net.links made.same_links in
-    then_at a listed net.links x h (record { out = λ w. same x w; into = λ w. same w x })
+add_pair : (links : List (ℕ × ℕ)) (u v x w : ℕ) → Points (links ++ (u, v) ∷ []) x w → AreEnds u v x w ⊎ Points links x w
+add_pair links u v x w h = elim (Contains-push_cases links (u, v) (x, w) h) [
+  | inl old ↦ inr old
+  | inr e ↦ inl (inl (sym (ap (λ (p : ℕ × ℕ). p.0) e), sym (ap (λ (p : ℕ × ℕ). p.1) e)))
+]
 
-not_between : (u v : ℕ) (l : ℕ × ℕ) → ¬ (((l.0 ≡ u) × (l.1 ≡ v)) ⊎ ((l.0 ≡ v) × (l.1 ≡ u))) → not (is_between u v l) ≡ true
-not_between u v l none = ⊎_elim (λ e. absurd (none (joined_from u v l e))) (λ e. ap not e) (cases_Bool (is_between u v l))
-
-module _ (links : List (ℕ × ℕ)) (u v x : ℕ) (tail : ¬ (u ≡ x)) (head : ¬ (v ≡ x)) where
-  cut_keeps : HaveSameAt links (without u v links) x
-  cut_keeps =
-      let kept : ℕ × ℕ → Bool = λ l. not (is_between u v l) in
-      record {
-        out = λ w. (
-          (λ h. into_filter kept links (x, w) h (not_between u v (x, w) (λ j. ⊎_elim (λ e. tail (sym e.0)) (λ e. head (sym e.0)) j))),
-          (λ h. from_filter kept links (x, w) h),
-        );
-        into = λ w. (
-          (λ h. into_filter kept links (w, x) h (not_between u v (w, x) (λ j. ⊎_elim (λ e. head (sym e.1)) (λ e. tail (sym e.1)) j))),
-          (λ h. from_filter kept links (w, x) h),
-        );
-      }
-
-  add_keeps : HaveSameAt links (links ++ (u, v) ∷ []) x
-  add_keeps = record {
-    out = λ w. (
-      (λ h. Contains-append_left links ((u, v) ∷ []) (x, w) h),
-      (λ h. ⊎_elim (λ g. g) (λ e. absurd (tail (ap (λ (p : ℕ × ℕ). p.0) e))) (Contains-push_cases links (u, v) (x, w) h)),
-    );
-    into = λ w. (
-      (λ h. Contains-append_left links ((u, v) ∷ []) (w, x) h),
-      (λ h. ⊎_elim (λ g. g) (λ e. absurd (head (ap (λ (p : ℕ × ℕ). p.1) e))) (Contains-push_cases links (u, v) (w, x) h)),
-    );
-  }
-
-apart : (u v x : ℕ) (rest : List ℕ) → ¬ Contains (u ∷ (v ∷ rest)) x → (¬ (u ≡ x)) × (¬ (v ≡ x)) × (¬ Contains rest x)
-apart u v x rest none = (
-  (λ e. none (subst (λ (y : ℕ). Contains (u ∷ (v ∷ rest)) y) e (Contains-head u (v ∷ rest)))),
-  (λ e. none (subst (λ (y : ℕ). Contains (u ∷ (v ∷ rest)) y) e (Contains-tail v u (v ∷ rest) (Contains-head v rest)))),
-  (λ h. none (Contains-tail x u (v ∷ rest) (Contains-tail x v rest h))),
-)
-
--- an edit is made, and its ends are these: at every other node the links are unchanged
-record IsAt (net : Network) (u v : ℕ) (after : Network) : Type 0 where
-  keeps : (x : ℕ) → ¬ (u ≡ x) → ¬ (v ≡ x) → HaveSameAt net.links after.links x
+-- an edit is made
+record IsAt (net : Network) (e : Edit) (after : Network) : Type 0 where
+  kept : (x w : ℕ) → Points net.links x w → Cuts e x w ⊎ Points after.links x w
+  new : (x w : ℕ) → Points after.links x w → Adds e x w ⊎ Points net.links x w
   is_net : IsNet after.nodes after.links
   order : AreInOrder after.links
   nodes : after.nodes ≡ net.nodes
-  tail : u < net.nodes
-  head : v < net.nodes
+  below : HasEndsBelow net.nodes e
 
 network_net : (n : ℕ) (listed : List (ℕ × ℕ)) (after : Network) → IsNetworkOf n listed after → IsNet after.nodes after.links
 network_net n listed after made =
@@ -97,76 +61,183 @@ network_net n listed after made =
 network_order : (n : ℕ) (listed : List (ℕ × ℕ)) (after : Network) → IsNetworkOf n listed after → AreInOrder after.links
 network_order n listed after made = subst (λ (m : Network). AreInOrder m.links) (sym made.is) (in_order_order listed)
 
-cut_at : (net : Network) (u v : ℕ) (after : Network) → IsNet net.nodes net.links → IsMade net (Cut u v) after → IsAt net u v after
+cut_at : (net : Network) (u v : ℕ) (after : Network) → IsNet net.nodes net.links → IsMade net (Cut u v) after
+    → IsAt net (Cut u v) after
 cut_at net u v after is made =
-    let below : (u < net.nodes) × (v < net.nodes) = joined_below net.nodes net.links u v is made.0 in
+    let rest = without u v net.links in
+    let same : HaveSameLinks rest after.links = same_from_permutation rest after.links made.1.same_links in
     record {
-      keeps = λ x tail head. listed_at net.links (without u v net.links) net.nodes after x made.1 (cut_keeps net.links u v x tail head);
-      is_net = network_net net.nodes (without u v net.links) after made.1;
-      order = network_order net.nodes (without u v net.links) after made.1;
+      kept = λ x w h. ⊎_elim (λ ends. inl ends) (λ left. inr ((same x w).0 left)) (cut_pair net.links u v x w h);
+      new = λ x w h. inr (from_filter (λ l. not (is_between u v l)) net.links (x, w) ((same x w).1 h));
+      is_net = network_net net.nodes rest after made.1;
+      order = network_order net.nodes rest after made.1;
       nodes = ap (λ (m : Network). m.nodes) made.1.is;
-      tail = below.0;
-      head = below.1;
+      below = joined_below net.nodes net.links u v is made.0;
     }
 
-add_at : (net : Network) (u v : ℕ) (after : Network) → IsNetworkOf net.nodes (net.links ++ (u, v) ∷ []) after → IsAt net u v after
-add_at net u v after made =
-    let below : (u < net.nodes) × (v < net.nodes) =
-    link_below net.nodes (net.links ++ (u, v) ∷ []) u v made.faultless.is_net (Contains-push net.links (u, v)) in
+-- a link from u to v is added
+record IsAddedAt (net : Network) (u v : ℕ) (after : Network) : Type 0 where
+  kept : (x w : ℕ) → Points net.links x w → Points after.links x w
+  new : (x w : ℕ) → Points after.links x w → AreEnds u v x w ⊎ Points net.links x w
+  is_net : IsNet after.nodes after.links
+  order : AreInOrder after.links
+  nodes : after.nodes ≡ net.nodes
+  below : (u < net.nodes) × (v < net.nodes)
+
+added_at : (net : Network) (u v : ℕ) (after : Network) → IsNetworkOf net.nodes (net.links ++ (u, v) ∷ []) after
+    → IsAddedAt net u v after
+added_at net u v after made =
+    let more = net.links ++ (u, v) ∷ [] in
+    let same : HaveSameLinks more after.links = same_from_permutation more after.links made.same_links in
     record {
-      keeps = λ x tail head. listed_at net.links (net.links ++ (u, v) ∷ []) net.nodes after x made (add_keeps net.links u v x tail head);
-      is_net = network_net net.nodes (net.links ++ (u, v) ∷ []) after made;
-      order = network_order net.nodes (net.links ++ (u, v) ∷ []) after made;
+      kept = λ x w h. (same x w).0 (Contains-append_left net.links ((u, v) ∷ []) (x, w) h);
+      new = λ x w h. add_pair net.links u v x w ((same x w).1 h);
+      is_net = network_net net.nodes more after made;
+      order = network_order net.nodes more after made;
       nodes = ap (λ (m : Network). m.nodes) made.is;
-      tail = below.0;
-      head = below.1;
+      below = link_below net.nodes more u v made.faultless.is_net (Contains-push net.links (u, v));
     }
 
-join_at : (net : Network) (u v : ℕ) (after : Network) → IsMade net (Join u v) after → IsAt net u v after
-join_at net u v after (inl made) = add_at net u v after made
-join_at net u v after (inr made) =
-    let turned : IsAt net v u after = add_at net v u after made.1 in
+add_at : (net : Network) (u v : ℕ) (after : Network) → IsMade net (Add u v) after → IsAt net (Add u v) after
+add_at net u v after made =
+    let at : IsAddedAt net u v after = added_at net u v after made in
     record {
-      keeps = λ x tail head. turned.keeps x head tail;
-      is_net = turned.is_net;
-      order = turned.order;
-      nodes =
-          turned.nodes;
-      tail = turned.head;
-      head = turned.tail;
+      kept = λ x w h. inr (at.kept x w h);
+      new = at.new;
+      is_net = at.is_net;
+      order = at.order;
+      nodes = at.nodes;
+      below = at.below;
     }
 
--- after edits, the links at every node except their ends are unchanged, and the ends are nodes
-pub record AreAt (net : Network) (ends : List ℕ) (after : Network) : Type 0 where
-  pub keeps : (x : ℕ) → ¬ Contains ends x → HaveSameAt net.links after.links x
-  pub below : All (λ (x : ℕ). x < net.nodes) ends
+join_at : (net : Network) (u v : ℕ) (after : Network) → IsMade net (Join u v) after → IsAt net (Join u v) after
+join_at net u v after (inl made) =
+    let at : IsAddedAt net u v after = added_at net u v after made in
+    record {
+      kept = λ x w h. inr (at.kept x w h);
+      new = at.new;
+      is_net = at.is_net;
+      order = at.order;
+      nodes = at.nodes;
+      below = at.below;
+    }
+join_at net u v after (inr made) =
+    let at : IsAddedAt net v u after = added_at net v u after made.1 in
+    record {
+      kept = λ x w h. inr (at.kept x w h);
+      new = λ x w h. ⊎_elim (λ ends. inl (⊎_elim (λ e. inr e) (λ e. inl e) ends)) (λ old. inr old) (at.new x w h);
+      is_net = at.is_net;
+      order = at.order;
+      nodes = at.nodes;
+      below = (at.below.1, at.below.0);
+    }
+
+edit_at : (net : Network) (e : Edit) (after : Network) → IsNet net.nodes net.links → IsMade net e after → IsAt net e after
+edit_at net (Cut u v) after is made = cut_at net u v after is made
+edit_at net (Add u v) after is made = add_at net u v after made
+edit_at net (Join u v) after is made = join_at net u v after made
+
+-- Edits are made: each link has been removed by one of them, or is there still, and each link now has been added by one
+-- of them, or was there
+pub record AreAt (net : Network) (edits : List Edit) (after : Network) : Type 0 where
+  pub kept : (x w : ℕ) → Points net.links x w → IsCut edits x w ⊎ Points after.links x w
+  pub new : (x w : ℕ) → Points after.links x w → IsAdded edits x w ⊎ Points net.links x w
+  pub below : All (HasEndsBelow net.nodes) edits
   pub is_net : IsNet after.nodes after.links
   pub order : AreInOrder net.links → AreInOrder after.links
 
-at_first : (net : Network) (u v : ℕ) (next : Network) (rest : List ℕ) (after : Network) → IsAt net u v next
-    → AreAt next rest after → AreAt net (u ∷ (v ∷ rest)) after
-at_first net u v next rest after first then = record {
-  keeps = λ x none. let parts = apart u v x rest none in then_at net.links next.links after.links x (first.keeps x parts.0 parts.1) (then.keeps x parts.2);
-  below =
-      let others : All (λ (x : ℕ). x < net.nodes) rest = subst (λ (n : ℕ). All (λ (x : ℕ). x < n) rest) first.nodes then.below in
-      All-cons (λ (x : ℕ). x < net.nodes) u (v ∷ rest) first.tail (All-cons (λ (x : ℕ). x < net.nodes) v rest first.head others);
+at_first : (net : Network) (e : Edit) (next : Network) (rest : List Edit) (after : Network) → IsAt net e next
+    → AreAt next rest after → AreAt net (e ∷ rest) after
+at_first net e next rest after first then = record {
+  kept = λ x w h. elim (first.kept x w h) [
+    | inl cut ↦ inl (e, Contains-head e rest, cut)
+    | inr left ↦ elim (then.kept x w left) [
+      | inl cut ↦ inl (cut.0, Contains-tail cut.0 e rest cut.1, cut.2)
+      | inr stays ↦ inr stays
+    ]
+  ];
+  new = λ x w h. elim (then.new x w h) [
+    | inl add ↦ inl (add.0, Contains-tail add.0 e rest add.1, add.2)
+    | inr was ↦ elim (first.new x w was) [
+      | inl add ↦ inl (e, Contains-head e rest, add)
+      | inr old ↦ inr old
+    ]
+  ];
+  below = All-cons (HasEndsBelow net.nodes) e rest first.below
+      (subst (λ (n : ℕ). All (HasEndsBelow n) rest) first.nodes then.below);
   is_net = then.is_net;
   order = λ sorted. then.order first.order;
 }
 
-pub edits_at : (net : Network) (edits : List Edit) (after : Network) → IsNet net.nodes net.links → AreMade net edits after → AreAt net (ends_of edits) after
+pub edits_at : (net : Network) (edits : List Edit) (after : Network) → IsNet net.nodes net.links
+    → AreMade net edits after → AreAt net edits after
 edits_at net [] after is made = record {
-  keeps = λ x none. subst (λ (m : Network). HaveSameAt net.links m.links x) (sym made) (same_at net.links x);
-  below = All-nil (λ (x : ℕ). x < net.nodes);
+  kept = λ x w h. inr (subst (λ (m : Network). Points m.links x w) (sym made) h);
+  new = λ x w h. inr (subst (λ (m : Network). Points m.links x w) made h);
+  below = All-nil (HasEndsBelow net.nodes);
   is_net = subst (λ (m : Network). IsNet m.nodes m.links) (sym made) is;
   order = λ sorted. subst (λ (m : Network). AreInOrder m.links) (sym made) sorted;
 }
-edits_at net (Cut u v ∷ es) after is (next, (made, rest)) =
-    let first : IsAt net u v next = cut_at net u v next is made in at_first net u v next (ends_of es) after first (edits_at next es after first.is_net rest)
-edits_at net (Add u v ∷ es) after is (next, (made, rest)) =
-    let first : IsAt net u v next = add_at net u v next made in at_first net u v next (ends_of es) after first (edits_at next es after first.is_net rest)
-edits_at net (Join u v ∷ es) after is (next, (made, rest)) =
-    let first : IsAt net u v next = join_at net u v next made in at_first net u v next (ends_of es) after first (edits_at next es after first.is_net rest)
+edits_at net (e ∷ es) after is (next, (made, rest)) =
+    let first : IsAt net e next = edit_at net e next is made in
+    at_first net e next es after first (edits_at next es after first.is_net rest)
+
+-- At every node except the ends of the edited links, the links are unchanged
+
+ends_later : (e : Edit) (rest : List Edit) (y : ℕ) → Contains (ends_of rest) y → Contains (ends_of (e ∷ rest)) y
+ends_later (Cut u v) rest y h = Contains-tail y u (v ∷ ends_of rest) (Contains-tail y v (ends_of rest) h)
+ends_later (Add u v) rest y h = Contains-tail y u (v ∷ ends_of rest) (Contains-tail y v (ends_of rest) h)
+ends_later (Join u v) rest y h = Contains-tail y u (v ∷ ends_of rest) (Contains-tail y v (ends_of rest) h)
+
+pair_ends : (u v x w : ℕ) (rest : List ℕ) → AreEnds u v x w → Contains (u ∷ (v ∷ rest)) x × Contains (u ∷ (v ∷ rest)) w
+pair_ends u v x w rest (inl e) =
+    rw (e.0, e.1) (Contains-head u (v ∷ rest), Contains-tail v u (v ∷ rest) (Contains-head v rest))
+pair_ends u v x w rest (inr e) =
+    rw (e.0, e.1) (Contains-tail v u (v ∷ rest) (Contains-head v rest), Contains-head u (v ∷ rest))
+
+ends_first : (e : Edit) (rest : List Edit) (x w : ℕ) → Cuts e x w ⊎ Adds e x w
+    → Contains (ends_of (e ∷ rest)) x × Contains (ends_of (e ∷ rest)) w
+ends_first (Cut u v) rest x w is = pair_ends u v x w (ends_of rest) (⊎_elim (λ h. h) (λ h. absurd h) is)
+ends_first (Add u v) rest x w is = pair_ends u v x w (ends_of rest) (⊎_elim (λ h. absurd h) (λ h. h) is)
+ends_first (Join u v) rest x w is = pair_ends u v x w (ends_of rest) (⊎_elim (λ h. absurd h) (λ h. h) is)
+
+edited_ends : (edits : List Edit) (x w : ℕ) (e : Edit) → Contains edits e → Cuts e x w ⊎ Adds e x w
+    → Contains (ends_of edits) x × Contains (ends_of edits) w
+edited_ends [] x w e h is = absurd (Contains-none e h)
+edited_ends (d ∷ ds) x w e h is = elim (Contains-cases e d ds h) [
+  | inl same ↦ ends_first d ds x w (subst (λ (it : Edit). Cuts it x w ⊎ Adds it x w) (sym same) is)
+  | inr later ↦
+      let rest = edited_ends ds x w e later is in
+      (ends_later d ds x rest.0, ends_later d ds w rest.1)
+]
+
+pub edits_keep : (net : Network) (edits : List Edit) (after : Network) (x : ℕ) → AreAt net edits after
+    → ¬ Contains (ends_of edits) x → HaveSameAt net.links after.links x
+edits_keep net edits after x at none = record {
+  out = λ w. (
+    λ h. ⊎_elim (λ cut. absurd (none (edited_ends edits x w cut.0 cut.1 (inl cut.2)).0)) (λ stays. stays) (at.kept x w h),
+    λ h. ⊎_elim (λ add. absurd (none (edited_ends edits x w add.0 add.1 (inr add.2)).0)) (λ was. was) (at.new x w h),
+  );
+  into = λ w. (
+    λ h. ⊎_elim (λ cut. absurd (none (edited_ends edits w x cut.0 cut.1 (inl cut.2)).1)) (λ stays. stays) (at.kept w x h),
+    λ h. ⊎_elim (λ add. absurd (none (edited_ends edits w x add.0 add.1 (inr add.2)).1)) (λ was. was) (at.new w x h),
+  );
+}
+
+ends_below_first : (n : ℕ) (e : Edit) (es : List Edit) → HasEndsBelow n e → All (λ (x : ℕ). x < n) (ends_of es)
+    → All (λ (x : ℕ). x < n) (ends_of (e ∷ es))
+ends_below_first n (Cut u v) es low rest =
+    All-cons (λ (x : ℕ). x < n) u (v ∷ ends_of es) low.0 (All-cons (λ (x : ℕ). x < n) v (ends_of es) low.1 rest)
+ends_below_first n (Add u v) es low rest =
+    All-cons (λ (x : ℕ). x < n) u (v ∷ ends_of es) low.0 (All-cons (λ (x : ℕ). x < n) v (ends_of es) low.1 rest)
+ends_below_first n (Join u v) es low rest =
+    All-cons (λ (x : ℕ). x < n) u (v ∷ ends_of es) low.0 (All-cons (λ (x : ℕ). x < n) v (ends_of es) low.1 rest)
+
+pub ends_below : (n : ℕ) (edits : List Edit) → All (HasEndsBelow n) edits → All (λ (x : ℕ). x < n) (ends_of edits)
+ends_below n [] below = All-nil (λ (x : ℕ). x < n)
+ends_below n (e ∷ es) below =
+    ends_below_first n e es (All-contains (HasEndsBelow n) (e ∷ es) e below (Contains-head e es))
+    (ends_below n es (All-tail (HasEndsBelow n) e es below))
 
 ends_push : (es : List Edit) (e : Edit) → ends_of (es ++ e ∷ []) ≡ ends_of es ++ ends_of (e ∷ [])
 ends_push [] e = refl

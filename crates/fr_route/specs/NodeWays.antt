@@ -1,9 +1,11 @@
 -- The ways of the nodes of a settled network, and routes of the fewest links along them. This project's own.
-use Rattle.std.specs.Prelude.{◌≡◌, ℕ, ◌<◌, ◌↔◌, List, ◌∷◌, length, slice_index}
-use Rattle.std.specs.List.{All, Contains}
-use Rattle.fr_graph.specs.Links.{Joins, Points}
+use Rattle.std.specs.Prelude.{◌≡◌, ℕ, ◌<◌, ◌⊎◌, List, ◌∷◌, length, slice_index}
+use Rattle.std.specs.List.{All}
+use Rattle.fr_graph.specs.Links.{Points}
 use Rattle.fr_graph.specs.Network.{Network}
+use Rattle.fr_graph.specs.declared.edit.Edit.{Edit}
 use Rattle.fr_nearest.specs.Distances.{AreDistances, Measured}
+use Rattle.fr_nearest.specs.Touched.{HasEndsBelow, IsAdded, IsCut}
 use Rattle.fr_nearest.specs.Ways.{AreWays, IsNearestWalk}
 use Rattle.fr_ways.specs.Ways.{ways}
 use Rattle.fr_route.specs.States.{State, IsCutOff}
@@ -15,16 +17,22 @@ pub record HasDistances (s : State) (m : Measured) : Type 0 where
   pub dest : m.dest ≡ s.dest
   pub table : AreDistances s.nodes s.links s.dest m.table
 
--- The table has the distances of an earlier state. A node of the network now has the links that lead from it as then,
--- and is the destination exactly if it was, unless it has moved or turned, or a neighbour has turned. For proofs only.
-pub record AreOldDistances (net : Network) (d : ℕ) (counts moved : List ℕ) (m : Measured) : Type 0 where
+-- x or w has turned
+abbrev pub HasTurnedEnd : List ℕ → ℕ → ℕ → Type 0
+HasTurnedEnd counts x w = (0 < slice_index counts x) ⊎ (0 < slice_index counts w)
+
+-- The table has the distances of an earlier state. Each link of that state has been removed by an edit, or it is there
+-- now, or it has been reversed at an end that has turned. Each link now has been added by an edit, or it was there, or an
+-- end of it has turned. For proofs only.
+pub record AreOldDistances (net : Network) (counts : List ℕ) (edits : List Edit) (m : Measured) : Type 0 where
   pub links : List (ℕ × ℕ)
+  pub node : m.dest < net.nodes
   pub were : AreDistances net.nodes links m.dest m.table
   pub counted : length counts ≡ net.nodes
-  pub below : All (λ (x : ℕ). x < net.nodes) moved
-  pub same : (x w : ℕ) → ¬ Contains moved x → slice_index counts x ≡ 0
-      → ((y : ℕ) → Joins net.links x y → slice_index counts y ≡ 0) → Points links x w ↔ Points net.links x w
-  pub home : (x : ℕ) → ¬ Contains moved x → (x ≡ m.dest) ↔ (x ≡ d)
+  pub ends : All (HasEndsBelow net.nodes) edits
+  pub kept : (x w : ℕ) → Points links x w
+      → IsCut edits x w ⊎ (Points net.links x w ⊎ (Points net.links w x × HasTurnedEnd counts x w))
+  pub new : (x w : ℕ) → Points net.links x w → IsAdded edits x w ⊎ (Points links x w ⊎ HasTurnedEnd counts x w)
 
 -- the ways of x, nearest first
 abbrev pub AreNodeWays : State → ℕ → List ℕ → Type 0

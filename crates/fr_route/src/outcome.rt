@@ -114,19 +114,19 @@ pub(crate) fn put_in_place(
     renew_hops(hops, &round, moved, told);
 }
 
-/// Updates the distances after a round is put in place.
+/// Updates the distances after the round on a network with these edits is put in place.
 pub(crate) fn renew_distances(
     distances: &mut Distances,
     net: &Net,
     outcome: &Outcome,
-    moved: &[u32],
+    edits: &[Edit],
 )
     requires node { outcome.now.dest < net.now.nodes }
-    requires old { AreOldDistances net.now outcome.now.dest outcome.now.turns moved.now distances.old }
+    requires old { AreOldDistances net.now outcome.now.turns edits.now distances.old }
     ensures { HasDistances (state_with net.now outcome.now.dest outcome.now.turns) distances.new }
 {
     let touched = Touched {
-        nodes: moved,
+        edits,
         turned: outcome.turns.nodes(),
     };
     distances.renew(net, outcome.dest, &touched);

@@ -14,6 +14,7 @@ ghost use Rattle.fr_route.specs.States.{IsAfterRound, IsCutOff, IsRound, IsRepor
 ghost use Rattle.fr_route.specs.Routes.{IsHop, AreHops, IsWalked};
 ghost use Rattle.fr_route.specs.Changes.{IsOpenFault, IsChanged, IsRouteFault, IsStill};
 ghost use Rattle.fr_route.specs.Reroutes.{ArePushes, AreReplaced, IsPushesFault, TellsRerouted};
+ghost use Rattle.fr_route.specs.WayPushes.{IsPhasesFault, LeadToWays};
 ghost use Rattle.fr_route.specs.Tries.{IsPlaced, IsTried, change_of, edit_of, revision_of, without_place};
 ghost use Rattle.fr_route.specs.Outcomes.{IsOutcome, IsRoundFault};
 ghost use Rattle.fr_route.specs.Outcomes.{IsSettledTable, cut_off_nodes, movable};
@@ -32,7 +33,7 @@ use fr_crew::{Crew, CrewFault, Gate, Plan, settled_counts, settled_counts_alone}
 use fr_graph::{Edit, MAX_EDITS, Net, NetFault, Turns};
 use fr_nearest::Distances;
 use fr_tables::{Hop, PushRoom, TableFault, first_outside, known_push_order};
-use fr_ways::WayTable;
+use fr_ways::{TwoPhases, WayTable, WaysFault, known_phases};
 use std::alloc::{AllocError, Global};
 use std::marker::Model;
 use std::mem;
@@ -206,7 +207,7 @@ impl<'a, F: Fn(&Net, u32, Option<&[u32]>, Turns) -> Result<Turns, CrewFault>> As
             },
         )?;
         put_in_place(&mut router.net, &mut router.hops, &outcome, from, told);
-        renew_distances(&mut router.distances, &router.net, &outcome, from);
+        renew_distances(&mut router.distances, &router.net, &outcome, revision.edits);
         told.put_in_order(&mut router.room, &router.hops);
         keep_turns(&mut router.turns, &mut router.spare, outcome.turns);
         router.dest = dest;
@@ -610,6 +611,27 @@ impl Router {
             table.push_row(&list)?;
         }
         Ok(table)
+    }
+
+    /// What a controller pushes so that routers which hold the ways of `table` end with [all ways](Router::all_ways) of
+    /// this router. First each node that loses a way gets those that it keeps; once all of them have confirmed that, each
+    /// node whose list still differs gets its new list. Each phase can be made in any order. At each moment the ways
+    /// that routers hold are a part of the table or of the new ways, so they have no cycle if the table has none
+    /// ([`phase_law`](fr_ways::laws::phase_law)). The table can have cycles, and ways that are out of range.
+    ///
+    /// Fails with `Length` if the table does not have one list for each node, and with `Memory` if an allocation is
+    /// refused; never with `Range` or `Cycle`. O(n + m log d), where no node has more than d links, and the time to read
+    /// the table.
+    pub fn phases(&self, alloc: Global, table: &WayTable) -> Result<TwoPhases, WaysFault>
+        ensures phases { IfOk result (LeadToWays self.now table.now) }
+        ensures fault { IfErr result (IsPhasesFault self.now table.now) }
+    {
+        self.net.network_law();
+        if table.len() != self.net.nodes() as usize {
+            return Err(WaysFault::Length);
+        }
+        let wanted = self.all_ways(alloc)?;
+        Ok(known_phases(alloc, table, &wanted)?)
     }
 
     /// A route of the fewest links from node `x` along the links to the destination: each node is the nearest way of the

@@ -7,7 +7,7 @@ use Rattle.std.proofs.lemmas.List.{drop-append-le, drop-drop, drop_all, drop_at,
 use Rattle.std.proofs.lemmas.List.{take-append-le, take_all}
 use Rattle.std.proofs.lemmas.List.Elements.{Contains-append_left, Contains-append_right}
 use Rattle.fr_tables.proofs.Members.{Contains-none}
-use Rattle.fr_ways.specs.Rows.{AreRows, AreStarts, DoNotFall, rows_from, rows_of}
+use Rattle.fr_ways.specs.Rows.{AreBounds, AreRows, AreStarts, DoNotFall, IsLaidOut, rows_from, rows_of}
 use Rattle.fr_ways.specs.Ways.{Sends, ways}
 
 length_from : (list : List ℕ) (start : ℕ) (ends : List ℕ) → length (rows_from list start ends) ≡ length ends
@@ -98,6 +98,61 @@ starts_are list (start ∷ ends) are = record {
     are.0,
   );
 }
+
+-- places that do not fall, up to the length of a list, are those of rows
+falls_not : (start : ℕ) (ends : List ℕ) (last : ℕ)
+    → ((k : ℕ) → k < length ends → get_or (start ∷ ends) k 0 ≤ get_or ends k 0)
+    → get_or (start ∷ ends) (length ends) 0 ≡ last → DoNotFall start ends last
+falls_not start [] last rise is = is
+falls_not start (end ∷ ends) last rise is =
+    (rise 0 (omega arith), falls_not end ends last (λ k low. rise (suc k) (omega (arith, low))) is)
+
+pub bounds_rows : (list starts : List ℕ) → AreBounds starts (length list) → AreRows list starts
+bounds_rows list [] bounds = absurd (omega (arith, bounds.some))
+bounds_rows list (start ∷ ends) bounds = (
+  bounds.first,
+  falls_not start ends (length list)
+      (λ k low.
+      let next : k + 1 ≡ suc k = omega arith in
+      let at : get_or (start ∷ ends) (k + 1) 0 ≡ get_or ends k 0 = ap (λ (i : ℕ). get_or (start ∷ ends) i 0) next in
+      omega (arith, bounds.rise k (omega (arith, low)), at))
+      (let end : length (start ∷ ends) - 1 ≡ length ends = omega arith in
+      ap (λ (i : ℕ). get_or (start ∷ ends) i 0) (sym end) ∙ bounds.last),
+)
+
+pub laid_out : (list starts : List ℕ) → AreRows list starts → IsLaidOut starts list (rows_of list starts)
+laid_out list starts are = record { begins = starts_are list starts are; all = sym (concat_rows list starts are) }
+
+concat_grows : (table : List (List ℕ)) (k : ℕ) → length (concat (take k table)) ≤ length (concat (take (suc k) table))
+concat_grows [] zero = omega arith
+concat_grows [] (suc k) = omega arith
+concat_grows (row ∷ rows) zero = omega arith
+concat_grows (row ∷ rows) (suc k) = omega (
+  arith,
+  length-append row (concat (take k rows)),
+  length-append row (concat (take (suc k) rows)),
+  concat_grows rows k,
+)
+
+pub laid_bounds : (starts list : List ℕ) (table : List (List ℕ)) → IsLaidOut starts list table
+    → AreBounds starts (length list)
+laid_bounds starts list table laid =
+    let at = laid.begins.each in
+    let more = laid.begins.one_more in
+    record {
+      some = omega (arith, more);
+      first = at 0 (omega arith);
+      rise = λ k low.
+          let next : k + 1 ≡ suc k = omega arith in
+          let grows : length (concat (take k table)) ≤ length (concat (take (k + 1) table)) =
+          rw next (concat_grows table k) in
+          omega (arith, at k (omega (arith, low, more)), at (k + 1) (omega (arith, low, more)), grows);
+      last =
+          let end : length starts - 1 ≡ length table = omega (arith, more) in
+          rw end (at (length table) (omega arith)
+          ∙ ap (λ (rows : List (List ℕ)). length (concat rows)) (take_all (length table) table (omega arith))
+          ∙ ap (λ (ys : List ℕ). length ys) laid.all);
+    }
 
 -- one more row
 push_from : (list row : List ℕ) (start : ℕ) (ends : List ℕ) → DoNotFall start ends (length list)

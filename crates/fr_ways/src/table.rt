@@ -1,8 +1,8 @@
 //! A table of ways: the ways of all nodes in one list.
 
-ghost use Rattle.std.specs.Prelude.{◌≡◌, ◌+◌, ◌++◌, [], ◌∷◌, IfOk, OnErr, OnOk, length};
+ghost use Rattle.std.specs.Prelude.{◌≡◌, ◌+◌, ◌++◌, ◌↔◌, [], ◌∷◌, IfErr, IfOk, IsTrue, List, MatchOption, OnErr, OnOk, length, ℕ};
 ghost use Rattle.std.specs.List.{concat};
-ghost use Rattle.fr_ways.specs.Rows.{AreStarts};
+ghost use Rattle.fr_ways.specs.Rows.{AreBounds, AreStarts, IsLaidOut};
 ghost use Rattle.fr_ways.specs.Ways.{ways};
 
 use std::alloc::{AllocError, Global};
@@ -44,6 +44,27 @@ impl WayTable {
             starts,
             list: Vec::with_capacity(alloc, ways)?,
         })
+    }
+
+    /// The table whose ways lie in `list`, in the form of [`WayTable::starts`] and [`WayTable::list`]. `None` if no table
+    /// has this form: `starts` must begin with 0, must not fall, and must end with the length of `list`. Fails with
+    /// `AllocError` if an allocation is refused. O(n + m).
+    pub fn from_rows(
+        alloc: Global,
+        starts: &[usize],
+        list: &[u32],
+    ) -> Result<Option<WayTable>, AllocError>
+        ensures made { IfOk result (λ made. MatchOption made
+            ((table : List (List ℕ)) → ¬ IsLaidOut starts.now list.now table) (IsLaidOut starts.now list.now)) }
+        ensures memory { IfErr result (λ fault. (table : List (List ℕ)) × IsLaidOut starts.now list.now table) }
+    {
+        if !are_bounds(starts, list.len()) {
+            return Ok(None);
+        }
+        Ok(Some(WayTable {
+            starts: starts.to_vec(alloc)?,
+            list: list.to_vec(alloc)?,
+        }))
     }
 
     /// Adds a node that has these ways. It gets the next number. Fails with `AllocError` if an allocation is refused;
@@ -92,4 +113,19 @@ impl WayTable {
     {
         self.list.as_slice()
     }
+}
+
+/// Whether lists can begin and end at these places, one after the other, up to this length in all.
+fn are_bounds(starts: &[usize], length: usize) -> bool
+    ensures { IsTrue result ↔ AreBounds starts.now length }
+{
+    if starts.is_empty() || starts[0] != 0 || starts[starts.len() - 1] != length {
+        return false;
+    }
+    for k in 1..starts.len() {
+        if starts[k - 1] > starts[k] {
+            return false;
+        }
+    }
+    true
 }

@@ -1,15 +1,9 @@
-use Rattle.std.proofs.Common.{List, arith, inl, inr, refl, slice_index, ⊎_elim, ◌<◌, ◌≡◌, ◌↔◌, subst, sym, ℕ}
-use Rattle.std.specs.List.{Contains}
-use Rattle.std.proofs.lemmas.Bool.{cases_lt}
+use Rattle.std.proofs.Common.{inl, inr, subst, ℕ, ⊎_elim, ◌<◌, ◌⊎◌}
+use Rattle.std.specs.List.{All, Contains}
 use Rattle.fr_graph.proofs.TurnedNodes.{turned_below}
 use Rattle.fr_graph.specs.Turns.{AreTurned}
-use Rattle.std.specs.List.{All}
+use Rattle.fr_route.specs.NodeWays.{HasTurnedEnd}
 use Rattle.fr_route.proofs.outcome.renew_distances.Goals as goal
-
--- a node that is not listed has not turned
-still : (counts nodes : List ℕ) → AreTurned counts nodes → (x : ℕ) → ¬ Contains nodes x → slice_index counts x ≡ 0
-still counts nodes are x none = ⊎_elim (λ turned. absurd (none ((are.each x).1 turned))) (λ low. omega (arith, low))
-    (cases_lt 0 (slice_index counts x))
 
 pub renew-requires-clause-old : goal.renew-requires-clause-old
 renew-requires-clause-old c =
@@ -17,15 +11,16 @@ renew-requires-clause-old c =
     let counts = c.args.outcome.now.turns in
     let nodes = c.nodes.result.now in
     let turned : AreTurned counts nodes = c.nodes.ensures in
+    let listed : (x w : ℕ) → HasTurnedEnd counts x w → Contains nodes x ⊎ Contains nodes w = λ x w is.
+    ⊎_elim (λ h. inl ((turned.each x).1 h)) (λ h. inr ((turned.each w).1 h)) is in
     record {
       links = old.links;
+      node = old.node;
       were = old.were;
-      below = record {
-        nodes = old.below;
-        turned = subst (λ (n : ℕ). All (λ (x : ℕ). x < n) nodes) old.counted (turned_below counts nodes turned);
-      };
-      same = λ x w low none. old.same x w (λ h. none (inl h))
-          (still counts nodes turned x (λ h. none (inr (x, (h, inl refl)))))
-          (λ y joins. still counts nodes turned y (λ h. none (inr (y, (h, inr joins)))));
-      home = λ x low none. old.home x (λ h. none (inl h));
+      edits = old.ends;
+      turned = subst (λ (n : ℕ). All (λ (x : ℕ). x < n) nodes) old.counted (turned_below counts nodes turned);
+      kept = λ x w link. ⊎_elim (λ cut. inl cut)
+          (λ left. inr (⊎_elim (λ same. inl same) (λ back. inr (back.0, listed x w back.1)) left)) (old.kept x w link);
+      new = λ x w link. ⊎_elim (λ add. inl add)
+          (λ left. inr (⊎_elim (λ was. inl was) (λ ends. inr (listed x w ends)) left)) (old.new x w link);
     }

@@ -197,16 +197,12 @@ renew_distances-requires-clause-old g c =
     let at = goal.at.renew_distances-requires-clause-old g c in
     let s : State = state_of c.router.inside in
     let net : Network = c.edit_if.new.self in
-    let d = c.args.revision.now.dest in
+    let edits = c.args.revision.now.edits.now in
     let counts : List ℕ = c.in_ok-outcome.outcome.turns in
     let m : Measured = c.router.inside.distances in
-    let old = old_distances s c.router.invariant.round c.args.revision.now.edits.now net d (in_range g at.After-router)
-    (edits_made g at.In_ok-outcome) counts (outcome_is g at.In_ok-outcome).counts m c.router.invariant.distances in
     rw c.put_in_place.ensures.net
-    (subst (λ (e : ℕ). AreOldDistances (net_of net.nodes (links_at net.links counts)) e counts c.as_slice-from.result.now m)
-    (sym (same_dest g at.In_ok-outcome))
-    (subst (λ (moved : List ℕ). AreOldDistances (net_of net.nodes (links_at net.links counts)) d counts moved m)
-    (sym (from_movable g at.After-as_slice-from)) old))
+    (old_distances s c.router.invariant.round edits net c.args.revision.now.dest (in_range g at.After-router)
+    (edits_made g at.In_ok-outcome) counts (outcome_is g at.In_ok-outcome).counts m c.router.invariant.distances)
 
 pub put_in_order-requires-clause-table : goal.put_in_order-requires-clause-table
 put_in_order-requires-clause-table g c =
