@@ -157,6 +157,28 @@ static void tell_all_ways(revroute *session) {
     kept = ways[length - 1];
 }
 
+/* Asks what to push in both phases to routers that hold all ways, or none. */
+static void tell_phases(revroute *session, bool hold_all) {
+    static size_t starts[NODES + 1];
+    static uint32_t ways[LINKS], pushes[2 * NODES + LINKS];
+    size_t count = 0, length;
+    memset(starts, 0, sizeof starts);
+    if (hold_all && revroute_all_ways(session, starts, NODES + 1, ways, LINKS, &count) != REVROUTE_ANSWERED) stop("there are no ways");
+    for (int at = 0; at < TABLES; at++) {
+        if (revroute_shrink(session, starts, nodes + 1, ways, count, pushes, 2 * NODES + LINKS, &length) != REVROUTE_ANSWERED) stop("nothing shrinks");
+        if (revroute_grow(session, starts, nodes + 1, ways, count, pushes, 2 * NODES + LINKS, &length) != REVROUTE_ANSWERED) stop("nothing grows");
+    }
+    kept = (uint32_t)length;
+}
+
+static void tell_no_phases(revroute *session) {
+    tell_phases(session, true);
+}
+
+static void tell_all_phases(revroute *session) {
+    tell_phases(session, false);
+}
+
 /* Fills the table with the settled hops, or with hops that all differ from them. */
 static void fill_table(revroute *session, uint32_t count, bool differs) {
     size_t length;
@@ -288,6 +310,8 @@ int main(void) {
     printf("hops %.0f\n", best(tell_tables) / TABLES);
     printf("ways %.3f\n", best(ask_ways) / count);
     printf("all-ways %.0f\n", best(tell_all_ways) / TABLES);
+    printf("phases-none %.0f\n", best(tell_no_phases) / TABLES);
+    printf("phases %.0f\n", best(tell_all_phases) / TABLES);
     printf("pushes-none %.0f\n", best_pushes(nodes, false));
     printf("pushes %.0f\n", best_pushes(nodes, true));
     printf("pushes-half %.0f\n", best_pushes(nodes / 2, true));

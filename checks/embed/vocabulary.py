@@ -16,10 +16,12 @@ links    | revroute_links | Network::links Session::links | Network.links Sessio
 counts   | revroute_counts | Network::counts Session::counts | Network.counts Session.counts
 hops     | revroute_hops | Network::hops Session::hops | Network.hops Network.hops_into Session.hops
 walk     | revroute_walk revroute_reader_walk | Network::walk Session::walk Reader::walk | Network.walk Session.walk Reader.walk
-ways     | revroute_ways revroute_all_ways | Network::ways Session::ways | Network.ways Session.ways
+ways     | revroute_ways revroute_all_ways | Network::ways Network::all_ways Session::ways Session::all_ways | Network.ways Network.all_ways Session.ways Session.all_ways
 nearest  | revroute_nearest | Network::nearest Session::nearest | Network.nearest Session.nearest
 net      | revroute_open | Network::new | Network
 pushes   | revroute_pushes | Network::pushes Session::pushes | Network.pushes Session.pushes
+shrink   | revroute_shrink | Network::shrink Session::shrink | Network.shrink Session.shrink
+grow     | revroute_grow | Network::grow Session::grow | Network.grow Session.grow
 distance | revroute_distance | Network::distance Session::distance | Network.distance Session.distance
 next_hop | revroute_next_hop revroute_reader_next_hop | Network::next_hop Network::try_next_hop Session::next_hop Reader::next_hop Reader::try_next_hop | Network.next_hop Session.next_hop Reader.next_hop
 changed  | revroute_changed | Network::changed Session::changed | Network.changed Session.changed

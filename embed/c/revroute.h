@@ -113,7 +113,8 @@ typedef enum revroute_status {
     REVROUTE_BEGUN = 8,
     /* The line has more than 16,777,216 bytes. Nothing was taken. *length is 0. */
     REVROUTE_TOO_LONG = 9,
-    /* The table does not have one hop for each node, or one of its hops names no node. *length is 0. */
+    /* The table does not have one hop for each node, or one of its hops names no node; or the starts of a table of ways
+     * do not fit. *length is 0. */
     REVROUTE_NO_TABLE = 10,
     /* A pointer to bytes or to an array is null although its length is not 0. Each call tests this before everything
      * else, and writes nothing then: *length keeps its value. */
@@ -133,7 +134,7 @@ static inline const char *revroute_status_text(revroute_status status_) {
     case REVROUTE_NO_WALK: return "there is no cycle";
     case REVROUTE_BEGUN: return "no line has ended yet";
     case REVROUTE_TOO_LONG: return "the line is too long";
-    case REVROUTE_NO_TABLE: return "the table does not have one hop for each node";
+    case REVROUTE_NO_TABLE: return "the table does not have one valid entry for each node";
     case REVROUTE_NULL_ARRAY: return "an array is null although its length is not 0";
     }
     return "an unknown status";
@@ -299,8 +300,8 @@ revroute_status revroute_finish(revroute *session, uint8_t *answer, size_t room,
  * O(1). */
 void revroute_close(revroute *session);
 
-/* Questions. They change nothing. revroute_walk, revroute_ways, revroute_nearest, revroute_all_ways, revroute_links and
- * revroute_pushes need memory; the others do not. Like every call, a question has the session for itself while it runs.
+/* Questions. They change nothing. revroute_walk, revroute_ways, revroute_nearest, revroute_all_ways, revroute_shrink,
+ * revroute_grow, revroute_links and revroute_pushes need memory; the others do not. Like every call, a question has the session for itself while it runs.
  *
  * Some questions fill an array of `room` places. They write to its front, leave the rest unchanged, and write the
  * number of elements to *length. With REVROUTE_TOO_SHORT *length is that number too. After any result but
@@ -395,6 +396,31 @@ revroute_status revroute_nearest(revroute *session, uint32_t node, uint32_t *nod
  * more than d links. */
 revroute_status revroute_all_ways(revroute *session, size_t *starts, size_t starts_room, uint32_t *ways,
                                   size_t ways_room, size_t *length);
+
+/* Pushes of ways, for routers that hold all their ways. You keep a table of the ways that each router may hold: those that
+ * it has confirmed last, and those of each later push that it has not confirmed. The table is in two arrays as
+ * revroute_all_ways writes them: `starts`, with one number more than there are nodes, and `ways`, with `count` numbers.
+ * These two calls say what to push, so that in the end each router has the ways of revroute_ways:
+ *
+ * 1. revroute_shrink: each node that loses a way gets the ways that it keeps. First come the nodes that keep one, by
+ *    number, and then those that keep none.
+ * 2. revroute_grow: once all routers have confirmed that, each node whose list still differs gets its new list, nearest
+ *    first. These nodes come by number.
+ *
+ * Each push is written as the node, the number of its ways, and these ways, one push after the other. *length is the
+ * length of all pushes. The pushes of one call may be made in any order, and at the same time. If the ways in the table
+ * have no cycle, then no packet can go round one at any moment, whatever links fail meanwhile. The table may have
+ * cycles, and may name any numbers.
+ *
+ * If links change before all is confirmed, ask both calls again with the ways that routers may hold by then.
+ *
+ * A room of twice the number of nodes and the number of links is always enough. REVROUTE_NO_TABLE if `starts` does not
+ * have one number more than there are nodes, or does not begin with 0, or falls, or does not end with `count`.
+ * REVROUTE_NO_MEMORY if memory ran out. O(n + m log d) if no node has more than d links. */
+revroute_status revroute_shrink(revroute *session, const size_t *starts, size_t starts_count, const uint32_t *ways,
+                                size_t count, uint32_t *pushes, size_t room, size_t *length);
+revroute_status revroute_grow(revroute *session, const size_t *starts, size_t starts_count, const uint32_t *ways,
+                              size_t count, uint32_t *pushes, size_t room, size_t *length);
 
 /* Writes the links, ordered by tail and then by head. REVROUTE_NO_MEMORY if memory ran out. O(n + m). */
 revroute_status revroute_links(revroute *session, revroute_link *links, size_t room, size_t *length);
@@ -618,6 +644,30 @@ static inline revroute_status revroute_all_ways_(revroute *session_, size_t *sta
                              REVROUTE_SOME(uint32_t, ways_, length_), ways_room_, length_);
 }
 #define revroute_all_ways revroute_all_ways_
+
+static inline revroute_status revroute_shrink_(revroute *session_, const size_t *starts_, size_t starts_count_,
+                                               const uint32_t *ways_, size_t count_, uint32_t *pushes_, size_t room_,
+                                               size_t *length_) {
+    if (REVROUTE_IS_MISSING(starts_, starts_count_) || REVROUTE_IS_MISSING(ways_, count_) ||
+        REVROUTE_IS_MISSING(pushes_, room_))
+        return REVROUTE_NULL_ARRAY;
+    return revroute_shrink(session_, REVROUTE_SOME(const size_t, starts_, session_), starts_count_,
+                           REVROUTE_SOME(const uint32_t, ways_, session_), count_,
+                           REVROUTE_SOME(uint32_t, pushes_, length_), room_, length_);
+}
+#define revroute_shrink revroute_shrink_
+
+static inline revroute_status revroute_grow_(revroute *session_, const size_t *starts_, size_t starts_count_,
+                                             const uint32_t *ways_, size_t count_, uint32_t *pushes_, size_t room_,
+                                             size_t *length_) {
+    if (REVROUTE_IS_MISSING(starts_, starts_count_) || REVROUTE_IS_MISSING(ways_, count_) ||
+        REVROUTE_IS_MISSING(pushes_, room_))
+        return REVROUTE_NULL_ARRAY;
+    return revroute_grow(session_, REVROUTE_SOME(const size_t, starts_, session_), starts_count_,
+                         REVROUTE_SOME(const uint32_t, ways_, session_), count_,
+                         REVROUTE_SOME(uint32_t, pushes_, length_), room_, length_);
+}
+#define revroute_grow revroute_grow_
 
 static inline revroute_status revroute_links_(revroute *session_, revroute_link *links_, size_t room_,
                                               size_t *length_) {

@@ -62,6 +62,12 @@ static void pass_null(void) {
     LOOK(nearest(&session, 2, NULL, 8, &at->length));
     LOOK(all_ways(&session, NULL, 8, at->nodes, 8, &at->length));
     LOOK(all_ways(&session, at->starts, 8, NULL, 8, &at->length));
+    LOOK(shrink(&session, NULL, 4, at->nodes, 2, at->nodes, 8, &at->length));
+    LOOK(shrink(&session, at->starts, 4, NULL, 2, at->nodes, 8, &at->length));
+    LOOK(shrink(&session, at->starts, 4, at->nodes, 2, NULL, 8, &at->length));
+    LOOK(grow(&session, NULL, 4, at->nodes, 2, at->nodes, 8, &at->length));
+    LOOK(grow(&session, at->starts, 4, NULL, 2, at->nodes, 8, &at->length));
+    LOOK(grow(&session, at->starts, 4, at->nodes, 2, NULL, 8, &at->length));
     LOOK(links(&session, NULL, 8, &at->length));
     LOOK(reader_walk(&reader, 2, NULL, 8, &at->length));
     LOOK(version(NULL, 16, &at->length));

@@ -51,6 +51,8 @@ static void pass_null(revroute *session, revroute_reader *reader) {
     expect(revroute_ways(session, 1, NULL, 0, &length) == REVROUTE_ANSWERED && !length, "the destination has a way");
     expect(revroute_nearest(session, 1, NULL, 0, &length) == REVROUTE_TOO_SHORT && length == 1, "a nearest route fits into null");
     expect(revroute_all_ways(session, NULL, 0, NULL, 0, &length) == REVROUTE_TOO_SHORT && !length, "starts fit into null");
+    expect(revroute_shrink(session, NULL, 0, NULL, 0, NULL, 0, &length) == REVROUTE_NO_TABLE && !length, "null is a table of ways that shrinks");
+    expect(revroute_grow(session, NULL, 0, NULL, 0, NULL, 0, &length) == REVROUTE_NO_TABLE && !length, "null is a table of ways that grows");
     expect(revroute_links(session, NULL, 0, &length) == REVROUTE_ANSWERED && !length, "there are links");
     expect(revroute_reader_open(session, reader) == REVROUTE_ANSWERED, "there is no reader");
     expect(revroute_reader_walk(reader, 1, NULL, 0, &length) == REVROUTE_TOO_SHORT && length == 1, "a walk fits into null");

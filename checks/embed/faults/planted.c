@@ -29,6 +29,7 @@ revroute_status engine_report(revroute *, revroute_round *);
 revroute_status engine_changed(revroute *, uint32_t *, size_t, size_t *);
 revroute_status engine_walk(revroute *, uint32_t, uint32_t *, size_t, size_t *);
 revroute_status engine_ways(revroute *, uint32_t, uint32_t *, size_t, size_t *);
+revroute_status engine_shrink(revroute *, const size_t *, size_t, const uint32_t *, size_t, uint32_t *, size_t, size_t *);
 revroute_status engine_size(revroute *, uint32_t *, size_t *);
 revroute_status engine_take(revroute *, const uint8_t *, size_t, uint8_t *, size_t, size_t *, size_t *);
 revroute_status engine_version(uint8_t *, size_t, size_t *);
@@ -65,6 +66,8 @@ enum {
     a_way_too_few,
     the_route_for_the_nearest,
     starts_without_the_end,
+    a_shrink_that_keeps_a_lost_way,
+    a_grow_before_the_shrinks,
     a_report_of_another_round,
     a_destination_of_its_own,
     a_link_too_few,
@@ -230,6 +233,29 @@ revroute_status revroute_all_ways(revroute *session, size_t *starts, size_t star
     size_t last = starts_room ? starts[starts_room - 1] : 0;
     uint32_t status = engine_all_ways(session, starts, starts_room, ways, ways_room, length);
     if (FAULT == starts_without_the_end && status == REVROUTE_ANSWERED) starts[starts_room - 1] = last;
+    return status;
+}
+
+/* Puts a way that a node loses in the place of one that it keeps. */
+static void keep_lost(const size_t *starts, const uint32_t *ways, uint32_t *pushes, size_t length) {
+    for (size_t from = 0; from < length; from += 2 + pushes[from + 1]) {
+        uint32_t x = pushes[from], count = pushes[from + 1], *kept = pushes + from + 2;
+        for (size_t at = starts[x]; count && at < starts[x + 1]; at++) {
+            bool is_kept = false;
+            for (uint32_t k = 0; k < count; k++) is_kept |= kept[k] == ways[at];
+            if (is_kept) continue;
+            kept[count - 1] = ways[at];
+            return;
+        }
+    }
+}
+
+revroute_status revroute_shrink(revroute *session, const size_t *starts, size_t starts_count, const uint32_t *ways, size_t count,
+                                uint32_t *pushes, size_t room, size_t *length) {
+    if (FAULT == a_grow_before_the_shrinks)
+        return revroute_grow(session, starts, starts_count, ways, count, pushes, room, length);
+    uint32_t status = engine_shrink(session, starts, starts_count, ways, count, pushes, room, length);
+    if (FAULT == a_shrink_that_keeps_a_lost_way && status == REVROUTE_ANSWERED) keep_lost(starts, ways, pushes, *length);
     return status;
 }
 

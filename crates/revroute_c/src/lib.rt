@@ -13,6 +13,7 @@ ghost use Rattle.fr_route.specs.States.{IsReport};
 ghost use Rattle.revroute_c.specs.ClosedWalks.{HasNoWalkOfChange, HasNoWalkOfNetwork};
 ghost use Rattle.revroute_c.specs.ClosedWalks.{IsWalkOfChange, IsWalkOfNetwork};
 ghost use Rattle.revroute_c.specs.Lending.{held_by, IsUnchanged};
+ghost use Rattle.revroute_c.specs.Phases.{AreGrowths, AreShrinks, HoldNoTable};
 ghost use Rattle.revroute_c.specs.Pieces.{TakesPiece};
 ghost use Rattle.revroute_c.specs.PushOrders.{OrdersPushes};
 ghost use Rattle.revroute_c.specs.Questions.{AreCounts, AreHopsWritten, AreAsManyAsNodes, AreLinks};
@@ -33,6 +34,7 @@ mod closed_walks;
 mod engine;
 mod handle;
 mod loose;
+mod phases;
 mod pieces;
 mod push_orders;
 mod questions;
@@ -49,6 +51,7 @@ mod ways;
 use closed_walks::{walk_of_change, walk_of_network};
 use fr_route::{VERSION, is_blank};
 use handle::Handle;
+use phases::{Rows, growths_in, shrinks_in};
 use pieces::{finish_line, take_anew, take_front};
 use push_orders::{Tables, order_of};
 use questions::{
@@ -589,6 +592,86 @@ pub extern "C" fn revroute_all_ways(
     *size = 0;
     match handle.engine_mut() {
         Some(engine) => all_ways_in(engine.session(), alloc, starts, ways, size),
+        None => NO_NETWORK,
+    }
+}
+
+/// Writes what to push first to routers that hold other ways than those of the session. `starts` and `ways` have the
+/// ways that routers may hold, as [`revroute_all_ways`] writes them. Each node that loses a way gets the ways that it
+/// keeps. Nodes that keep a way come first, by number; then those that keep none, by number. Each push is written as the
+/// node, the number of its ways, and these ways. The pushes come to the front of `pushes`, and their length in all to
+/// `size`. They can be made in any order. Once routers have confirmed them, [`revroute_grow`] says what to push then. If
+/// the ways that routers may hold have no cycle, there is none at any moment. Returns `ANSWERED`, or:
+///
+/// - `TOO_SHORT`: there is too little room. Twice as many numbers as there are nodes, and as many as links, are enough.
+/// - `NO_NETWORK`: there is no network yet.
+/// - `NO_TABLE`: `starts` does not have one number more than there are nodes; or it does not begin with 0, or falls, or
+///   does not end with the length of `ways`.
+/// - `NO_MEMORY`: an allocation was refused. The table is not one for which the call returns `NO_TABLE`.
+///
+/// `size` is 0 in the last three cases. In all four cases `pushes` is unchanged. The ways may have cycles, and may name
+/// any number. The session never changes. The cost is that of [`Router::phases`](fr_route::Router::phases).
+#[unsafe(no_mangle)]
+pub extern "C" fn revroute_shrink(
+    alloc: Global,
+    handle: &mut Handle,
+    starts: &[usize],
+    ways: &[u32],
+    pushes: &mut [u32],
+    size: &mut usize,
+) -> u32
+    ensures same { IsUnchanged handle.old handle.new }
+    ensures gives { GivesList (AreShrinks handle.old.session starts.now ways.now)
+        (outcome result pushes.old pushes.new size.new) }
+    ensures no_network { (result ≡ REVROUTE_NO_NETWORK) ↔ (handle.old.session ≡ None) }
+    ensures no_table { result ≡ REVROUTE_NO_TABLE → HoldNoTable handle.old.session starts.now ways.now }
+    ensures no_memory { result ≡ REVROUTE_NO_MEMORY → ¬ HoldNoTable handle.old.session starts.now ways.now }
+    ensures status { (result ≡ REVROUTE_ANSWERED) ⊎ ((REVROUTE_TOO_SHORT ≤ result) × (result ≤ REVROUTE_NO_NETWORK))
+        ⊎ (result ≡ REVROUTE_NO_TABLE) }
+{
+    *size = 0;
+    match handle.engine_mut() {
+        Some(engine) => shrinks_in(
+            engine.session(),
+            alloc,
+            &Rows { starts, ways },
+            pushes,
+            size,
+        ),
+        None => NO_NETWORK,
+    }
+}
+
+/// Writes what to push once routers have confirmed the pushes of [`revroute_shrink`] for the same table: the nodes whose
+/// list still differs, by number, each with all its ways, nearest first. All else is as for [`revroute_shrink`]. If the
+/// network changes before, ask both calls again with the ways that routers may hold then.
+#[unsafe(no_mangle)]
+pub extern "C" fn revroute_grow(
+    alloc: Global,
+    handle: &mut Handle,
+    starts: &[usize],
+    ways: &[u32],
+    pushes: &mut [u32],
+    size: &mut usize,
+) -> u32
+    ensures same { IsUnchanged handle.old handle.new }
+    ensures gives { GivesList (AreGrowths handle.old.session starts.now ways.now)
+        (outcome result pushes.old pushes.new size.new) }
+    ensures no_network { (result ≡ REVROUTE_NO_NETWORK) ↔ (handle.old.session ≡ None) }
+    ensures no_table { result ≡ REVROUTE_NO_TABLE → HoldNoTable handle.old.session starts.now ways.now }
+    ensures no_memory { result ≡ REVROUTE_NO_MEMORY → ¬ HoldNoTable handle.old.session starts.now ways.now }
+    ensures status { (result ≡ REVROUTE_ANSWERED) ⊎ ((REVROUTE_TOO_SHORT ≤ result) × (result ≤ REVROUTE_NO_NETWORK))
+        ⊎ (result ≡ REVROUTE_NO_TABLE) }
+{
+    *size = 0;
+    match handle.engine_mut() {
+        Some(engine) => growths_in(
+            engine.session(),
+            alloc,
+            &Rows { starts, ways },
+            pushes,
+            size,
+        ),
         None => NO_NETWORK,
     }
 }

@@ -194,6 +194,28 @@ class MemoryTest(unittest.TestCase):
             self.assertGreater(number, 1)
         self.assertEqual(ctypes.c_long.in_dll(library, "refusing_held").value, 0)
 
+    def test_ways_of_all_and_their_phases_without_memory_change_nothing(self):
+        left = ctypes.c_long.in_dll(library, "refusing_left")
+        with revroute.Network(3, 0, [(1, 0), (2, 1), (2, 0)]) as network:
+            table = {1: [2, 0], 2: [1]}
+            for question, wanted in (
+                (network.all_ways, {0: [], 1: [0], 2: [0, 1]}),
+                (lambda: network.shrink(table), [(1, [0])]),
+                (lambda: network.grow(table), [(2, [0, 1])]),
+            ):
+                found, number = None, 0
+                while found is None:
+                    number += 1
+                    left.value = number
+                    try:
+                        found = question()
+                    except MemoryError:
+                        self.assertEqual(left.value, 0)
+                    left.value = 0
+                self.assertEqual(found, wanted)
+                self.assertGreater(number, 1)
+        self.assertEqual(ctypes.c_long.in_dll(library, "refusing_held").value, 0)
+
     def test_without_memory_there_is_no_reader(self):
         left = ctypes.c_long.in_dll(library, "refusing_left")
         network, reader, number = revroute.Network(3, 0, [(0, 1), (1, 2)]), None, 0

@@ -134,6 +134,25 @@ def ways(node, far, links):
     return sorted(heads, key=lambda head: (far[head], head))
 
 
+def phases(old, new):
+    """The pushes of both phases between two tables of lists: the nodes that lose a way, those that keep one first, and
+    then the nodes whose list differs once these have their lists."""
+    held, shrinks = [*old], []
+    for x, (before, after) in enumerate(zip(old, new)):
+        if not {*before} <= {*after}:
+            held[x] = [way for way in after if way in before]
+            shrinks.append((x, held[x]))
+    return sorted(shrinks, key=lambda push: not push[1]), [(x, after) for x, after in enumerate(new) if held[x] != after]
+
+
+def has_cycle(table):
+    """Whether nodes are left after all nodes were removed, again and again, that have no way to a node that is left."""
+    left, last = {*range(len(table))}, None
+    while left != last:
+        left, last = {x for x in left if left & {*table[x]}}, left
+    return bool(left)
+
+
 def drawn_table(draw, hops):
     """A table with some of these hops, and some random ones, often with loops."""
     kept = draw.choice((0, 0.25, 0.5, 0.75, 1))
@@ -177,6 +196,65 @@ class NetworkTests(unittest.TestCase):
             while route and route[-1] != network.dest:
                 route.append(ways(route[-1], far, links)[0])
             self.assertEqual(network.nearest(x), route)
+        self.assertEqual(network.all_ways(), {x: ways(x, far, links) for x in range(len(network))})
+
+    def update_ways(self, network, draw, held):
+        """Makes the pushes of both phases, each in a random order. If the table has no cycle, no push makes one."""
+        links = network.links()
+        far = distances(len(network), network.dest, links)
+        new = [ways(x, far, links) for x in range(len(network))]
+        may_cycle, (shrinks, growths) = has_cycle(held), phases(held, new)
+        for table in (held, dict(enumerate(held)), {x: tuple(some) for x, some in enumerate(held) if some}):
+            self.assertEqual((network.shrink(table), network.grow(table)), (shrinks, growths))
+        for pushes in (shrinks, growths):
+            self.assertEqual(network.grow(held), growths)
+            for node, some in draw.sample(pushes, len(pushes)):
+                held[node] = some
+                self.assertTrue(may_cycle or not has_cycle(held), held)
+            self.assertEqual(network.shrink(held), [])
+        self.assertEqual((held, network.grow(held)), (new, []))
+
+    def test_routers_that_hold_all_their_ways_get_new_ones_in_two_phases(self):
+        for seed in range(60):
+            draw = random.Random(seed)
+            nodes = draw.randrange(1, 9)
+            network, held = Network(nodes, draw.randrange(nodes), drawn(draw, nodes)), [[] for _ in range(nodes)]
+            for _ in range(20):
+                self.update_ways(network, draw, held)
+                self.update_ways(network, draw, [draw.choices(range(nodes + 2), k=draw.randrange(4)) for _ in range(nodes)])
+                try:
+                    network.batch([drawn_edit(draw, nodes)])
+                except Refused:
+                    network.move_dest(draw.randrange(nodes))
+
+    def test_a_table_has_the_ways_that_a_router_may_hold(self):
+        network = Network(3, 0, [(1, 0), (2, 0)])
+        network.add(1, 2)
+        self.assertEqual(network.grow([[], [0], [0]]), [(1, [0, 2])])
+        network.batch([("cut", 1, 2), ("add", 2, 1)])
+        # With the confirmed ways alone, 2 would get its way to 1 while 1 may have received its way to 2.
+        self.assertEqual((network.shrink([[], [0], [0]]), network.grow([[], [0], [0]])), ([], [(2, [0, 1])]))
+        self.assertEqual((network.shrink([[], [0, 2], [0]]), network.grow([[], [0, 2], [0]])), ([(1, [0])], [(2, [0, 1])]))
+
+    def test_a_table_of_ways_can_name_what_is_gone_and_no_other_keys(self):
+        network = Network(3, "a", [("b", "a"), ("c", "b"), ("c", "a")], names="abc")
+        self.assertEqual(network.all_ways(), {"a": [], "b": ["a"], "c": ["a", "b"]})
+        table = {"b": ["gone", "a"], "c": ("b", None)}
+        self.assertEqual((network.shrink(table), network.grow(table)), ([("b", ["a"]), ("c", ["b"])], [("c", ["a", "b"])]))
+        self.assertEqual(network.grow([[], ["a"]]), [("c", ["a", "b"])])
+        self.assertRaises(NoSuchNode, network.shrink, {"d": []})
+        numbered = Network(2, 0, [(1, 0)])
+        for gone in (2, -1, (1 << 32) - 1, 1 << 80):
+            self.assertEqual((numbered.shrink({1: [gone, 0]}), numbered.grow([[], [gone]])), ([(1, [0])], [(1, [0])]))
+        for phase in (numbered.shrink, numbered.grow):
+            for table in ({2: []}, {-1: []}):
+                self.assertRaises(NoSuchNode, phase, table)
+            self.assertRaises(ValueError, phase, [[], [], []])
+            for table in (None, 7, "ab", {1: "0"}, {1: 0}, {1: {0: 1}}, {1: {0}}, {1: None}, {1: [0.0]}, {"1": []}, numbered.table()):
+                self.assertRaises(TypeError, phase, table)
+        numbered.close()
+        for call in (numbered.all_ways, lambda: numbered.shrink({}), lambda: numbered.grow({})):
+            self.assertRaises(ValueError, call)
 
     def push_drawn(self, network, draw, hops):
         """Makes the pushes of a random table. A new loop would contain the node that was pushed."""

@@ -167,6 +167,20 @@ class SessionTest(unittest.TestCase):
             with mock.patch.object(revroute.Session, "size", revroute.Size(5, 3)):
                 self.assertRaises(ValueError, session.pushes, {})
 
+    def test_there_are_two_phases_of_numbers(self):
+        with revroute.Session() as session:
+            self.assertEqual([session.all_ways(), session.shrink({}), session.grow([])], [{}, [], []])
+            self.assertRaises(ValueError, session.shrink, [[]])
+            self.assertRaises(revroute.NoSuchNode, session.grow, {0: []})
+            session.answer(CHAIN)
+            self.assertEqual(session.all_ways(), {0: [], 1: [0], 2: [1], 3: [2]})
+            table = {1: [2], 2: [1, 9]}
+            self.assertEqual((session.shrink(table), session.grow(table)), ([(2, [1]), (1, [])], [(1, [0]), (3, [2])]))
+            with mock.patch.object(revroute.Session, "size", revroute.Size(5, 3)):
+                self.assertRaises(ValueError, session.shrink, {})
+        for call in (session.all_ways, lambda: session.shrink({}), lambda: session.grow({})):
+            self.assertRaises(ValueError, call)
+
     def test_questions_tell_what_lines_tell(self):
         accepted = 0
         for name, lines, _ in examples():

@@ -1,6 +1,7 @@
 //! The handle of the library that a session or a network owns, and the questions to it.
 
-use crate::{Hop, NoMemory, Reader, Report, Size, TableFault, listed, sys, table};
+use crate::table::{self, WayPushes};
+use crate::{Hop, NoMemory, Reader, Report, Size, TableFault, listed, sys};
 use std::cell::UnsafeCell;
 
 /// The owner of a handle. A question changes nothing, but the library needs exclusive access to the handle for it. So
@@ -14,6 +15,18 @@ unsafe impl Send for Engine {}
 
 /// A question that fills an array of `room` places, and reports the number of elements.
 type Fill<T> = unsafe extern "C" fn(*mut sys::Handle, *mut T, usize, *mut usize) -> u32;
+
+/// A question for the pushes of a phase, about a table of ways in two arrays.
+type Phase = unsafe extern "C" fn(
+    *mut sys::Handle,
+    *const usize,
+    usize,
+    *const u32,
+    usize,
+    *mut u32,
+    usize,
+    *mut usize,
+) -> u32;
 
 impl Engine {
     /// An engine without a network. It holds no memory.
@@ -97,6 +110,59 @@ impl Engine {
         })
     }
 
+    pub fn all_ways(&self) -> Result<Vec<Vec<u32>>, NoMemory> {
+        let (nodes, links) = self.extent();
+        let mut starts = listed((0..nodes + 1).map(|_| 0))?;
+        let (begins, count) = (starts.as_mut_ptr(), starts.len());
+        // There are at most as many ways as links.
+        let ways = filled_with(links, |ways, room, length| {
+            // SAFETY: as in `all_of`, and the starts are another slice.
+            unsafe { sys::revroute_all_ways(self.handle.get(), begins, count, ways, room, length) }
+        })?
+        .unwrap_or_default();
+        let mut table = Vec::new();
+        table.try_reserve_exact(nodes).map_err(|_| NoMemory)?;
+        for ends in starts.windows(2) {
+            table.push(listed(ways[ends[0]..ends[1]].iter().copied())?);
+        }
+        Ok(table)
+    }
+
+    pub fn shrink(&self, table: &[impl AsRef<[u32]>]) -> Result<WayPushes, TableFault> {
+        self.phase(sys::revroute_shrink, table)
+    }
+
+    pub fn grow(&self, table: &[impl AsRef<[u32]>]) -> Result<WayPushes, TableFault> {
+        self.phase(sys::revroute_grow, table)
+    }
+
+    /// The pushes of one of the two phases.
+    fn phase(&self, call: Phase, table: &[impl AsRef<[u32]>]) -> Result<WayPushes, TableFault> {
+        let (nodes, links) = self.extent();
+        if table.len() != nodes {
+            return Err(TableFault::Length);
+        }
+        let (starts, ways) = table::rows(table)?;
+        // Each call computes the pushes again, so the first call gets room for all.
+        let found = filled_with(2 * nodes + links, |places, room, length| {
+            // SAFETY: as in `all_of`, and the starts and the ways are two other slices.
+            unsafe {
+                let (starts_at, ways_at) = (starts.as_ptr(), ways.as_ptr());
+                call(
+                    self.handle.get(),
+                    starts_at,
+                    starts.len(),
+                    ways_at,
+                    ways.len(),
+                    places,
+                    room,
+                    length,
+                )
+            }
+        })?;
+        Ok(table::way_pushes(&found.unwrap_or_default())?)
+    }
+
     /// The distance of a node. `None` if it is cut off, or if there is no such node.
     #[inline]
     pub fn distance(&self, node: u32) -> Option<u32> {
@@ -123,6 +189,12 @@ impl Engine {
         // SAFETY: the handle is new or the library's own, no other call has it, and the three do not overlap.
         let status = unsafe { sys::revroute_size(self.handle.get(), &mut nodes, &mut links) };
         (status == sys::ANSWERED).then_some(Size { nodes, links })
+    }
+
+    /// The number of nodes and of links. Both are 0 before the first network.
+    fn extent(&self) -> (usize, usize) {
+        self.size()
+            .map_or((0, 0), |size| (size.nodes as usize, size.links))
     }
 
     pub fn reader(&self) -> Result<Reader, NoMemory> {

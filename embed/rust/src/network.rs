@@ -339,6 +339,21 @@ impl Network {
         Ok(self.found_of(node, ways).unwrap_or_default())
     }
 
+    /// The [`ways`](Network::ways) of each node, in the order of the nodes. `O(n + m log d)`.
+    ///
+    /// ```
+    /// let network = revroute::Network::new(4, 0, &[(1, 0), (2, 1), (2, 0)])?;
+    /// assert_eq!(network.all_ways()?, [vec![], vec![0], vec![0, 1], vec![]]);
+    /// # Ok::<(), revroute::Refused>(())
+    /// ```
+    ///
+    /// # Errors
+    ///
+    /// If memory for the lists runs out.
+    pub fn all_ways(&self) -> Result<Vec<Vec<u32>>, NoMemory> {
+        self.engine.all_ways()
+    }
+
     /// The nodes on the nearest route from a node to the destination, both included: each is the first of the
     /// [`ways`](Network::ways) of the one before. No route along the links is shorter. `None` if the node is cut off.
     /// `O(k d)` for k nodes.
@@ -461,6 +476,77 @@ impl Network {
     /// - [`NoMemory`](TableFault::NoMemory): memory ran out.
     pub fn pushes(&self, table: &[Hop]) -> Result<Vec<(u32, Hop)>, TableFault> {
         self.engine.pushes(table)
+    }
+
+    /// What to push first to routers that hold all their [`ways`](Network::ways): each node that loses a way, with the
+    /// ways that it keeps. Nodes that keep one come first, by number, and then those that keep none. `O(n + m log d)`.
+    ///
+    /// Your table has a list for each node: the ways that its router may hold. These are the ways that it has confirmed
+    /// last, and those of each later push that it has not confirmed. They may have cycles, and may name any numbers.
+    ///
+    /// Routers get their new ways in two phases:
+    ///
+    /// 1. Make the pushes of `shrink`, and wait until all routers have confirmed them.
+    /// 2. Then make those of [`grow`](Network::grow).
+    ///
+    /// The pushes of one phase can be made in any order, and at the same time. If the ways in the table have no cycle, no
+    /// packet goes round one at any moment, whatever links fail meanwhile. If the network changes before all is
+    /// confirmed, change it, and begin with `shrink` again.
+    ///
+    /// ```
+    /// use revroute::{Network, TableFault};
+    ///
+    /// /// Sends routers their new ways, in any order, and returns once all have confirmed them.
+    /// fn send(pushes: Vec<(u32, Vec<u32>)>, table: &mut [Vec<u32>]) {
+    ///     for (node, ways) in pushes {
+    ///         table[node as usize] = ways;
+    ///     }
+    /// }
+    ///
+    /// /// Brings all routers up to date.
+    /// fn update(network: &Network, table: &mut [Vec<u32>]) -> Result<(), TableFault> {
+    ///     send(network.shrink(table)?, table);
+    ///     send(network.grow(table)?, table);
+    ///     Ok(())
+    /// }
+    ///
+    /// let mut network = Network::new(4, 0, &[(1, 0), (2, 0), (2, 1), (3, 2)])?;
+    /// let mut table = vec![Vec::new(); 4]; // no router has a way yet
+    /// update(&network, &mut table)?;
+    /// assert_eq!(table, [vec![], vec![0], vec![0, 1], vec![2]]);
+    ///
+    /// network.cut(1, 0)?; // now 1 sends to 2, which must drop its way to 1 before
+    /// assert_eq!(network.shrink(&table)?, [(2, vec![0]), (1, vec![])]);
+    /// assert_eq!(network.grow(&table)?, [(1, vec![2])]);
+    /// update(&network, &mut table)?;
+    /// assert_eq!(table, network.all_ways()?);
+    /// # Ok::<(), Box<dyn std::error::Error>>(())
+    /// ```
+    ///
+    /// # Errors
+    ///
+    /// - [`Length`](TableFault::Length): the table does not have one list for each node.
+    /// - [`NoMemory`](TableFault::NoMemory): memory ran out.
+    pub fn shrink(&self, table: &[impl AsRef<[u32]>]) -> Result<Vec<(u32, Vec<u32>)>, TableFault> {
+        self.engine.shrink(table)
+    }
+
+    /// What to push once all routers have confirmed the pushes of [`shrink`](Network::shrink): each node whose list then
+    /// still differs, with all its ways, nearest first. The nodes come by number. `O(n + m log d)`.
+    ///
+    /// The result is the same for the table that was given to `shrink` and for the table after its pushes.
+    ///
+    /// ```
+    /// let network = revroute::Network::new(3, 0, &[(1, 0), (2, 1), (2, 0)])?;
+    /// assert_eq!(network.grow(&[vec![], vec![0], vec![1]])?, [(2, vec![0, 1])]);
+    /// # Ok::<(), Box<dyn std::error::Error>>(())
+    /// ```
+    ///
+    /// # Errors
+    ///
+    /// Those of [`shrink`](Network::shrink).
+    pub fn grow(&self, table: &[impl AsRef<[u32]>]) -> Result<Vec<(u32, Vec<u32>)>, TableFault> {
+        self.engine.grow(table)
     }
 
     /// How often each node turned in the last round, in the order of the nodes. `O(n)`.

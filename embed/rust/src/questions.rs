@@ -119,6 +119,44 @@ impl Session {
         self.engine.pushes(table)
     }
 
+    /// What to push first to routers that hold all their ways: each node that loses a way, with the ways that it keeps.
+    /// See [`Network::shrink`](crate::Network::shrink). Before the first network there are no nodes, so it accepts only
+    /// the empty table. `O(n + m log d)`.
+    ///
+    /// ```
+    /// let mut session = revroute::Session::new();
+    /// session.answer(r#"["net",4,0,[[1,0],[2,0],[2,1],[3,2]]]"#)?;
+    /// let table = session.all_ways()?;
+    /// session.answer(r#"["cut",1,0]"#)?;
+    /// assert_eq!(session.shrink(&table)?, [(2, vec![0]), (1, vec![])]);
+    /// assert_eq!(session.grow(&table)?, [(1, vec![2])]);
+    /// # Ok::<(), revroute::TableFault>(())
+    /// ```
+    ///
+    /// # Errors
+    ///
+    /// - [`Length`](TableFault::Length): the table does not have one list for each node.
+    /// - [`NoMemory`](TableFault::NoMemory): memory ran out.
+    pub fn shrink(
+        &mut self,
+        table: &[impl AsRef<[u32]>],
+    ) -> Result<Vec<(u32, Vec<u32>)>, TableFault> {
+        self.engine.shrink(table)
+    }
+
+    /// What to push once all routers have confirmed the pushes of [`shrink`](Session::shrink): each node whose list then
+    /// still differs, with all its ways, nearest first. `O(n + m log d)`.
+    ///
+    /// # Errors
+    ///
+    /// Those of [`shrink`](Session::shrink).
+    pub fn grow(
+        &mut self,
+        table: &[impl AsRef<[u32]>],
+    ) -> Result<Vec<(u32, Vec<u32>)>, TableFault> {
+        self.engine.grow(table)
+    }
+
     /// How often each node turned in the last round, in the order of the nodes. Empty before the first network.
     /// `O(n)`.
     ///
@@ -174,6 +212,23 @@ impl Session {
     /// If memory for the list runs out.
     pub fn ways(&mut self, node: u32) -> Result<Option<Vec<u32>>, NoMemory> {
         self.engine.ways(node)
+    }
+
+    /// The ways of each node, in the order of the nodes. Empty before the first network. `O(n + m log d)`.
+    ///
+    /// ```
+    /// let mut session = revroute::Session::new();
+    /// assert!(session.all_ways()?.is_empty());
+    /// session.answer(r#"["net",4,0,[[1,0],[2,1],[2,0]]]"#)?;
+    /// assert_eq!(session.all_ways()?, [vec![], vec![0], vec![0, 1], vec![]]);
+    /// # Ok::<(), revroute::NoMemory>(())
+    /// ```
+    ///
+    /// # Errors
+    ///
+    /// If memory for the lists runs out.
+    pub fn all_ways(&mut self) -> Result<Vec<Vec<u32>>, NoMemory> {
+        self.engine.all_ways()
     }
 
     /// The nodes on the nearest route from a node to the destination, both included, as for

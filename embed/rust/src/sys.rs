@@ -254,6 +254,37 @@ unsafe extern "C" {
         length: *mut usize,
     ) -> u32;
 
+    pub fn revroute_all_ways(
+        session: *mut Handle,
+        starts: *mut usize,
+        starts_room: usize,
+        ways: *mut u32,
+        ways_room: usize,
+        length: *mut usize,
+    ) -> u32;
+
+    pub fn revroute_shrink(
+        session: *mut Handle,
+        starts: *const usize,
+        starts_count: usize,
+        ways: *const u32,
+        count: usize,
+        pushes: *mut u32,
+        room: usize,
+        length: *mut usize,
+    ) -> u32;
+
+    pub fn revroute_grow(
+        session: *mut Handle,
+        starts: *const usize,
+        starts_count: usize,
+        ways: *const u32,
+        count: usize,
+        pushes: *mut u32,
+        room: usize,
+        length: *mut usize,
+    ) -> u32;
+
     pub fn revroute_links(
         session: *mut Handle,
         links: *mut Link,

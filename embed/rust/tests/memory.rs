@@ -106,6 +106,39 @@ fn without_memory_pushes_change_nothing() -> Result<(), Refused> {
 }
 
 #[test]
+fn without_memory_there_are_no_phases() -> Result<(), Refused> {
+    let _held = COUNTER.lock().unwrap_or_else(PoisonError::into_inner);
+    let network = Network::new(3, 0, &[(1, 0), (2, 1), (2, 0)])?;
+    let table = [vec![], vec![2, 0], vec![1]];
+    type Phase = fn(&Network, &[Vec<u32>; 3]) -> Result<Vec<(u32, Vec<u32>)>, TableFault>;
+    let phases: [(Phase, _); 2] = [
+        (|network, table| network.shrink(table), (1, vec![0])),
+        (|network, table| network.grow(table), (2, vec![0, 1])),
+    ];
+    for (phase, push) in phases {
+        let mut number = 1;
+        let pushes = loop {
+            match poor(number, || phase(&network, &table)) {
+                Err(TableFault::NoMemory) => number += 1,
+                ended => break ended,
+            }
+        };
+        assert!(number > 1, "a phase takes memory");
+        assert_eq!(pushes, Ok(vec![push]));
+    }
+    let mut number = 1;
+    let ways = loop {
+        match poor(number, || network.all_ways()) {
+            Err(NoMemory) => number += 1,
+            Ok(ways) => break ways,
+        }
+    };
+    assert!(number > 1, "the ways take memory");
+    assert_eq!(ways, [vec![], vec![0], vec![0, 1]]);
+    Ok(())
+}
+
+#[test]
 fn without_memory_there_is_no_push_order() {
     let _held = COUNTER.lock().unwrap_or_else(PoisonError::into_inner);
     let (old, new) = (

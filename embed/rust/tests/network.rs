@@ -40,6 +40,33 @@ impl Draw {
         hops.iter().map(|&hop| drawn(hop)).collect()
     }
 
+    /// Lists with some of these ways, and with some random numbers, of which not all are nodes.
+    fn lists(&mut self, ways: &[Vec<u32>]) -> Vec<Vec<u32>> {
+        let nodes = ways.len() as u32;
+        let mut drawn = |own: &Vec<u32>| match self.below(4) {
+            0 => own.clone(),
+            1 => own.iter().copied().filter(|way| way % 2 == 0).collect(),
+            _ => (0..self.below(4)).map(|_| self.number(nodes)).collect(),
+        };
+        ways.iter().map(&mut drawn).collect()
+    }
+
+    /// A node, or sometimes a number that is not a node.
+    fn number(&mut self, nodes: u32) -> u32 {
+        match self.below(8) {
+            0 => nodes + self.below(3),
+            1 => u32::MAX - self.below(3),
+            _ => self.below(nodes),
+        }
+    }
+
+    /// Puts pushes into a random order.
+    fn shuffle<T>(&mut self, pushes: &mut [T]) {
+        for left in (1..pushes.len()).rev() {
+            pushes.swap(left, self.below(left as u32 + 1) as usize);
+        }
+    }
+
     /// Links without a cycle, since each points to the lower number.
     fn links(&mut self, nodes: u32) -> Vec<(u32, u32)> {
         let pairs = (0..nodes).flat_map(|u| (0..u).map(move |v| (u, v)));
@@ -154,11 +181,14 @@ fn compare_ways(network: &Network) -> Result<(), Box<dyn Error>> {
     let (nodes, links) = (network.size().nodes, network.links()?);
     let distances = distances(nodes, network.dest(), &links);
     let distance = |node: u32| distances[node as usize];
+    let all = network.all_ways()?;
+    assert_eq!(all.len(), nodes as usize);
     for x in 0..nodes {
         let heads = links.iter().filter(|link| link.0 == x).map(|link| link.1);
         let mut ways: Vec<u32> = heads.filter(|&head| distance(head).is_some()).collect();
         ways.sort_by_key(|&way| (distance(way), way));
         assert_eq!(network.ways(x)?, ways);
+        assert_eq!(all[x as usize], ways);
         assert_eq!(network.distance(x), distance(x));
         let route = network.nearest(x)?;
         assert_eq!(route.as_ref().map(|it| it.len() as u32 - 1), distance(x));
@@ -204,6 +234,84 @@ fn push_drawn(network: &Network, draw: &mut Draw) -> Result<(), Box<dyn Error>> 
     }
     assert_eq!(table, hops);
     assert_eq!(network.pushes(&table)?, []);
+    Ok(())
+}
+
+type WayPushes = Vec<(u32, Vec<u32>)>;
+
+/// The ways that a node keeps, in the order of its new list.
+fn kept(old: &[u32], new: &[u32]) -> Vec<u32> {
+    let is_kept = |way: &&u32| old.contains(way);
+    new.iter().filter(is_kept).copied().collect()
+}
+
+fn loses(old: &[u32], new: &[u32]) -> bool {
+    !old.iter().all(|way| new.contains(way))
+}
+
+/// The expected pushes of both phases: the nodes that lose a way, those that keep one first, and then the nodes whose
+/// list differs once these have their lists.
+fn phases_of(old: &[Vec<u32>], new: &[Vec<u32>]) -> (WayPushes, WayPushes) {
+    let (mut some, mut none, mut grow) = (Vec::new(), Vec::new(), Vec::new());
+    for (x, (old, new)) in (0..).zip(old.iter().zip(new)) {
+        let mut held = old.clone();
+        if loses(old, new) {
+            held = kept(old, new);
+            let shrinks = if held.is_empty() {
+                &mut none
+            } else {
+                &mut some
+            };
+            shrinks.push((x, held.clone()));
+        }
+        if held != *new {
+            grow.push((x, new.clone()));
+        }
+    }
+    some.extend(none);
+    (some, grow)
+}
+
+/// Whether packets can go round a cycle: whether nodes are left after all nodes were removed, again and again, that have
+/// no way to a node that is left.
+fn has_cycle(table: &[Vec<u32>]) -> bool {
+    let mut left: Vec<u32> = (0..table.len() as u32).collect();
+    loop {
+        let goes_on = |x: &u32| table[*x as usize].iter().any(|way| left.contains(way));
+        let fewer: Vec<u32> = left.iter().copied().filter(goes_on).collect();
+        if fewer.len() == left.len() {
+            return !left.is_empty();
+        }
+        left = fewer;
+    }
+}
+
+/// Makes the pushes of both phases, each in a random order. Checks that there is no cycle at any moment if there was none
+/// before, and that routers end with the ways of the network.
+fn update_ways(
+    network: &Network,
+    held: &mut [Vec<u32>],
+    draw: &mut Draw,
+) -> Result<(), Box<dyn Error>> {
+    let (new, may_cycle) = (network.all_ways()?, has_cycle(held));
+    let (shrinks, growths) = phases_of(held, &new);
+    assert_eq!(network.shrink(held)?, shrinks);
+    assert_eq!(network.grow(held)?, growths);
+    for mut pushes in [shrinks, growths.clone()] {
+        draw.shuffle(&mut pushes);
+        for (node, ways) in pushes {
+            held[node as usize] = ways;
+            assert!(may_cycle || !has_cycle(held), "{held:?}");
+        }
+        let left = if *held == new {
+            vec![]
+        } else {
+            growths.clone()
+        };
+        assert_eq!(network.shrink(held)?, []);
+        assert_eq!(network.grow(held)?, left);
+    }
+    assert_eq!(held, new);
     Ok(())
 }
 
@@ -316,6 +424,8 @@ fn change_both(seed: u64) -> Result<(u32, u32), Box<dyn Error>> {
     let told = lines.answer(&line_of_links(nodes, dest, &links));
     assert_eq!(told_of(network.report()), told);
     compare(&network, &mut lines, &[])?;
+    let mut held = vec![Vec::new(); nodes as usize];
+    update_ways(&network, &mut held, &mut draw)?;
     let (mut accepted, mut refused) = (0, 0);
     for _ in 0..60 {
         let asked = Asked::drawn(&mut draw, nodes);
@@ -326,6 +436,9 @@ fn change_both(seed: u64) -> Result<(u32, u32), Box<dyn Error>> {
                 assert_eq!((told_of(report), network.report()), (told, report));
                 compare(&network, &mut lines, &hops)?;
                 push_drawn(&network, &mut draw)?;
+                update_ways(&network, &mut held, &mut draw)?;
+                let mut others = draw.lists(&held);
+                update_ways(&network, &mut others, &mut draw)?;
                 accepted += 1;
             }
             Err(why) => {
@@ -460,6 +573,59 @@ fn the_largest_tables_have_pushes() -> Result<(), Box<dyn Error>> {
 }
 
 #[test]
+fn a_change_while_routers_still_shrink_begins_again() -> Result<(), Box<dyn Error>> {
+    let mut network = Network::new(4, 0, &[(1, 0), (2, 0), (2, 1), (3, 2)])?;
+    let mut held = network.all_ways()?;
+    network.cut(1, 0)?;
+    assert_eq!(network.shrink(&held)?, [(2, vec![0]), (1, vec![])]);
+    assert_eq!(network.grow(&held)?, [(1, vec![2])]);
+    held[2] = vec![0]; // 2 has confirmed, and 1 has not
+    network.batch(&[Edit::Join(1, 0), Edit::Cut(2, 0)])?;
+    assert_eq!(network.all_ways()?, [vec![], vec![0], vec![1], vec![2]]);
+    assert_eq!(network.shrink(&held)?, [(2, vec![])]);
+    assert_eq!(network.grow(&held)?, [(2, vec![1])]);
+    Ok(())
+}
+
+#[test]
+fn tables_of_ways_may_name_any_numbers_and_be_of_any_lists() -> Result<(), Box<dyn Error>> {
+    let network = Network::new(3, 0, &[(1, 0), (2, 1), (2, 0)])?;
+    assert_eq!(network.all_ways()?, [vec![], vec![0], vec![0, 1]]);
+    let none: [&[u32]; 3] = [&[]; 3];
+    assert_eq!(network.shrink(&none)?, []);
+    assert_eq!(network.grow(&none)?, [(1, vec![0]), (2, vec![0, 1])]);
+    let gone: [&[u32]; 3] = [&[1], &[u32::MAX, 0, 3], &[1, 1, 0]];
+    assert_eq!(network.shrink(&gone)?, [(1, vec![0]), (0, vec![])]);
+    assert_eq!(network.grow(&gone)?, [(2, vec![0, 1])]);
+    assert_eq!(network.shrink(&[[2], [2], [2]])?.len(), 3);
+    for count in [0, 2, 4] {
+        let table = vec![vec![0]; count];
+        assert_eq!(network.shrink(&table), Err(TableFault::Length));
+        assert_eq!(network.grow(&table), Err(TableFault::Length));
+    }
+    Ok(())
+}
+
+#[test]
+fn the_largest_tables_have_phases() -> Result<(), Box<dyn Error>> {
+    let links: Vec<(u32, u32)> = (1..4096)
+        .flat_map(|x: u32| (x.saturating_sub(8)..x).map(move |way| (x, way)))
+        .collect();
+    let network = Network::new(4096, 0, &links)?;
+    let ways = network.all_ways()?;
+    assert_eq!(ways[4095].len(), 8);
+    let none = vec![Vec::new(); 4096];
+    assert_eq!((vec![], network.grow(&none)?), phases_of(&none, &ways));
+    let turned: Vec<Vec<u32>> = ways
+        .iter()
+        .map(|list| list.iter().rev().copied().collect())
+        .collect();
+    assert_eq!(network.shrink(&turned)?, []);
+    assert_eq!(network.grow(&turned)?, phases_of(&turned, &ways).1);
+    Ok(())
+}
+
+#[test]
 fn a_wrong_table_has_no_pushes() -> Result<(), Box<dyn Error>> {
     let network = Network::new(3, 0, &[(1, 0)])?;
     let (here, cut, to) = (Hop::Here, Hop::CutOff, Hop::To);
@@ -482,7 +648,7 @@ fn a_wrong_table_has_no_pushes() -> Result<(), Box<dyn Error>> {
     for (fault, said) in [
         (
             TableFault::Length,
-            "the table does not have one hop for each node",
+            "the table does not have one entry for each node",
         ),
         (
             TableFault::NoSuchNode(7),

@@ -189,7 +189,27 @@ fn tells_routes(session: &mut Session, nodes: u32) -> Result<(), NoMemory> {
         let line = format!("[\"walk\",{x}]");
         assert_eq!(session.answer(line)?, Some(&*format!("walk{told}")));
         tells_nearest(session, x)?;
+        let ways = session.ways(x)?.unwrap_or_default();
+        assert_eq!(session.all_ways()?[x as usize], ways);
     }
+    let mut ways = session.all_ways()?;
+    assert_eq!(session.shrink(&ways), Ok(Vec::new()));
+    assert_eq!(session.grow(&ways), Ok(Vec::new()));
+    // A node that is its own way loses it, and nothing more. A list that is missing comes back.
+    let last = ways.len() - 1;
+    let own = [&ways[last][..], &[last as u32]].concat();
+    let wanted = std::mem::replace(&mut ways[last], own);
+    let shrinks = Ok(vec![(last as u32, wanted.clone())]);
+    assert_eq!(session.shrink(&ways), shrinks);
+    assert_eq!(session.grow(&ways), Ok(Vec::new()));
+    ways[last].clear();
+    assert_eq!(session.shrink(&ways), Ok(Vec::new()));
+    let growths = if wanted.is_empty() {
+        Ok(Vec::new())
+    } else {
+        shrinks
+    };
+    assert_eq!(session.grow(&ways), growths);
     assert_eq!(session.walk(nodes)?, None);
     assert_eq!(session.ways(nodes)?, None);
     assert_eq!(session.nearest(nodes)?, None);
@@ -313,6 +333,12 @@ fn before_the_first_network_there_is_nothing_to_tell() -> Result<(), NoMemory> {
     assert_eq!(session.changed()?, []);
     assert_eq!(session.pushes(&[]), Ok(Vec::new()));
     assert_eq!(session.pushes(&[Hop::Here]), Err(TableFault::Length));
+    let none: [Vec<u32>; 0] = [];
+    assert_eq!(session.all_ways()?, none);
+    assert_eq!(session.shrink(&none), Ok(Vec::new()));
+    assert_eq!(session.grow(&none), Ok(Vec::new()));
+    assert_eq!(session.shrink(&[[0]]), Err(TableFault::Length));
+    assert_eq!(session.grow(&[[0]]), Err(TableFault::Length));
     assert_eq!(session.counts()?, []);
     assert_eq!(session.links()?, []);
     assert_eq!(session.walk(0)?, None);

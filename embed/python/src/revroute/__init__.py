@@ -24,10 +24,12 @@ Questions:
 
     next_hop(node)    the next hop of a node; table(), hops() and hops_into(buffer) have those of all nodes
     walk(node)        the nodes on the route from a node to the destination
-    ways(node)        all nodes to which the links of a node point, nearest first
+    ways(node)        all nodes to which the links of a node point, nearest first; all_ways() has those of all nodes
     nearest(node)     the nodes on its nearest route, a route of the fewest links; distance(node) has their number
     changed()         the nodes whose next hop the last change changed, with the new hop, in push order
     pushes(table)     the nodes whose hop in your table is not their next hop, with the next hop, in push order
+    shrink(table)     for routers that hold all their ways: the nodes that lose a way, with the ways that they keep
+    grow(table)       once routers have confirmed these: the nodes whose ways still differ, with all their ways
     counts(), links(), report, size, dest, len(network), x in network
 
 If forwarding tables get their hops in push order, no new loop appears in them. This is a complete controller. `send`

@@ -47,7 +47,7 @@ class Refusal(ctypes.Structure):
 
 
 _number, _wide, _size = ctypes.c_uint32, ctypes.c_uint64, ctypes.c_size_t
-# Links, edits and hops are passed as bytes. The two numbers of a round are passed by their address.
+# Links, edits, hops and tables of ways are passed as bytes. The two numbers of a round are passed by their address.
 _given, _round, _handle = ctypes.c_char_p, ctypes.c_void_p, ctypes.POINTER(Handle)
 _reader = ctypes.POINTER(ReaderHandle)
 _text, _length, _numbers = ctypes.POINTER(ctypes.c_char), ctypes.POINTER(_size), ctypes.POINTER(_number)
@@ -72,6 +72,9 @@ _WORDS: dict[str, list[Any]] = {
     "ways": [_handle, _number, _numbers, _size, _length],
     "distance": [_handle, _number],
     "nearest": [_handle, _number, _numbers, _size, _length],
+    "all_ways": [_handle, _length, _size, _numbers, _size, _length],
+    "shrink": [_handle, _given, _size, _given, _size, _numbers, _size, _length],
+    "grow": [_handle, _given, _size, _given, _size, _numbers, _size, _length],
     "report": [_handle, ctypes.POINTER(Round)],
     "dest": [_handle],
     "size": [_handle, _numbers, _length],

@@ -10,9 +10,9 @@ from typing import TYPE_CHECKING, Any, Callable, Generic, Hashable, Iterable, Ma
 from typing import TypeVar, Union
 
 from . import _calls
-from ._calls import library
+from ._calls import library, questions
 from .reader import Reader
-from .session import NoHop, NoSuchNode, Report, Session, Size, _deprecate, _hop, _packed_table, _Why
+from .session import NoHop, NoSuchNode, Report, Session, Size, _deprecate, _hop, _packed_table, _packed_ways, _Why
 
 if TYPE_CHECKING:
     import networkx
@@ -101,6 +101,7 @@ class Network(Generic[Name]):
     - `ways`: O(d log d) for d links at the node. `nearest`: O(k d) for a route of k nodes.
     - `hops`, `hops_into`, `table`, `pushes` and `counts`: O(n).
     - `links` and `copy`: O(n + m).
+    - `all_ways`, `shrink` and `grow`: O(n + m log d).
     - `move_dest` and a new network: O(n + m), plus the round.
     - `cut`, `add`, `join` and `batch`: O(n + m) at most. If few nodes turn, only the links at these nodes, and at the
       nodes that had one of these as their next hop.
@@ -289,6 +290,49 @@ class Network(Generic[Name]):
         count = len(self._nodes)
         return self._told(self._session._pushes(_packed_table(table, count, self._numbers), count))
 
+    def shrink(self, table: Union[Mapping[Name, Sequence[Name]], Sequence[Sequence[Name]]]) -> list[tuple[Name, list[Name]]]:
+        """What to push first to routers that hold all their ways: each node that loses a way, with the ways that it
+        keeps. Nodes that keep one come first, and then those that keep none.
+
+        Keep a table of the ways that each router may hold: those that it has confirmed last, and those of each later
+        push that it has not confirmed. After each change make the pushes of `shrink`, wait until all routers have
+        confirmed them, and then make those of `grow`:
+
+        >>> network = Network(4, 0, [(1, 0), (2, 0), (2, 1), (3, 2)])
+        >>> table = {}
+        >>> def update():
+        ...     for phase in network.shrink, network.grow:
+        ...         for node, ways in phase(table):
+        ...             # send the ways to the router; before the next phase, wait until all have confirmed
+        ...             table[node] = ways
+        >>> update()
+        >>> network.cut(1, 0)
+        Report(turned=1, cut_off=0)
+        >>> network.shrink(table), network.grow(table)
+        ([(2, [0]), (1, [])], [(1, [2])])
+        >>> update()
+        >>> network.shrink(table), network.grow(table)
+        ([], [])
+
+        The pushes of one phase can be made in any order, and at the same time. If the ways in the table have no cycle,
+        no packet goes round one at any moment, whatever links fail meanwhile. If the network changes before all is
+        confirmed, begin with `shrink` again.
+
+        The table is a mapping from nodes to sequences of nodes, or a sequence of such sequences in the order of the
+        nodes. A node without an entry has no ways. A way that is not a node of the network is one that the node loses,
+        since routers may still hold ways to nodes that are gone. The table may have cycles.
+
+        Raises NoSuchNode if a key of the table is not a node of the network, ValueError if a sequence has more lists
+        than the network has nodes, and MemoryError if memory runs out.
+        """
+        return self._phase(questions.revroute_shrink, table)
+
+    def grow(self, table: Union[Mapping[Name, Sequence[Name]], Sequence[Sequence[Name]]]) -> list[tuple[Name, list[Name]]]:
+        """What to push once all routers have confirmed the pushes of `shrink`: each node whose list then still differs,
+        with all its ways, nearest first. The table and the exceptions are those of `shrink`. The result is the same
+        for the table that was given to `shrink` and for the table after its pushes."""
+        return self._phase(questions.revroute_grow, table)
+
     def counts(self) -> list[int]:
         """How often each node turned in the last round, in the order of the nodes."""
         return self._session.counts()
@@ -315,6 +359,14 @@ class Network(Generic[Name]):
         (1, [4, 1, 2, 0])
         """
         return [self._name(it) for it in self._session.ways(self._number(node))]
+
+    def all_ways(self) -> dict[Name, list[Name]]:
+        """The ways of each node, by its name or number.
+
+        >>> Network(4, 0, [(1, 0), (2, 1), (2, 0)]).all_ways()
+        {0: [], 1: [0], 2: [0, 1], 3: []}
+        """
+        return {node: [self._name(it) for it in ways] for node, ways in zip(self._nodes, self._session._all_ways())}
 
     def nearest(self, node: Name) -> Optional[list[Name]]:
         """The nodes on the nearest route from a node to the destination, both included: each is the first way of the
@@ -432,6 +484,10 @@ class Network(Generic[Name]):
     def _told(self, hops: list[tuple[int, int]]) -> list[tuple[Name, Union[Name, NoHop]]]:
         """Nodes with their hops, by their names if they have names."""
         return [(self._name(node), self._hop_of(hop)) for node, hop in hops]
+
+    def _phase(self, question: Any, table: Any) -> list[tuple[Name, list[Name]]]:
+        pushes = self._session._phase(question, *_packed_ways(table, len(self._nodes), self._numbers))
+        return [(self._name(node), [self._name(it) for it in ways]) for node, ways in pushes]
 
     def _hop_of(self, hop: int) -> Union[Name, NoHop]:
         return self._name(hop) if hop < _calls.NO_HOP else _hop(hop)  # type: ignore[return-value]

@@ -57,7 +57,9 @@ class Reader(Generic[Name]):
         self._bound = nodes if numbers is None and _HAS_LOCK else 0
         self._handle = _calls.ReaderHandle()
         self._at, self._live = ctypes.byref(self._handle), ctypes.c_void_p(ctypes.addressof(self._handle))
-        self._lock: ContextManager[Any] = _UNLOCKED if _HAS_LOCK else RLock()
+        self._lock: ContextManager[Any] = RLock()
+        if _HAS_LOCK:
+            self._lock = _UNLOCKED
         status = opened(self._at)
         if status == _calls.NO_MEMORY:
             raise MemoryError

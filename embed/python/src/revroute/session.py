@@ -159,6 +159,37 @@ def _packed_table(table: Any, count: int, numbers: Optional[dict[Any, int]] = No
     return values.tobytes()
 
 
+def _packed_ways(table: Any, count: int, numbers: Optional[dict[Any, int]] = None) -> tuple[bytes, bytes]:
+    """The ways of a caller's table as the library expects them: where the list of each of `count` nodes begins, and the
+    ways of all lists. A way that is not a node becomes a number that no node has."""
+
+    def number_of(node: Any) -> int:
+        if numbers is not None:
+            return numbers.get(node, _calls.NO_HOP)
+        return number if 0 <= (number := index(node)) < count else _calls.NO_HOP
+
+    lists: list[Any] = [()] * count
+    if isinstance(table, Mapping):
+        for node, ways in table.items():
+            at = number_of(node)
+            if at == _calls.NO_HOP:
+                raise NoSuchNode(node)
+            lists[at] = ways
+    elif not hasattr(table, "__getitem__") or isinstance(table, (str, bytes)):
+        raise TypeError(f"a table is a mapping from nodes to their ways or a sequence of lists, and no {type(table).__name__}")
+    elif len(table) > count:
+        raise ValueError(f"the table has {len(table)} lists, and the network {count} nodes")
+    else:
+        lists[: len(table)] = table
+    starts, found = array("Q", (0,)), array("I")
+    for ways in lists:
+        if not hasattr(ways, "__getitem__") or isinstance(ways, (str, bytes, Mapping)):
+            raise TypeError(f"the ways of a node are a sequence of nodes, and no {type(ways).__name__}")
+        found.extend(map(number_of, ways))
+        starts.append(len(found))
+    return starts.tobytes(), found.tobytes()
+
+
 class Session:
     """Answers lines as the program `revroute run` does. A session holds the network that the lines so far have made.
     It begins without a network.
@@ -179,6 +210,7 @@ class Session:
     - `ways`: O(d log d) for d links at the node. `nearest`: O(k d) for a route of k nodes.
     - `hops`, `pushes` and `counts`: O(n).
     - `links`: O(n + m).
+    - `all_ways`, `shrink` and `grow`: O(n + m log d).
     - `answer`, `take` and `finish`: O(b) for b bytes of lines and answers, plus the same calls of a Network.
     """
 
@@ -494,6 +526,32 @@ class Session:
         hops = self._pushes(_packed_table(table, count), count)
         return [(node, _hop(hop)) for node, hop in hops]
 
+    def shrink(self, table: Union[Mapping[int, Sequence[int]], Sequence[Sequence[int]]]) -> list[tuple[int, list[int]]]:
+        """What to push first to routers that hold all their ways: each node that loses a way, with the ways that it
+        keeps.
+
+        The table and the exceptions are as for `Network.shrink`. Before the first network there are no nodes.
+
+        >>> with Session() as session:
+        ...     session.answer('["net",4,0,[[1,0],[2,0],[2,1],[3,2]]]')
+        ...     table = session.all_ways()
+        ...     session.answer('["cut",1,0]')
+        ...     session.shrink(table), session.grow(table)
+        'turned 0 cut 0'
+        'turned 1 cut 0'
+        ([(2, [0]), (1, [])], [(1, [2])])
+        """
+        return self._phase(questions.revroute_shrink, *_packed_ways(table, self._nodes()))
+
+    def grow(self, table: Union[Mapping[int, Sequence[int]], Sequence[Sequence[int]]]) -> list[tuple[int, list[int]]]:
+        """What to push once all routers have confirmed the pushes of `shrink`: each node whose list then still differs,
+        with all its ways, nearest first. See `Network.grow`."""
+        return self._phase(questions.revroute_grow, *_packed_ways(table, self._nodes()))
+
+    def _nodes(self) -> int:
+        size = self.size
+        return size.nodes if size else 0
+
     def counts(self) -> list[int]:
         """How often each node turned in the last round, in the order of the nodes. Empty before the first network."""
         return self._filled(questions.revroute_counts, ctypes.c_uint64)
@@ -549,6 +607,17 @@ class Session:
         Raises NoSuchNode if there is no such node. Before the first network there are none.
         """
         return self._of_node(questions.revroute_ways, node)
+
+    def all_ways(self) -> dict[int, list[int]]:
+        """The ways of each node. Empty before the first network.
+
+        >>> with Session() as session:
+        ...     session.answer('["net",4,0,[[1,0],[2,1],[2,0]]]')
+        ...     session.all_ways()
+        'turned 0 cut 1'
+        {0: [], 1: [0], 2: [0, 1], 3: []}
+        """
+        return dict(enumerate(self._all_ways()))
 
     def nearest(self, node: int) -> Optional[list[int]]:
         """The nodes on the nearest route from a node to the destination, both included: each is the first way of the
@@ -649,6 +718,41 @@ class Session:
     def _pushes(self, table: bytes, count: int) -> list[tuple[int, int]]:
         """The nodes to push for a table of `count` hops, with their next hops."""
         return self._with_hops(questions.revroute_pushes, count, table, count)
+
+    def _all_ways(self) -> list[list[int]]:
+        """The ways of each node, in the order of the nodes."""
+        with self._lock:
+            self._begin_call()
+            try:
+                nodes, links = self._extent()
+                starts = (ctypes.c_size_t * (nodes + 1))()
+                ways = self._places(ctypes.c_uint32, lambda *places: questions.revroute_all_ways(self._at, starts, nodes + 1, *places), links)
+                return [ways[begin:end] for begin, end in zip(starts[:nodes], starts[1:])]
+            finally:
+                self._caller = None
+
+    def _phase(self, question: Any, starts: bytes, ways: bytes) -> list[tuple[int, list[int]]]:
+        """The pushes of a phase for a table of ways: nodes with the ways that they get."""
+        words = starts, len(starts) // 8, ways, len(ways) // 4
+        with self._lock:
+            self._begin_call()
+            try:
+                nodes, links = self._extent()
+                numbers = self._places(ctypes.c_uint32, lambda *places: question(self._at, *words, *places), 2 * nodes + links)
+            finally:
+                self._caller = None
+        pushes, at = [], 0
+        while at < len(numbers):
+            end = at + 2 + numbers[at + 1]
+            pushes.append((numbers[at], numbers[at + 2 : end]))
+            at = end
+        return pushes
+
+    def _extent(self) -> tuple[int, int]:
+        """The number of nodes and of links, or zeros before the first network. The caller must have the session."""
+        nodes, links = ctypes.c_uint32(), ctypes.c_size_t()
+        questions.revroute_size(self._at, ctypes.byref(nodes), ctypes.byref(links))
+        return nodes.value, links.value
 
     def _with_hops(self, question: Any, room: int, *words: Any) -> list[tuple[int, int]]:
         """The nodes that a question writes, with their next hops at that moment. A node that is gone has CUT_OFF."""

@@ -64,9 +64,12 @@ def push_order(
     def name(number: int) -> Any:
         return number if names is None else names[number]
 
+    def hop_of(node: int) -> Any:
+        return _hop(hops[node]) if hops[node] >= _calls.NO_HOP else name(hops[node])
+
     if status == _calls.REFUSED:
         raise Refused(refusal.number, [name(it) for it in nodes])
-    return [(name(it), _hop(hops[it]) if hops[it] >= _calls.NO_HOP else name(hops[it])) for it in nodes]
+    return [(name(it), hop_of(it)) for it in nodes]
 
 
 def _names_of(old: Any, new: Any) -> Optional[list[Any]]:
