@@ -12,11 +12,12 @@ import socket
 import struct
 import subprocess
 import time
+from collections import Counter
 from pathlib import Path
 
 # An address behind the gateway, and a port of it.
 TARGET, PORT = "10.255.255.1", 7
-# The bridge, in a namespace of its own, by which the errors of probes find their way back to the sender.
+# The namespace that takes the errors of probes, and drops them: here they only have to be sent, so that they are counted.
 HUB = "hub"
 SECONDS_TO_SETTLE, SECONDS_TO_RUN = 5, 60
 THREAD, RUN = "/proc/thread-self", os.path.realpath("/var/run")
@@ -30,7 +31,7 @@ SYSCTLS = {
 }
 OFF = "rp_filter", "send_redirects", "accept_redirects"
 SYSCTLS |= {f"conf/{devices}/{name}": 0 for devices in ("all", "default") for name in OFF}
-CLONE_NEWNET, SIOCGIFFLAGS, IFF_RUNNING = 0x40000000, 0x8913, 0x40
+CLONE_NEWNET, SIOCGIFFLAGS, SIOCSIFFLAGS, IFF_UP, IFF_RUNNING = 0x40000000, 0x8913, 0x8914, 0x1, 0x40
 libc = ctypes.CDLL(None, use_errno=True)
 
 
@@ -96,17 +97,23 @@ class Router:
         names, values = (line.split() for line in self.read(file) if line.startswith(f"{group}: "))
         return int(values[names.index(name)])
 
-    def route(self):
-        """The device and the address of the next hop to the target, or None."""
-        for line in self.read("route")[1:]:
-            device, target, hop, *_ = line.split()
-            if target == hex_of(TARGET):
-                return device, hop
-        return None
+    def routes(self):
+        """The device and the address of each next hop to the target, by rising metric."""
+        lines = [line.split() for line in self.read("route")[1:]]
+        routes = [(int(metric), device, hop) for device, target, hop, _, _, _, metric, *_ in lines if target == hex_of(TARGET)]
+        return [it[1:] for it in sorted(routes)]
+
+    def flags(self, device):
+        asked = struct.pack("16sH14x", device.encode(), 0)
+        return struct.unpack("16sH14x", fcntl.ioctl(self.socket, SIOCGIFFLAGS, asked))[1]
 
     def is_running(self, device):
-        asked = struct.pack("16sH14x", device.encode(), 0)
-        return bool(struct.unpack("16sH14x", fcntl.ioctl(self.socket, SIOCGIFFLAGS, asked))[1] & IFF_RUNNING)
+        return bool(self.flags(device) & IFF_RUNNING)
+
+    def set_device(self, device, is_up):
+        """Sets a device up or down. The other end of its link gets or loses its carrier by that."""
+        flags = self.flags(device) & ~IFF_UP | (IFF_UP if is_up else 0)
+        fcntl.ioctl(self.socket, SIOCSIFFLAGS, struct.pack("16sH14x", device.encode(), flags))
 
     def probe(self):
         """Sends a probe, and returns whether the router had a route."""
@@ -127,7 +134,9 @@ class Lab:
 
     def __init__(self, addresses, links):
         self.addresses, self.gateway = addresses, next(iter(addresses))
-        self.sent, self.delivered, self.lost, self.reached = 0, 0, 0, set()
+        self.hex_addresses = {name: hex_of(address) for name, address in addresses.items()}
+        # how many probes have arrived, in all, and from each address since the caller has cleared that
+        self.sent, self.delivered, self.lost, self.arrived = 0, 0, 0, Counter()
         build(addresses, links)
         self.routers = {name: Router(name, address, 2 * len(addresses)) for name, address in addresses.items()}
         with entered(self.gateway):
@@ -155,10 +164,20 @@ class Lab:
 
     def tables(self):
         """The next hop of each router that has a route, as its kernel has it."""
-        routes = {name: router.route() for name, router in self.routers.items()}
-        hops = {hex_of(address): name for name, address in self.addresses.items()}
-        # a route over another device than that to its next hop is told as it is, which is no hop of any table
-        return {name: it[0] if it[0] == hops.get(it[1]) else it for name, it in routes.items() if it}
+        return {name: ways[0] for name, ways in self.ways().items() if ways}
+
+    def ways(self):
+        """The next hops of each router by rising metric, as its kernel has them."""
+        return {name: self.ways_of(name) for name in self.routers}
+
+    def ways_of(self, router):
+        return [*map(self.hop, self.routers[router].routes())]
+
+    def hop(self, route):
+        """The router that a route leads to. A route over another device than that to its next hop is told as it is, which is no
+        hop of any table."""
+        device, address = route
+        return device if address == self.hex_addresses.get(device) else route
 
     def probe(self):
         """Sends a probe from each router but the gateway, and takes those that have arrived."""
@@ -168,7 +187,7 @@ class Lab:
     def receive(self):
         with contextlib.suppress(BlockingIOError):
             while True:
-                self.reached.add(self.sink.recvfrom(1)[1][0])
+                self.arrived[self.sink.recvfrom(1)[1][0]] += 1
                 self.delivered += 1
 
     def expired(self):
@@ -206,11 +225,12 @@ def build(addresses, links):
     ip(*(f"netns add {name}" for name in (*addresses, HUB)))
     for name in addresses:
         set_sysctls(name)
-    bridged = [f"link add name {name} up master bridge type veth peer name mgmt netns {name}" for name in addresses]
+    # All namespaces share one table of neighbours, which several labs could fill. Neighbours without ARP can be dropped from it.
+    dropped = [f"link add name {name} up type veth peer name mgmt arp off netns {name}" for name in addresses]
     # Linux takes up to a second to see that a link is up if its two ends have the same index.
     ends = {name: f"name {name} index {100 + at}" for at, name in enumerate(addresses)}
     linked = [f"link add {ends[v]} netns {u} type veth peer {ends[u]} netns {v}" for u, v in links]
-    ip("link add name bridge up type bridge", *bridged, inside=HUB)
+    ip(*dropped, inside=HUB)
     ip(*linked)
     for name, address in addresses.items():
         devices = ["lo", "mgmt", *(v if u == name else u for u, v in links if name in (u, v))]
