@@ -92,10 +92,15 @@ def newest(names):
     return max(it.stat().st_mtime for it in [TOP / "crates.txt", *(file for name in names for file in sources(name))])
 
 
+def jobs_in_memory():
+    """The number of jobs that there is memory for."""
+    memory = next(it for it in Path("/proc/meminfo").read_text().splitlines() if it.startswith("MemAvailable:"))
+    return max(1, 1024 * int(memory.split()[1]) // ROOM_OF_A_JOB)
+
+
 def jobs():
     """The number of jobs that there are processors and memory for."""
-    memory = next(it for it in Path("/proc/meminfo").read_text().splitlines() if it.startswith("MemAvailable:"))
-    return max(1, min(len(os.sched_getaffinity(0)), 1024 * int(memory.split()[1]) // ROOM_OF_A_JOB))
+    return min(len(os.sched_getaffinity(0)), jobs_in_memory())
 
 
 def words(name, rlib_of, jobs):

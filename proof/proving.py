@@ -162,17 +162,19 @@ def are_kept(names):
 
 def prove_each(progress, names, jobs):
     """Proves libraries, each after those below it. Of the libraries that are ready, the one that most others depend on
-    gets all jobs that it can use, less one if other libraries are ready. Each of these gets one job."""
+    gets all jobs that it can use, and each other one gets one job. If there is memory, there may be one job more than
+    processors: when the others have ended, no processor is idle."""
+    most = jobs + (crates.jobs_in_memory() > jobs)
     above = {it: sum(it in crates.below(other) for other in names) for it in names}
     left, running = sorted(names, key=lambda it: -above[it]), {}
-    with ThreadPoolExecutor(jobs) as pool:
+    with ThreadPoolExecutor(most) as pool:
         while left or running:
             waiting = {*left, *(it for it, _ in running.values())}
             ready = [it for it in left if not waiting.intersection(crates.below(it))]
             for at, it in enumerate(ready):
-                idle = jobs - sum(given for _, given in running.values())
-                if idle > 0:
-                    given = max(1, min(useful_jobs(it), idle - (len(ready) > 1))) if at == 0 else 1
+                busy = sum(given for _, given in running.values())
+                if busy < most:
+                    given = max(1, min(useful_jobs(it), jobs - busy)) if at == 0 else 1
                     left.remove(it)
                     running[pool.submit(prove_library, progress, it, given)] = it, given
             for it in wait(running, return_when=FIRST_COMPLETED).done:
