@@ -15,7 +15,7 @@ pub const FIRST_PART: &str = "\
 @media (prefers-color-scheme:dark){:root{--back:#14181c;--panel:#1b2126;--ink:#e8ecef;--soft:#a0abb5;--edge:#343c44;--link:#d3dae0;--hop:#76b2ff;
 --turn:#ffab4a;--gold:#7a5c00;--grey:#707b85;--route:#4fd39a;--face:#26303a;--bad:#ff8a80;--push:#1b477d}}
 *{box-sizing:border-box}
-html{font:15px/1.45 system-ui,sans-serif;font-size:clamp(15px,min(1.05vw,1.86vh),60px)}
+html{font:15px/1.45 system-ui,sans-serif;font-size:clamp(15px,min(1.05vw,1.86vh),60px);-webkit-text-size-adjust:100%;text-size-adjust:100%}
 body{margin:0;background:var(--back);color:var(--ink);height:100vh;height:100dvh;overflow:hidden;display:grid;
 grid-template:'head head' auto 'side net' minmax(0,1fr) 'side bar' auto 'foot foot' auto/22rem minmax(0,1fr)}
 header{grid-area:head;padding:.4rem 1rem;border-bottom:1px solid var(--edge);display:flex;gap:.1rem 1.4rem;
