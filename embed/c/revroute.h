@@ -305,7 +305,10 @@ void revroute_close(revroute *session);
  *
  * Some questions fill an array of `room` places. They write to its front, leave the rest unchanged, and write the
  * number of elements to *length. With REVROUTE_TOO_SHORT *length is that number too. After any result but
- * REVROUTE_ANSWERED the array is unchanged. */
+ * REVROUTE_ANSWERED the array is unchanged.
+ *
+ * The first question about ways, distances or nearest routes in a network also measures the distances of all its nodes,
+ * in O(n + m). From then on each change keeps them up to date. A program that never asks does not pay for them. */
 
 /* Returns the next hop of a node: a node, or one of the values above. O(1). */
 uint32_t revroute_next_hop(revroute *session, uint32_t node);

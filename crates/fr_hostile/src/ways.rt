@@ -1,6 +1,6 @@
 //! The calls that list ways: those of routers, of distances, and of tables of ways.
 
-ghost use Rattle.std.specs.Prelude.{◌<◌};
+ghost use Rattle.std.specs.Prelude.{◌≡◌, ◌<◌};
 ghost use Rattle.fr_nearest.specs.Distances.{IsMeasureOf};
 
 use crate::telling::{Answer, say};
@@ -51,19 +51,24 @@ pub fn listed<R: Alloc<A = Global> + Print + Eprint>(rt: &R, answer: &mut Answer
     let Some(net) = answer.told(rt, Net::new(alloc, 4, &DOWN)) else {
         return;
     };
-    let Some(router) = answer.told(rt, Router::open_alone(alloc, net, 0)) else {
+    let Some(mut router) = answer.told(rt, Router::open_alone(alloc, net, 0)) else {
         return;
     };
     if router.net().nodes() == 4 {
-        list_some(rt, answer, &router);
-        list_all(rt, answer, &router);
-        put_way_pushes(rt, answer, &router);
+        list_some(rt, answer, &mut router);
+        list_all(rt, answer, &mut router);
+        put_way_pushes(rt, answer, &mut router);
     }
 }
 
 /// The ways of two nodes in one list. It is full at first, so it has to grow.
-fn list_some<R: Alloc<A = Global> + Print + Eprint>(rt: &R, answer: &mut Answer, router: &Router)
-    requires { 3 < router.now.nodes }
+fn list_some<R: Alloc<A = Global> + Print + Eprint>(
+    rt: &R,
+    answer: &mut Answer,
+    router: &mut Router,
+)
+    requires { 3 < router.old.nodes }
+    ensures { router.new ≡ router.old }
 {
     if let Some(mut list) = answer.told(rt, Vec::from_array(rt.alloc(), [3])) {
         let listed = router.ways(3, &mut list);
@@ -74,8 +79,8 @@ fn list_some<R: Alloc<A = Global> + Print + Eprint>(rt: &R, answer: &mut Answer,
 }
 
 /// The ways of all nodes, and a nearest route.
-fn list_all<R: Alloc<A = Global> + Eprint>(rt: &R, answer: &mut Answer, router: &Router)
-    requires { 3 < router.now.nodes }
+fn list_all<R: Alloc<A = Global> + Eprint>(rt: &R, answer: &mut Answer, router: &mut Router)
+    requires { 3 < router.old.nodes }
 {
     if let Some(table) = answer.told(rt, router.all_ways(rt.alloc())) {
         put_rows(answer, &table);
@@ -86,7 +91,7 @@ fn list_all<R: Alloc<A = Global> + Eprint>(rt: &R, answer: &mut Answer, router: 
 }
 
 /// Appends the pushes that lead from other ways to those of a router to the answer.
-fn put_way_pushes<R: Alloc<A = Global> + Eprint>(rt: &R, answer: &mut Answer, router: &Router) {
+fn put_way_pushes<R: Alloc<A = Global> + Eprint>(rt: &R, answer: &mut Answer, router: &mut Router) {
     let held = WayTable::from_rows(rt.alloc(), &[0, 0, 1, 3, 5], &[0, 0, 1, 1, 2]);
     if let Some(Some(held)) = answer.told(rt, held) {
         match router.phases(rt.alloc(), &held) {
@@ -96,15 +101,18 @@ fn put_way_pushes<R: Alloc<A = Global> + Eprint>(rt: &R, answer: &mut Answer, ro
     }
 }
 
-/// Distances from node 0, the ways that they give, and a nearest walk.
+/// Distances from node 0, measured at once and in room for them, the ways that they give, and a nearest walk.
 pub fn measured<R: Alloc<A = Global> + Print + Eprint>(rt: &R, answer: &mut Answer) {
     let Some(net) = answer.told(rt, Net::new(rt.alloc(), 4, &DOWN)) else {
         return;
     };
     if net.nodes() == 4 {
-        match Distances::measure(rt.alloc(), &net, 0) {
-            Ok(distances) => put_measured(rt, answer, &net, &distances),
-            Err(fault) => answer.lack(rt, fault),
+        if let Some(distances) = answer.told(rt, Distances::measure(rt.alloc(), &net, 0)) {
+            put_measured(rt, answer, &net, &distances);
+        }
+        if let Some(mut distances) = answer.told(rt, Distances::unmeasured(rt.alloc(), &net)) {
+            distances.measure_again(&net, 0);
+            put_measured(rt, answer, &net, &distances);
         }
     }
 }

@@ -88,6 +88,37 @@ impl Distances {
         })
     }
 
+    /// Room for the distances in a network. None is measured: in the table no node has a distance. Fails with
+    /// `AllocError` if an allocation is refused. O(n).
+    pub fn unmeasured(alloc: Global, net: &Net) -> Result<Distances, AllocError>
+        ensures { IfOk result (λ made. length made.table ≡ net.now.nodes) }
+    {
+        net.network_law();
+        let nodes = net.nodes() as usize;
+        let of = vec![in alloc; NONE; nodes]?;
+        let list = Vec::with_capacity(alloc, nodes)?;
+        let changes = Changes::none(alloc, &of)?;
+        Ok(Distances {
+            dest: 0,
+            of,
+            changes,
+            list,
+        })
+    }
+
+    /// Measures the distances anew, whatever has changed since the last time but the number of nodes. It cannot fail and
+    /// does not allocate. O(n + m).
+    pub fn measure_again(&mut self, net: &Net, dest: u32)
+        requires node { dest < net.now.nodes }
+        requires one_each { length self.old.table ≡ net.now.nodes }
+        ensures { IsRenewed net.now dest self.old self.new }
+    {
+        self.dest = dest;
+        self.changes.forget(&self.of);
+        measure_all(net, dest, &mut self.of, &mut self.list);
+        self.changes.note_all(&self.of);
+    }
+
     /// Updates the distances after a change of the links or of the destination. Each earlier link must be removed by
     /// one of the edits, still be there, or be reversed at a node that has turned. Each link of the network must be
     /// added by one of the edits, have been there, or have an end that has turned. The number of nodes must be the same

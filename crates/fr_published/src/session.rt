@@ -1,14 +1,18 @@
 //! A session whose next hops other threads read.
 
-ghost use Rattle.std.specs.Prelude.{◌≡◌, [], None, Some, IfOk, IfSome, OnErr};
+ghost use Rattle.std.specs.Prelude.{◌≡◌, ◌↔◌, ◌<◌, [], None, Some, IfErr, IfOk, IfSome, OnErr, OnOk};
 ghost use Rattle.fr_published.specs.Answers.{AnswersLine, MakesChange, PutsRouter};
 ghost use Rattle.fr_published.specs.Published.{HasHopsOf, published};
 ghost use Rattle.std.specs.Option.{option_map};
 ghost use Rattle.fr_shared.specs.Knowledge.{past_of};
+ghost use Rattle.fr_route.specs.NodeWays.{AreAllWays, AreNodeWays, HasDistance, IsNearest};
+ghost use Rattle.fr_route.specs.WayPushes.{IsPhasesFault, LeadToWays};
+ghost use Rattle.fr_route.specs.declared.fault.RouteFault.TheVariants.{Memory};
 
 use crate::publishing::{opened, publish, replaced, session_law};
-use fr_route::{AnswerFault, Change, Report, RouteFault, Router, Session};
+use fr_route::{AnswerFault, Change, Report, RouteFault, Router, Session, Walked};
 use fr_shared::{Past, Publisher, Reader};
+use fr_ways::{TwoPhases, WayTable, WaysFault};
 use std::alloc::{AllocError, Global};
 use std::marker::Model;
 
@@ -101,6 +105,74 @@ impl PublishedSession {
     {
         let publisher = self.publisher.as_mut()?;
         Some(publisher.past())
+    }
+
+    /// Lists the ways of node `x`, which must be in the network, as [`Router::ways`] does. Returns `None` if there is no
+    /// network yet.
+    pub fn ways(&mut self, x: u32, list: &mut Vec<u32>) -> Option<Result<(), AllocError>>
+        requires { IfSome self.old.session (λ s. x < s.nodes) }
+        ensures same { self.new ≡ self.old }
+        ensures none { result ≡ None ↔ (self.old.session ≡ None) }
+        ensures ways { IfSome result (λ made. OnOk made
+            (IfSome self.old.session (λ s. AreNodeWays s x list.new.items))) }
+    {
+        let router = self.session.router_mut()?;
+        Some(router.ways(x, list))
+    }
+
+    /// The distance of node `x`, which must be in the network, as [`Router::distance`] returns it. Returns `None` if
+    /// there is no network yet.
+    pub fn distance(&mut self, x: u32) -> Option<Option<u32>>
+        requires { IfSome self.old.session (λ s. x < s.nodes) }
+        ensures same { self.new ≡ self.old }
+        ensures none { result ≡ None ↔ (self.old.session ≡ None) }
+        ensures distance { IfSome result (λ distance. IfSome self.old.session (λ s. HasDistance s x distance)) }
+    {
+        let router = self.session.router_mut()?;
+        Some(router.distance(x))
+    }
+
+    /// The nearest route from node `x`, which must be in the network, as [`Router::nearest`] returns it. Returns `None`
+    /// if there is no network yet.
+    pub fn nearest(&mut self, alloc: Global, x: u32) -> Option<Result<Walked, RouteFault>>
+        requires { IfSome self.old.session (λ s. x < s.nodes) }
+        ensures same { self.new ≡ self.old }
+        ensures none { result ≡ None ↔ (self.old.session ≡ None) }
+        ensures walked { IfSome result (λ made. IfOk made
+            (λ walked. IfSome self.old.session (λ s. IsNearest s x walked))) }
+        ensures memory { IfSome result (λ made. IfErr made (λ fault. fault ≡ Memory)) }
+    {
+        let router = self.session.router_mut()?;
+        Some(router.nearest(alloc, x))
+    }
+
+    /// The ways of each node, as [`Router::all_ways`] returns them. Returns `None` if there is no network yet.
+    pub fn all_ways(&mut self, alloc: Global) -> Option<Result<WayTable, AllocError>>
+        ensures same { self.new ≡ self.old }
+        ensures none { result ≡ None ↔ (self.old.session ≡ None) }
+        ensures ways { IfSome result (λ made. IfOk made
+            (λ table. IfSome self.old.session (λ s. AreAllWays s table))) }
+    {
+        let router = self.session.router_mut()?;
+        Some(router.all_ways(alloc))
+    }
+
+    /// What to push in two phases to routers that hold the ways of this table, as [`Router::phases`] plans it. Returns
+    /// `None` if there is no network yet.
+    pub fn phases(
+        &mut self,
+        alloc: Global,
+        table: &WayTable,
+    ) -> Option<Result<TwoPhases, WaysFault>>
+        ensures same { self.new ≡ self.old }
+        ensures none { result ≡ None ↔ (self.old.session ≡ None) }
+        ensures phases { IfSome result (λ made. IfOk made
+            (λ phases. IfSome self.old.session (λ s. LeadToWays s table.now phases))) }
+        ensures fault { IfSome result (λ made. IfErr made
+            (λ fault. IfSome self.old.session (λ s. IsPhasesFault s table.now fault))) }
+    {
+        let router = self.session.router_mut()?;
+        Some(router.phases(alloc, table))
     }
 
     /// Answers a line, and lists and publishes the nodes that it reroutes. The answer, the faults and the cost are

@@ -7,18 +7,18 @@ use Rattle.fr_graph.specs.Counts.{links_at}
 use Rattle.fr_graph.specs.Links.{IsNet}
 use Rattle.fr_graph.specs.Network.{Network, net_of}
 use Rattle.fr_route.specs.Outcomes.{settled_state}
-use Rattle.fr_nearest.specs.Distances.{Measured}
-use Rattle.fr_route.specs.NodeWays.{HasDistances}
+use Rattle.fr_route.specs.KeptDistances.{KeepsDistances}
 use Rattle.fr_route.specs.RouterInside.{IsSoundRouter}
 use Rattle.fr_route.specs.Routes.{AreHops}
 use Rattle.fr_route.specs.States.{IsReport}
 use Rattle.fr_route.specs.declared.change.Report.{Report}
 use Rattle.fr_tables.specs.declared.hop.Hop.{Hop}
 use Rattle.fr_route.specs.declared.router.Router.TheInside.{Inside}
+use Rattle.fr_route.specs.declared.kept_distances.KeptDistances.{KeptDistances}
 use Rattle.fr_route.specs.declared.spare.Spare.{Spare}
 use Rattle.fr_route.proofs.CutNodes.{after_outcome}
 
-module _ (d : ℕ) (turns : List ℕ) (spare : Spare) (hops : Vec Hop Global) (distances : Measured) (room : ℕ)
+module _ (d : ℕ) (turns : List ℕ) (spare : Spare) (hops : Vec Hop Global) (distances : KeptDistances) (room : ℕ)
     (report : Report) where
   inside : Network → Inside
   inside net = record {
@@ -35,7 +35,7 @@ module _ (d : ℕ) (turns : List ℕ) (spare : Spare) (hops : Vec Hop Global) (d
   pub sound_after : (net turned : Network) → IsNet net.nodes net.links → IsCounted net.nodes d net.links turns
       → IsReport (settled_state net d turns) report.turned report.cut
       → turned ≡ net_of net.nodes (links_at net.links turns) → AreHops (settled_state net d turns) net.nodes hops.items
-      → HasDistances (settled_state net d turns) distances → room ≡ net.nodes → IsSoundRouter (record {
+      → KeepsDistances (settled_state net d turns) distances → room ≡ net.nodes → IsSoundRouter (record {
         net = turned;
         dest = d;
         turns = turns;

@@ -1,6 +1,6 @@
 -- Which nodes can be sinks after edits are made or the destination moves, and where the others send on to. The others
 -- are not touched, and the last round left each of them that has links with a way home.
-use Rattle.std.proofs.Common.{List, arith, inl, inr, refl, slice_index, subst, sym, ℕ, ⊎_elim, ◌<◌, ◌∙◌, ◌∷◌, ◌≡◌, ◌↔◌, ◌⊎◌, Contains}
+use Rattle.std.proofs.Common.{List, arith, inl, inr, refl, slice_index, subst, sym, ℕ, ⊎_elim, ◌<◌, ◌∙◌, ◌∷◌, ◌≡◌, ◌⊎◌, Contains}
 use Rattle.std.specs.List.{All}
 use Rattle.std.proofs.lemmas.Bool.{cases_eq}
 use Rattle.std.proofs.lemmas.List.Elements.{All-append, All-cons, Contains-append_left, Contains-append_right}

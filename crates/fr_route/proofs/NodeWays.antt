@@ -1,5 +1,5 @@
 -- Each node of a settled network has exactly one list of ways, and a connected one exactly one nearest route.
-use Rattle.std.proofs.Common.{[], Bool, List, Option, ap, false, get_or, slice_index, true, ◌==◌, arith, inl, inr, length, refl, subst, suc, sym, zero, ℕ, ◌+◌, ◌++◌, ◌<◌, ◌∙◌, ◌∷◌, ◌≡◌, ◌≤◌, ◌⊎◌}
+use Rattle.std.proofs.Common.{[], Bool, List, Option, ap, false, get_or, slice_index, true, ◌==◌, arith, inl, inr, length, refl, suc, sym, zero, ℕ, ◌+◌, ◌++◌, ◌<◌, ◌∙◌, ◌∷◌, ◌≡◌, ◌⊎◌}
 use Rattle.std.specs.Prelude.{MatchOption}
 use Rattle.std.proofs.lemmas.Bool.{cases_eq, eqb-true, false≢true}
 use Rattle.std.proofs.lemmas.List.{get_or_append_left, get_or_push, length_push}
@@ -10,7 +10,7 @@ use Rattle.fr_nearest.proofs.Walking.{one_list, walk_shortest}
 use Rattle.fr_route.proofs.WaysExist.{nearest_exists, ways_exist}
 use Rattle.fr_ways.specs.Ways.{ways}
 use Rattle.fr_nearest.specs.Distances.{IsDistance, IsMeasured, Measured, distance_of, no_distance}
-use Rattle.fr_route.specs.NodeWays.{AreAllWays, AreNodeWays, HasDistances, IsNearestRoute}
+use Rattle.fr_route.specs.NodeWays.{AreAllWays, AreNodeWays, HasDistance, HasDistances, IsNearestRoute}
 use Rattle.fr_route.specs.States.{State, IsAfterRound, IsCutOff}
 use Rattle.fr_route.proofs.RoundEnds.{route_home}
 use Rattle.fr_route.proofs.Routing.{route_end, route_path}
@@ -27,7 +27,7 @@ cut_without s after x none = (
 -- the distance of a node, by the table
 pub distance_is : (s : State) → IsAfterRound s → (m : Measured) → HasDistances s m → (x : ℕ) → x < s.nodes
     → (distance : Option ℕ) → distance ≡ distance_of (slice_index m.table x)
-    → MatchOption distance (IsCutOff s.dest s.links x) (IsDistance s.links s.dest x)
+    → HasDistance s x distance
 distance_is s after m has x low distance is =
     rw is (go (slice_index m.table x) (has.table.each x low) (slice_index m.table x == no_distance) refl)
   where

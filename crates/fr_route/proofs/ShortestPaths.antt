@@ -1,9 +1,9 @@
 -- A node with a path has a distance.
 use Rattle.std.proofs.Common.{[], List, arith, inl, inr, length, refl, subst, suc, sym, zero, ℕ, ⊎_elim, ap}
-use Rattle.std.proofs.Common.{Contains, ◌+◌, ◌<◌, ◌∙◌, ◌∷◌, ◌≡◌, ◌≤◌, ◌⊎◌}
+use Rattle.std.proofs.Common.{Contains, ◌<◌, ◌∷◌, ◌≡◌, ◌⊎◌}
 use Rattle.std.proofs.lemmas.Bool.{cases_eq, cases_lt}
 use Rattle.fr_tables.proofs.Members.{Contains-cases, Contains-head, Contains-none, Contains-tail}
-use Rattle.fr_graph.specs.Links.{HasPath, IsPath, Points, end_of}
+use Rattle.fr_graph.specs.Links.{HasPath, IsPath, end_of}
 use Rattle.fr_nearest.specs.Distances.{IsDistance}
 
 module _ (links : List (ℕ × ℕ)) (d : ℕ) where

@@ -11,7 +11,7 @@ use Rattle.fr_route.specs.Pushing.{AreAsked, AreTablePushes, IsFaultFrom, IsPush
 use Rattle.fr_route.specs.Routes.{AreHops}
 use Rattle.fr_route.specs.States.{State}
 use Rattle.fr_route.proofs.LoopWalks.{loop_or_free, lowest_unique}
-use Rattle.fr_tables.specs.Tables.{IsFirstOutside, IsInRange, IsLoopFree, SendsOn}
+use Rattle.fr_tables.specs.Tables.{IsFirstOutside, IsInRange, SendsOn}
 use Rattle.fr_tables.specs.declared.hop.Hop.{Hop}
 use Rattle.fr_tables.specs.declared.hop.Hop.TheVariants.{CutOff, To}
 use Rattle.fr_tables.proofs.Existing.{order_exists}

@@ -1,6 +1,6 @@
 -- Each node has a list of its ways, nearest first, and each node with a path exactly one walk by first ways.
 use Rattle.std.proofs.Common.{[], Bool, List, arith, false, get_or, true, inl, inr, length, refl, slice_index, subst, suc, sym, zero, ℕ, ⊎_elim, ap}
-use Rattle.std.proofs.Common.{Contains, ◌+◌, ◌<◌, ◌∙◌, ◌∷◌, ◌≡◌, ◌≤◌, ◌⊎◌}
+use Rattle.std.proofs.Common.{Contains, ◌<◌, ◌∙◌, ◌∷◌, ◌≡◌, ◌≤◌, ◌⊎◌}
 use Rattle.std.proofs.lemmas.Bool.{cases_eq, cases_lt, false≢true}
 use Rattle.std.proofs.lemmas.List.{get_or_default}
 use Rattle.std.proofs.lemmas.List.Elements.{Contains-get_or}

@@ -9,6 +9,7 @@ pub mod Outcomes
 pub mod RouterInside
 pub mod Blank
 pub mod NodeWays
+pub mod KeptDistances
 pub mod WayPushes
 pub mod Separated
 pub mod Texts

@@ -1,10 +1,10 @@
 -- The ways of the nodes of a settled network, and routes of the fewest links along them. This project's own.
-use Rattle.std.specs.Prelude.{◌≡◌, ℕ, ◌<◌, ◌⊎◌, List, ◌∷◌, length, slice_index}
+use Rattle.std.specs.Prelude.{◌≡◌, ℕ, ◌<◌, ◌⊎◌, List, ◌∷◌, length, slice_index, MatchOption, Option}
 use Rattle.std.specs.List.{All}
 use Rattle.fr_graph.specs.Links.{Points}
 use Rattle.fr_graph.specs.Network.{Network}
 use Rattle.fr_graph.specs.declared.edit.Edit.{Edit}
-use Rattle.fr_nearest.specs.Distances.{AreDistances, Measured}
+use Rattle.fr_nearest.specs.Distances.{AreDistances, IsDistance, Measured}
 use Rattle.fr_nearest.specs.Touched.{HasEndsBelow, IsAdded, IsCut}
 use Rattle.fr_nearest.specs.Ways.{AreWays, IsNearestWalk}
 use Rattle.fr_ways.specs.Ways.{ways}
@@ -16,6 +16,10 @@ use Rattle.fr_route.specs.declared.hops.Walked.TheVariants.{Route, CutOff}
 pub record HasDistances (s : State) (m : Measured) : Type 0 where
   pub dest : m.dest ≡ s.dest
   pub table : AreDistances s.nodes s.links s.dest m.table
+
+-- the distance of x, or that x is cut off
+abbrev pub HasDistance : State → ℕ → Option ℕ → Type 0
+HasDistance s x distance = MatchOption distance (IsCutOff s.dest s.links x) (IsDistance s.links s.dest x)
 
 -- x or w has turned
 abbrev pub HasTurnedEnd : List ℕ → ℕ → ℕ → Type 0

@@ -1,7 +1,7 @@
 -- The value of a `Router` in contracts. For proofs only.
 use Rattle.std.specs.Prelude.{◌≡◌, ◌<◌, length}
 use Rattle.fr_route.specs.States.{State, IsAfterRound, IsReport, state_with}
-use Rattle.fr_route.specs.NodeWays.{HasDistances}
+use Rattle.fr_route.specs.KeptDistances.{KeepsDistances}
 use Rattle.fr_route.specs.Routes.{AreHops}
 use Rattle.fr_route.specs.declared.router.Router.TheInside.{Inside}
 
@@ -13,6 +13,6 @@ pub record IsSoundRouter (r : Inside) : Type 0 where
   pub round : IsAfterRound (state_of r)
   pub one_each : length r.turns ≡ r.net.nodes
   pub hops : AreHops (state_of r) r.net.nodes r.hops.items
-  pub distances : HasDistances (state_of r) r.distances
+  pub distances : KeepsDistances (state_of r) r.distances
   pub room : r.room ≡ r.net.nodes
   pub report : IsReport (state_of r) r.report.turned r.report.cut

@@ -24,6 +24,7 @@ mod fault;
 mod form;
 mod hops;
 mod json;
+mod kept_distances;
 pub mod laws;
 mod outcome;
 mod pushing;

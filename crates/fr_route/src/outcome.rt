@@ -10,15 +10,13 @@ ghost use Rattle.fr_graph.specs.Counts.{AreLawful, links_at};
 ghost use Rattle.fr_graph.specs.Network.{net_of};
 ghost use Rattle.fr_route.specs.Outcomes.{HoldsMoved, ListsOthers, ends_of, lone_count, settled_state};
 ghost use Rattle.fr_route.specs.Routes.{AreHops};
-ghost use Rattle.fr_route.specs.NodeWays.{AreOldDistances, HasDistances};
-ghost use Rattle.fr_route.specs.States.{IsReport, state_with};
+ghost use Rattle.fr_route.specs.States.{IsReport};
 
 use crate::change::Report;
 use crate::hops::{AfterRound, renew_hops};
 use crate::told::Told;
 use fr_core::can_turn;
 use fr_graph::{Edit, Net, Turns};
-use fr_nearest::{Distances, Touched};
 use fr_tables::Hop;
 use std::alloc::{AllocError, Global};
 
@@ -112,24 +110,6 @@ pub(crate) fn put_in_place(
         turns: &outcome.turns,
     };
     renew_hops(hops, &round, moved, told);
-}
-
-/// Updates the distances after the round on a network with these edits is put in place.
-pub(crate) fn renew_distances(
-    distances: &mut Distances,
-    net: &Net,
-    outcome: &Outcome,
-    edits: &[Edit],
-)
-    requires node { outcome.now.dest < net.now.nodes }
-    requires old { AreOldDistances net.now outcome.now.turns edits.now distances.old }
-    ensures { HasDistances (state_with net.now outcome.now.dest outcome.now.turns) distances.new }
-{
-    let touched = Touched {
-        edits,
-        turned: outcome.turns.nodes(),
-    };
-    distances.renew(net, outcome.dest, &touched);
 }
 
 /// The nodes that edits and a new destination touch: the old and the new destination, and the ends of the links that

@@ -29,10 +29,11 @@ use std::alloc::{AllocError, Global};
 pub(crate) fn question_in(
     alloc: Global,
     form: Form,
-    router: &Router,
+    router: &mut Router,
     question: Question,
 ) -> Result<String, AllocError>
-    ensures { IfOk result (λ text. IsTextIn form None (ask question) router.now (string_bytes text)) }
+    ensures same { router.new ≡ router.old }
+    ensures text { IfOk result (λ text. IsTextIn form None (ask question) router.old (string_bytes text)) }
 {
     match (form, question) {
         (Form::Text, Question::Links) => links_line(alloc, router.net().links()),
@@ -46,8 +47,9 @@ pub(crate) fn question_in(
 }
 
 /// The answer to a request for the ways of each node.
-fn all_ways_in(alloc: Global, form: Form, router: &Router) -> Result<String, AllocError>
-    ensures { IfOk result (λ text. IsTextIn form None (ask WaysOfAll) router.now (string_bytes text)) }
+fn all_ways_in(alloc: Global, form: Form, router: &mut Router) -> Result<String, AllocError>
+    ensures same { router.new ≡ router.old }
+    ensures text { IfOk result (λ text. IsTextIn form None (ask WaysOfAll) router.old (string_bytes text)) }
 {
     // By this law, the number of nodes fits.
     router.net().network_law();
@@ -92,12 +94,13 @@ fn walked_in(alloc: Global, form: Form, x: u32, walked: &Walked) -> Result<Strin
 pub(crate) fn node_question_in(
     alloc: Global,
     form: Form,
-    router: &Router,
+    router: &mut Router,
     question: NodeQuestion,
     x: u32,
 ) -> Result<String, AnswerFault>
-    requires { x < router.now.nodes }
-    ensures text { IfOk result (λ text. IsTextIn form None (ask_node question x) router.now (string_bytes text)) }
+    requires { x < router.old.nodes }
+    ensures same { router.new ≡ router.old }
+    ensures text { IfOk result (λ text. IsTextIn form None (ask_node question x) router.old (string_bytes text)) }
     ensures memory { IfErr result (λ fault. fault ≡ Memory) }
 {
     match question {

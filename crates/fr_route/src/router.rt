@@ -8,8 +8,7 @@ ghost use Rattle.fr_crew.specs.Settlements.{CanBegin, HoldsSinks, IsCounted};
 ghost use Rattle.fr_route.specs.Ways.{Settles, NeverStarts};
 ghost use Rattle.fr_route.specs.declared.fault.RouteFault.TheVariants.{Start, Memory};
 ghost use Rattle.fr_route.specs.Listing.{nodes_told};
-ghost use Rattle.fr_route.specs.NodeWays.{AreAllWays, AreNodeWays, IsNearest};
-ghost use Rattle.fr_nearest.specs.Distances.{IsDistance};
+ghost use Rattle.fr_route.specs.NodeWays.{AreAllWays, AreNodeWays, HasDistance, IsNearest};
 ghost use Rattle.fr_route.specs.States.{IsAfterRound, IsCutOff, IsRound, IsReport};
 ghost use Rattle.fr_route.specs.Routes.{IsHop, AreHops, IsWalked};
 ghost use Rattle.fr_route.specs.Changes.{IsOpenFault, IsChanged, IsRouteFault, IsStill};
@@ -22,16 +21,14 @@ ghost use Rattle.fr_route.specs.Outcomes.{IsSettledTable, cut_off_nodes, movable
 use crate::change::{Change, Report};
 use crate::fault::{NotMade, RouteFault, placeless};
 use crate::hops::{AfterRound, Walked, hop_table, resized};
-use crate::outcome::{
-    alone_nodes, push_capped, put_in_place, renew_distances, report_of, touched_nodes,
-};
+use crate::kept_distances::{KeptDistances, table_of_ways};
+use crate::outcome::{alone_nodes, push_capped, put_in_place, report_of, touched_nodes};
 use crate::revision::Revision;
 use crate::settling::Asking;
 use crate::spare::Spare;
 use crate::told::Told;
 use fr_crew::{Crew, CrewFault, Gate, Plan, settled_counts, settled_counts_alone};
 use fr_graph::{Edit, MAX_EDITS, Net, NetFault, Turns};
-use fr_nearest::Distances;
 use fr_tables::{Hop, PushRoom, TableFault, first_outside, known_push_order};
 use fr_ways::{TwoPhases, WayTable, WaysFault, known_phases};
 use std::alloc::{AllocError, Global};
@@ -52,7 +49,7 @@ pub struct Router {
     turns: Turns,
     spare: Spare,
     hops: Vec<Hop>,
-    distances: Distances,
+    distances: KeptDistances,
     room: PushRoom,
     report: Report,
 }
@@ -207,7 +204,9 @@ impl<'a, F: Fn(&Net, u32, Option<&[u32]>, Turns) -> Result<Turns, CrewFault>> As
             },
         )?;
         put_in_place(&mut router.net, &mut router.hops, &outcome, from, told);
-        renew_distances(&mut router.distances, &router.net, &outcome, revision.edits);
+        router
+            .distances
+            .renew(&router.net, &outcome, revision.edits);
         told.put_in_order(&mut router.room, &router.hops);
         keep_turns(&mut router.turns, &mut router.spare, outcome.turns);
         router.dest = dest;
@@ -284,7 +283,7 @@ impl Router {
             turns: &turns,
         };
         let hops = hop_table(alloc, &round)?;
-        let distances = Distances::measure(alloc, &net, dest)?;
+        let distances = KeptDistances::unmeasured(alloc, &net)?;
         let room = PushRoom::new(alloc, net.nodes())?;
         Ok(Router {
             net,
@@ -578,39 +577,38 @@ impl Router {
     ///
     /// A packet may take any of the ways at each node: it visits no node twice, because the links contain no cycle.
     ///
-    /// Fails with `AllocError`, and an empty list, if an allocation is refused. O(d log d) for d links of the node.
-    pub fn ways(&self, x: u32, list: &mut Vec<u32>) -> Result<(), AllocError>
-        requires { x < self.now.nodes }
-        ensures ways { OnOk result (AreNodeWays self.now x list.new.items) }
+    /// Fails with `AllocError`, and an empty list, if an allocation is refused. O(d log d) for d links of the node. The
+    /// first question about ways or distances also measures the distances of all nodes, in O(n + m). From then on each
+    /// change keeps them up to date, so the router is needed as mutable, although its state stays the same.
+    pub fn ways(&mut self, x: u32, list: &mut Vec<u32>) -> Result<(), AllocError>
+        requires { x < self.old.nodes }
+        ensures same { self.new ≡ self.old }
+        ensures ways { OnOk result (AreNodeWays self.old x list.new.items) }
         ensures empty { OnErr result (list.new.items ≡ []) }
     {
-        self.distances.ways(&self.net, x, list)
+        self.distances.keep(&self.net, self.dest);
+        self.distances.table.ways(&self.net, x, list)
     }
 
     /// The distance of node `x`, which must be in the network: the fewest links that lead from it down to the
-    /// destination. `None` if the node is cut off. O(1).
-    pub fn distance(&self, x: u32) -> Option<u32>
-        requires { x < self.now.nodes }
-        ensures { MatchOption result (IsCutOff self.now.dest self.now.links x)
-            (IsDistance self.now.links self.now.dest x) }
+    /// destination. `None` if the node is cut off. O(1), and the first time as [`ways`](Router::ways) says.
+    pub fn distance(&mut self, x: u32) -> Option<u32>
+        requires { x < self.old.nodes }
+        ensures same { self.new ≡ self.old }
+        ensures distance { HasDistance self.old x result }
     {
-        self.distances.distance(x)
+        self.distances.keep(&self.net, self.dest);
+        self.distances.table.distance(x)
     }
 
     /// The ways of each node, as [`ways`](Router::ways) lists them. Fails with `AllocError` if an allocation is refused.
     /// O(n + m log d), where no node has more than d links.
-    pub fn all_ways(&self, alloc: Global) -> Result<WayTable, AllocError>
-        ensures { IfOk result (AreAllWays self.now) }
+    pub fn all_ways(&mut self, alloc: Global) -> Result<WayTable, AllocError>
+        ensures same { self.new ≡ self.old }
+        ensures ways { IfOk result (AreAllWays self.old) }
     {
-        self.net.network_law();
-        let nodes = self.net.nodes();
-        let mut table = WayTable::with_capacity(alloc, nodes as usize, self.net.link_count())?;
-        let mut list = Vec::new(alloc);
-        for x in 0..nodes {
-            self.ways(x, &mut list)?;
-            table.push_row(&list)?;
-        }
-        Ok(table)
+        self.distances.keep(&self.net, self.dest);
+        table_of_ways(alloc, &self.net, &self.distances.table)
     }
 
     /// What a controller pushes so that routers which hold the ways of `table` end with [all ways](Router::all_ways) of
@@ -622,9 +620,10 @@ impl Router {
     /// Fails with `Length` if the table does not have one list for each node, and with `Memory` if an allocation is
     /// refused; never with `Range` or `Cycle`. O(n + m log d), where no node has more than d links, and the time to read
     /// the table.
-    pub fn phases(&self, alloc: Global, table: &WayTable) -> Result<TwoPhases, WaysFault>
-        ensures phases { IfOk result (LeadToWays self.now table.now) }
-        ensures fault { IfErr result (IsPhasesFault self.now table.now) }
+    pub fn phases(&mut self, alloc: Global, table: &WayTable) -> Result<TwoPhases, WaysFault>
+        ensures same { self.new ≡ self.old }
+        ensures phases { IfOk result (LeadToWays self.old table.now) }
+        ensures fault { IfErr result (IsPhasesFault self.old table.now) }
     {
         self.net.network_law();
         if table.len() != self.net.nodes() as usize {
@@ -636,13 +635,15 @@ impl Router {
 
     /// A route of the fewest links from node `x` along the links to the destination: each node is the nearest way of the
     /// one before. The node must be in the network. Fails only with `Memory`, if an allocation is refused. O(r d) for a
-    /// route of r nodes, none of which has more than d links.
-    pub fn nearest(&self, alloc: Global, x: u32) -> Result<Walked, RouteFault>
-        requires { x < self.now.nodes }
-        ensures walked { IfOk result (IsNearest self.now x) }
+    /// route of r nodes, none of which has more than d links, and the first time as [`ways`](Router::ways) says.
+    pub fn nearest(&mut self, alloc: Global, x: u32) -> Result<Walked, RouteFault>
+        requires { x < self.old.nodes }
+        ensures same { self.new ≡ self.old }
+        ensures walked { IfOk result (IsNearest self.old x) }
         ensures memory { IfErr result (λ fault. fault ≡ Memory) }
     {
-        match self.distances.walk(alloc, &self.net, x)? {
+        self.distances.keep(&self.net, self.dest);
+        match self.distances.table.walk(alloc, &self.net, x)? {
             Some(route) => Ok(Walked::Route(route)),
             None => Ok(Walked::CutOff),
         }

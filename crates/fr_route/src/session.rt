@@ -385,15 +385,16 @@ impl Session {
 
     /// The answer to a question.
     fn question(
-        &self,
+        &mut self,
         alloc: Global,
         manner: Manner,
         question: Question,
     ) -> Result<Answer, AnswerFault>
-        ensures reply { IfOk result (λ answer. IsStillReply manner self.now (ask question) answer) }
+        ensures same { self.new ≡ self.old }
+        ensures reply { IfOk result (λ answer. IsStillReply manner self.old (ask question) answer) }
         ensures memory { IfErr result (λ fault. fault ≡ Memory) }
     {
-        let Some(router) = &self.router else {
+        let Some(router) = &mut self.router else {
             return refuse(alloc, manner, Reason::NoNetwork, &[], None);
         };
         Ok(accepted(question_in(alloc, manner.form, router, question)?))
@@ -401,16 +402,17 @@ impl Session {
 
     /// The answer to a question about one node.
     fn node_question(
-        &self,
+        &mut self,
         alloc: Global,
         manner: Manner,
         question: NodeQuestion,
         x: u32,
     ) -> Result<Answer, AnswerFault>
-        ensures reply { IfOk result (λ answer. IsStillReply manner self.now (ask_node question x) answer) }
+        ensures same { self.new ≡ self.old }
+        ensures reply { IfOk result (λ answer. IsStillReply manner self.old (ask_node question x) answer) }
         ensures memory { IfErr result (λ fault. fault ≡ Memory) }
     {
-        let Some(router) = &self.router else {
+        let Some(router) = &mut self.router else {
             return refuse(alloc, manner, Reason::NoNetwork, &[], None);
         };
         if x >= router.net().nodes() {
@@ -453,10 +455,15 @@ impl Session {
         pushes_from(alloc, manner, table, router.hops())
     }
 
-    /// Answers a question, as [`Session::answer`] does. This changes nothing. Fails only with `Memory`. O(b) for b
-    /// bytes of answer.
-    pub fn answer_question(&self, alloc: Global, question: Question) -> Result<String, AnswerFault>
-        ensures text { IfOk result (λ text. IsAnswer self.now (ask question) (string_bytes text) self.now) }
+    /// Answers a question, as [`Session::answer`] does. Fails only with `Memory`. O(b) for b bytes of answer, and for
+    /// the ways of all nodes the cost of [`Router::all_ways`].
+    pub fn answer_question(
+        &mut self,
+        alloc: Global,
+        question: Question,
+    ) -> Result<String, AnswerFault>
+        ensures same { self.new ≡ self.old }
+        ensures text { IfOk result (λ text. IsAnswer self.old (ask question) (string_bytes text) self.new) }
         ensures memory { IfErr result (λ fault. fault ≡ Memory) }
     {
         Ok(self.question(alloc, AS_TEXT, question)?.text)

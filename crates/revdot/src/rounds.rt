@@ -125,9 +125,10 @@ fn turns_of(alloc: Global, router: &Router, mut replay: Replay) -> Result<Vec<u3
 pub fn push_settled_lines(
     story: &mut String,
     alloc: Global,
-    session: &Session,
+    session: &mut Session,
 ) -> Result<(), AllocError>
-    ensures { OnOk result ((told : List ℕ) × AreSettledLines session.now told
+    ensures same { session.new ≡ session.old }
+    ensures told { OnOk result ((told : List ℕ) × AreSettledLines session.old told
         × (string_bytes story.new ≡ string_bytes story.old ++ told)) }
 {
     push_answer_to(story, alloc, session, Question::Links)?;
@@ -139,10 +140,11 @@ pub fn push_settled_lines(
 fn push_answer_to(
     story: &mut String,
     alloc: Global,
-    session: &Session,
+    session: &mut Session,
     question: Question,
 ) -> Result<(), AllocError>
-    ensures { OnOk result ((answer : List ℕ) × IsAnswerLine session.now question answer
+    ensures same { session.new ≡ session.old }
+    ensures told { OnOk result ((answer : List ℕ) × IsAnswerLine session.old question answer
         × (string_bytes story.new ≡ string_bytes story.old ++ answer)) }
 {
     let Ok(answer) = session.answer_question(alloc, question) else {

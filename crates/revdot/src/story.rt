@@ -55,10 +55,11 @@ fn push_step(
 fn push_mark(
     story: &mut String,
     alloc: Global,
-    session: &Session,
+    session: &mut Session,
     number: u64,
 ) -> Result<(), AllocError>
-    ensures { OnOk result ((mark : List ℕ) × IsMark number session.now mark
+    ensures same { session.new ≡ session.old }
+    ensures mark { OnOk result ((mark : List ℕ) × IsMark number session.old mark
         × (string_bytes story.new ≡ string_bytes story.old ++ mark)) }
 {
     if !is_marked(session, number) {

@@ -9,6 +9,9 @@ use Rattle.fr_ways.specs.Rows.{IsLaidOut}
 use Rattle.fr_ways.specs.Ways.{ways}
 use Rattle.fr_ways.specs.declared.plan.Pushes.{Pushes}
 use Rattle.fr_ways.specs.declared.plan.TwoPhases.{TwoPhases}
+use Rattle.revroute_c.specs.declared.phases.Asked.{Asked}
+use Rattle.revroute_c.specs.declared.phases.Phase.{Phase}
+use Rattle.revroute_c.specs.declared.phases.Phase.TheVariants.{Grow, Shrink}
 
 -- a push for each of these nodes, one after the other: the node, how many ways it gets, and these ways
 abbrev pub numbers_of : (ℕ → List ℕ) → List ℕ → List ℕ
@@ -30,6 +33,14 @@ abbrev pub AreGrowths : Option State → List ℕ → List ℕ → List ℕ → 
 AreGrowths None starts list pushes = ⊥
 AreGrowths (Some s) starts list pushes = (table wanted : List (List ℕ)) × IsTableFor s starts list table
     × AreAllWays s wanted × (pushes ≡ numbers_of (ways wanted) (growing_nodes table wanted))
+
+-- the pushes of a phase, and those that a caller asks for
+abbrev pub ArePhasePushes : Phase → Option State → List ℕ → List ℕ → List ℕ → Type 0
+ArePhasePushes Shrink = AreShrinks
+ArePhasePushes Grow = AreGrowths
+
+abbrev pub ArePushesOf : Asked → Option State → List ℕ → Type 0
+ArePushesOf asked s pushes = ArePhasePushes asked.phase s asked.starts.now asked.ways.now pushes
 
 -- the two places hold no table with a list for each node
 abbrev pub HoldNoTable : Option State → List ℕ → List ℕ → Type 0

@@ -13,6 +13,10 @@ use Rattle.revroute_c.specs.Statuses.{REVROUTE_ANSWERED, REVROUTE_TOO_SHORT, REV
 abbrev pub HasRoute : State → ℕ → Type 0
 HasRoute s x = (x < s.nodes) × ¬ IsCutOff s.dest s.links x
 
+abbrev pub HasRouteIn : Option State → ℕ → Type 0
+HasRouteIn None x = ⊥
+HasRouteIn (Some s) x = HasRoute s x
+
 -- the status says why there is no route from x
 abbrev pub SaysWhyNone : Option State → ℕ → ℕ → Type 0
 SaysWhyNone None x status = status ≡ REVROUTE_NO_NETWORK

@@ -51,7 +51,7 @@ mod ways;
 use closed_walks::{walk_of_change, walk_of_network};
 use fr_route::{VERSION, is_blank};
 use handle::Handle;
-use phases::{Rows, growths_in, shrinks_in};
+use phases::{Asked, Phase, pushes_in};
 use pieces::{finish_line, take_anew, take_front};
 use push_orders::{Tables, order_of};
 use questions::{
@@ -515,13 +515,7 @@ pub extern "C" fn revroute_ways(
 {
     *size = 0;
     match handle.engine_mut() {
-        Some(engine) => ways_in(
-            engine.published.session(),
-            &mut engine.ways,
-            node,
-            ways,
-            size,
-        ),
+        Some(engine) => ways_in(&mut engine.published, &mut engine.ways, node, ways, size),
         None => NO_NETWORK,
     }
 }
@@ -535,7 +529,7 @@ pub extern "C" fn revroute_distance(handle: &mut Handle, node: u32) -> u32
     ensures same { IsUnchanged handle.old handle.new }
 {
     match handle.engine_mut() {
-        Some(engine) => distance_in(engine.session(), node),
+        Some(engine) => distance_in(&mut engine.published, node),
         None => HOP_OF_NO_NETWORK,
     }
 }
@@ -560,7 +554,7 @@ pub extern "C" fn revroute_nearest(
 {
     *size = 0;
     match handle.engine_mut() {
-        Some(engine) => nearest_in(engine.session(), alloc, node, nodes, size),
+        Some(engine) => nearest_in(&mut engine.published, alloc, node, nodes, size),
         None => NO_NETWORK,
     }
 }
@@ -591,7 +585,7 @@ pub extern "C" fn revroute_all_ways(
 {
     *size = 0;
     match handle.engine_mut() {
-        Some(engine) => all_ways_in(engine.session(), alloc, starts, ways, size),
+        Some(engine) => all_ways_in(&mut engine.published, alloc, starts, ways, size),
         None => NO_NETWORK,
     }
 }
@@ -631,10 +625,14 @@ pub extern "C" fn revroute_shrink(
 {
     *size = 0;
     match handle.engine_mut() {
-        Some(engine) => shrinks_in(
-            engine.session(),
+        Some(engine) => pushes_in(
+            &mut engine.published,
             alloc,
-            &Rows { starts, ways },
+            &Asked {
+                phase: Phase::Shrink,
+                starts,
+                ways,
+            },
             pushes,
             size,
         ),
@@ -665,10 +663,14 @@ pub extern "C" fn revroute_grow(
 {
     *size = 0;
     match handle.engine_mut() {
-        Some(engine) => growths_in(
-            engine.session(),
+        Some(engine) => pushes_in(
+            &mut engine.published,
             alloc,
-            &Rows { starts, ways },
+            &Asked {
+                phase: Phase::Grow,
+                starts,
+                ways,
+            },
             pushes,
             size,
         ),

@@ -1,47 +1,64 @@
 //! What to push in two phases, from the ways that routers hold to those of a session.
 
 ghost use Rattle.std.specs.Prelude.{◌≡◌, ◌≤◌, ◌⊎◌, ◌↔◌, List, None, ℕ, map, IfErr, IfOk};
-ghost use Rattle.revroute_c.specs.Phases.{AreGrowths, AreShort, AreShrinks, HoldNoTable, IsPlannedFor, numbers_of};
+ghost use Rattle.revroute_c.specs.Phases.{ArePushesOf, AreShort, HoldNoTable, IsPlannedFor, numbers_of};
 ghost use Rattle.revroute_c.specs.Replies.{outcome, GivesList};
 
 use crate::replies::hand_out;
 use crate::statuses::{ANSWERED, NO_MEMORY, NO_NETWORK, NO_TABLE, TOO_SHORT};
-use fr_route::Session;
+use fr_published::PublishedSession;
 use fr_ways::{Pushes, TwoPhases, WayTable, WaysFault};
 use std::alloc::{AllocError, Global};
 
-/// A caller's table of ways: where the ways of each node begin, and the ways of all nodes.
+/// One of the two phases in which ways are pushed.
+#[derive(Clone, Copy)]
+pub(crate) enum Phase {
+    Shrink,
+    Grow,
+}
+
+/// What a caller asks for: the pushes of a phase, from a table of ways. The table has where the ways of each node begin,
+/// and the ways of all nodes.
 #[derive(Drop)]
-pub(crate) struct Rows<'a> {
+pub(crate) struct Asked<'a> {
+    pub(crate) phase: Phase,
     pub(crate) starts: &'a [usize],
     pub(crate) ways: &'a [u32],
 }
 
 /// The two phases from the table to the ways of the session, or the status that says why there are none.
-fn phases_from(session: &Session, alloc: Global, rows: &Rows<'_>) -> Result<TwoPhases, u32>
-    ensures phases { IfOk result (IsPlannedFor session.now rows.now.starts.now rows.now.ways.now) }
-    ensures no_network { IfErr result (λ status. (status ≡ NO_NETWORK) ↔ (session.now ≡ None)) }
-    ensures no_table { IfErr result (λ status. status ≡ NO_TABLE → HoldNoTable session.now rows.now.starts.now rows.now.ways.now) }
-    ensures no_memory { IfErr result
-        (λ status. status ≡ NO_MEMORY → ¬ HoldNoTable session.now rows.now.starts.now rows.now.ways.now) }
+fn phases_from(
+    published: &mut PublishedSession,
+    alloc: Global,
+    asked: &Asked<'_>,
+) -> Result<TwoPhases, u32>
+    ensures same { published.new ≡ published.old }
+    ensures phases { IfOk result (IsPlannedFor published.old.session asked.now.starts.now asked.now.ways.now) }
+    ensures no_network { IfErr result (λ status. (status ≡ NO_NETWORK) ↔ (published.old.session ≡ None)) }
+    ensures no_table { IfErr result
+        (λ status. status ≡ NO_TABLE → HoldNoTable published.old.session asked.now.starts.now asked.now.ways.now) }
+    ensures no_memory { IfErr result (λ status. status ≡ NO_MEMORY
+        → ¬ HoldNoTable published.old.session asked.now.starts.now asked.now.ways.now) }
     ensures status { IfErr result (λ status. (status ≡ NO_NETWORK) ⊎ (status ≡ NO_TABLE) ⊎ (status ≡ NO_MEMORY)) }
 {
-    let Some(router) = session.router() else {
+    let Some(router) = published.session().router() else {
         return Err(NO_NETWORK);
     };
-    if rows.starts.len() != router.net().nodes() as usize + 1 {
+    if asked.starts.len() != router.net().nodes() as usize + 1 {
         return Err(NO_TABLE);
     }
-    let Ok(table) = WayTable::from_rows(alloc, rows.starts, rows.ways) else {
+    let Ok(table) = WayTable::from_rows(alloc, asked.starts, asked.ways) else {
         return Err(NO_MEMORY);
     };
     let Some(table) = table else {
         return Err(NO_TABLE);
     };
-    match router.phases(alloc, &table) {
-        Ok(phases) => Ok(phases),
-        Err(WaysFault::Memory) => Err(NO_MEMORY),
-        Err(WaysFault::Length | WaysFault::Range(_) | WaysFault::Cycle(_)) => unreachable!(),
+    match published.phases(alloc, &table) {
+        Some(Ok(phases)) => Ok(phases),
+        Some(Err(WaysFault::Memory)) => Err(NO_MEMORY),
+        Some(Err(WaysFault::Length | WaysFault::Range(_) | WaysFault::Cycle(_))) | None => {
+            unreachable!()
+        }
     }
 }
 
@@ -63,53 +80,34 @@ fn numbers(alloc: Global, pushes: &Pushes) -> Result<Vec<u32>, AllocError>
     Ok(numbers)
 }
 
-/// Writes the pushes of the first phase. `size` must be 0.
-pub(crate) fn shrinks_in(
-    session: &Session,
+/// Writes the pushes that the caller asks for. `size` must be 0.
+pub(crate) fn pushes_in(
+    published: &mut PublishedSession,
     alloc: Global,
-    rows: &Rows<'_>,
+    asked: &Asked<'_>,
     pushes: &mut [u32],
     size: &mut usize,
 ) -> u32
     requires { size.old ≡ 0 }
-    ensures gives { GivesList (AreShrinks session.now rows.now.starts.now rows.now.ways.now)
+    ensures gives { GivesList (ArePushesOf asked.now published.old.session)
         (outcome result pushes.old pushes.new size.new) }
-    ensures no_network { (result ≡ NO_NETWORK) ↔ (session.now ≡ None) }
-    ensures no_table { result ≡ NO_TABLE → HoldNoTable session.now rows.now.starts.now rows.now.ways.now }
-    ensures no_memory { result ≡ NO_MEMORY → ¬ HoldNoTable session.now rows.now.starts.now rows.now.ways.now }
+    ensures no_network { (result ≡ NO_NETWORK) ↔ (published.old.session ≡ None) }
+    ensures no_table { result ≡ NO_TABLE
+        → HoldNoTable published.old.session asked.now.starts.now asked.now.ways.now }
+    ensures no_memory { result ≡ NO_MEMORY
+        → ¬ HoldNoTable published.old.session asked.now.starts.now asked.now.ways.now }
     ensures status { (result ≡ ANSWERED) ⊎ ((TOO_SHORT ≤ result) × (result ≤ NO_NETWORK)) ⊎ (result ≡ NO_TABLE) }
+    ensures same { published.new ≡ published.old }
 {
-    let phases = match phases_from(session, alloc, rows) {
+    let phases = match phases_from(published, alloc, asked) {
         Ok(phases) => phases,
         Err(status) => return status,
     };
-    match numbers(alloc, &phases.shrink) {
-        Ok(numbers) => hand_out(&numbers, pushes, size),
-        Err(_memory) => NO_MEMORY,
-    }
-}
-
-/// Writes the pushes of the second phase. `size` must be 0.
-pub(crate) fn growths_in(
-    session: &Session,
-    alloc: Global,
-    rows: &Rows<'_>,
-    pushes: &mut [u32],
-    size: &mut usize,
-) -> u32
-    requires { size.old ≡ 0 }
-    ensures gives { GivesList (AreGrowths session.now rows.now.starts.now rows.now.ways.now)
-        (outcome result pushes.old pushes.new size.new) }
-    ensures no_network { (result ≡ NO_NETWORK) ↔ (session.now ≡ None) }
-    ensures no_table { result ≡ NO_TABLE → HoldNoTable session.now rows.now.starts.now rows.now.ways.now }
-    ensures no_memory { result ≡ NO_MEMORY → ¬ HoldNoTable session.now rows.now.starts.now rows.now.ways.now }
-    ensures status { (result ≡ ANSWERED) ⊎ ((TOO_SHORT ≤ result) × (result ≤ NO_NETWORK)) ⊎ (result ≡ NO_TABLE) }
-{
-    let phases = match phases_from(session, alloc, rows) {
-        Ok(phases) => phases,
-        Err(status) => return status,
+    let pushed = match asked.phase {
+        Phase::Shrink => &phases.shrink,
+        Phase::Grow => &phases.grow,
     };
-    match numbers(alloc, &phases.grow) {
+    match numbers(alloc, pushed) {
         Ok(numbers) => hand_out(&numbers, pushes, size),
         Err(_memory) => NO_MEMORY,
     }

@@ -1,8 +1,8 @@
 use Rattle.std.proofs.Common.{List, ap, arith, length, subst, sym, ℕ, ◌∙◌, ◌≡◌}
 use Rattle.std.proofs.lemmas.List.{with_items_is}
 use Rattle.std.specs.Vec.{with_items}
-use Rattle.fr_nearest.specs.Changes.{AreAllNoted, IsForgotten}
-use Rattle.fr_nearest.specs.Distances.{IsRenewed, Measured}
+use Rattle.fr_nearest.specs.Changes.{IsForgotten}
+use Rattle.fr_nearest.specs.Distances.{Measured}
 use Rattle.fr_nearest.specs.Touched.{IsOutOfDate}
 use Rattle.fr_nearest.specs.Local.{IsSmall}
 use Rattle.fr_nearest.specs.Update.{KeepsOthers}
@@ -58,23 +58,15 @@ note_some-requires-clause-noted c =
 pub returns-then-update : goal.returns-then-update
 returns-then-update c =
     let at = (goal.at.returns-then-update c).After-forget in
-    let then = (goal.at.returns-then-update c).After-deref-then-update in
-    let changes = c.note_some.new.self in
-    let noted : AreAllNoted c.update.new.distances changes = subst (λ (xs : List ℕ). AreAllNoted xs changes) (read_is then) c.note_some.ensures.noted in
-    let before : changes.before.items ≡ c.self.inside.of.items = rw c.note_some.ensures.before (forgotten at).before in
-    subst (λ (xs : List ℕ). IsRenewed c.args.net.now c.args.dest c.args.self.now
-    (record { dest = c.args.dest; table = xs; before = changes.before.items; changed = changes.nodes.items })) (sym (table_is then))
-    (renewed c.args.net.now c.args.dest c.args.self.now (was at) (c.update.ensures.updated c.if-update.true).distances noted before)
+    renewed c.args.net.now c.args.dest c.args.self.now c.self.inside.of (was at)
+    (c.update.ensures.one_each ∙ ap length c.deref_mut.ensures.value) (c.update.ensures.updated c.if-update.true).distances
+    c.deref-then-update.ensures.value c.note_some.ensures.noted (rw c.note_some.ensures.before (forgotten at).before)
 
 pub returns-else-update : goal.returns-else-update
 returns-else-update c =
     let at = (goal.at.returns-else-update c).After-forget in
-    let changes = c.note_all.new.self in
     let are = c.measure_all.ensures.distances in
-    let table : (with_items (with_items c.self.inside.of c.update.new.distances) c.measure_all.new.distances).items ≡ c.measure_all.new.distances =
-    with_items_is (with_items c.self.inside.of c.update.new.distances) c.measure_all.new.distances (omega (arith, are.one_each, one_each at, c.self.inside.of.ok.0)) in
-    let noted : AreAllNoted c.measure_all.new.distances changes = subst (λ (xs : List ℕ). AreAllNoted xs changes) (c.deref-else-update.ensures.value ∙ table) c.note_all.ensures.noted in
-    let before : changes.before.items ≡ c.self.inside.of.items = rw c.note_all.ensures.before (forgotten at).before in
-    subst (λ (xs : List ℕ). IsRenewed c.args.net.now c.args.dest c.args.self.now
-    (record { dest = c.args.dest; table = xs; before = changes.before.items; changed = changes.nodes.items })) (sym table)
-    (renewed c.args.net.now c.args.dest c.args.self.now (was at) are noted before)
+    let updated = with_items c.self.inside.of c.update.new.distances in
+    renewed c.args.net.now c.args.dest c.args.self.now updated (was at)
+    (omega (arith, are.one_each, c.update.ensures.one_each, ap length c.deref_mut.ensures.value, one_each at, updated.ok.0, c.self.inside.of.ok.0))
+    are c.deref-else-update.ensures.value c.note_all.ensures.noted (rw c.note_all.ensures.before (forgotten at).before)

@@ -1,11 +1,15 @@
-use Rattle.std.proofs.Common.{sym, subst}
-use Rattle.fr_route.specs.NodeWays.{AreNodeWays}
-use Rattle.fr_route.proofs.NodeWays.{ways_pushed}
+use Rattle.std.proofs.Common.{subst, ℕ, List}
+use Rattle.std.proofs.lemmas.Result.{IfOk-weaker}
+use Rattle.fr_route.specs.NodeWays.{AreAllWays}
+use Rattle.fr_route.specs.States.{State, state_with}
 use Rattle.fr_route.proofs.router.Router.all_ways.Goals as goal
 
-pub loop-x-preserved : goal.loop-x-preserved
-loop-x-preserved c =
-    let s = c.args.self.now in
-    rw c.in_ok-push_row.ensures.added
-    (ways_pushed (AreNodeWays s) c.loop-x.table c.deref.result.now c.loop-x.x c.loop-x.invariant.0 c.loop-x.invariant.1
-    (subst (AreNodeWays s c.loop-x.x) (sym c.deref.ensures.value) c.in_ok-ways.ensures.ways))
+pub returns-clause-ways : goal.returns-clause-ways
+returns-clause-ways c =
+    let r = c.self.inside in
+    IfOk-weaker c.table_of_ways.result
+    (λ table. (counts : List ℕ) → AreAllWays (state_with r.net c.keep.new.self.table.dest counts) table)
+    (AreAllWays c.args.self.now)
+    (λ table are. subst (λ (now : State). AreAllWays now table) c.self.view_is
+    (subst (λ (d : ℕ). AreAllWays (state_with r.net d r.turns) table) c.keep.ensures.dest (are r.turns)))
+    c.table_of_ways.ensures

@@ -4,8 +4,7 @@ use Rattle.std.proofs.lemmas.Result.{err_from_is_err_and}
 use Rattle.std.specs.Vec.{with_items}
 use Rattle.fr_graph.specs.Batches.{AreMade}
 use Rattle.fr_graph.specs.Limits.{most_edits}
-use Rattle.fr_graph.specs.Counts.{links_at}
-use Rattle.fr_graph.specs.Network.{Network, net_of}
+use Rattle.fr_graph.specs.Network.{Network}
 use Rattle.fr_nearest.specs.Distances.{Measured}
 use Rattle.fr_crew.specs.Settlements.{HoldsSinks}
 use Rattle.fr_graph.specs.declared.fault.NotEdited.{NotEdited}
@@ -14,7 +13,7 @@ use Rattle.fr_route.specs.Changes.{IsOpenFault, IsStill}
 use Rattle.fr_route.specs.Faults.{of_not_edited}
 use Rattle.fr_route.specs.Listing.{HasPlaces, IsListing, nodes_told}
 use Rattle.fr_crew.specs.Settlements.{IsCounted}
-use Rattle.fr_route.specs.NodeWays.{AreOldDistances, HasDistances}
+use Rattle.fr_route.specs.KeptDistances.{KeepsDistances}
 use Rattle.fr_route.specs.Outcomes.{AreOthers, HoldsMoved, IsOutcome, movable, settled_state}
 use Rattle.fr_route.specs.Reroutes.{AreRerouted}
 use Rattle.fr_route.specs.Routes.{AreHops}
@@ -185,24 +184,31 @@ put_in_place-requires-clause-moved g c =
     (in_range g at.After-router) (edits_made g at.In_ok-outcome) counts (outcome_is g at.In_ok-outcome).counts c.deref_mut.result.now hops))
 
 -- what the round puts in place: the network with its links turned, for the destination
-pub renew_distances-requires-clause-node : goal.renew_distances-requires-clause-node
-renew_distances-requires-clause-node g c =
-    let at = goal.at.renew_distances-requires-clause-node g c in
+pub renew-requires-clause-node : goal.renew-requires-clause-node
+renew-requires-clause-node g c =
+    let at = goal.at.renew-requires-clause-node g c in
     rw c.put_in_place.ensures.net
     (subst (λ (d : ℕ). d < c.edit_if.new.self.nodes) (sym (same_dest g at.In_ok-outcome))
     (outcome_is g at.In_ok-outcome).counts.destination)
 
-pub renew_distances-requires-clause-old : goal.renew_distances-requires-clause-old
-renew_distances-requires-clause-old g c =
-    let at = goal.at.renew_distances-requires-clause-old g c in
+pub renew-requires-clause-one_each : goal.renew-requires-clause-one_each
+renew-requires-clause-one_each g c =
+    let at = goal.at.renew-requires-clause-one_each g c in
+    let nodes : c.edit_if.new.self.nodes ≡ c.router.inside.net.nodes =
+    made_nodes c.router.inside.net c.args.revision.now.edits.now c.edit_if.new.self (edits_made g at.In_ok-outcome) in
+    rw c.put_in_place.ensures.net (c.router.invariant.distances.one_each ∙ sym nodes)
+
+pub renew-requires-clause-old : goal.renew-requires-clause-old
+renew-requires-clause-old g c = λ kept.
+    let at = goal.at.renew-requires-clause-old g c in
     let s : State = state_of c.router.inside in
     let net : Network = c.edit_if.new.self in
     let edits = c.args.revision.now.edits.now in
     let counts : List ℕ = c.in_ok-outcome.outcome.turns in
-    let m : Measured = c.router.inside.distances in
+    let m : Measured = c.router.inside.distances.table in
     rw c.put_in_place.ensures.net
     (old_distances s c.router.invariant.round edits net c.args.revision.now.dest (in_range g at.After-router)
-    (edits_made g at.In_ok-outcome) counts (outcome_is g at.In_ok-outcome).counts m c.router.invariant.distances)
+    (edits_made g at.In_ok-outcome) counts (outcome_is g at.In_ok-outcome).counts m (c.router.invariant.distances.distances kept))
 
 pub put_in_order-requires-clause-table : goal.put_in_order-requires-clause-table
 put_in_order-requires-clause-table g c =
@@ -262,16 +268,16 @@ invariant_of-router-2 g c =
     with_items_is c.router.inside.hops c.put_in_place.new.hops same in
     rw c.keep_turns.ensures
     (sound_after c.args.revision.now.dest counts c.keep_turns.new.spare
-    (with_items c.router.inside.hops c.put_in_place.new.hops) c.renew_distances.new.distances c.put_in_order.new.room
+    (with_items c.router.inside.hops c.put_in_place.new.hops) c.renew.new.self c.put_in_order.new.room
     c.in_ok-outcome.outcome.report net c.put_in_place.new.net
     (made_net s c.args.revision.now.edits.now net c.router.invariant.round made)
     outcome.counts outcome.report c.put_in_place.ensures.net
     (subst (AreHops (settled_state net c.args.revision.now.dest counts) net.nodes) (sym items)
     (with_dest g at.In_ok-outcome c.put_in_place.new.hops c.put_in_place.ensures.hops))
-    (subst (λ (m : Network). HasDistances (state_with m c.args.revision.now.dest counts) c.renew_distances.new.distances)
+    (subst (λ (m : Network). KeepsDistances (state_with m c.args.revision.now.dest counts) c.renew.new.self)
     c.put_in_place.ensures.net
-    (subst (λ (d : ℕ). HasDistances (state_with c.put_in_place.new.net d counts) c.renew_distances.new.distances)
-    (same_dest g at.In_ok-outcome) c.renew_distances.ensures))
+    (subst (λ (d : ℕ). KeepsDistances (state_with c.put_in_place.new.net d counts) c.renew.new.self)
+    (same_dest g at.In_ok-outcome) c.renew.ensures))
     (c.put_in_order.ensures.kept ∙ (c.router.invariant.room ∙ sym nodes)))
 
 pub returns-clause-tried : goal.returns-clause-tried

@@ -3,11 +3,11 @@ use Rattle.std.specs.List.{All, Contains}
 use Rattle.fr_graph.proofs.TurnedNodes.{turned_below}
 use Rattle.fr_graph.specs.Turns.{AreTurned}
 use Rattle.fr_route.specs.NodeWays.{HasTurnedEnd}
-use Rattle.fr_route.proofs.outcome.renew_distances.Goals as goal
+use Rattle.fr_route.proofs.kept_distances.KeptDistances.renew.Goals as goal
 
 pub renew-requires-clause-old : goal.renew-requires-clause-old
 renew-requires-clause-old c =
-    let old = c.requires.old in
+    let old = c.requires.old c.if-self.true in
     let counts = c.args.outcome.now.turns in
     let nodes = c.nodes.result.now in
     let turned : AreTurned counts nodes = c.nodes.ensures in
