@@ -14,8 +14,8 @@ use std::marker::Model;
 /// Stands for the distance of a node from which no links lead to the destination.
 pub(crate) const NONE: u16 = u16::MAX;
 
-/// The distance of each node of a network from its destination, and what the last update has changed. The value in
-/// contracts has the distances as numbers; `no_distance` stands for none.
+/// The distance of each node of a network from its destination, and which distances the last update has changed. In
+/// contracts its value has a number for each node: the distance, or `no_distance` for a node that has none.
 #[derive(Debug)]
 pub struct Distances {
     dest: u32,

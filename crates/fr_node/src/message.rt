@@ -70,7 +70,7 @@ impl Message {
         put_8(bytes, 48, self.heard);
     }
 
-    /// The message that these bytes are. `None` if they are none: too few, too many, or with another header. O(1).
+    /// Reads a message. Returns `None` if the bytes are not a message, because of their number or their header. O(1).
     pub fn read(bytes: &[u8]) -> Option<Message>
         ensures { MatchOption result ((m : Message) → bytes_of m ≢ bytes.now) (λ m. bytes_of m ≡ bytes.now) }
     {

@@ -99,8 +99,8 @@ impl Node {
         Ok(())
     }
 
-    /// The link to a neighbour comes up. Nothing happens to a router that is not known. The height may change by the
-    /// policy. It takes no memory. O(d) for d known neighbours.
+    /// Call this when the link to a neighbour comes up. If the neighbour is not known, nothing happens. The policy may
+    /// change the height. It does not allocate. O(d) for d known neighbours.
     pub fn link_up(mut self, neighbour: u32) -> Unwritten
         ensures set { SetsUp neighbour true self.links.items result.node.links.items }
         ensures same { (result.node.gateway ≡ self.gateway) × (result.node.policy ≡ self.policy) }
@@ -112,7 +112,8 @@ impl Node {
         Unwritten { node: self }
     }
 
-    /// The link to a neighbour goes down: it is no way, and its gate closes. What was heard stays known. O(d).
+    /// Call this when the link to a neighbour goes down. The neighbour is no longer a way, and its gate closes. The node
+    /// still knows what it has heard from it. O(d).
     pub fn link_down(mut self, neighbour: u32) -> Unwritten
         ensures set { SetsUp neighbour false self.links.items result.node.links.items }
         ensures same { (result.node.gateway ≡ self.gateway) × (result.node.policy ≡ self.policy) }

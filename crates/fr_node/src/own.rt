@@ -2,8 +2,9 @@
 
 ghost use Rattle.std.specs.Prelude.{◌≡◌, ◌<◌, ◌≤◌, ◌+◌, ◌^◌, ◌↔◌, IsTrue};
 
-/// What a router knows of itself. Of its announcements it keeps the last one, and from which numbers on no announcement
-/// was below the height in use or the last height. An acknowledgement of an earlier number opens no gate.
+/// What a router knows of itself. It keeps the last height that it has announced. It also keeps two numbers of
+/// announcements: since the first no announced height was below the height in use, and since the second none was below
+/// the last height. An acknowledgement of an earlier announcement opens no gate.
 #[derive(Clone, Copy, Debug, PartialEq, Eq)]
 pub(crate) struct Own {
     pub(crate) me: u32,

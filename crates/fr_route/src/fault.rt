@@ -76,10 +76,10 @@ impl From<CrewFault> for RouteFault {
     }
 }
 
-/// Why edits are not made, and if one of them is refused, its place.
+/// Why edits are not made. If one of them is refused, it also has the index of this edit.
 #[derive(Debug, Drop)]
 pub(crate) struct NotMade {
-    /// The place of the refused edit, counted from 0. If there are too many edits, the limit.
+    /// The index of the refused edit. If there are too many edits, the limit of edits.
     pub(crate) at: usize,
     pub(crate) fault: RouteFault,
 }
@@ -109,7 +109,7 @@ impl From<NotEdited<RouteFault>> for NotMade {
     }
 }
 
-/// The same, without the place.
+/// Drops the index of the refused edit.
 pub(crate) fn placeless<T>(tried: Result<T, NotMade>) -> Result<T, RouteFault>
     ensures { result ≡ without_place tried }
 {

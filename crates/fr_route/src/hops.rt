@@ -18,7 +18,7 @@ use std::alloc::{AllocError, Global};
 pub enum Walked {
     /// The nodes of the route, from the first to the destination.
     Route(Vec<u32>),
-    /// The node is not joined with the destination, so it has no route.
+    /// No path of links joins the node with the destination, so the node has no route.
     CutOff,
 }
 

@@ -563,7 +563,7 @@ impl Router {
     }
 
     /// The next hop of node `x`, which must be in the network: the neighbour with the lowest number to which a link
-    /// from `x` points. `CutOff` if the node is not joined with the destination. O(1).
+    /// from `x` points. `CutOff` if no path of links joins the node with the destination. O(1).
     pub fn next_hop(&self, x: u32) -> Hop
         requires { x < self.now.nodes }
         ensures { IsHop self.now x result }

@@ -27,7 +27,7 @@ impl Spare {
         })
     }
 
-    /// Whether one of the old ways is none of the new ones.
+    /// Whether an old way is not among the new ways.
     pub(crate) fn loses(&mut self, old: &[u32], new: &[u32]) -> bool
         requires clear { (nodes : ℕ) × IsClear nodes self.old × All (λ (y : ℕ). y < nodes) new.now }
         ensures loses { result ≡ list_any (λ y. not (is_way new.now y)) old.now }
@@ -91,7 +91,7 @@ fn has_other(noted: &[bool], ways: &[u32]) -> bool
     ways.iter().any(|y| !is_noted(noted, *y))
 }
 
-/// Puts the noted ones of these ways into `kept`, in place of what it holds.
+/// Replaces the content of `kept` by those of these ways that are noted.
 fn keep_noted(noted: &[bool], ways: &[u32], kept: &mut Vec<u32>) -> Result<(), AllocError>
     ensures { OnOk result (kept.new.items ≡ filter (λ y. slice_index_or noted.now y false) ways.now) }
 {

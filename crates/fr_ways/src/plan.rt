@@ -48,17 +48,18 @@ impl Pushes {
 /// of one phase can be made in any order, and at the same time ([`phase_law`](crate::laws::phase_law)).
 #[derive(Debug, Drop)]
 pub struct TwoPhases {
-    /// The first phase: the nodes that lose a way, each with the ways of the new table that it had. First those that
-    /// keep a way, by number, and then those that keep none, by number.
+    /// The first phase: the nodes that lose a way. Each gets those of its old ways that are also ways in the new table.
+    /// Nodes that keep a way come first, by number; then come those that keep none, by number.
     pub shrink: Pushes,
-    /// The second phase: the nodes whose new list differs from the one that they have by then, by number, each with its
-    /// new list.
+    /// The second phase: the nodes whose list after the first phase differs from their new list, by number. Each gets
+    /// its new list.
     pub grow: Pushes,
 }
 
-/// The pushes that lead from one table to another without a cycle meanwhile. A node *shrinks* if it loses a way: if a
-/// way of `old` is none of `new`. Once all such nodes have shrunk, nodes *grow* to their new lists. Lists that differ
-/// in their order alone count as growth. At each moment the table is a part of `old` or of `new`.
+/// Plans the pushes that lead from one table to another without a cycle in between. A node *shrinks* if it loses a way,
+/// that is, if one of its ways in `old` is not among its ways in `new`. Once all these nodes have shrunk, nodes *grow* to
+/// their new lists. A node whose list only changes its order grows too. At each moment the table is a part of `old` or
+/// of `new`.
 ///
 /// `old` can be any table, even one with cycles, or with ways that are out of range.
 ///

@@ -6,7 +6,8 @@ ghost use Rattle.fr_ways.specs.Ways.{IsInRange};
 
 use crate::table::WayTable;
 
-/// Returns the first way that names no node of the table, node by node. `None` if each way names a node. O(m).
+/// Goes through the lists in the order of the nodes, and returns the first way that is not a node of the table. Returns
+/// `None` if all ways are nodes. O(m).
 pub fn first_outside(table: &WayTable) -> Option<u32>
     ensures { MatchOption result (IsInRange table.now) (IsFirstOutside table.now) }
 {

@@ -37,7 +37,7 @@ pub(crate) fn find_cycle(alloc: Global, table: &WayTable) -> Result<Option<Vec<u
     }
 }
 
-/// The first place of the row, from `from` on, whose way is not done, or the length of the row.
+/// The first index from `from` on at which the row has a node that is not done. If there is none, the length of the row.
 fn first_not_done(row: &[u32], marks: &[Mark], from: usize) -> usize
     requires below { All (λ (y : ℕ). y < length marks.now) row.now }
     requires from { from ≤ length row.now }

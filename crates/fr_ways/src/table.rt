@@ -33,7 +33,7 @@ impl Model for WayTable {
 }
 
 impl WayTable {
-    /// A table of no nodes, with room for so many nodes and so many ways in total. Fails with `AllocError` if an
+    /// Makes an empty table, with room for this many nodes, and for this many ways in total. Fails with `AllocError` if an
     /// allocation is refused. O(nodes + ways).
     pub fn with_capacity(alloc: Global, nodes: usize, ways: usize) -> Result<WayTable, AllocError>
         ensures { IfOk result (λ table. table ≡ []) }
