@@ -98,39 +98,30 @@ added_at net u v after made =
       below = link_below net.nodes more u v made.faultless.is_net (Contains-push net.links (u, v));
     }
 
+-- an edit that adds a link from u to v is made
+by_added : (net : Network) (e : Edit) (u v : ℕ) (after : Network) → IsAddedAt net u v after
+    → ((x w : ℕ) → AreEnds u v x w → Adds e x w) → HasEndsBelow net.nodes e → IsAt net e after
+by_added net e u v after at adds below = record {
+  kept = λ x w h. inr (at.kept x w h);
+  new = λ x w h. ⊎_elim (λ ends. inl (adds x w ends)) (λ old. inr old) (at.new x w h);
+  is_net = at.is_net;
+  order = at.order;
+  nodes = at.nodes;
+  below = below;
+}
+
 add_at : (net : Network) (u v : ℕ) (after : Network) → IsMade net (Add u v) after → IsAt net (Add u v) after
 add_at net u v after made =
     let at : IsAddedAt net u v after = added_at net u v after made in
-    record {
-      kept = λ x w h. inr (at.kept x w h);
-      new = at.new;
-      is_net = at.is_net;
-      order = at.order;
-      nodes = at.nodes;
-      below = at.below;
-    }
+    by_added net (Add u v) u v after at (λ x w ends. ends) at.below
 
 join_at : (net : Network) (u v : ℕ) (after : Network) → IsMade net (Join u v) after → IsAt net (Join u v) after
 join_at net u v after (inl made) =
     let at : IsAddedAt net u v after = added_at net u v after made in
-    record {
-      kept = λ x w h. inr (at.kept x w h);
-      new = at.new;
-      is_net = at.is_net;
-      order = at.order;
-      nodes = at.nodes;
-      below = at.below;
-    }
+    by_added net (Join u v) u v after at (λ x w ends. ends) at.below
 join_at net u v after (inr made) =
     let at : IsAddedAt net v u after = added_at net v u after made.1 in
-    record {
-      kept = λ x w h. inr (at.kept x w h);
-      new = λ x w h. ⊎_elim (λ ends. inl (⊎_elim (λ e. inr e) (λ e. inl e) ends)) (λ old. inr old) (at.new x w h);
-      is_net = at.is_net;
-      order = at.order;
-      nodes = at.nodes;
-      below = (at.below.1, at.below.0);
-    }
+    by_added net (Join u v) v u after at (λ x w ends. ⊎_elim (λ e. inr e) (λ e. inl e) ends) (at.below.1, at.below.0)
 
 edit_at : (net : Network) (e : Edit) (after : Network) → IsNet net.nodes net.links → IsMade net e after → IsAt net e after
 edit_at net (Cut u v) after is made = cut_at net u v after is made
