@@ -27,12 +27,12 @@ returns-in-Walk g c =
 
 pub returns-in-Ask : goal.returns-in-Ask
 returns-in-Ask g c =
-    rw c.in-Ask.is (still _ c.args.manner c.args.session.now _ c.args.told.now c.question.result
+    rw (c.in-Ask.is, c.question.ensures.same) (still _ c.args.manner c.args.session.now _ c.args.told.now c.question.result
     (λ new accepted. ask_tells c.args.session.now c.in-Ask.question (nodes_told c.args.told.now) new) c.question.ensures.reply c.question.ensures.memory)
 
 pub returns-in-AskNode : goal.returns-in-AskNode
 returns-in-AskNode g c =
-    rw c.in-AskNode.is (still _ c.args.manner c.args.session.now _ c.args.told.now c.node_question.result
+    rw (c.in-AskNode.is, c.node_question.ensures.same) (still _ c.args.manner c.args.session.now _ c.args.told.now c.node_question.result
     (λ new accepted. ask_node_tells c.args.session.now c.in-AskNode.question c.in-AskNode.x (nodes_told c.args.told.now) new)
     c.node_question.ensures.reply c.node_question.ensures.memory)
 
