@@ -136,7 +136,7 @@ pub(crate) fn walk_in(
     }
     match router.walk(alloc, node) {
         Ok(Walked::Route(route)) => hand_out(&route, nodes, size),
-        Ok(Walked::CutOff) => NO_ROUTE,
+        Ok(Walked::CutOff) => unreachable!(),
         Err(_memory) => NO_MEMORY,
     }
 }
