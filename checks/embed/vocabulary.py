@@ -30,6 +30,7 @@ report   | revroute_report | Network::report Session::report | Network.report Se
 size     | revroute_size | Network::size Session::size | Network.size Session.size
 reader   | revroute_reader_open | Network::reader Session::reader | Network.reader Session.reader
 copy     | revroute_reader_copy | Network::try_clone Reader::try_clone | Network.copy Reader.copy
+learn    | revroute_reader_learn | Reader::learn | Reader.learn
 answer   | revroute_answer | Session::answer | Session.answer Session.last_answer
 take     | revroute_take | Session::take | Session.take
 finish   | revroute_finish | Session::finish | Session.finish

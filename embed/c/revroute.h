@@ -42,7 +42,10 @@
  *   have its own. If several threads ask one session, give each of them a reader.
  * - One call at a time on a reader. A reader may move to another thread in the same way. Different readers of one
  *   session, and the session itself, may be used by different threads at the same time. revroute_reader_open is a
- *   call on the session and on the reader. revroute_reader_copy is a call on both of its readers.
+ *   call on the session and on the reader. revroute_reader_copy and revroute_reader_learn are calls on both of their
+ *   readers.
+ * - Readers of one session. Both readers of revroute_reader_learn were opened from the same session, or are copies of
+ *   such readers.
  * - Copies. A session starts as REVROUTE_NEW, and from then on only these calls read or write it. Do not copy it:
  *   closing two copies would free the same memory twice. You may move it in memory, for example by realloc or an
  *   assignment, if you no longer use the old place. The same holds for a reader, which starts as REVROUTE_NO_READER.
@@ -238,14 +241,20 @@ typedef struct revroute_refusal {
  * - REVROUTE_NO_NETWORK: there is no network to change. revroute_open never returns this.
  *
  * After the last three the session is unchanged, with its own bytes, and so is *round. Only REVROUTE_REFUSED writes
- * *refusal. A line that has begun (see revroute_take) is kept in every case. If memory runs out, this is returned only
- * if the call would not be refused for its numbers alone: too many nodes, links or edits, an edit of an unknown kind, a
- * destination that is not a node. */
+ * *refusal. A line that has begun (see revroute_take) is kept in every case.
+ *
+ * Whatever can be tested without memory is tested first: the numbers of nodes, links and edits, the ends of the links
+ * of revroute_open, the kinds of edits, and the destination of revroute_move_dest. So REVROUTE_NO_MEMORY means that
+ * none of these is a reason to refuse the call. Another reason may still apply. */
 
 /* Replaces the network, if there is one, by a new one. Its nodes are 0 to `nodes` - 1, `dest` is the destination, and
  * `links` are its `count` links. The call is refused if the links do not make a network: if they contain a cycle, if
  * two of them connect the same nodes, or for another of the reasons above. If the links are right, it is refused if
- * `dest` is not a node. O(n + m). */
+ * `dest` is not a node.
+ *
+ * After REVROUTE_NO_MEMORY there are not too many nodes or links, each link connects two nodes, and no link connects a
+ * node with itself. The links may still connect two nodes twice or contain a cycle, and `dest` may not be a node,
+ * because these tests need memory. O(n + m). */
 revroute_status revroute_open(revroute *session, uint32_t nodes, uint32_t dest, const revroute_link *links,
                               size_t count, revroute_round *round, revroute_refusal *refusal);
 
@@ -267,7 +276,7 @@ revroute_status revroute_closed_walk(revroute *session, const revroute_edit *edi
                                      size_t room, size_t *length);
 
 /* Finds the cycle for which revroute_open refuses these links in a network of `nodes` nodes, in the same way. It needs
- * no session. O(n + m). */
+ * no session. For links that revroute_open refuses without memory it needs none either. O(n + m). */
 revroute_status revroute_closed_walk_of(uint32_t nodes, const revroute_link *links, size_t count, uint32_t *walk,
                                         size_t room, size_t *length);
 
@@ -364,8 +373,8 @@ revroute_status revroute_push_order(const uint32_t *old_hops, size_t old_count, 
 /* Writes how often each node turned in the last round, in the order of the nodes. O(n). */
 revroute_status revroute_counts(revroute *session, uint64_t *counts, size_t room, size_t *length);
 
-/* Writes the nodes on the route from a node to the destination, both included. REVROUTE_NO_ROUTE if there is no route.
- * REVROUTE_NO_MEMORY if memory ran out. O(r) for r nodes on the route. */
+/* Writes the nodes on the route from a node to the destination, both included. REVROUTE_NO_ROUTE if there is no route,
+ * which needs no memory. REVROUTE_NO_MEMORY if memory ran out. O(r) for r nodes on the route. */
 revroute_status revroute_walk(revroute *session, uint32_t node, uint32_t *nodes, size_t room, size_t *length);
 
 /* Writes the ways of a node: the nodes to which its links point, nearest first. They are ordered by their distance, the
@@ -447,7 +456,8 @@ revroute_status revroute_size(revroute *session, uint32_t *nodes, size_t *links)
  *
  * - At every moment the table has no loop.
  * - If a reader is used after a call on the session, ordered by a lock or a join, it reads the hops that this call
- *   left, or later ones. A reader never goes back to an earlier table.
+ *   left, or later ones. This is proved for a reader that was opened after the call, or that has learned from such a
+ *   reader by revroute_reader_learn. For other readers it is only tested. A reader never goes back to an earlier table.
  * - Two reads can be of different tables. So while hops are pushed, a walk can visit a node again. It can also end at
  *   a node that is cut off although its first node has a route before and after. Within the pushes of one round it
  *   visits no node more than twice.
@@ -484,6 +494,19 @@ revroute_status revroute_reader_open(revroute *session, revroute_reader *reader)
  * REVROUTE_ANSWERED; REVROUTE_NO_NETWORK if `reader` is null; REVROUTE_NO_MEMORY if memory ran out. After the last two
  * *other is unchanged. O(1). */
 revroute_status revroute_reader_copy(revroute_reader *reader, revroute_reader *other);
+
+/* Lets `reader` learn what `other` knows. From then on it reads the last table that `other` knew, or a later one. A
+ * reader that is opened knows the hops that the session has then. *other does not change.
+ *
+ * Use it to hand on a change. The thread that has made the change opens a reader, and hands it to another thread, whose
+ * own reader learns from it:
+ *
+ *     revroute_reader_open(&session, &latest);     (after the change)
+ *     revroute_reader_learn(&mine, &latest);       (in the other thread, once `latest` has been handed over)
+ *
+ * REVROUTE_ANSWERED, or REVROUTE_NO_NETWORK if one of the readers is null. Then both are unchanged. Both must be readers
+ * of one session, which no call tests. It needs no memory. O(1). */
+revroute_status revroute_reader_learn(revroute_reader *reader, revroute_reader *other);
 
 /* Returns the next hop of a node, with the values of revroute_next_hop. For a number below 4,096 that is not a node of
  * the network this is REVROUTE_CUT_OFF, and for a number from 4,096 on REVROUTE_NO_SUCH_NODE. For a null reader it is

@@ -117,6 +117,27 @@ static void ask_outside(revroute_reader *reader) {
     }
 }
 
+/* Lets each of two readers learn from the other one. This needs no memory. */
+static void learn_both(revroute_reader *reader, revroute_reader *other) {
+    long held = refusing_held;
+    refusing_left = 1;
+    if (revroute_reader_learn(reader, other) != REVROUTE_ANSWERED) stop("a reader does not learn");
+    if (revroute_reader_learn(other, reader) != REVROUTE_ANSWERED) stop("a copy does not learn");
+    if (refusing_left != 1 || refusing_held != held) stop("a reader takes memory to learn");
+    refusing_left = 0;
+    uint32_t hop = revroute_reader_next_hop(reader, 2);
+    if (hop == REVROUTE_NO_HOP || revroute_reader_next_hop(other, 2) != hop) stop("readers that learn have other hops");
+}
+
+/* A reader and a null one: neither learns from the other. */
+static void learn_nothing(revroute_reader *reader) {
+    revroute_reader none = REVROUTE_NO_READER;
+    void *was = reader->at;
+    if (revroute_reader_learn(reader, &none) != REVROUTE_NO_NETWORK) stop("a reader learns from no reader");
+    if (revroute_reader_learn(&none, reader) != REVROUTE_NO_NETWORK) stop("no reader learns from a reader");
+    if (none.at || reader->at != was) stop("where nothing is learned a handle is written");
+}
+
 /* The null reader. */
 static void ask_null(void) {
     revroute_reader none = REVROUTE_NO_READER, other = REVROUTE_NO_READER;
@@ -126,6 +147,7 @@ static void ask_null(void) {
     uint32_t status = revroute_reader_walk(&none, 0, place, 2, &length);
     if (status != REVROUTE_NO_NETWORK || length) stop("no reader has a route");
     if (revroute_reader_copy(&none, &other) != REVROUTE_NO_NETWORK || other.at) stop("no reader has a copy");
+    if (revroute_reader_learn(&none, &other) != REVROUTE_NO_NETWORK || none.at) stop("no reader learns");
     revroute_reader_close(&none);
     if (none.at || refusing_held) stop("no reader holds memory");
 }
@@ -151,8 +173,11 @@ static void live(int is_open, int readers, int first) {
     held = refusing_held;
     make_poor(copy_reader, &session, &reader, &other);
     if (refusing_held != held) stop("a copy that is replaced is not closed");
+    learn_both(&reader, &other);
+    learn_nothing(&reader);
     steps = 0;
     make_poor(change, &session, &reader, &other);
+    learn_both(&reader, &other);
     for (int at = first; at < first + 3; at++) {
         if (at % 3 == 0) revroute_close(&session);
         if (at % 3 == 1) revroute_reader_close(&reader);

@@ -5,7 +5,8 @@
  * 1, 2, 4 and 8 threads read next hops and walk, each with its own reader. Meanwhile the main thread makes random
  * changes to a random mesh. Links fail and come back, one or several at a time, by calls and by lines. The
  * destination moves. A larger or smaller network replaces the old one. Some changes are refused. After each change
- * the main thread asks its own reader for the changed hops, and logs all pushes in push order.
+ * the main thread asks its own reader for the changed hops, and logs all pushes in push order. Now and then it opens a
+ * reader after a change, from which the threads learn.
  *
  * Each thread keeps what it has read. For each read it keeps how many changes were complete before it, and how many
  * had begun after it. At the end the program checks:
@@ -114,11 +115,34 @@ static void change_over(one *it) {
     it->reader = copy;
 }
 
+/* The reader that the main thread has handed over, and how many changes were complete when it was opened. */
+static struct {
+    pthread_mutex_t lock;
+    revroute_reader latest;
+    uint32_t after;
+} handed = {.lock = PTHREAD_MUTEX_INITIALIZER};
+
+static void hand_over(revroute *session, uint32_t after) {
+    pthread_mutex_lock(&handed.lock);
+    if (revroute_reader_open(session, &handed.latest) != REVROUTE_ANSWERED) stop("no reader to hand over");
+    handed.after = after;
+    pthread_mutex_unlock(&handed.lock);
+}
+
+/* Learns from the reader that was handed over. Its changes are complete. */
+static void learn(one *it) {
+    pthread_mutex_lock(&handed.lock);
+    uint32_t status = revroute_reader_learn(&it->reader, &handed.latest), after = handed.after;
+    pthread_mutex_unlock(&handed.lock);
+    if (status != REVROUTE_ANSWERED || done < after) stop("a reader does not learn");
+}
+
 static void *read_along(void *of) {
     one *it = of;
     while (!is_over) {
         for (int at = 0; at < 8; at++) walk(it), read_hop(it);
         if (draw_of(&it->drawn, 16) == 0) change_over(it);
+        if (draw_of(&it->drawn, 16) == 0) learn(it);
     }
     for (uint32_t x = 0; x < NODES; x++) it->settled[x] = revroute_reader_next_hop(&it->reader, x);
     return NULL;
@@ -201,6 +225,7 @@ static void change_all(mesh *it) {
         if (status == REVROUTE_ANSWERED) log_change(it);
         else if (status != REVROUTE_REFUSED) stop("a change is not made");
         pushes_by[at] = pushes;
+        if (at % 16 == 0) hand_over(&it->session, at);
     }
 }
 
@@ -252,6 +277,7 @@ static void begin(mesh *it, one *all, size_t threads) {
         write_down(0, x, REVROUTE_CUT_OFF);
     }
     if (revroute_reader_open(&it->session, &it->reader) != REVROUTE_ANSWERED) stop("there is no reader");
+    hand_over(&it->session, 0);
     for (size_t at = 0; at < threads; at++) {
         all[at] = (one){.reader = REVROUTE_NO_READER, .drawn = at, .kept = grown(NULL, KEPT * sizeof(uint32_t))};
         uint32_t status = at % 2 ? revroute_reader_copy(&it->reader, &all[at].reader)
@@ -279,6 +305,7 @@ static void run(size_t threads) {
     revroute_close(&it.session);
     for (size_t at = 0; at < threads; at++) revroute_reader_close(&all[at].reader);
     revroute_reader_close(&it.reader);
+    revroute_reader_close(&handed.latest);
 }
 
 int main(int count, char **words) {

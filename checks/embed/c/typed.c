@@ -147,6 +147,17 @@ static end call(revroute *session, const step *it) {
     return all;
 }
 
+/* Whether a call is refused for a reason that is found without memory. */
+static bool needs_no_memory(const step *it, end ended) {
+    if (ended.status != REVROUTE_REFUSED) return false;
+    uint32_t number = ended.refusal.number;
+    if (number == REVROUTE_UNKNOWN_EDIT || number == REVROUTE_TOO_MANY || it->what == MOVE) return true;
+    if (it->what != OPEN) return false;
+    bool is_outside = !it->nodes;
+    for (size_t at = 0; at < it->count; at++) is_outside |= it->links[at].tail >= it->nodes || it->links[at].head >= it->nodes;
+    return number == REVROUTE_SELF_LINK || (number == REVROUTE_RANGE && is_outside);
+}
+
 /* Makes a call, with one allocation after the other refused, until it succeeds. */
 static end call_poor(revroute *session, const step *it) {
     state before = state_of(session);
@@ -156,6 +167,7 @@ static end call_poor(revroute *session, const step *it) {
         end all = call(session, it);
         bool is_met = refusing_left == 0;
         refusing_left = 0;
+        if (number > 1 && needs_no_memory(it, all)) stop("want of memory hid a fault that is found without memory");
         if (all.status != REVROUTE_NO_MEMORY) return all;
         wanting++;
         if (!is_met) stop("want of memory was told where none was refused");

@@ -22,6 +22,7 @@ revroute_status engine_push_order(const uint32_t *, size_t, const uint32_t *, si
 revroute_status engine_pushes(revroute *, const uint32_t *, size_t, uint32_t *, size_t, size_t *);
 void engine_reader_close(revroute_reader *);
 revroute_status engine_reader_copy(revroute_reader *, revroute_reader *);
+revroute_status engine_reader_learn(revroute_reader *, revroute_reader *);
 uint32_t engine_reader_next_hop(revroute_reader *, uint32_t);
 revroute_status engine_reader_open(revroute *, revroute_reader *);
 revroute_status engine_reader_walk(revroute_reader *, uint32_t, uint32_t *, size_t, size_t *);
@@ -106,6 +107,8 @@ enum {
     a_reader_closed_that_keeps_its_memory,
     a_copy_that_is_the_reader,
     a_copy_without_memory_that_closes_another,
+    a_null_reader_learned_from,
+    a_reader_learned_from_and_closed,
     no_reader_told_as_cut_off,
     a_number_of_no_node_told_as_cut_off,
     a_walk_without_its_destination,
@@ -425,6 +428,13 @@ revroute_status revroute_reader_copy(revroute_reader *reader, revroute_reader *o
     }
     uint32_t status = engine_reader_copy(reader, other);
     if (FAULT == a_copy_without_memory_that_closes_another && status == REVROUTE_NO_MEMORY) engine_reader_close(other);
+    return status;
+}
+
+revroute_status revroute_reader_learn(revroute_reader *reader, revroute_reader *other) {
+    if (FAULT == a_null_reader_learned_from && reader->at && !other->at) return REVROUTE_ANSWERED;
+    uint32_t status = engine_reader_learn(reader, other);
+    if (FAULT == a_reader_learned_from_and_closed) engine_reader_close(other);
     return status;
 }
 

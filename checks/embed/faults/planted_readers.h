@@ -56,6 +56,10 @@ static uint32_t planted_reader_copy(revroute_reader *reader, revroute_reader *ot
     return REVROUTE_ANSWERED;
 }
 
+static uint32_t planted_reader_learn(revroute_reader *reader, revroute_reader *other) {
+    return reader->at == other->at ? REVROUTE_ANSWERED : REVROUTE_NO_NETWORK;
+}
+
 static uint32_t planted_reader_next_hop(revroute_reader *reader, uint32_t node) {
     const _Atomic uint32_t *table = reader->at;
     return table[PLANT == a_read_of_the_next_node ? node + 1 : node];
@@ -87,6 +91,7 @@ static void planted_reader_close(revroute_reader *reader) { reader->at = NULL; }
 #define revroute_answer(session, ...) planted_push(session, revroute_answer(session, __VA_ARGS__))
 #define revroute_reader_open planted_reader_open
 #define revroute_reader_copy planted_reader_copy
+#define revroute_reader_learn planted_reader_learn
 #define revroute_reader_next_hop planted_reader_next_hop
 #define revroute_reader_walk planted_reader_walk
 #define revroute_reader_close planted_reader_close

@@ -2,16 +2,18 @@
 //! again at the end.
 
 ghost use Rattle.std.specs.Prelude.{◌≡◌, ◌≢◌, ◌≤◌, ◌⊎◌, ◌↔◌, length, map, None};
-ghost use Rattle.fr_graph.specs.Limits.{most_edits, IsWithinLimits};
+ghost use Rattle.fr_graph.specs.Faults.{PassFirstTests};
+ghost use Rattle.fr_graph.specs.Limits.{most_edits};
 ghost use Rattle.fr_graph.specs.declared.fault.NetFault.TheVariants.{Memory};
 ghost use Rattle.revroute_c.specs.ClosedWalks.{HasNoWalkOfChange, HasNoWalkOfNetwork, IsNoWalk};
 ghost use Rattle.revroute_c.specs.ClosedWalks.{IsWalkOf, IsWalkOfChange, IsWalkOfNetwork};
 ghost use Rattle.revroute_c.specs.Records.{AreKnown, link_of};
 ghost use Rattle.revroute_c.specs.Replies.{outcome, GivesList};
 
+use crate::link_faults::early_fault;
 use crate::records::{Link, LinkEdit, first_unknown};
 use crate::replies::hand_out;
-use crate::rounds::{edited, is_too_large, network_of};
+use crate::rounds::{edited, network_of};
 use crate::statuses::{ANSWERED, NO_MEMORY, NO_NETWORK, NO_WALK, TOO_SHORT};
 use fr_graph::{EditFault, MAX_EDITS, NetFault};
 use fr_route::Session;
@@ -56,11 +58,11 @@ pub(crate) fn walk_of_network(
     ensures gives { GivesList (IsWalkOfNetwork count (map link_of links.now))
         (outcome result nodes.old nodes.new size.new) }
     ensures no_walk { result ≡ NO_WALK → HasNoWalkOfNetwork count (map link_of links.now) }
-    ensures no_memory { result ≡ NO_MEMORY → IsWithinLimits count (map link_of links.now) }
+    ensures no_memory { result ≡ NO_MEMORY → PassFirstTests count (map link_of links.now) }
     ensures status { (result ≡ ANSWERED) ⊎ (result ≡ TOO_SHORT) ⊎ (result ≡ NO_MEMORY) ⊎ (result ≡ NO_WALK) }
 {
-    if is_too_large(count, links) {
-        return NO_WALK;
+    if let Some(fault) = early_fault(count, links) {
+        return hand_out_walk(&fault, nodes, size);
     }
     match network_of(alloc, count, links) {
         Ok(_net) => NO_WALK,

@@ -7,7 +7,8 @@
 
 ghost use Rattle.std.specs.Prelude.{◌≡◌, ◌≢◌, ◌≤◌, ◌<◌, ◌⊎◌, ◌↔◌, [], None, length, map, IfSome};
 ghost use denote.RawPtr.{null_ptr};
-ghost use Rattle.fr_graph.specs.Limits.{most_edits, IsWithinLimits};
+ghost use Rattle.fr_graph.specs.Faults.{PassFirstTests};
+ghost use Rattle.fr_graph.specs.Limits.{most_edits};
 ghost use Rattle.fr_lines.specs.Requests.{make_edits, move_dest, new_network};
 ghost use Rattle.fr_route.specs.States.{IsReport};
 ghost use Rattle.revroute_c.specs.ClosedWalks.{HasNoWalkOfChange, HasNoWalkOfNetwork};
@@ -20,7 +21,7 @@ ghost use Rattle.revroute_c.specs.Questions.{AreCounts, AreHopsWritten, AreAsMan
 ghost use Rattle.revroute_c.specs.Questions.{HasNoRoute, IsRouteFrom, TellsDest, TellsHop, no_network};
 ghost use Rattle.revroute_c.specs.ReaderLending.{IsSameReader};
 ghost use Rattle.revroute_c.specs.ReaderOpening.{OpensTable, ReadsTableOf};
-ghost use Rattle.revroute_c.specs.Readers.{ReadsOn, TellsHopRead, TellsWalk, no_reader};
+ghost use Rattle.revroute_c.specs.Readers.{ReadsOn, TellsHopRead, TellsLearned, TellsWalk, no_reader};
 ghost use Rattle.revroute_c.specs.Records.{AreKnown, edit_of, link_of};
 ghost use Rattle.revroute_c.specs.Replies.{outcome, AnswersApart, AnswersLine, GivesList, IsWritten};
 ghost use Rattle.revroute_c.specs.Rounds.{round_outcome, BeginsRound, IsChangeRefused, IsMoveRefused, IsNewRefused};
@@ -33,6 +34,7 @@ ghost use Rattle.revroute_c.specs.Ways.{AreWaysFrom, GivesAllWays, HasRoute, IsN
 mod closed_walks;
 mod engine;
 mod handle;
+mod link_faults;
 mod loose;
 mod phases;
 mod pieces;
@@ -51,6 +53,7 @@ mod ways;
 use closed_walks::{walk_of_change, walk_of_network};
 use fr_route::{VERSION, is_blank};
 use handle::Handle;
+use link_faults::early_fault;
 use phases::{Asked, Phase, pushes_in};
 use pieces::{finish_line, take_anew, take_front};
 use push_orders::{Tables, order_of};
@@ -62,7 +65,7 @@ use reader_opening::{reader_anew, reader_in};
 use readers::{copied, hop_read, walk_read};
 use records::{Link, LinkEdit, Refusal, Round, first_unknown, unknown_at};
 use replies::{LEAST_ROOM, hand_out, reply, reply_anew};
-use rounds::{NewNetwork, change_in, is_too_large, move_dest_in, open_anew, open_in, refuse_size};
+use rounds::{NewNetwork, change_in, move_dest_in, open_anew, open_in, refuse_links};
 use statuses::{ANSWERED, BLANK, NO_MEMORY, NO_NETWORK, REFUSED, TOO_SHORT};
 use std::alloc::Global;
 use tables::pushes_in;
@@ -170,7 +173,9 @@ pub extern "C" fn revroute_finish(
 ///
 /// - `REFUSED`: there are too many nodes or links, the links have another fault, or the destination is not a node.
 ///   `refusal` gets the number that lines use for the reason, and the nodes of the first fault.
-/// - `NO_MEMORY`: an allocation was refused. There are not too many nodes or links.
+/// - `NO_MEMORY`: an allocation was refused. There are not too many nodes or links, each link joins two nodes, and no
+///   link joins a node with itself, because this is tested first, without memory. All other tests need memory: for a
+///   second link between two nodes, for a cycle, and then for the destination. So `NO_MEMORY` can hide these faults.
 ///
 /// In these two cases the session, the handle's own bytes and `round` are unchanged. O(n + m), and the cost of
 /// [`Router::open_alone`](fr_route::Router::open_alone).
@@ -187,12 +192,12 @@ pub extern "C" fn revroute_open(
     ensures begins { BeginsRound (new_network nodes dest (map link_of links.now))
         (IsNewRefused nodes dest (map link_of links.now)) (held_by handle.old) (held_by handle.new)
         (round_outcome result round.old round.new refusal.old refusal.new) }
-    ensures no_memory { result ≡ REVROUTE_NO_MEMORY → IsWithinLimits nodes (map link_of links.now) }
+    ensures no_memory { result ≡ REVROUTE_NO_MEMORY → PassFirstTests nodes (map link_of links.now) }
     ensures kept { ¬ (result ≡ REVROUTE_ANSWERED) → handle.new.at ≡ handle.old.at }
     ensures status { (result ≡ REVROUTE_ANSWERED) ⊎ (result ≡ REVROUTE_NO_MEMORY) ⊎ (result ≡ REVROUTE_REFUSED) }
 {
-    if is_too_large(nodes, links) {
-        return refuse_size(refusal);
+    if let Some(fault) = early_fault(nodes, links) {
+        return refuse_links(refusal, &fault);
     }
     let asked = NewNetwork { nodes, dest, links };
     match handle.engine_mut() {
@@ -294,7 +299,8 @@ pub extern "C" fn revroute_closed_walk(
 }
 
 /// Does the same for the links with which [`revroute_open`] refuses a network with this number of nodes. It needs no
-/// session. O(n + m).
+/// session. It also needs no memory to return `NO_WALK` for the faults that [`revroute_open`] finds without memory.
+/// O(n + m).
 #[unsafe(no_mangle)]
 pub extern "C" fn revroute_closed_walk_of(
     alloc: Global,
@@ -306,7 +312,7 @@ pub extern "C" fn revroute_closed_walk_of(
     ensures gives { GivesList (IsWalkOfNetwork nodes (map link_of links.now))
         (outcome result walk.old walk.new size.new) }
     ensures no_walk { result ≡ REVROUTE_NO_WALK → HasNoWalkOfNetwork nodes (map link_of links.now) }
-    ensures no_memory { result ≡ REVROUTE_NO_MEMORY → IsWithinLimits nodes (map link_of links.now) }
+    ensures no_memory { result ≡ REVROUTE_NO_MEMORY → PassFirstTests nodes (map link_of links.now) }
     ensures status { (result ≡ REVROUTE_ANSWERED) ⊎ (result ≡ REVROUTE_TOO_SHORT) ⊎ (result ≡ REVROUTE_NO_MEMORY)
         ⊎ (result ≡ REVROUTE_NO_WALK) }
 {
@@ -468,7 +474,7 @@ pub extern "C" fn revroute_counts(handle: &mut Handle, counts: &mut [u64], size:
 /// - `TOO_SHORT`: there is too little room.
 /// - `NO_ROUTE`: the node is cut off, or the number is not a node.
 /// - `NO_NETWORK`: there is no network yet.
-/// - `NO_MEMORY`: an allocation was refused. The number is a node.
+/// - `NO_MEMORY`: an allocation was refused. The node has a route.
 ///
 /// `size` is 0 in the last three cases. In all four cases `nodes` is unchanged. O(r) for a route of r nodes.
 #[unsafe(no_mangle)]
@@ -483,7 +489,7 @@ pub extern "C" fn revroute_walk(
     ensures gives { GivesList (IsRouteFrom handle.old.session node) (outcome result nodes.old nodes.new size.new) }
     ensures no_network { (result ≡ REVROUTE_NO_NETWORK) ↔ (handle.old.session ≡ None) }
     ensures no_route { result ≡ REVROUTE_NO_ROUTE → IfSome handle.old.session (λ s. HasNoRoute s node) }
-    ensures no_memory { result ≡ REVROUTE_NO_MEMORY → IfSome handle.old.session (λ s. node < s.nodes) }
+    ensures no_memory { result ≡ REVROUTE_NO_MEMORY → IfSome handle.old.session (λ s. HasRoute s node) }
     ensures status { (result ≡ REVROUTE_ANSWERED) ⊎ ((REVROUTE_TOO_SHORT ≤ result) × (result ≤ REVROUTE_NO_ROUTE)) }
 {
     *size = 0;
@@ -816,6 +822,34 @@ pub extern "C" fn revroute_reader_copy(
         return NO_MEMORY;
     };
     ReaderHandle::put(other, alloc, copy);
+    ANSWERED
+}
+
+/// Lets `reader` learn all pushes that `other` knows. From then on it never answers from an earlier table than the last
+/// one that `other` knew. So a thread that has changed the session can open a reader, and another thread learns from it:
+/// it then answers from the hops of that change, or from later ones. `other` is unchanged. Returns `ANSWERED`, or:
+///
+/// - `NO_NETWORK`: one of the readers is null. Then both are unchanged.
+///
+/// Both must be readers of one session. The call cannot test this, because two readers do not show whether they share
+/// a table. It makes three loads, and does not allocate or wait. O(1).
+#[unsafe(no_mangle)]
+pub extern "C" fn revroute_reader_learn(reader: &mut ReaderHandle, other: &mut ReaderHandle) -> u32
+    requires one_table { reader.old.at ≢ null_ptr → other.old.at ≢ null_ptr
+        → other.old.reading.table ≡ reader.old.reading.table }
+    ensures learns { TellsLearned reader.old.reading other.old.reading reader.new.reading result }
+    ensures same { IsSameReader other.old other.new }
+    ensures same_handle { reader.new.at ≡ reader.old.at }
+    ensures no_network { (result ≡ REVROUTE_NO_NETWORK) ↔ ((reader.old.at ≡ null_ptr) ⊎ (other.old.at ≡ null_ptr)) }
+    ensures status { (result ≡ REVROUTE_ANSWERED) ⊎ (result ≡ REVROUTE_NO_NETWORK) }
+{
+    let Some(held) = reader.reader_mut() else {
+        return NO_NETWORK;
+    };
+    let Some(knowing) = other.reader_mut() else {
+        return NO_NETWORK;
+    };
+    held.learn(knowing.past());
     ANSWERED
 }
 

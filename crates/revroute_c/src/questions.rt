@@ -7,6 +7,7 @@ ghost use Rattle.revroute_c.specs.Questions.{AreAsManyAsNodes, HasNoRoute, IsHop
 ghost use Rattle.revroute_c.specs.Questions.{TellsDest, TellsHop};
 ghost use Rattle.revroute_c.specs.Records.{link_of};
 ghost use Rattle.revroute_c.specs.Replies.{outcome, GivesList};
+ghost use Rattle.revroute_c.specs.Ways.{HasRoute};
 
 use crate::records::{Link, Round, round_of};
 use crate::replies::hand_out;
@@ -112,6 +113,7 @@ pub(crate) fn counts_in(session: &Session, counts: &mut [u64], size: &mut usize)
 }
 
 /// Writes the nodes of the route from a node to the destination, if there is one. `size` must be 0.
+#[tactic(auto, using(crate::proofs::Connected::not_cut_off))]
 pub(crate) fn walk_in(
     session: &Session,
     alloc: Global,
@@ -123,18 +125,18 @@ pub(crate) fn walk_in(
     ensures gives { GivesList (IsRouteFrom session.now node) (outcome result nodes.old nodes.new size.new) }
     ensures no_network { (result ≡ NO_NETWORK) ↔ (session.now ≡ None) }
     ensures no_route { result ≡ NO_ROUTE → IfSome session.now (λ s. HasNoRoute s node) }
-    ensures no_memory { result ≡ NO_MEMORY → IfSome session.now (λ s. node < s.nodes) }
+    ensures no_memory { result ≡ NO_MEMORY → IfSome session.now (λ s. HasRoute s node) }
     ensures status { (result ≡ ANSWERED) ⊎ ((TOO_SHORT ≤ result) × (result ≤ NO_ROUTE)) }
 {
     let Some(router) = session.router() else {
         return NO_NETWORK;
     };
-    if node >= router.net().nodes() {
+    if node >= router.net().nodes() || router.next_hop(node) == Hop::CutOff {
         return NO_ROUTE;
     }
     match router.walk(alloc, node) {
         Ok(Walked::Route(route)) => hand_out(&route, nodes, size),
-        Ok(Walked::CutOff) => NO_ROUTE,
+        Ok(Walked::CutOff) => unreachable!(),
         Err(_memory) => NO_MEMORY,
     }
 }

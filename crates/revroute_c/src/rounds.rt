@@ -1,13 +1,13 @@
 //! The calls with numbers that begin a round: a network, edits, another destination.
 
-ghost use Rattle.std.specs.Prelude.{◌≡◌, ◌≢◌, ◌<◌, ◌≤◌, ◌⊎◌, ◌↔◌, length, map, None, IfOk, IfErr, IfSome, IsTrue};
+ghost use Rattle.std.specs.Prelude.{◌≡◌, ◌≢◌, ◌<◌, ◌≤◌, ◌⊎◌, ◌↔◌, length, map, None, IfOk, IfErr, IfSome};
 ghost use Rattle.fr_graph.specs.Batches.{AreMade, IsBatchFault};
 ghost use Rattle.fr_graph.specs.Evidence.{NamesFirst, NamesInBatch};
-ghost use Rattle.fr_graph.specs.Faults.{IsFirstFault, IsNetworkOf, IsTooLarge};
-ghost use Rattle.fr_graph.specs.Limits.{most_edits, IsWithinLimits};
+ghost use Rattle.fr_graph.specs.Faults.{IsFirstFault, IsNetworkOf};
+ghost use Rattle.fr_graph.specs.Limits.{most_edits};
 ghost use Rattle.fr_lines.specs.Requests.{make_edits, move_dest, new_network};
 ghost use Rattle.fr_graph.specs.declared.fault.EditFault.{EditFault};
-ghost use Rattle.fr_graph.specs.declared.fault.NetFault.TheVariants.{Memory, TooMany};
+ghost use Rattle.fr_graph.specs.declared.fault.NetFault.TheVariants.{Memory};
 ghost use Rattle.fr_route.specs.Answers.{IsAccepted};
 ghost use Rattle.revroute_c.specs.Lending.{held_by, IsNull};
 ghost use Rattle.revroute_c.specs.Records.{AreKnown, edit_of, link_of};
@@ -18,7 +18,7 @@ use crate::engine::Engine;
 use crate::handle::Handle;
 use crate::records::{Link, LinkEdit, Refusal, Round, edits_of, pairs_of, round_of};
 use crate::statuses::{ANSWERED, NO_MEMORY, NO_NETWORK, REFUSED};
-use fr_graph::{EditFault, MAX_EDITS, MAX_LINKS, MAX_NODES, Net, NetFault};
+use fr_graph::{EditFault, MAX_EDITS, Net, NetFault};
 use fr_route::{Change, RouteFault, Router, fault_number};
 use std::alloc::Global;
 
@@ -67,14 +67,6 @@ pub(crate) fn refusal_for(at: usize, fault: &NetFault, nodes: (u32, u32)) -> Ref
     }
 }
 
-/// Whether there are more nodes or links than a network may have. This needs no memory.
-pub(crate) fn is_too_large(nodes: u32, links: &[Link]) -> bool
-    ensures large { IsTrue result → IsTooLarge nodes (map link_of links.now) }
-    ensures small { ¬ IsTrue result → IsWithinLimits nodes (map link_of links.now) }
-{
-    nodes > MAX_NODES || links.len() > MAX_LINKS
-}
-
 /// The network with these links.
 pub(crate) fn network_of(alloc: Global, nodes: u32, links: &[Link]) -> Result<Net, NetFault>
     ensures ok { IfOk result (IsNetworkOf nodes (map link_of links.now)) }
@@ -113,12 +105,12 @@ impl<'a> NewNetwork<'a> {
     }
 }
 
-/// Refuses a network that is too large.
-pub(crate) fn refuse_size(refusal: &mut Refusal) -> u32
+/// Refuses a network for a fault.
+pub(crate) fn refuse_links(refusal: &mut Refusal, fault: &NetFault) -> u32
     ensures status { result ≡ REFUSED }
-    ensures refused { refusal.new ≡ refusal_at 0 TooMany (0, 0) }
+    ensures refused { refusal.new ≡ refusal_at 0 fault.now (nodes_named fault.now) }
 {
-    *refusal = refusal_for(0, &NetFault::TooMany, (0, 0));
+    *refusal = refusal_for(0, fault, named_nodes(fault));
     REFUSED
 }
 
@@ -138,10 +130,7 @@ pub(crate) fn open_in(
     let router = match asked.opened(alloc) {
         Ok(router) => router,
         Err(NetFault::Memory) => return NO_MEMORY,
-        Err(fault) => {
-            *refusal = refusal_for(0, &fault, named_nodes(&fault));
-            return REFUSED;
-        }
+        Err(fault) => return refuse_links(refusal, &fault),
     };
     let report = router.report();
     if engine.published.put_router(alloc, router).is_err() {

@@ -85,6 +85,49 @@ class ReaderTest(unittest.TestCase):
             self.assertEqual([reader.next_hop(it) for it in range(4)], network.hops())
             self.assertEqual([reader.walk(it) for it in range(4)], [network.walk(it) for it in range(4)])
 
+    def test_a_reader_learns_of_each_change(self):
+        network = Network(4, 0, [(1, 0), (2, 1), (2, 3), (3, 0)])
+        reader = network.reader()
+
+        def read(latest):
+            reader.learn(latest)
+            return [reader.next_hop(it) for it in range(4)]
+
+        with ThreadPoolExecutor(1) as pool:
+            for at in range(400):
+                (network.join if at % 2 else network.cut)(1, 0)
+                self.assertEqual(pool.submit(read, network.reader()).result(20), network.hops())
+
+    def test_two_threads_may_learn_from_each_other(self):
+        network = Network(2, 0, [(1, 0)])
+        one, other = network.reader(), network.reader()
+
+        def learn_often(reader, another):
+            for _ in range(2000):
+                reader.learn(another)
+            return reader.next_hop(1)
+
+        with ThreadPoolExecutor(2) as pool:
+            learning = [pool.submit(learn_often, one, other), pool.submit(learn_often, other, one)]
+            self.assertEqual([it.result(20) for it in learning], [0, 0])
+
+    def test_a_reader_learns_only_from_readers_of_its_network(self):
+        network, session = Network(2, 0, [(1, 0)]), Session()
+        reader = network.reader()
+        for other in (reader, reader.copy(), network.reader()):
+            self.assertIsNone(reader.learn(other))
+        for other in (network.copy().reader(), Network(2, 0, [(1, 0)]).reader(), session.reader()):
+            self.assertRaises(ValueError, reader.learn, other)
+        for other in (None, network, 0):
+            self.assertRaises(TypeError, reader.learn, other)
+        later, closed = network.reader(), network.reader()
+        network.close()
+        closed.close()
+        reader.learn(later)
+        for one, other in ((reader, closed), (closed, reader), (closed, closed)):
+            self.assertRaises(ValueError, one.learn, other)
+        self.assertEqual(reader.next_hop(1), 0)
+
     def test_a_reader_stays_through_all_networks_of_a_session(self):
         session = Session()
         reader = session.reader()

@@ -1,13 +1,16 @@
 //! The handle of the library that a session or a network owns, and the questions to it.
 
+use crate::reader::TableName;
 use crate::table::{self, WayPushes};
 use crate::{Hop, NoMemory, Reader, Report, Size, TableFault, listed, sys};
-use std::cell::UnsafeCell;
+use std::cell::{OnceCell, UnsafeCell};
 
 /// The owner of a handle. A question changes nothing, but the library needs exclusive access to the handle for it. So
 /// the handle is in a cell, and no two threads can ask at once.
 pub struct Engine {
     handle: UnsafeCell<sys::Handle>,
+    /// The name of the table that its readers read, once it has had a reader.
+    table: OnceCell<TableName>,
 }
 
 // SAFETY: the library proves that a handle may go to another thread; the cell keeps it from being shared by two.
@@ -33,6 +36,7 @@ impl Engine {
     pub const fn new() -> Engine {
         Engine {
             handle: UnsafeCell::new(sys::Handle::NEW),
+            table: OnceCell::new(),
         }
     }
 
@@ -198,8 +202,11 @@ impl Engine {
     }
 
     pub fn reader(&self) -> Result<Reader, NoMemory> {
+        let table = *self.table.get_or_init(TableName::new);
         // SAFETY: the handle is new or the library's own, no other call has it, and the reader's is new.
-        Reader::opened(|reader| unsafe { sys::revroute_reader_open(self.handle.get(), reader) })
+        Reader::opened(table, |reader| unsafe {
+            sys::revroute_reader_open(self.handle.get(), reader)
+        })
     }
 
     /// All elements of the answer to a question. The list is empty before the first network.

@@ -3,6 +3,7 @@
 use crate::{Hop, NoMemory, sys};
 use std::cell::UnsafeCell;
 use std::fmt;
+use std::sync::atomic::{AtomicU64, Ordering};
 
 /// The most nodes that a network can have. A buffer for so many nodes has room for any route, unless hops are being
 /// pushed.
@@ -14,7 +15,7 @@ pub const MAX_NODES: usize = 4096;
 /// A read waits for nobody and takes no lock: a hop is one load. All readers of a network read one table. Once there
 /// is a reader, each accepted change pushes the changed hops to this table, in push order, before its call returns.
 /// So at every moment the table has no loop. Two reads can be of different tables, but a reader never goes back to an
-/// earlier table.
+/// earlier table. It can [`learn`](Reader::learn) what another reader knows.
 ///
 /// Give each thread its own reader. `clone` makes one:
 ///
@@ -55,6 +56,19 @@ pub const MAX_NODES: usize = 4096;
 /// ```
 pub struct Reader {
     handle: UnsafeCell<sys::ReaderHandle>,
+    table: TableName,
+}
+
+/// Tells the tables of different networks apart, which the library cannot do.
+#[derive(Clone, Copy, PartialEq, Eq)]
+pub(crate) struct TableName(u64);
+
+impl TableName {
+    /// A name that no other table of the process has.
+    pub(crate) fn new() -> TableName {
+        static NEXT: AtomicU64 = AtomicU64::new(0);
+        TableName(NEXT.fetch_add(1, Ordering::Relaxed))
+    }
 }
 
 // SAFETY: the library proves that a reader may go to another thread; the cell keeps it from being shared by two.
@@ -73,12 +87,14 @@ pub enum Walked<'a> {
 }
 
 impl Reader {
-    /// The reader that the call `open` opens.
+    /// The reader of this table that the call `open` opens.
     pub(crate) fn opened(
+        table: TableName,
         open: impl FnOnce(*mut sys::ReaderHandle) -> u32,
     ) -> Result<Reader, NoMemory> {
         let reader = Reader {
             handle: UnsafeCell::new(sys::ReaderHandle::NONE),
+            table,
         };
         match open(reader.handle.get()) {
             sys::ANSWERED => Ok(reader),
@@ -94,7 +110,47 @@ impl Reader {
     /// If memory runs out.
     pub fn try_clone(&self) -> Result<Reader, NoMemory> {
         // SAFETY: the handle is the library's own, no other call has it, and the other one is new.
-        Reader::opened(|other| unsafe { sys::revroute_reader_copy(self.handle.get(), other) })
+        Reader::opened(self.table, |other| unsafe {
+            sys::revroute_reader_copy(self.handle.get(), other)
+        })
+    }
+
+    /// Learns what another reader of the same network knows. From then on this reader reads the last table that the
+    /// other one knew, or a later one. `O(1)`, and needs no memory.
+    ///
+    /// A new reader knows the hops that the network has then. So a thread can hand on its changes: it makes a reader
+    /// after them, and sends it to a thread whose reader learns from it. Then it is proved that this reader sees the
+    /// changes.
+    ///
+    /// ```
+    /// use revroute::{Hop, Network};
+    /// use std::{sync::mpsc, thread};
+    ///
+    /// let mut network = Network::new(4, 0, &[(1, 0), (2, 1), (2, 3), (3, 0)])?;
+    /// let (mut reader, (sender, changes)) = (network.reader()?, mpsc::channel());
+    /// let forwarder = thread::spawn(move || {
+    ///     reader.learn(&changes.recv().unwrap());
+    ///     reader.next_hop(2)
+    /// });
+    /// network.cut(1, 0)?;
+    /// sender.send(network.reader()?).unwrap();
+    /// assert_eq!(forwarder.join().unwrap(), Hop::To(3));
+    /// # Ok::<(), revroute::Refused>(())
+    /// ```
+    ///
+    /// # Panics
+    ///
+    /// If the other reader is one of another network.
+    #[track_caller]
+    pub fn learn(&mut self, other: &Reader) {
+        assert!(self.table == other.table, "the readers are of two networks");
+        // SAFETY: both handles are the library's own, they are two, no other call has one of them, and both readers
+        // read one table.
+        let status = unsafe { sys::revroute_reader_learn(self.handle.get(), other.handle.get()) };
+        match status {
+            sys::ANSWERED => (),
+            _ => unreachable!("an open reader is not null"),
+        }
     }
 
     /// The next hop of a node, by one load. A number below [`MAX_NODES`] that is not a node of the network is cut off.

@@ -304,6 +304,8 @@ unsafe extern "C" {
 
     pub fn revroute_reader_copy(reader: *mut ReaderHandle, other: *mut ReaderHandle) -> u32;
 
+    pub fn revroute_reader_learn(reader: *mut ReaderHandle, other: *mut ReaderHandle) -> u32;
+
     pub fn revroute_reader_next_hop(reader: *mut ReaderHandle, node: u32) -> u32;
 
     pub fn revroute_reader_walk(

@@ -2,6 +2,7 @@
 
 use revroute::{Edit, Hop, MAX_NODES, Network, NoMemory, Reader, Refused, Session, Walked};
 use std::sync::atomic::{AtomicBool, Ordering};
+use std::sync::mpsc;
 use std::{mem, panic, thread};
 
 /// The width and height of the mesh.
@@ -81,6 +82,54 @@ fn after_each_call_a_reader_has_the_hops() -> Result<(), Refused> {
     assert_eq!(read(), network.hops()?);
     network.move_dest(2)?;
     assert_eq!(read(), network.hops()?);
+    Ok(())
+}
+
+/// After each change a thread gets a new reader, and its own reader learns from that.
+#[test]
+fn a_reader_learns_of_each_change() -> Result<(), Refused> {
+    let mut network = Network::new(4, 0, &[(1, 0), (2, 1), (2, 3), (3, 0)])?;
+    let mut reader = network.reader()?;
+    let (sender, handed) = mpsc::channel::<Reader>();
+    let (told, read) = mpsc::channel();
+    let forwarder = thread::spawn(move || {
+        for latest in handed {
+            reader.learn(&latest);
+            let hops: Vec<Hop> = (0..4).map(|node| reader.next_hop(node)).collect();
+            told.send(hops).expect("the changing thread waits");
+        }
+    });
+    for at in 0..1000 {
+        match at % 2 {
+            0 => network.cut(1, 0)?,
+            _ => network.join(1, 0)?,
+        };
+        let latest = network.reader()?;
+        sender.send(latest).expect("the thread learns");
+        assert_eq!(read.recv(), Ok(network.hops()?));
+    }
+    mem::drop(sender);
+    forwarder.join().expect("a thread ends well");
+    Ok(())
+}
+
+#[test]
+fn a_reader_learns_only_from_readers_of_its_network() -> Result<(), Refused> {
+    let network = Network::new(2, 0, &[(0, 1)])?;
+    let mut reader = network.reader()?;
+    let (copy, later) = (reader.try_clone()?, network.reader()?);
+    reader.learn(&copy);
+    mem::drop(copy);
+    reader.learn(&later);
+    assert_eq!(reader.next_hop(1), Hop::To(0));
+    for other in [network.try_clone()?, Network::new(2, 0, &[(0, 1)])?] {
+        let other = other.reader()?;
+        let learned = panic::catch_unwind(panic::AssertUnwindSafe(|| reader.learn(&other)));
+        assert!(learned.is_err());
+    }
+    mem::drop(network);
+    reader.learn(&later);
+    assert_eq!(reader.next_hop(1), Hop::To(0));
     Ok(())
 }
 

@@ -80,6 +80,7 @@ _WORDS: dict[str, list[Any]] = {
     "size": [_handle, _numbers, _length],
     "reader_open": [_handle, _reader],
     "reader_copy": [_reader, _reader],
+    "reader_learn": [_reader, _reader],
     "reader_next_hop": [_reader, _number],
     "reader_walk": [_reader, _number, _numbers, _size, _length],
     "reader_close": [_reader],

@@ -229,7 +229,8 @@ class Network(Generic[Name]):
     def reader(self) -> Reader[Name]:
         """A reader of the next hops, for another thread. Once a network has had a reader, each change stores every
         changed hop a second time, for the readers."""
-        return Reader(self._session._open_reader, self._names, self._numbers, len(self._nodes))
+        session = self._session
+        return Reader(session._open_reader, session._reader_table, self._names, self._numbers, len(self._nodes))
 
     def hops(self) -> list[Union[Name, NoHop]]:
         """The next hop of each node, in the order of the nodes."""

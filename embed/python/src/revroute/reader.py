@@ -40,20 +40,21 @@ class Reader(Generic[Name]):
     No read waits for a change: a hop is one load. All readers of a network read one table. Once there is a reader,
     each accepted change pushes the changed hops to this table, in push order, before its call returns. So at every
     moment the table has no loop. Two reads can be of different tables, but a reader never goes back to an earlier
-    table.
+    table. It can `learn` what another reader knows.
 
     A reader outlives its network, and then reads its last hops. A call on a closed reader raises ValueError. Any
     thread may call. Give each thread its own reader, made by `copy`: in an interpreter without a global lock, calls on
     one reader wait for each other.
 
-    Costs: `next_hop` and `copy` are O(1), and `walk` is linear in the length of its result.
+    Costs: `next_hop`, `copy` and `learn` are O(1), and `walk` is linear in the length of its result.
     """
 
     def __init__(
-        self, opened: Any, names: Optional[Sequence[Name]] = None, numbers: Any = None, nodes: int = _MOST
+        self, opened: Any, table: object, names: Optional[Sequence[Name]] = None, numbers: Any = None, nodes: int = _MOST
     ) -> None:
-        """Only for the package. `opened` opens the handle that it gets. The nodes are 0 to `nodes` - 1."""
-        self._names, self._numbers, self._count = names, numbers, nodes
+        """Only for the package. `opened` opens the handle that it gets, as a reader of the table. The nodes are 0 to
+        `nodes` - 1."""
+        self._table, self._names, self._numbers, self._count = table, names, numbers, nodes
         self._bound = nodes if numbers is None and _HAS_LOCK else 0
         self._handle = _calls.ReaderHandle()
         self._at, self._live = ctypes.byref(self._handle), ctypes.c_void_p(ctypes.addressof(self._handle))
@@ -72,7 +73,37 @@ class Reader(Generic[Name]):
         """One more reader of the same table, for another thread."""
         with self._lock:
             opened = lambda other: questions.revroute_reader_copy(self._at, other)  # noqa: E731
-            return Reader(opened, self._names, self._numbers, self._count)
+            return Reader(opened, self._table, self._names, self._numbers, self._count)
+
+    def learn(self, other: Reader[Name]) -> None:
+        """Learns what another reader of the same network knows. From then on this reader reads the last table that the
+        other one knew, or a later one.
+
+        A new reader knows the hops that the network has then. So a thread can hand on its changes: it makes a reader
+        after them, and gives it to a thread whose reader learns from it. Then it is proved that this reader sees the
+        changes.
+
+        >>> import revroute
+        >>> network = revroute.Network(4, 0, [(1, 0), (2, 1), (2, 3), (3, 0)])
+        >>> reader = network.reader()
+        >>> network.cut(1, 0)
+        Report(turned=1, cut_off=0)
+        >>> reader.learn(network.reader())
+        >>> reader.next_hop(2)
+        3
+
+        Raises ValueError if the other reader is one of another network, or if one of the two is closed.
+        """
+        if not isinstance(other, Reader):
+            raise TypeError("a reader learns from another reader")
+        if other._table is not self._table:
+            raise ValueError("the readers are of two networks")
+        first, second = sorted((self, other), key=id)
+        with first._lock, second._lock:
+            # The library wants two readers.
+            status = _calls.ANSWERED if other is self else questions.revroute_reader_learn(self._at, other._at)
+            if status != _calls.ANSWERED or not self._end.alive:
+                self._refuse()
 
     def next_hop(self, node: Name) -> Union[Name, NoHop]:
         """The next hop of a node, or why it has none, as for `Network.next_hop`.

@@ -226,6 +226,8 @@ class Session:
         self._begun = 0
         self._is_closed = self._answered = False
         self._lost: Optional[AnswerLost] = None
+        # Tells the tables of different sessions apart, which the library cannot do.
+        self._reader_table = object()
         self._make_room(_FIRST_ROOM)
         self._at, self._length_at = ctypes.byref(self._handle), ctypes.byref(self._length)
         self._count_at, self._taken_at = ctypes.byref(self._count), ctypes.byref(self._taken)
@@ -459,7 +461,7 @@ class Session:
         reader, each change stores every changed hop a second time, for the readers."""
         from .reader import Reader
 
-        return Reader(self._open_reader)
+        return Reader(self._open_reader, self._reader_table)
 
     def _open_reader(self, reader: Any) -> int:
         with self._lock:
