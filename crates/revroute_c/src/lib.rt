@@ -54,7 +54,7 @@ use closed_walks::{walk_of_change, walk_of_network};
 use fr_route::{VERSION, is_blank};
 use handle::Handle;
 use link_faults::early_fault;
-use phases::{Asked, Phase, pushes_in};
+use phases::{Asked, Phase, way_pushes_in};
 use pieces::{finish_line, take_anew, take_front};
 use push_orders::{Tables, order_of};
 use questions::{
@@ -631,7 +631,7 @@ pub extern "C" fn revroute_shrink(
 {
     *size = 0;
     match handle.engine_mut() {
-        Some(engine) => pushes_in(
+        Some(engine) => way_pushes_in(
             &mut engine.published,
             alloc,
             &Asked {
@@ -669,7 +669,7 @@ pub extern "C" fn revroute_grow(
 {
     *size = 0;
     match handle.engine_mut() {
-        Some(engine) => pushes_in(
+        Some(engine) => way_pushes_in(
             &mut engine.published,
             alloc,
             &Asked {

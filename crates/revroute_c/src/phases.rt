@@ -81,7 +81,7 @@ fn numbers(alloc: Global, pushes: &Pushes) -> Result<Vec<u32>, AllocError>
 }
 
 /// Writes the pushes that the caller asks for. `size` must be 0.
-pub(crate) fn pushes_in(
+pub(crate) fn way_pushes_in(
     published: &mut PublishedSession,
     alloc: Global,
     asked: &Asked<'_>,
@@ -104,10 +104,10 @@ pub(crate) fn pushes_in(
         Err(status) => return status,
     };
     let pushed = match asked.phase {
-        Phase::Shrink => &phases.shrink,
-        Phase::Grow => &phases.grow,
+        Phase::Shrink => numbers(alloc, &phases.shrink),
+        Phase::Grow => numbers(alloc, &phases.grow),
     };
-    match numbers(alloc, pushed) {
+    match pushed {
         Ok(numbers) => hand_out(&numbers, pushes, size),
         Err(_memory) => NO_MEMORY,
     }
