@@ -80,34 +80,20 @@ ends_cut {n} {table} u v {list} {more} {last} one two = record {
     both x w (inl e) = rw (e.0, e.1) (keep more last u (keeps_one two) (listed_one one))
     both x w (inr e) = rw (e.0, e.1) (listed_one two)
 
-ends_added : {n : ℕ} {table : List ℕ} (u v : ℕ) {list more last : List ℕ}
+pub ends_added : {n : ℕ} {table : List ℕ} (e : Edit) (u v : ℕ) {list more last : List ℕ}
+    → ((x w : ℕ) → ¬ Cuts e x w) → ((x w : ℕ) → Adds e x w → AreEnds u v x w)
     → ListsOne n table u no_distance (slice_index table v) list more
-    → ListsOne n table v no_distance (slice_index table u) more last
-    → (x w : ℕ) → AreEnds u v x w → IsListedGainer table last x w
-ends_added u v {list} {more} {last} one two x w (inl e) = rw (e.0, e.1) (keep more last u (keeps_one two) (listed_one one))
-ends_added u v one two x w (inr e) = rw (e.0, e.1) (listed_one two)
-
-pub ends_add : {n : ℕ} {table : List ℕ} (u v : ℕ) {list more last : List ℕ}
-    → ListsOne n table u no_distance (slice_index table v) list more
-    → ListsOne n table v no_distance (slice_index table u) more last
-    → Lists n table (Cuts (Add u v)) (Adds (Add u v)) list last
-ends_add u v one two = record {
+    → ListsOne n table v no_distance (slice_index table u) more last → Lists n table (Cuts e) (Adds e) list last
+ends_added {n} {table} e u v {list} {more} {last} none ends one two = record {
   listed = two.listed;
   keeps = λ y h. keeps_one two y (keeps_one one y h);
-  lost = λ x w h. absurd h;
-  gained = ends_added u v one two;
+  lost = λ x w h. absurd (none x w h);
+  gained = λ x w h. both x w (ends x w h);
 }
-
-pub ends_join : {n : ℕ} {table : List ℕ} (u v : ℕ) {list more last : List ℕ}
-    → ListsOne n table u no_distance (slice_index table v) list more
-    → ListsOne n table v no_distance (slice_index table u) more last
-    → Lists n table (Cuts (Join u v)) (Adds (Join u v)) list last
-ends_join u v one two = record {
-  listed = two.listed;
-  keeps = λ y h. keeps_one two y (keeps_one one y h);
-  lost = λ x w h. absurd h;
-  gained = ends_added u v one two;
-}
+  where
+    both : (x w : ℕ) → AreEnds u v x w → IsListedGainer table last x w
+    both x w (inl is) = rw (is.0, is.1) (keep more last u (keeps_one two) (listed_one one))
+    both x w (inr is) = rw (is.0, is.1) (listed_one two)
 
 pub edits_none : (n : ℕ) (table list : List ℕ) → IsListed n list → Lists n table (IsCut []) (IsAdded []) list list
 edits_none n table list listed = record {

@@ -1,16 +1,19 @@
 -- The ways of a node are listed from its row, and sorted; the nearest is found in the row.
-use Rattle.std.proofs.Common.{Contains, IsPermutation, MatchOption, ne_eqb, List, None, Option, Some, [], arith, eq-eqb, eqb, get_or, inl, inr, length, refl, slice_index, subst, sym, take, ℕ}
-use Rattle.std.proofs.Common.{⊎_elim, ◌++◌, ◌+◌, ◌<◌, ◌∙◌, ◌∷◌, ◌≡◌, ◌≢◌, ◌≤◌, ◌⊎◌, ap}
+use Rattle.std.proofs.Common.{Contains, IsPermutation, List, MatchOption, None, Option, Some, [], ap, arith}
+use Rattle.std.proofs.Common.{eq-eqb, eqb, get_or, inl, inr, length, map, ne_eqb, refl, set, slice_index, subst, sym, take, ℕ}
+use Rattle.std.proofs.Common.{⊎_elim, ◌++◌, ◌+◌, ◌<◌, ◌^◌, ◌∙◌, ◌∷◌, ◌≡◌, ◌≢◌, ◌≤◌, ◌⊎◌}
 use Rattle.std.specs.Cmp.{nat_eq_equiv}
 use Rattle.std.specs.List.Sorted.{IsNonDecreasingBy}
 use Rattle.std.proofs.lemmas.Bool.{cases_lt, false≢true}
-use Rattle.std.proofs.lemmas.List.{get_or-take, get_or_default, length-take-le, length_push, take_all, take_more}
+use Rattle.std.proofs.lemmas.List.{ext_get_or, get_or-map, get_or-take, get_or_default, length-map, length-take-le}
+use Rattle.std.proofs.lemmas.List.{map-append}
+use Rattle.std.proofs.lemmas.List.{take-set, take_all, take_more, take_more_set}
+use Rattle.std.proofs.lemmas.Nat.{mod-mul-add}
 use Rattle.std.proofs.lemmas.List.Elements.{Contains-append_left, Contains-get_or, Contains-push, Contains-push_cases}
-use Rattle.std.proofs.lemmas.List.Sorted.{Contains-permutation, IsPermutation-sym}
+use Rattle.std.proofs.lemmas.List.Sorted.{Contains-permutation, IsPermutation-map, IsPermutation-sym}
 use Rattle.std.proofs.lemmas.Map.Keys.{IsDistinct-IsPermutation, IsDistinct-from_apart, apart_from_distinct}
 use Rattle.fr_graph.proofs.Lists.{once_more}
 use Rattle.fr_graph.proofs.Linking.{link_below}
-use Rattle.fr_graph.proofs.Members.{Contains-none}
 use Rattle.fr_graph.proofs.Neighbours.{entry_is, out_of_row, row_of_out, row_rises}
 use Rattle.fr_graph.specs.Limits.{most_nodes}
 use Rattle.fr_graph.specs.Links.{IsNet, Points}
@@ -19,7 +22,7 @@ use Rattle.fr_graph.specs.Rows.{row}
 use Rattle.fr_graph.specs.declared.first.First.{First}
 use Rattle.fr_graph.specs.declared.first.First.TheVariants.{Outward}
 use Rattle.fr_nearest.specs.Distances.{AreDistances, IsMeasureOf, Measured, no_distance}
-use Rattle.fr_nearest.specs.Ranks.{AreListed, AreListedTo, IsBestSo, rank_of}
+use Rattle.fr_nearest.specs.Ranks.{AreListed, AreListedTo, AreRanked, AreRankedTo, IsBestSo, number_of, rank_of}
 use Rattle.fr_nearest.specs.Ways.{AreWays, IsFirstWay, IsNearer, IsWay}
 use Rattle.fr_nearest.proofs.Walking.{has_path}
 
@@ -64,7 +67,6 @@ module _ (n : ℕ) (links : List (ℕ × ℕ)) (x : ℕ) (entries : List (ℕ ×
       let same : (get_or entries at.0 (0, Outward)).0 ≡ entry.0 = ap (λ (e : ℕ × First). e.0) (at.2 (0, Outward)) in
       omega (arith, low, same) in
       record {
-        few = omega (arith, length_push list entry.0, l.few);
         just = λ w. (
           λ h. elim (Contains-push_cases list entry.0 w h) [
             | inl old ↦ let was = (l.just w).0 old in (rw more (Contains-append_left (take place entries) (entry ∷ []) (w, Outward) was.0), was.1)
@@ -82,7 +84,6 @@ module _ (n : ℕ) (links : List (ℕ × ℕ)) (x : ℕ) (entries : List (ℕ ×
   pub listed_other : {table list : List ℕ} → AreListedTo table entries place list → (entry.1 ≡ Outward → slice_index table entry.0 ≡ no_distance)
       → AreListedTo table entries (place + 1) list
   listed_other {table} {list} l none = record {
-    few = omega (arith, l.few);
     just = λ w. (
       λ h. let was = (l.just w).0 h in (rw more (Contains-append_left (take place entries) (entry ∷ []) (w, Outward) was.0), was.1),
       λ (h, has). elim (Contains-push_cases (take place entries) entry (w, Outward) (rw more at h)) [
@@ -95,6 +96,23 @@ module _ (n : ℕ) (links : List (ℕ × ℕ)) (x : ℕ) (entries : List (ℕ ×
     );
     once = l.once;
   }
+
+  -- the same for ranks: that of the entry is written after those before
+  pub ranked_way : {table : List ℕ} (ranks : List ℕ) (count : ℕ) → count < length ranks
+      → AreRankedTo table entries place (take count ranks) → entry.1 ≡ Outward → slice_index table entry.0 ≢ no_distance
+      → AreRankedTo table entries (place + 1) (take (count + 1) (set ranks count (rank_of table entry.0)))
+  ranked_way {table} ranks count room (list, l, is) out some = (
+    list ++ entry.0 ∷ [],
+    listed_way l out some,
+    rw (take_more_set ranks count (rank_of table entry.0) room, is)
+        (sym (map-append (rank_of table) list (entry.0 ∷ []))),
+  )
+
+  pub ranked_other : {table : List ℕ} (ranks : List ℕ) (count rank : ℕ)
+      → AreRankedTo table entries place (take count ranks)
+      → (entry.1 ≡ Outward → slice_index table entry.0 ≡ no_distance)
+      → AreRankedTo table entries (place + 1) (take count (set ranks count rank))
+  ranked_other {table} ranks count rank (list, l, is) none = (list, listed_other l none, take-set ranks count rank ∙ is)
 
   -- the entry at an earlier place or at this one
   at_place : (k : ℕ) (e : ℕ × First) → ¬ (k < place) → k < place + 1 → get_or entries k e ≡ entry
@@ -152,13 +170,6 @@ module _ (n : ℕ) (links : List (ℕ × ℕ)) (x : ℕ) (entries : List (ℕ ×
     },
   )
 
-pub listed_none : (table : List ℕ) (entries : List (ℕ × First)) → AreListedTo table entries 0 []
-listed_none table entries = record {
-  few = omega arith;
-  just = λ w. (λ h. absurd (Contains-none w h), λ (h, has). absurd (Contains-none (w, Outward) h));
-  once = λ i j lt l. absurd (omega (arith, l));
-}
-
 -- The whole row
 
 pub listed_all : {net : Network} {x : ℕ} {table list : List ℕ} (place : ℕ) → IsNet net.nodes net.links → length (row net.nodes net.links x) ≤ place
@@ -174,6 +185,32 @@ listed_all {net} {x} {table} {list} place is_net end l =
       once = IsDistinct-from_apart eqb list (λ i j d lt inside. ne_eqb _ _ (λ same. l.once i j lt inside
           (sym (get_or_default list i d 0 (omega (arith, lt, inside))) ∙ same ∙ get_or_default list j d 0 inside)));
     }
+
+-- The nodes with these ranks
+
+number_back : (table : List ℕ) (w : ℕ) → w < most_nodes → number_of (rank_of table w) ≡ w
+number_back table w low = mod-mul-add (slice_index table w) (2 ^ 16) w (omega (arith, low))
+
+numbers_back : (table list : List ℕ) → ((w : ℕ) → Contains list w → w < most_nodes)
+    → map number_of (map (rank_of table) list) ≡ list
+numbers_back table list low =
+    let ranks = map (rank_of table) list in
+    let long : length ranks ≡ length list = length-map list (rank_of table) in
+    let both : length (map number_of ranks) ≡ length list = length-map ranks number_of ∙ long in
+    ext_get_or 0 (map number_of ranks) list both (λ k l.
+    let inside : k < length list = omega (arith, l, both) in
+    get_or-map number_of ranks k 0 0 (omega (arith, inside, long))
+    ∙ (ap number_of (get_or-map (rank_of table) list k 0 0 inside)
+    ∙ number_back table (slice_index list k) (low (slice_index list k) (Contains-get_or list k 0 inside))))
+
+rank_back : (table list : List ℕ) (rank : ℕ) → ((w : ℕ) → Contains list w → w < most_nodes)
+    → Contains (map (rank_of table) list) rank → rank_of table (number_of rank) ≡ rank
+rank_back table list rank low (k, l, is) =
+    let inside : k < length list = omega (arith, l, length-map list (rank_of table)) in
+    let w = slice_index list k in
+    let from : rank ≡ rank_of table w = sym is ∙ get_or-map (rank_of table) list k 0 rank inside in
+    ap (λ (r : ℕ). rank_of table (number_of r)) from
+    ∙ (ap (rank_of table) (number_back table w (low w (Contains-get_or list k 0 inside))) ∙ sym from)
 
 module _ {net : Network} {d x : ℕ} {table : List ℕ} (is_net : IsNet net.nodes net.links) (are : AreDistances net.nodes net.links d table) where
   -- the nodes with a distance to which links point are the ways
@@ -197,8 +234,8 @@ module _ {net : Network} {d x : ℕ} {table : List ℕ} (is_net : IsNet net.node
   }
 
   -- once they are sorted
-  pub ways_of : {list sorted : List ℕ} → net.nodes ≤ most_nodes → AreListed net.links table x list → IsPermutation list sorted
-      → IsNonDecreasingBy (rank_of table) sorted → AreWays net.links d x sorted
+  ways_of : {list sorted : List ℕ} → net.nodes ≤ most_nodes → AreListed net.links table x list
+      → IsPermutation list sorted → IsNonDecreasingBy (rank_of table) sorted → AreWays net.links d x sorted
   ways_of {list} {sorted} few l same rises =
       let just : (w : ℕ) → Contains sorted w → IsWay net.links d x w = λ w h.
       let was = (l.just w).0 (Contains-permutation sorted list w (IsPermutation-sym list sorted same) h) in way_of w was.0 was.1 in
@@ -219,6 +256,27 @@ module _ {net : Network} {d x : ℕ} {table : List ℕ} (is_net : IsNet net.node
               | inr past ↦ inr (omega (arith, rank, past, low, high, few), omega (arith, rank, past, low, high, few, apart))
             ]);
       }
+
+  pub ways_of_ranks : {ranks sorted : List ℕ} → net.nodes ≤ most_nodes → AreRanked net.links table x ranks
+      → IsPermutation ranks sorted → IsNonDecreasingBy (λ (r : ℕ). r) sorted
+      → AreWays net.links d x (map number_of sorted)
+  ways_of_ranks {ranks} {sorted} few (list, l, is) same rises =
+      let low : (w : ℕ) → Contains list w → w < most_nodes = λ w h.
+      omega (arith, few, (link_below net.nodes net.links x w is_net ((l.just w).0 h).0).1) in
+      let numbers : IsPermutation list (map number_of sorted) =
+      subst (λ (xs : List ℕ). IsPermutation xs (map number_of sorted))
+      (ap (map number_of) is ∙ numbers_back table list low) (IsPermutation-map number_of ranks sorted same) in
+      let rank_at : (k e : ℕ) → k < length sorted
+      → rank_of table (get_or (map number_of sorted) k e) ≡ slice_index sorted k = λ k e inside.
+      let rank = slice_index sorted k in
+      let there : Contains ranks rank =
+      Contains-permutation sorted ranks rank (IsPermutation-sym ranks sorted same)
+      (Contains-get_or sorted k 0 inside) in
+      ap (rank_of table) (get_or-map number_of sorted k 0 e inside)
+      ∙ rank_back table list rank low (subst (λ (xs : List ℕ). Contains xs rank) is there) in
+      ways_of few l numbers (λ i j e lt inside.
+      let here : j < length sorted = omega (arith, inside, length-map sorted number_of) in
+      rw (rank_at i e (omega (arith, lt, here)), rank_at j e here) (rises i j 0 lt here))
 
   pub best_none : (least place : ℕ) → length (row net.nodes net.links x) ≤ place → IsBestSo table (row net.nodes net.links x) place least None
       → (w : ℕ) → ¬ IsWay net.links d x w

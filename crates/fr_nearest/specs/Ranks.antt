@@ -1,15 +1,19 @@
 -- How the ways of a node are listed and sorted, and how its nearest way is found. For proofs only.
-use Rattle.std.specs.Prelude.{◌≡◌, ◌≢◌, ℕ, ◌<◌, ◌≤◌, ◌+◌, ◌*◌, ◌^◌, ◌⊎◌, ◌↔◌, List, Option, Some, None}
-use Rattle.std.specs.Prelude.{length, nat_eq, slice_index, slice_index_or, take}
+use Rattle.std.specs.Prelude.{◌≡◌, ◌≢◌, ℕ, ◌<◌, ◌≤◌, ◌+◌, ◌*◌, ◌%◌, ◌^◌, ◌⊎◌, ◌↔◌, List, Option, Some, None}
+use Rattle.std.specs.Prelude.{length, map, nat_eq, slice_index, slice_index_or, take}
 use Rattle.std.specs.List.{Contains, IsDistinct}
 use Rattle.fr_graph.specs.Links.{Points}
 use Rattle.fr_graph.specs.declared.first.First.{First}
 use Rattle.fr_graph.specs.declared.first.First.TheVariants.{Outward}
 use Rattle.fr_nearest.specs.Distances.{no_distance}
 
--- the number by which ways are sorted
+-- the key by which ways are sorted
 abbrev pub rank_of : List ℕ → ℕ → ℕ
-rank_of table w = slice_index table w * 2 ^ 32 + w
+rank_of table w = slice_index table w * 2 ^ 16 + w
+
+-- the node with this rank
+abbrev pub number_of : ℕ → ℕ
+number_of rank = rank % 2 ^ 16
 
 -- exactly the nodes that have a distance and to which a link of x points, each once
 pub record AreListed (links : List (ℕ × ℕ)) (table : List ℕ) (x : ℕ) (list : List ℕ) : Type 0 where
@@ -18,9 +22,16 @@ pub record AreListed (links : List (ℕ × ℕ)) (table : List ℕ) (x : ℕ) (l
 
 -- the same for the entries before this place of the row of x
 pub record AreListedTo (table : List ℕ) (row : List (ℕ × First)) (place : ℕ) (list : List ℕ) : Type 0 where
-  pub few : length list ≤ place
   pub just : (w : ℕ) → Contains list w ↔ (Contains (take place row) (w, Outward) × (slice_index table w ≢ no_distance))
   pub once : (i j : ℕ) → i < j → j < length list → slice_index list i ≢ slice_index list j
+
+-- the ranks of exactly these nodes, and of those before this place of the row
+abbrev pub AreRanked : List (ℕ × ℕ) → List ℕ → ℕ → List ℕ → Type 0
+AreRanked links table x ranks = (list : List ℕ) × AreListed links table x list × (ranks ≡ map (rank_of table) list)
+
+abbrev pub AreRankedTo : List ℕ → List (ℕ × First) → ℕ → List ℕ → Type 0
+AreRankedTo table row place ranks =
+    (list : List ℕ) × AreListedTo table row place list × (ranks ≡ map (rank_of table) list)
 
 -- w is the nearest of the nodes to which the links before this place of a row point
 pub record IsBest (table : List ℕ) (row : List (ℕ × First)) (place w : ℕ) : Type 0 where

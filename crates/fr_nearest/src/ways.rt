@@ -1,51 +1,53 @@
 //! The ways of a node, nearest first, and the walk by first ways.
 
-ghost use Rattle.std.specs.Prelude.{◌≡◌, ℕ, ◌<◌, ◌≤◌, List, [], ◌∷◌, length};
-ghost use Rattle.std.specs.Prelude.{vec_capacity, IfOk, MatchOption, OnErr, OnOk};
-ghost use Rattle.std.specs.List.Sorted.{IsNonDecreasingBy, IsPermutation};
+ghost use Rattle.std.specs.Prelude.{◌≡◌, ℕ, ◌<◌, ◌≤◌, ◌+◌, ◌*◌, ◌^◌, List, [], ◌∷◌, length, map, take};
+ghost use Rattle.std.specs.Prelude.{IfOk, MatchOption, OnErr, OnOk};
 ghost use Rattle.fr_graph.specs.Links.{HasPath};
 ghost use Rattle.fr_graph.specs.Rows.{row};
 ghost use Rattle.fr_nearest.specs.Distances.{IsMeasureOf};
 ghost use Rattle.fr_nearest.specs.Ways.{AreWays, IsFirstWay, IsNearestWalk, IsWay};
-ghost use Rattle.fr_nearest.specs.Ranks.{AreListed, rank_of};
+ghost use Rattle.fr_nearest.specs.Ranks.{AreRanked, number_of};
 
 use crate::distances::{Distances, NONE};
 use fr_graph::{First, Net};
 use std::alloc::{AllocError, Global};
 
-/// The number by which ways are sorted: nearer ways first, and ways of the same distance by number.
-fn rank(distances: &[u16], w: u32) -> u64
-    ensures { result ≡ rank_of distances.now w }
+/// The key by which ways are sorted: nearer ways first, and ways of the same distance by number.
+fn rank(distance: u16, w: u16) -> u32
+    ensures { result ≡ distance * 2 ^ 16 + w }
 {
-    match distances.get(w as usize) {
-        Some(distance) => (*distance as u64) * (1 << 32) + w as u64,
-        None => w as u64,
-    }
+    (distance as u32) * (1 << 16) + w as u32
 }
 
-/// Appends the ways of node `x` to an empty list, by number.
-fn list_ways(net: &Net, x: u32, distances: &[u16], list: &mut Vec<u32>)
+/// Writes the ranks of the ways of node `x` over the first elements of a slice, by number. Returns how many there are.
+fn rank_ways(net: &Net, x: u32, distances: &[u16], ranks: &mut [u32]) -> usize
     requires node { x < net.now.nodes }
     requires one_each { length distances.now ≡ net.now.nodes }
-    requires empty { list.old.items ≡ [] }
-    requires room { length (row net.now.nodes net.now.links x) ≤ vec_capacity list.old }
-    ensures { AreListed net.now.links distances.now x list.new.items }
+    requires room { length (row net.now.nodes net.now.links x) ≤ length ranks.old }
+    ensures ranked { AreRanked net.now.links distances.now x (take result ranks.new) }
+    ensures same { length ranks.new ≡ length ranks.old }
 {
     net.network_law();
+    let mut count = 0;
     let row = net.row(x);
     for (w, first) in row {
-        if *first == First::Outward && distances[*w as usize] != NONE {
-            list.push_reserved(*w as u32);
+        let distance = distances[*w as usize];
+        // Whether this is a way is hard to predict, and a store costs less than a branch that was predicted wrongly.
+        ranks[count] = rank(distance, *w);
+        if *first == First::Outward && distance != NONE {
+            count += 1;
         }
     }
+    count
 }
 
-/// Sorts ways: nearer ways first, and ways of the same distance by number.
-fn sort_by_rank(distances: &[u16], list: &mut [u32])
-    ensures same { IsPermutation list.old list.new }
-    ensures rising { IsNonDecreasingBy (rank_of distances.now) list.new }
+/// Replaces each rank by the number of its node.
+fn take_numbers(ranks: &mut [u32])
+    ensures { ranks.new ≡ map number_of ranks.old }
 {
-    list.sort_unstable_by_key(|w| rank(distances, *w));
+    for rank in ranks.iter_mut() {
+        *rank %= 1 << 16;
+    }
 }
 
 impl Distances {
@@ -61,10 +63,11 @@ impl Distances {
     {
         net.network_law();
         list.clear();
-        list.reserve(net.row(x).len())?;
-        let distances = self.numbers();
-        list_ways(net, x, distances, list);
-        sort_by_rank(distances, list);
+        list.resize(net.row(x).len(), 0)?;
+        let count = rank_ways(net, x, self.numbers(), list);
+        list.truncate(count);
+        list.sort_unstable();
+        take_numbers(list);
         Ok(())
     }
 

@@ -1,24 +1,31 @@
-use Rattle.std.proofs.Common.{IsPermutation, List, arith, subst, sym, ℕ, ◌≡◌}
-use Rattle.std.specs.List.Sorted.{IsNonDecreasingBy}
+use Rattle.std.proofs.Common.{List, ap, arith, length, map, subst, sym, ℕ, ◌∙◌, ◌≡◌}
 use Rattle.std.specs.Vec.{with_items}
-use Rattle.std.proofs.lemmas.List.{with_items_is}
-use Rattle.std.proofs.lemmas.List.Sorted.{length_permutation}
-use Rattle.fr_nearest.specs.Ranks.{AreListed, rank_of}
+use Rattle.std.proofs.lemmas.List.{length-map, with_items_is}
+use Rattle.std.proofs.lemmas.List.Sorted.{IsNonDecreasingBy-from_sort}
+use Rattle.fr_nearest.specs.Ranks.{AreRanked, number_of}
 use Rattle.fr_nearest.specs.Ways.{AreWays}
-use Rattle.fr_nearest.proofs.Ranking.{ways_of}
+use Rattle.fr_nearest.proofs.Ranking.{ways_of_ranks}
 use Rattle.fr_nearest.proofs.distances.Distances.ways.Goals as goal
 
 pub returns-clause-ways : goal.returns-clause-ways
 returns-clause-ways c =
     let net = c.args.net.now in
     let m = c.args.self.now in
-    let first = c.list_ways.new.list in
-    let last = c.sort_by_rank.new.list in
-    let listed : AreListed net.links m.table c.args.x first.items =
-    subst (λ (xs : List ℕ). AreListed net.links xs c.args.x first.items) c.numbers-distances.ensures c.list_ways.ensures in
-    let same : IsPermutation first.items last = subst (λ (xs : List ℕ). IsPermutation xs last) c.deref_mut.ensures.value c.sort_by_rank.ensures.same in
-    let rising : IsNonDecreasingBy (rank_of m.table) last =
-    subst (λ (xs : List ℕ). IsNonDecreasingBy (rank_of xs) last) c.numbers-distances.ensures c.sort_by_rank.ensures.rising in
-    let items : (with_items first last).items ≡ last = with_items_is first last (omega (arith, length_permutation first.items last same, first.ok.0)) in
+    let room = c.resize.new.self in
+    let written = c.rank_ways-count.new.ranks in
+    let ranks = c.truncate.new.self in
+    let sorted = c.sort_unstable.new.self in
+    let numbers = c.take_numbers.new.ranks in
+    let long = c.rank_ways-count.ensures.same in
+    let whole : (with_items room written).items ≡ written =
+    with_items_is room written (omega (arith, long, ap length c.deref_mut.ensures.value, room.ok.0)) in
+    let ranked : AreRanked net.links m.table c.args.x ranks.items =
+    rw (c.truncate.ensures.items, whole, sym c.numbers.ensures) c.rank_ways-count.ensures.ranked in
+    let is : numbers ≡ map number_of sorted.items =
+    c.take_numbers.ensures ∙ ap (map number_of) c.deref_mut-2.ensures.value in
+    let items : (with_items sorted numbers).items ≡ map number_of sorted.items =
+    with_items_is sorted numbers (omega (arith, ap length is, length-map sorted.items number_of, sorted.ok.0)) ∙ is in
     subst (λ (xs : List ℕ). AreWays net.links m.dest c.args.x xs) (sym items)
-    (ways_of c.network_law.ensures.is_net c.requires.measured c.network_law.ensures.limits.nodes_few listed same rising)
+    (ways_of_ranks c.network_law.ensures.is_net c.requires.measured c.network_law.ensures.limits.nodes_few ranked
+    c.sort_unstable.ensures.permutation
+    (IsNonDecreasingBy-from_sort (λ (r : ℕ). r) sorted.items c.sort_unstable.ensures.sorted))
