@@ -5,14 +5,12 @@ ghost use Rattle.fr_published.specs.Answers.{AnswersLine, MakesChange, PutsRoute
 ghost use Rattle.fr_published.specs.Published.{HasHopsOf, published};
 ghost use Rattle.std.specs.Option.{option_map};
 ghost use Rattle.fr_shared.specs.Knowledge.{past_of};
-ghost use Rattle.fr_route.specs.NodeWays.{AreAllWays, AreNodeWays, HasDistance, IsNearest};
-ghost use Rattle.fr_route.specs.WayPushes.{IsPhasesFault, LeadToWays};
+ghost use Rattle.fr_route.specs.NodeWays.{AreNodeWays, HasDistance, IsNearest};
 ghost use Rattle.fr_route.specs.declared.fault.RouteFault.TheVariants.{Memory};
 
 use crate::publishing::{opened, publish, replaced, session_law};
 use fr_route::{AnswerFault, Change, Report, RouteFault, Router, Session, Walked};
 use fr_shared::{Past, Publisher, Reader};
-use fr_ways::{TwoPhases, WayTable, WaysFault};
 use std::alloc::{AllocError, Global};
 use std::marker::Model;
 
@@ -144,35 +142,6 @@ impl PublishedSession {
     {
         let router = self.session.router_mut()?;
         Some(router.nearest(alloc, x))
-    }
-
-    /// The ways of each node, as [`Router::all_ways`] returns them. Returns `None` if there is no network yet.
-    pub fn all_ways(&mut self, alloc: Global) -> Option<Result<WayTable, AllocError>>
-        ensures same { self.new ≡ self.old }
-        ensures none { result ≡ None ↔ (self.old.session ≡ None) }
-        ensures ways { IfSome result (λ made. IfOk made
-            (λ table. IfSome self.old.session (λ s. AreAllWays s table))) }
-    {
-        let router = self.session.router_mut()?;
-        Some(router.all_ways(alloc))
-    }
-
-    /// What to push in two phases to routers that hold the ways of this table, as [`Router::phases`] plans it. Returns
-    /// `None` if there is no network yet.
-    pub fn phases(
-        &mut self,
-        alloc: Global,
-        table: &WayTable,
-    ) -> Option<Result<TwoPhases, WaysFault>>
-        ensures same { self.new ≡ self.old }
-        ensures none { result ≡ None ↔ (self.old.session ≡ None) }
-        ensures phases { IfSome result (λ made. IfOk made
-            (λ phases. IfSome self.old.session (λ s. LeadToWays s table.now phases))) }
-        ensures fault { IfSome result (λ made. IfErr made
-            (λ fault. IfSome self.old.session (λ s. IsPhasesFault s table.now fault))) }
-    {
-        let router = self.session.router_mut()?;
-        Some(router.phases(alloc, table))
     }
 
     /// Answers a line, and lists and publishes the nodes that it reroutes. The answer, the faults and the cost are

@@ -29,11 +29,10 @@ use std::alloc::{AllocError, Global};
 pub(crate) fn question_in(
     alloc: Global,
     form: Form,
-    router: &mut Router,
+    router: &Router,
     question: Question,
 ) -> Result<String, AllocError>
-    ensures same { router.new ≡ router.old }
-    ensures text { IfOk result (λ text. IsTextIn form None (ask question) router.old (string_bytes text)) }
+    ensures { IfOk result (λ text. IsTextIn form None (ask question) router.now (string_bytes text)) }
 {
     match (form, question) {
         (Form::Text, Question::Links) => links_line(alloc, router.net().links()),
@@ -47,9 +46,8 @@ pub(crate) fn question_in(
 }
 
 /// The answer to a request for the ways of each node.
-fn all_ways_in(alloc: Global, form: Form, router: &mut Router) -> Result<String, AllocError>
-    ensures same { router.new ≡ router.old }
-    ensures text { IfOk result (λ text. IsTextIn form None (ask WaysOfAll) router.old (string_bytes text)) }
+fn all_ways_in(alloc: Global, form: Form, router: &Router) -> Result<String, AllocError>
+    ensures { IfOk result (λ text. IsTextIn form None (ask WaysOfAll) router.now (string_bytes text)) }
 {
     // By this law, the number of nodes fits.
     router.net().network_law();

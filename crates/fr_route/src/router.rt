@@ -29,6 +29,7 @@ use crate::spare::Spare;
 use crate::told::Told;
 use fr_crew::{Crew, CrewFault, Gate, Plan, settled_counts, settled_counts_alone};
 use fr_graph::{Edit, MAX_EDITS, Net, NetFault, Turns};
+use fr_nearest::Distances;
 use fr_tables::{Hop, PushRoom, TableFault, first_outside, known_push_order};
 use fr_ways::{TwoPhases, WayTable, WaysFault, known_phases};
 use std::alloc::{AllocError, Global};
@@ -578,8 +579,8 @@ impl Router {
     /// A packet may take any of the ways at each node: it visits no node twice, because the links contain no cycle.
     ///
     /// Fails with `AllocError`, and an empty list, if an allocation is refused. O(d log d) for d links of the node. The
-    /// first question about ways or distances also measures the distances of all nodes, in O(n + m). From then on each
-    /// change keeps them up to date, so the router is needed as mutable, although its state stays the same.
+    /// first such question also measures the distances of all nodes, in O(n + m). From then on each change keeps them up
+    /// to date, so the router is needed as mutable, although its state stays the same.
     pub fn ways(&mut self, x: u32, list: &mut Vec<u32>) -> Result<(), AllocError>
         requires { x < self.old.nodes }
         ensures same { self.new ≡ self.old }
@@ -602,13 +603,15 @@ impl Router {
     }
 
     /// The ways of each node, as [`ways`](Router::ways) lists them. Fails with `AllocError` if an allocation is refused.
-    /// O(n + m log d), where no node has more than d links.
-    pub fn all_ways(&mut self, alloc: Global) -> Result<WayTable, AllocError>
-        ensures same { self.new ≡ self.old }
-        ensures ways { IfOk result (AreAllWays self.old) }
+    /// O(n + m log d), where no node has more than d links. It also measures the distances, unless they are kept.
+    pub fn all_ways(&self, alloc: Global) -> Result<WayTable, AllocError>
+        ensures { IfOk result (AreAllWays self.now) }
     {
-        self.distances.keep(&self.net, self.dest);
-        table_of_ways(alloc, &self.net, &self.distances.table)
+        if self.distances.are_kept {
+            return table_of_ways(alloc, &self.net, &self.distances.table);
+        }
+        let measured = Distances::measure(alloc, &self.net, self.dest)?;
+        table_of_ways(alloc, &self.net, &measured)
     }
 
     /// What a controller pushes so that routers which hold the ways of `table` end with [all ways](Router::all_ways) of
@@ -620,10 +623,9 @@ impl Router {
     /// Fails with `Length` if the table does not have one list for each node, and with `Memory` if an allocation is
     /// refused; never with `Range` or `Cycle`. O(n + m log d), where no node has more than d links, and the time to read
     /// the table.
-    pub fn phases(&mut self, alloc: Global, table: &WayTable) -> Result<TwoPhases, WaysFault>
-        ensures same { self.new ≡ self.old }
-        ensures phases { IfOk result (LeadToWays self.old table.now) }
-        ensures fault { IfErr result (IsPhasesFault self.old table.now) }
+    pub fn phases(&self, alloc: Global, table: &WayTable) -> Result<TwoPhases, WaysFault>
+        ensures phases { IfOk result (LeadToWays self.now table.now) }
+        ensures fault { IfErr result (IsPhasesFault self.now table.now) }
     {
         self.net.network_law();
         if table.len() != self.net.nodes() as usize {

@@ -385,16 +385,15 @@ impl Session {
 
     /// The answer to a question.
     fn question(
-        &mut self,
+        &self,
         alloc: Global,
         manner: Manner,
         question: Question,
     ) -> Result<Answer, AnswerFault>
-        ensures same { self.new ≡ self.old }
-        ensures reply { IfOk result (λ answer. IsStillReply manner self.old (ask question) answer) }
+        ensures reply { IfOk result (λ answer. IsStillReply manner self.now (ask question) answer) }
         ensures memory { IfErr result (λ fault. fault ≡ Memory) }
     {
-        let Some(router) = &mut self.router else {
+        let Some(router) = &self.router else {
             return refuse(alloc, manner, Reason::NoNetwork, &[], None);
         };
         Ok(accepted(question_in(alloc, manner.form, router, question)?))
@@ -455,15 +454,10 @@ impl Session {
         pushes_from(alloc, manner, table, router.hops())
     }
 
-    /// Answers a question, as [`Session::answer`] does. Fails only with `Memory`. O(b) for b bytes of answer, and for
-    /// the ways of all nodes the cost of [`Router::all_ways`].
-    pub fn answer_question(
-        &mut self,
-        alloc: Global,
-        question: Question,
-    ) -> Result<String, AnswerFault>
-        ensures same { self.new ≡ self.old }
-        ensures text { IfOk result (λ text. IsAnswer self.old (ask question) (string_bytes text) self.new) }
+    /// Answers a question, as [`Session::answer`] does. This changes nothing. Fails only with `Memory`. O(b) for b
+    /// bytes of answer, and for the ways of all nodes the cost of [`Router::all_ways`].
+    pub fn answer_question(&self, alloc: Global, question: Question) -> Result<String, AnswerFault>
+        ensures text { IfOk result (λ text. IsAnswer self.now (ask question) (string_bytes text) self.now) }
         ensures memory { IfErr result (λ fault. fault ≡ Memory) }
     {
         Ok(self.question(alloc, AS_TEXT, question)?.text)

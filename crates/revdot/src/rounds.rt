@@ -125,10 +125,9 @@ fn turns_of(alloc: Global, router: &Router, mut replay: Replay) -> Result<Vec<u3
 pub fn push_settled_lines(
     story: &mut String,
     alloc: Global,
-    session: &mut Session,
+    session: &Session,
 ) -> Result<(), AllocError>
-    ensures same { session.new ≡ session.old }
-    ensures told { OnOk result ((told : List ℕ) × AreSettledLines session.old told
+    ensures { OnOk result ((told : List ℕ) × AreSettledLines session.now told
         × (string_bytes story.new ≡ string_bytes story.old ++ told)) }
 {
     push_answer_to(story, alloc, session, Question::Links)?;
@@ -140,11 +139,10 @@ pub fn push_settled_lines(
 fn push_answer_to(
     story: &mut String,
     alloc: Global,
-    session: &mut Session,
+    session: &Session,
     question: Question,
 ) -> Result<(), AllocError>
-    ensures same { session.new ≡ session.old }
-    ensures told { OnOk result ((answer : List ℕ) × IsAnswerLine session.old question answer
+    ensures { OnOk result ((answer : List ℕ) × IsAnswerLine session.now question answer
         × (string_bytes story.new ≡ string_bytes story.old ++ answer)) }
 {
     let Ok(answer) = session.answer_question(alloc, question) else {

@@ -55,11 +55,10 @@ fn push_step(
 fn push_mark(
     story: &mut String,
     alloc: Global,
-    session: &mut Session,
+    session: &Session,
     number: u64,
 ) -> Result<(), AllocError>
-    ensures same { session.new ≡ session.old }
-    ensures mark { OnOk result ((mark : List ℕ) × IsMark number session.old mark
+    ensures { OnOk result ((mark : List ℕ) × IsMark number session.now mark
         × (string_bytes story.new ≡ string_bytes story.old ++ mark)) }
 {
     if !is_marked(session, number) {

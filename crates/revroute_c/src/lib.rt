@@ -591,7 +591,7 @@ pub extern "C" fn revroute_all_ways(
 {
     *size = 0;
     match handle.engine_mut() {
-        Some(engine) => all_ways_in(&mut engine.published, alloc, starts, ways, size),
+        Some(engine) => all_ways_in(engine.session(), alloc, starts, ways, size),
         None => NO_NETWORK,
     }
 }
@@ -632,7 +632,7 @@ pub extern "C" fn revroute_shrink(
     *size = 0;
     match handle.engine_mut() {
         Some(engine) => way_pushes_in(
-            &mut engine.published,
+            engine.session(),
             alloc,
             &Asked {
                 phase: Phase::Shrink,
@@ -670,7 +670,7 @@ pub extern "C" fn revroute_grow(
     *size = 0;
     match handle.engine_mut() {
         Some(engine) => way_pushes_in(
-            &mut engine.published,
+            engine.session(),
             alloc,
             &Asked {
                 phase: Phase::Grow,

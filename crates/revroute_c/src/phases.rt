@@ -6,7 +6,7 @@ ghost use Rattle.revroute_c.specs.Replies.{outcome, GivesList};
 
 use crate::replies::hand_out;
 use crate::statuses::{ANSWERED, NO_MEMORY, NO_NETWORK, NO_TABLE, TOO_SHORT};
-use fr_published::PublishedSession;
+use fr_route::Session;
 use fr_ways::{Pushes, TwoPhases, WayTable, WaysFault};
 use std::alloc::{AllocError, Global};
 
@@ -27,21 +27,16 @@ pub(crate) struct Asked<'a> {
 }
 
 /// The two phases from the table to the ways of the session, or the status that says why there are none.
-fn phases_from(
-    published: &mut PublishedSession,
-    alloc: Global,
-    asked: &Asked<'_>,
-) -> Result<TwoPhases, u32>
-    ensures same { published.new ≡ published.old }
-    ensures phases { IfOk result (IsPlannedFor published.old.session asked.now.starts.now asked.now.ways.now) }
-    ensures no_network { IfErr result (λ status. (status ≡ NO_NETWORK) ↔ (published.old.session ≡ None)) }
+fn phases_from(session: &Session, alloc: Global, asked: &Asked<'_>) -> Result<TwoPhases, u32>
+    ensures phases { IfOk result (IsPlannedFor session.now asked.now.starts.now asked.now.ways.now) }
+    ensures no_network { IfErr result (λ status. (status ≡ NO_NETWORK) ↔ (session.now ≡ None)) }
     ensures no_table { IfErr result
-        (λ status. status ≡ NO_TABLE → HoldNoTable published.old.session asked.now.starts.now asked.now.ways.now) }
+        (λ status. status ≡ NO_TABLE → HoldNoTable session.now asked.now.starts.now asked.now.ways.now) }
     ensures no_memory { IfErr result (λ status. status ≡ NO_MEMORY
-        → ¬ HoldNoTable published.old.session asked.now.starts.now asked.now.ways.now) }
+        → ¬ HoldNoTable session.now asked.now.starts.now asked.now.ways.now) }
     ensures status { IfErr result (λ status. (status ≡ NO_NETWORK) ⊎ (status ≡ NO_TABLE) ⊎ (status ≡ NO_MEMORY)) }
 {
-    let Some(router) = published.session().router() else {
+    let Some(router) = session.router() else {
         return Err(NO_NETWORK);
     };
     if asked.starts.len() != router.net().nodes() as usize + 1 {
@@ -53,12 +48,10 @@ fn phases_from(
     let Some(table) = table else {
         return Err(NO_TABLE);
     };
-    match published.phases(alloc, &table) {
-        Some(Ok(phases)) => Ok(phases),
-        Some(Err(WaysFault::Memory)) => Err(NO_MEMORY),
-        Some(Err(WaysFault::Length | WaysFault::Range(_) | WaysFault::Cycle(_))) | None => {
-            unreachable!()
-        }
+    match router.phases(alloc, &table) {
+        Ok(phases) => Ok(phases),
+        Err(WaysFault::Memory) => Err(NO_MEMORY),
+        Err(WaysFault::Length | WaysFault::Range(_) | WaysFault::Cycle(_)) => unreachable!(),
     }
 }
 
@@ -82,24 +75,23 @@ fn numbers(alloc: Global, pushes: &Pushes) -> Result<Vec<u32>, AllocError>
 
 /// Writes the pushes that the caller asks for. `size` must be 0.
 pub(crate) fn way_pushes_in(
-    published: &mut PublishedSession,
+    session: &Session,
     alloc: Global,
     asked: &Asked<'_>,
     pushes: &mut [u32],
     size: &mut usize,
 ) -> u32
     requires { size.old ≡ 0 }
-    ensures gives { GivesList (ArePushesOf asked.now published.old.session)
+    ensures gives { GivesList (ArePushesOf asked.now session.now)
         (outcome result pushes.old pushes.new size.new) }
-    ensures no_network { (result ≡ NO_NETWORK) ↔ (published.old.session ≡ None) }
+    ensures no_network { (result ≡ NO_NETWORK) ↔ (session.now ≡ None) }
     ensures no_table { result ≡ NO_TABLE
-        → HoldNoTable published.old.session asked.now.starts.now asked.now.ways.now }
+        → HoldNoTable session.now asked.now.starts.now asked.now.ways.now }
     ensures no_memory { result ≡ NO_MEMORY
-        → ¬ HoldNoTable published.old.session asked.now.starts.now asked.now.ways.now }
+        → ¬ HoldNoTable session.now asked.now.starts.now asked.now.ways.now }
     ensures status { (result ≡ ANSWERED) ⊎ ((TOO_SHORT ≤ result) × (result ≤ NO_NETWORK)) ⊎ (result ≡ NO_TABLE) }
-    ensures same { published.new ≡ published.old }
 {
-    let phases = match phases_from(published, alloc, asked) {
+    let phases = match phases_from(session, alloc, asked) {
         Ok(phases) => phases,
         Err(status) => return status,
     };

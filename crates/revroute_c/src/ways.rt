@@ -1,5 +1,5 @@
-//! Questions about the ways of nodes. The state of the session stays the same. The first question measures distances,
-//! so the session is needed as mutable.
+//! Questions about the ways of nodes. The state of the session stays the same. The first question about a node measures
+//! distances, so it needs the session as mutable.
 
 ghost use Rattle.std.specs.Prelude.{◌≡◌, ◌≤◌, ◌⊎◌, ◌↔◌, length, None, IfErr, IfSome, OnOk};
 ghost use Rattle.std.specs.List.{concat};
@@ -130,22 +130,23 @@ fn hand_out_rows(table: &WayTable, starts: &mut [usize], ways: &mut [u32], size:
 
 /// Writes the ways of each node, if there is a network. `size` must be 0.
 pub(crate) fn all_ways_in(
-    published: &mut PublishedSession,
+    session: &Session,
     alloc: Global,
     starts: &mut [usize],
     ways: &mut [u32],
     size: &mut usize,
 ) -> u32
     requires { size.old ≡ 0 }
-    ensures same { published.new ≡ published.old }
-    ensures gives { GivesAllWays published.old.session (outcome result starts.old starts.new size.new)
+    ensures gives { GivesAllWays session.now (outcome result starts.old starts.new size.new)
         (outcome result ways.old ways.new size.new) }
-    ensures no_network { (result ≡ NO_NETWORK) ↔ (published.old.session ≡ None) }
+    ensures no_network { (result ≡ NO_NETWORK) ↔ (session.now ≡ None) }
     ensures status { (result ≡ ANSWERED) ⊎ ((TOO_SHORT ≤ result) × (result ≤ NO_NETWORK)) }
 {
-    match published.all_ways(alloc) {
-        Some(Ok(table)) => hand_out_rows(&table, starts, ways, size),
-        Some(Err(_memory)) => NO_MEMORY,
-        None => NO_NETWORK,
+    let Some(router) = session.router() else {
+        return NO_NETWORK;
+    };
+    match router.all_ways(alloc) {
+        Ok(table) => hand_out_rows(&table, starts, ways, size),
+        Err(_memory) => NO_MEMORY,
     }
 }

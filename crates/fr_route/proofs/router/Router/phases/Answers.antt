@@ -7,4 +7,4 @@ use Rattle.fr_route.proofs.router.Router.phases.Goals as goal
 pub known_phases-requires-clause-range : goal.known_phases-requires-clause-range
 known_phases-requires-clause-range c =
     let net = subst (λ (s : State). IsNet s.nodes s.links) c.self.view_is c.network_law.ensures.is_net in
-    all_in_range c.args.self.now net c.in_ok-wanted.wanted c.in_ok-wanted.ensures.ways
+    all_in_range c.args.self.now net c.in_ok-wanted.wanted c.in_ok-wanted.ensures

@@ -27,7 +27,7 @@ returns-in-Walk g c =
 
 pub returns-in-Ask : goal.returns-in-Ask
 returns-in-Ask g c =
-    rw (c.in-Ask.is, c.question.ensures.same) (still _ c.args.manner c.args.session.now _ c.args.told.now c.question.result
+    rw c.in-Ask.is (still _ c.args.manner c.args.session.now _ c.args.told.now c.question.result
     (λ new accepted. ask_tells c.args.session.now c.in-Ask.question (nodes_told c.args.told.now) new) c.question.ensures.reply c.question.ensures.memory)
 
 pub returns-in-AskNode : goal.returns-in-AskNode
