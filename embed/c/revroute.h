@@ -316,8 +316,9 @@ void revroute_close(revroute *session);
  * number of elements to *length. With REVROUTE_TOO_SHORT *length is that number too. After any result but
  * REVROUTE_ANSWERED the array is unchanged.
  *
- * The first question about ways, distances or nearest routes in a network also measures the distances of all its nodes,
- * in O(n + m). From then on each change keeps them up to date. A program that never asks does not pay for them. */
+ * The first call of revroute_ways, revroute_distance or revroute_nearest in a network also measures the distances of all
+ * its nodes, in O(n + m). From then on each change keeps them up to date. A program that makes no such call does not pay
+ * for them. */
 
 /* Returns the next hop of a node: a node, or one of the values above. O(1). */
 uint32_t revroute_next_hop(revroute *session, uint32_t node);

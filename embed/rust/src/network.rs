@@ -312,8 +312,8 @@ impl Network {
 
     /// The ways of a node: the nodes to which its links point, nearest first. They are ordered by their
     /// [`distance`](Network::distance), and then by number. The destination has none, and neither has a node that is
-    /// cut off. `O(d log d)`. The first question about ways, distances or nearest routes also measures the distances of all
-    /// nodes, in `O(n + m)`. From then on each change keeps them up to date.
+    /// cut off. `O(d log d)`. The first call of `ways`, `distance` or `nearest` also measures the distances of all nodes, in
+    /// `O(n + m)`. From then on each change keeps them up to date.
     ///
     /// A router may hold all its ways, and send each packet to any of them. Whichever ways routers take, and whatever
     /// links fail, no packet visits a node twice.

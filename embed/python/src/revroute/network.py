@@ -348,9 +348,8 @@ class Network(Generic[Name]):
 
     def ways(self, node: Name) -> list[Name]:
         """The ways of a node: the nodes to which its links point, nearest first. They are ordered by their distance,
-        and then by number. The destination has none, and neither has a node that is cut off. The first question about
-        ways, distances or nearest routes measures the distances of all nodes, and each later change keeps them up to
-        date.
+        and then by number. The destination has none, and neither has a node that is cut off. The first call of
+        `ways`, `distance` or `nearest` measures the distances of all nodes, and each later change keeps them up to date.
 
         A router may hold all its ways, and send each packet to any of them. Whichever ways routers take, and whatever
         links fail, no packet visits a node twice.
