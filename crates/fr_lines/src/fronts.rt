@@ -14,7 +14,7 @@ pub(crate) fn behind_space(text: &[u8]) -> &[u8]
     ensures { result.now ≡ unspaced text.now }
 {
     match text {
-        [b'!'..=u8::MAX, ..] => text,
+        [] | [b'!'..=u8::MAX, ..] => text,
         _ => behind_some_space(text),
     }
 }
@@ -40,6 +40,7 @@ pub(crate) fn behind_mark(mark: u8, text: &[u8]) -> Option<&[u8]>
 {
     match text {
         [first, behind @ ..] if *first == mark => Some(behind),
+        [] | [b'!'..=u8::MAX, ..] => None,
         _ => behind_spaced_mark(mark, text),
     }
 }
