@@ -107,12 +107,16 @@ pub fn measured<R: Alloc<A = Global> + Print + Eprint>(rt: &R, answer: &mut Answ
         return;
     };
     if net.nodes() == 4 {
-        if let Some(distances) = answer.told(rt, Distances::measure(rt.alloc(), &net, 0)) {
-            put_measured(rt, answer, &net, &distances);
+        match Distances::measure(rt.alloc(), &net, 0) {
+            Ok(distances) => put_measured(rt, answer, &net, &distances),
+            Err(fault) => answer.lack(rt, fault),
         }
-        if let Some(mut distances) = answer.told(rt, Distances::unmeasured(rt.alloc(), &net)) {
-            distances.measure_again(&net, 0);
-            put_measured(rt, answer, &net, &distances);
+        match Distances::unmeasured(rt.alloc(), &net) {
+            Ok(mut distances) => {
+                distances.measure_again(&net, 0);
+                put_measured(rt, answer, &net, &distances);
+            }
+            Err(fault) => answer.lack(rt, fault),
         }
     }
 }
