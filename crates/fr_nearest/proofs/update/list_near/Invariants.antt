@@ -4,6 +4,6 @@ use Rattle.fr_nearest.proofs.update.list_near.Given as goal
 
 abbrev pub invariant-loop-w : goal.invariant-loop-w
 invariant-loop-w l = record {
-  row : ListsRow l.net.nodes l.distances l.x l.row l.w-index l.fn.list.items l.list.items;
+  row : ListsRow l.net.nodes l.distances l.event l.x l.row l.w-index l.fn.list.items l.list.items;
   room : vec_capacity l.list ≡ vec_capacity l.fn.list;
 }
