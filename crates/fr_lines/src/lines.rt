@@ -17,9 +17,6 @@ use std::alloc::Global;
 ///
 /// O(b) for a line of b bytes without objects. It reads most requests by their bytes, and allocates only their lists.
 /// `serde_json` reads every other line, as one with an escape or an empty list. It then also clears 16 KB.
-///
-/// It is inlined, so that a request is not moved again before it is used.
-#[inline(always)]
 pub fn read_line(alloc: Global, line: &[u8]) -> Result<Request, LineFault>
     ensures ok { IfOk result (λ request. reading line.now ≡ Ok (plain request)) }
     ensures refused { IfErr result (λ fault. fault ≢ Memory → reading line.now ≡ Err fault) }
