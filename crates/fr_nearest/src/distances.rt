@@ -126,8 +126,8 @@ impl Distances {
     ///
     /// O(e + (l + c d) d) for e edits, l nodes that a lost or gained way can make wrong, and c changes of distances. Of
     /// an edited link that is only the farther end, if at all. Of a node that has turned, it is the node itself and
-    /// neighbours that are farther from the destination. If more than n nodes have to be looked at, the distances are
-    /// measured anew, in O(n + m).
+    /// neighbours that are farther from the destination. If more than n nodes have to be looked at, or if the destination
+    /// has moved, the distances are measured anew, in O(n + m).
     pub fn renew(&mut self, net: &Net, dest: u32, touched: &Touched<'_>)
         requires node { dest < net.now.nodes }
         requires old { IsOutOfDate net.now touched.now self.old.dest self.old.table }
