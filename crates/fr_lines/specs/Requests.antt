@@ -16,7 +16,9 @@
 --     ["nearest", x]                 ask for a route of the fewest links from x to the destination along the ways
 --     ["pushes", TABLE]              ask for the pushes from this table to the next hops
 --     ["pushes", TABLE, TABLE]       ask for the pushes from the first table to the second
--- A table is an array of hops: a number, "here" or "cut".
+--     ["pushes", WAYS]               ask for the pushes from these ways to the ways of each node, in two phases
+-- TABLE is an array of hops: a number, "here" or "cut". WAYS is an array that has for each node an array of numbers, or
+-- "here" or "cut" for a node without ways. An array that can be either is a table of hops.
 use Rattle.std.specs.Prelude.{ℕ, ◌^◌, List, [], ◌∷◌, Option, Some, None, ok_or, option_map}
 use Rattle.std.specs.Prelude.{option_and_then, Result, Err, nat_lt, if◌then◌else◌, codes}
 use Rattle.std.specs.Str.{bytes_eq, is_utf8}
@@ -33,7 +35,7 @@ use Rattle.fr_graph.specs.declared.edit.Edit.{Edit}
 use Rattle.fr_graph.specs.declared.edit.Edit.TheVariants as edit
 use Rattle.fr_lines.specs.declared.requests.Request.{Request}
 use Rattle.fr_lines.specs.declared.requests.Request.TheVariants.{Network, Cut, Add, Join, Batch, Destination}
-use Rattle.fr_lines.specs.declared.requests.Request.TheVariants.{Walk, Ask, AskNode, Pushes}
+use Rattle.fr_lines.specs.declared.requests.Request.TheVariants.{Walk, Ask, AskNode, Pushes, WayPushes}
 use Rattle.fr_tables.specs.declared.hop.Hop.{Hop}
 use Rattle.fr_tables.specs.declared.hop.Hop.TheVariants.{Here, To, CutOff}
 use Rattle.std.specs.declared.alloc.Global.{Global}
@@ -51,6 +53,7 @@ pub data PlainRequest : Type 0 where
   ask : Question → PlainRequest
   ask_node : NodeQuestion → ℕ → PlainRequest
   order_pushes : List Hop → Option (List Hop) → PlainRequest
+  push_ways : List (List ℕ) → PlainRequest
 
 -- a request of the code, without the capacity of its `Vec`
 abbrev pub plain : Request → PlainRequest
@@ -64,6 +67,7 @@ plain (Walk x) = walk_from x
 plain (Ask question) = ask question
 plain (AskNode question x) = ask_node question x
 plain (Pushes table wanted) = order_pushes table.items (option_map (λ (t : Vec Hop Global). t.items) wanted)
+plain (WayPushes table) = push_ways table
 
 -- the items as a list
 abbrev pub item_list : Items → List Data
@@ -181,10 +185,35 @@ hop_in d = hop_by (number_in d) (as_str d)
 abbrev pub table_in : Data → Option (List Hop)
 table_in d = option_and_then (read_all hop_in) (items_in d)
 
--- the pushes from a table, if exactly one or two tables are left
+-- numbers: an array of numbers
+abbrev pub numbers_in : Data → Option (List ℕ)
+numbers_in d = option_and_then (read_all number_in) (items_in d)
+
+-- no ways, for each of the two words
+abbrev pub ways_of_word : List ℕ → Option (List ℕ)
+ways_of_word word = option_map (λ (hop : Hop). []) (hop_of_word word)
+
+-- the ways of a node: an array of nodes, or one of the two words
+abbrev pub ways_by : Option (List ℕ) → Option (List ℕ) → Option (List ℕ)
+ways_by (Some word) list = ways_of_word word
+ways_by None list = list
+
+abbrev pub ways_in : Data → Option (List ℕ)
+ways_in d = ways_by (as_str d) (numbers_in d)
+
+-- a table of ways: an array of the ways of each node
+abbrev pub way_table_in : Data → Option (List (List ℕ))
+way_table_in d = option_and_then (read_all ways_in) (items_in d)
+
+-- the pushes from a table of hops, or else from a table of ways
+abbrev pub pushes_by : Option (List Hop) → Option (List (List ℕ)) → Option PlainRequest
+pushes_by (Some table) ways = Some (order_pushes table None)
+pushes_by None ways = option_map push_ways ways
+
+-- the pushes from a table, if exactly one table or two tables of hops are left
 abbrev pub pushes_request : List Data → Option PlainRequest
 pushes_request [] = None
-pushes_request (d ∷ []) = option_map (λ table. order_pushes table None) (table_in d)
+pushes_request (d ∷ []) = pushes_by (table_in d) (way_table_in d)
 pushes_request (d ∷ e ∷ []) =
     option_and_then (λ table. option_map (λ wanted. order_pushes table (Some wanted)) (table_in e)) (table_in d)
 pushes_request (d ∷ e ∷ f ∷ rest) = None

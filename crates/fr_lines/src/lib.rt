@@ -1,9 +1,10 @@
 //! The lines of JSON that ask for networks and for changes to them: which line is which request. From `fr_graph` this
-//! crate uses only [`Edit`], and from `fr_tables` only [`Hop`]. JSON is that of RFC 8259. docs/LINES.md lists the
-//! requests.
+//! crate uses only [`Edit`], from `fr_tables` only [`Hop`], and from `fr_ways` only [`WayTable`]. JSON is that of RFC
+//! 8259. docs/LINES.md lists the requests.
 //!
 //! [`Edit`]: fr_graph::Edit
 //! [`Hop`]: fr_tables::Hop
+//! [`WayTable`]: fr_ways::WayTable
 #![tactic(auto)]
 
 mod fronts;

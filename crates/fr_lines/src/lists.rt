@@ -3,7 +3,7 @@
 ghost use Rattle.std.specs.Prelude.{◌≡◌, ◌∷◌, ◌++◌, [], List, Option, IfOk, IfErr, IfSome, true};
 ghost use Rattle.serde_json.specs.Data.{Data};
 ghost use Rattle.serde_json.specs.View.{view};
-ghost use Rattle.fr_lines.specs.Requests.{edit_in, hop_in, link_in};
+ghost use Rattle.fr_lines.specs.Requests.{edit_in, hop_in, link_in, number_in};
 ghost use Rattle.json.specs.Lex.{Lexeme, token, comma};
 ghost use Rattle.json.specs.Token.{end_array};
 ghost use Rattle.fr_lines.specs.declared.requests.LineFault.TheVariants.{Memory};
@@ -11,7 +11,7 @@ ghost use Rattle.fr_lines.specs.LineLexemes.{Begins, Each, AreSmall, HasSmallEnd
 ghost use Rattle.fr_lines.specs.LineLexemes.{link_lexemes, edit_lexemes, list_lexemes, word_of, edit_ends};
 
 use crate::fronts::{behind_mark, ends_line, number_before};
-use crate::read::{edit, hop, link};
+use crate::read::{edit, hop, link, number};
 use crate::requests::LineFault;
 use crate::words::{EditWord, Word, opening_word};
 use fr_graph::Edit;
@@ -31,7 +31,7 @@ pub(crate) trait Item: Drop {
         ensures small { IfSome result (λ next. IsSmall next.0) };
 }
 
-/// An item of a list that is read as a value of JSON: a link, an edit or a hop.
+/// An item of a list that is read as a value of JSON: a link, an edit, a hop or a node.
 pub(crate) trait OfValue: Drop {
     ghost in_data: { Data → Option Self };
 
@@ -86,6 +86,14 @@ impl OfValue for Hop {
 
     fn of_value(value: &Value) -> Option<Hop> {
         hop(value)
+    }
+}
+
+impl OfValue for u32 {
+    ghost in_data = { number_in };
+
+    fn of_value(value: &Value) -> Option<u32> {
+        number(value)
     }
 }
 

@@ -10,12 +10,14 @@ ghost use Rattle.fr_lines.specs.Requests.{plain, reading, request_of, request_of
 ghost use Rattle.fr_lines.specs.Requests.{join_nodes, move_dest, walk_from, network_request, pair_request};
 ghost use Rattle.fr_lines.specs.Requests.{batch_request, node_request, ask_request, items_in, link_in, edit_in};
 ghost use Rattle.fr_lines.specs.Requests.{edit_of_word, number_pair, read_all, single_number, number_in};
-ghost use Rattle.fr_lines.specs.Requests.{ask_node, hop_in, pushes_request, ways_request};
+ghost use Rattle.fr_lines.specs.Requests.{ask_node, hop_in, numbers_in, pushes_request, way_table_in, ways_in};
+ghost use Rattle.fr_lines.specs.Requests.{ways_of_word, ways_request};
 
 use crate::lists::OfValue;
 use crate::requests::{LineFault, NodeQuestion, Question, Request};
 use fr_graph::Edit;
 use fr_tables::Hop;
+use fr_ways::WayTable;
 use serde_json::Value;
 use std::alloc::Global;
 
@@ -174,7 +176,7 @@ fn network(alloc: Global, rest: &[Value]) -> Result<Request, LineFault>
     Ok(Request::Network { nodes, dest, links })
 }
 
-/// Pushes, if exactly a table or two tables follow the word.
+/// Pushes, if exactly a table or two tables of hops follow the word.
 fn pushes(alloc: Global, rest: &[Value]) -> Result<Request, LineFault>
     ensures { Tells (ok_or (pushes_request (map view rest.now)) NotRequest) result }
 {
@@ -185,16 +187,66 @@ fn pushes(alloc: Global, rest: &[Value]) -> Result<Request, LineFault>
     }
 }
 
-/// Pushes from a table to the next hops.
+/// Pushes from a table of hops to the next hops, or from a table of ways to the ways.
 fn pushes_from(alloc: Global, table: &Value) -> Result<Request, LineFault>
     ensures { Tells (ok_or (pushes_request (view table.now ∷ [])) NotRequest) result }
 {
-    let table = item_list(alloc, table)?;
-    let wanted = None;
-    Ok(Request::Pushes { table, wanted })
+    match item_list(alloc, table) {
+        Ok(table) => Ok(Request::Pushes {
+            table,
+            wanted: None,
+        }),
+        Err(LineFault::NotRequest) => {
+            let table = way_table(alloc, table)?;
+            Ok(Request::WayPushes { table })
+        }
+        Err(fault) => Err(fault),
+    }
 }
 
-/// Pushes from one table to another.
+/// A table of ways: an array that has the ways of each node.
+fn way_table(alloc: Global, value: &Value) -> Result<WayTable, LineFault>
+    ensures ok { IfOk result (λ table. way_table_in (view value.now) ≡ Some table) }
+    ensures refused { IfErr result (λ fault. fault ≢ Memory
+        → (fault ≡ NotRequest) × (way_table_in (view value.now) ≡ None)) }
+{
+    let Some(values) = items_of(value) else {
+        return Err(LineFault::NotRequest);
+    };
+    let mut table = WayTable::with_capacity(alloc, values.len(), 0)?;
+    for item in values {
+        push_ways(alloc, &mut table, item)?;
+    }
+    Ok(table)
+}
+
+/// Appends the ways that a value describes.
+fn push_ways(alloc: Global, table: &mut WayTable, value: &Value) -> Result<(), LineFault>
+    ensures ok { OnOk result (IsReadNext ways_in table.old (view value.now) table.new) }
+    ensures refused { IfErr result (λ fault. fault ≢ Memory
+        → (fault ≡ NotRequest) × (ways_in (view value.now) ≡ None)) }
+{
+    let list = ways_of_node(alloc, value)?;
+    table.push_row(&list)?;
+    Ok(())
+}
+
+/// The ways of a node: an array of nodes, or a word for a node that has none.
+fn ways_of_node(alloc: Global, value: &Value) -> Result<Vec<u32>, LineFault>
+    ensures ok { IfOk result (λ list. ways_in (view value.now) ≡ Some list.items) }
+    ensures refused { IfErr result (λ fault. fault ≢ Memory
+        → (fault ≡ NotRequest) × (ways_in (view value.now) ≡ None)) }
+{
+    let Some(word) = value.as_str() else {
+        return item_list(alloc, value);
+    };
+    match word {
+        "here" | "cut" => Ok(Vec::new(alloc)),
+        _ => Err(LineFault::NotRequest),
+    }
+}
+
+/// Pushes from one table of hops to another.
 fn pushes_between(alloc: Global, table: &Value, wanted: &Value) -> Result<Request, LineFault>
     ensures { Tells (ok_or (pushes_request (view table.now ∷ view wanted.now ∷ [])) NotRequest) result }
 {
@@ -308,7 +360,7 @@ fn two_numbers(items: &[Value]) -> Option<(u32, u32)>
 }
 
 /// A number from 0 to 4,294,967,295.
-fn number(value: &Value) -> Option<u32>
+pub(crate) fn number(value: &Value) -> Option<u32>
     ensures { result ≡ number_in (view value.now) }
 {
     u32::try_from(value.as_u64()?).ok()

@@ -5,6 +5,7 @@ ghost use Rattle.fr_lines.specs.declared.requests.LineFault.TheVariants.{Memory}
 
 use fr_graph::Edit;
 use fr_tables::Hop;
+use fr_ways::WayTable;
 use std::alloc::{AllocError, AllocFailed};
 use thiserror::Error;
 
@@ -73,6 +74,12 @@ pub enum Request {
         table: Vec<Hop>,
         /// The table after them. Without it, they lead to the next hops of the network in use.
         wanted: Option<Vec<Hop>>,
+    },
+    /// Ask which ways to push, in two phases, from one table of ways to the ways of the network in use:
+    /// `["pushes", table]`. A node that is missing at the end of the table has no ways. This changes nothing.
+    WayPushes {
+        /// The table before the pushes.
+        table: WayTable,
     },
 }
 

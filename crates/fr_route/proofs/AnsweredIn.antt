@@ -5,7 +5,7 @@ use Rattle.fr_graph.specs.declared.edit.Edit.{Edit}
 use Rattle.fr_graph.specs.declared.edit.Edit.TheVariants as edit
 use Rattle.fr_graph.specs.declared.fault.NetFault.{NetFault}
 use Rattle.fr_graph.specs.declared.fault.NetFault.TheVariants.{TooMany, Range, SelfLink, Twice, Cycle, NoLink, Memory}
-use Rattle.fr_lines.specs.Requests.{PlainRequest, new_network, cut_link, add_link, join_nodes, make_edits, move_dest, walk_from, ask, ask_node, order_pushes}
+use Rattle.fr_lines.specs.Requests.{PlainRequest, new_network, cut_link, add_link, join_nodes, make_edits, move_dest, walk_from, ask, ask_node, order_pushes, push_ways}
 use Rattle.fr_lines.specs.declared.requests.LineFault.{LineFault}
 use Rattle.fr_lines.specs.declared.requests.LineFault.TheVariants.{NotJson, NotRequest, Memory as LineMemory}
 use Rattle.fr_lines.specs.declared.requests.Question.TheVariants.{Links, Counts, Hops, Ways}
@@ -84,6 +84,7 @@ refusal_unique None (move_dest d) a b h k = h ∙ sym k
 refusal_unique None (walk_from x) a b h k = h ∙ sym k
 refusal_unique None (ask question) a b h k = h ∙ sym k
 refusal_unique None (ask_node question x) a b h k = h ∙ sym k
+refusal_unique None (push_ways table) a b h k = h ∙ sym k
 refusal_unique (Some s) (cut_link u v) a b h k = edit_refusal_unique (net_at s) (edit.Cut u v) a b h k
 refusal_unique (Some s) (add_link u v) a b h k = edit_refusal_unique (net_at s) (edit.Add u v) a b h k
 refusal_unique (Some s) (join_nodes u v) a b h k = edit_refusal_unique (net_at s) (edit.Join u v) a b h k
@@ -92,6 +93,9 @@ refusal_unique (Some s) (move_dest d) a b h k = h.1 ∙ sym k.1
 refusal_unique (Some s) (walk_from x) a b h k = h.1 ∙ sym k.1
 refusal_unique (Some s) (ask question) a b h k = absurd h
 refusal_unique (Some s) (ask_node question x) a b h k = h.1 ∙ sym k.1
+refusal_unique (Some s) (push_ways table) a b h k =
+    let same = way_refusal_unique s table h.0 k.0 h.1 k.1 h.2 k.2 in
+    h.3 ∙ ((λ i. record { number = same.0 i; nodes = same.1 i; edit = None }) ∙ sym k.3)
 
 json_report_unique : (Lists : List ℕ → Type 0) → ((a b : List ℕ) → Lists a → Lists b → a ≡ b) → (new : State) (t u : List ℕ)
     → IsJsonReport Lists new t → IsJsonReport Lists new u → t ≡ u
@@ -136,6 +140,7 @@ json_text_unique s (walk_from x) new t u h k = json_walk_unique new x t u h k
 json_text_unique s (ask Links) new t u h k = h ∙ sym k
 json_text_unique s (ask Counts) new t u h k = h ∙ sym k
 json_text_unique s (order_pushes table wanted) new t u h k = absurd h
+json_text_unique s (push_ways table) new t u h k = phases_text_unique phases_json new table t u h k
 json_text_unique s (ask Ways) new t u h k = json_ways_unique new t u h k
 json_text_unique s (ask_node node.Ways x) new t u h k = json_node_ways_unique new x t u h k
 json_text_unique s (ask_node node.Nearest x) new t u h k = json_nearest_unique new x t u h k

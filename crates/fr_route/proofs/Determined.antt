@@ -7,7 +7,7 @@ use Rattle.fr_graph.specs.Batches.{IsBatchFault, IsEditFault}
 use Rattle.fr_graph.specs.Edits.{without}
 use Rattle.fr_graph.specs.Faults.{IsFirstFault}
 use Rattle.fr_graph.specs.Network.{Network}
-use Rattle.fr_lines.specs.Requests.{PlainRequest, new_network, cut_link, add_link, join_nodes, make_edits, move_dest, walk_from, ask, ask_node, order_pushes, reading}
+use Rattle.fr_lines.specs.Requests.{PlainRequest, new_network, cut_link, add_link, join_nodes, make_edits, move_dest, walk_from, ask, ask_node, order_pushes, push_ways, reading}
 use Rattle.fr_graph.specs.declared.edit.Edit.{Edit}
 use Rattle.fr_graph.specs.declared.edit.Edit.TheVariants as edit
 use Rattle.fr_graph.specs.declared.fault.EditFault.{EditFault}
@@ -24,12 +24,13 @@ use Rattle.fr_route.specs.Blank.{is_blank}
 use Rattle.fr_route.specs.States.{State, IsReport, IsRound, net_at}
 use Rattle.fr_route.specs.Routes.{IsHop, AreHops}
 use Rattle.fr_route.specs.Pushing.{AreAsked}
-use Rattle.fr_route.specs.Texts.{nearest_text, node_ways_text, ways_text}
+use Rattle.fr_route.specs.Texts.{nearest_text, node_ways_text, phases_text, ways_text}
 use Rattle.fr_route.specs.Texts.{report_text, hops_text, pushes_text, walk_text, refusal_text}
 use Rattle.fr_route.specs.Answers.{IsNearestLine, IsNodeWaysLine, IsWaysLine}
 use Rattle.fr_nearest.proofs.Walking.{one_list}
 use Rattle.fr_route.proofs.WaysExist.{nearest_unique}
 use Rattle.fr_route.proofs.NodeWays.{all_ways_unique, nearest_connected}
+use Rattle.fr_route.proofs.WayPushes.{phases_text_unique, way_refusal_unique}
 use Rattle.fr_route.specs.Answers.{fault_number, IsRefused, IsAccepted, IsReportLine, IsWalkLine, IsText, IsAnswer, IsLineAnswer, AreAnswers}
 use Rattle.fr_tables.specs.declared.hop.Hop.{Hop}
 use Rattle.fr_tables.specs.declared.hop.Hop.TheVariants as hop
@@ -105,6 +106,7 @@ refused_unique None (move_dest d) j k a b = a ∙ sym b
 refused_unique None (walk_from x) j k a b = a ∙ sym b
 refused_unique None (ask q) j k a b = a ∙ sym b
 refused_unique None (ask_node q x) j k a b = a ∙ sym b
+refused_unique None (push_ways table) j k a b = a ∙ sym b
 refused_unique (Some s) (cut_link u v) j k a b =
     (a.2 ∙ ap fault_number (cut_fault_is s.links u v a.0 a.1).0) ∙ sym (b.2 ∙ ap fault_number (cut_fault_is s.links u v b.0 b.1).0)
 refused_unique (Some s) (add_link u v) j k a b = a.2 ∙ (one_number s.nodes (s.links ++ (u, v) ∷ []) a.0 b.0 a.1 b.1 ∙ sym b.2)
@@ -115,6 +117,7 @@ refused_unique (Some s) (move_dest d) j k a b = a.1 ∙ sym b.1
 refused_unique (Some s) (walk_from x) j k a b = a.1 ∙ sym b.1
 refused_unique (Some s) (ask q) j k a b = absurd a
 refused_unique (Some s) (ask_node q x) j k a b = a.1 ∙ sym b.1
+refused_unique (Some s) (push_ways table) j k a b = (way_refusal_unique s table j k a.0 b.0 a.1 b.1).0
 
 pub accepted_unique : (s : Option State) (r : PlainRequest) (a b : State) → IsAccepted s r a → IsAccepted s r b → a ≡ b
 accepted_unique s (new_network n d links) a b p q = round_unique n d links a b p.2 q.2
@@ -127,6 +130,7 @@ accepted_unique None (move_dest d) a b h g = absurd h
 accepted_unique None (walk_from x) a b h g = absurd h
 accepted_unique None (ask q) a b h g = absurd h
 accepted_unique None (ask_node q x) a b h g = absurd h
+accepted_unique None (push_ways table) a b h g = absurd h
 accepted_unique (Some s) (cut_link u v) a b h g = round_unique s.nodes s.dest (without u v s.links) a b h.1 g.1
 accepted_unique (Some s) (add_link u v) a b h g = round_unique s.nodes s.dest (s.links ++ (u, v) ∷ []) a b h.1 g.1
 accepted_unique (Some s) (join_nodes u v) a b h g =
@@ -139,6 +143,7 @@ accepted_unique (Some s) (move_dest d) a b h g = round_unique s.nodes d s.links 
 accepted_unique (Some s) (walk_from x) a b h g = h.1 ∙ sym g.1
 accepted_unique (Some s) (ask q) a b h g = h ∙ sym g
 accepted_unique (Some s) (ask_node q x) a b h g = h.1 ∙ sym g.1
+accepted_unique (Some s) (push_ways table) a b h g = h.2 ∙ sym g.2
 
 pub not_both : (s : Option State) (r : PlainRequest) (k : ℕ) (new : State) → IsRefused s r k → ¬ IsAccepted s r new
 not_both s (new_network n d links) k new (inl a) h = no_first_fault n links a.0 h.0 a.1
@@ -152,6 +157,7 @@ not_both None (move_dest d) k new a h = h
 not_both None (walk_from x) k new a h = h
 not_both None (ask q) k new a h = h
 not_both None (ask_node q x) k new a h = h
+not_both None (push_ways table) k new a h = h
 not_both (Some s) (cut_link u v) k new a h = (cut_fault_is s.links u v a.0 a.1).1 h.0
 not_both (Some s) (add_link u v) k new a h = no_first_fault s.nodes (s.links ++ (u, v) ∷ []) a.0 h.0 a.1
 not_both (Some s) (join_nodes u v) k new a h = join_not_refused s.nodes s.links u v a.0 h.0 a.1 h.1.0
@@ -160,6 +166,8 @@ not_both (Some s) (move_dest d) k new a h = omega (arith, a.0, h.0)
 not_both (Some s) (walk_from x) k new a h = omega (arith, a.0, h.0)
 not_both (Some s) (ask q) k new a h = a
 not_both (Some s) (ask_node q x) k new a h = omega (arith, a.0, h.0)
+not_both (Some s) (push_ways table) k new (nodes, inl a) h = omega (arith, a.0, h.0)
+not_both (Some s) (push_ways table) k new (nodes, inr a) h = omega (arith, a.1, h.1)
 
 -- a request for pushes that has an answer is neither refused nor accepted
 pub asked_not_refused : (s : Option State) (r : PlainRequest) (pushes : List (ℕ × Hop)) (k : ℕ) → AreAsked s r pushes → ¬ IsRefused s r k
@@ -172,6 +180,7 @@ asked_not_refused s (move_dest d) pushes k h a = h
 asked_not_refused s (walk_from x) pushes k h a = h
 asked_not_refused s (ask q) pushes k h a = h
 asked_not_refused s (ask_node q x) pushes k h a = h
+asked_not_refused s (push_ways table) pushes k h a = h
 asked_not_refused s (order_pushes table wanted) pushes k h a = pushes_not_refused hops_unique s table wanted pushes k a.0 h a.1
 
 pub asked_not_accepted : (s : Option State) (r : PlainRequest) (pushes : List (ℕ × Hop)) (new : State) → AreAsked s r pushes → ¬ IsAccepted s r new
@@ -184,6 +193,7 @@ asked_not_accepted s (move_dest d) pushes new h a = h
 asked_not_accepted s (walk_from x) pushes new h a = h
 asked_not_accepted s (ask q) pushes new h a = h
 asked_not_accepted s (ask_node q x) pushes new h a = h
+asked_not_accepted s (push_ways table) pushes new h a = h
 asked_not_accepted s (order_pushes table wanted) pushes new h a = a
 
 pub report_unique : (s : State) (t u k l : ℕ) → IsReport s t k → IsReport s u l → (t ≡ u) × (k ≡ l)
@@ -223,6 +233,7 @@ text_unique s (walk_from x) t u a b = walk_line_unique s x t u a b
 text_unique s (ask Links) t u a b = a ∙ sym b
 text_unique s (ask Counts) t u a b = a ∙ sym b
 text_unique s (order_pushes table wanted) t u a b = absurd a
+text_unique s (push_ways table) t u a b = phases_text_unique phases_text s table t u a b
 text_unique s (ask Ways) t u a b = ways_line_unique s t u a b
 text_unique s (ask_node node.Ways x) t u a b = node_ways_line_unique s x t u a b
 text_unique s (ask_node node.Nearest x) t u a b = nearest_line_unique s x t u a b

@@ -14,11 +14,11 @@ use Rattle.fr_graph.specs.Counts.{links_at}
 use Rattle.fr_graph.specs.Edits.{IsJoined, IsJoinFault, without}
 use Rattle.fr_graph.specs.Batches.{AreMade, IsEditFault, IsMade, IsRefusedAt}
 use Rattle.fr_graph.specs.Faults.{IsFaultless, IsFirstFault, IsNetworkOf}
-use Rattle.fr_graph.specs.Limits.{most_edits}
+use Rattle.fr_graph.specs.Limits.{most_edits, most_nodes}
 use Rattle.fr_graph.specs.Links.{HasPath, IsAcyclic, IsNet, Points}
 use Rattle.fr_graph.specs.Network.{Network, net_of}
 use Rattle.fr_graph.specs.Order.{in_order}
-use Rattle.fr_lines.specs.Requests.{PlainRequest, new_network, cut_link, add_link, join_nodes, make_edits, move_dest, walk_from, ask, ask_node, order_pushes, reading}
+use Rattle.fr_lines.specs.Requests.{PlainRequest, new_network, cut_link, add_link, join_nodes, make_edits, move_dest, walk_from, ask, ask_node, order_pushes, push_ways, reading}
 use Rattle.fr_lines.specs.Requests.{reading_of_value, request_of, value_of_line}
 use Rattle.fr_graph.specs.declared.fault.EditFault.{EditFault}
 use Rattle.fr_graph.specs.declared.fault.NetFault.{NetFault}
@@ -39,7 +39,8 @@ use Rattle.fr_route.specs.States.{State, IsAfterRound, IsReport, IsRound, net_at
 use Rattle.fr_route.specs.Routes.{IsHop, AreHops, is_cut_off}
 use Rattle.fr_route.specs.Answers.{fault_number, IsReportLine, IsHopsLine, IsWalkLine, IsAnswer, IsLineAnswer, IsText}
 use Rattle.fr_route.specs.Texts.{counts_text, links_text, hops_text, walk_text, no_walk_text, pushes_text, report_text, refusal_text}
-use Rattle.fr_route.specs.Texts.{nearest_text, no_nearest_text, node_ways_text, ways_text}
+use Rattle.fr_route.specs.Texts.{nearest_text, no_nearest_text, node_ways_text, phases_text, ways_text}
+use Rattle.fr_route.specs.WayPushes.{growths, shrinks}
 use Rattle.fr_tables.specs.declared.hop.Hop.{Hop}
 use Rattle.fr_tables.specs.declared.hop.Hop.TheVariants.{Here, To, CutOff}
 use Rattle.std.specs.List.{count_by}
@@ -326,6 +327,22 @@ node_answer s good question x = ⊎_elim
     (λ past. (refusal_text 4, Some s, inl (4, (past, refl), refl, refl), good))
     (cases_lt x s.nodes)
 
+way_pushes_answer : (s : State) → IsSettledState s → (table : List (List ℕ)) → HasAnswer (Some s) (push_ways table)
+way_pushes_answer s good table = elim (cases_lt most_nodes (length table)) [
+  | inl long ↦ (refusal_text 9, Some s, inl (9, ([], inl (long, refl, refl)), refl, refl), good)
+  | inr few ↦ elim (cases_lt s.nodes (length table)) [
+    | inl past ↦
+        (refusal_text 4, Some s, inl (4, (s.nodes ∷ [], inr (few, past, refl, refl)), refl, refl), good)
+    | inr fits ↦
+        let (wanted, are) = all_ways_exist s good.faultless.is_net.in_range (decide s good) in (
+          phases_text (shrinks table wanted) (growths table wanted),
+          Some s,
+          inr (inl (s, (few, fits, refl), (wanted, are, refl), refl)),
+          good,
+        )
+  ]
+]
+
 tables_answer : (s : Option State) → IsReached s → (table : List Hop) (wanted : Option (List Hop)) → HasAnswer s (order_pushes table wanted)
 tables_answer s reached table (Some new) = elim (from_or_fault table (padded (max (length table) (length new)) new)) [
   | inl pushes ↦ (pushes_text pushes.0, s, inr (inr (pushes.0, pushes.1, refl, refl)), reached)
@@ -348,6 +365,7 @@ each_answer None reached (move_dest d) = (refusal_text 3, None, inl (3, refl, re
 each_answer None reached (walk_from x) = (refusal_text 3, None, inl (3, refl, refl, refl), tt)
 each_answer None reached (ask question) = (refusal_text 3, None, inl (3, refl, refl, refl), tt)
 each_answer None reached (ask_node question x) = (refusal_text 3, None, inl (3, refl, refl, refl), tt)
+each_answer None reached (push_ways table) = (refusal_text 3, None, inl (3, refl, refl, refl), tt)
 each_answer (Some s) good (cut_link u v) = cut_answer s good u v
 each_answer (Some s) good (add_link u v) = add_answer s good u v
 each_answer (Some s) good (join_nodes u v) = join_answer s good u v
@@ -356,6 +374,7 @@ each_answer (Some s) good (move_dest d) = dest_answer s good d
 each_answer (Some s) good (walk_from x) = walk_answer s good x
 each_answer (Some s) good (ask question) = ask_answer s good question
 each_answer (Some s) good (ask_node question x) = node_answer s good question x
+each_answer (Some s) good (push_ways table) = way_pushes_answer s good table
 
 abbrev pub HasLineAnswer : Option State → Result PlainRequest LineFault → Type 0
 HasLineAnswer s line = (text : List ℕ) × (next : Option State) × IsLineAnswer s line text next × IsReached next

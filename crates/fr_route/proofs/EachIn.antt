@@ -3,7 +3,7 @@ use Rattle.std.proofs.Common.{◌≡◌, ◌==◌, ◌∙◌, ℕ, ◌≤◌, Li
 use Rattle.std.specs.List.{count_by}
 use Rattle.std.proofs.lemmas.List.{length-replicate}
 use Rattle.fr_graph.specs.declared.edit.Edit.TheVariants as edit
-use Rattle.fr_lines.specs.Requests.{PlainRequest, new_network, cut_link, add_link, join_nodes, make_edits, move_dest, walk_from, ask, ask_node, order_pushes, reading}
+use Rattle.fr_lines.specs.Requests.{PlainRequest, new_network, cut_link, add_link, join_nodes, make_edits, move_dest, walk_from, ask, ask_node, order_pushes, push_ways, reading}
 use Rattle.fr_lines.specs.declared.requests.LineFault.{LineFault}
 use Rattle.fr_lines.specs.declared.requests.LineFault.TheVariants.{NotJson, NotRequest, Memory as LineMemory}
 use Rattle.fr_lines.specs.declared.requests.Question.TheVariants.{Links, Counts, Hops, Ways}
@@ -51,6 +51,7 @@ refusal_exists None good (move_dest d) number h = (bare_refusal 3, refl)
 refusal_exists None good (walk_from x) number h = (bare_refusal 3, refl)
 refusal_exists None good (ask question) number h = (bare_refusal 3, refl)
 refusal_exists None good (ask_node question x) number h = (bare_refusal 3, refl)
+refusal_exists None good (push_ways table) number h = (bare_refusal 3, refl)
 refusal_exists (Some s) good (cut_link u v) number h =
     let f = edit_named (net_at s) (edit.Cut u v) h.0 good.faultless h.1 in
     (refusal_for f.0 (ends (edit.Cut u v)) None, (f.0, f.1, f.2, refl))
@@ -67,6 +68,8 @@ refusal_exists (Some s) good (move_dest d) number h = (no_node d, (h.0, refl))
 refusal_exists (Some s) good (walk_from x) number h = (no_node x, (h.0, refl))
 refusal_exists (Some s) good (ask question) number h = absurd h
 refusal_exists (Some s) good (ask_node question x) number h = (no_node x, (h.0, refl))
+refusal_exists (Some s) good (push_ways table) number h =
+    (record { number = number; nodes = h.0; edit = None }, (number, h.0, h.1, refl))
 
 -- the hops of the numbers below n, in order
 table_of : (s : State) → IsSettledState s → (n : ℕ) → s.nodes ≤ n → (table : List Hop) × IsSettledTable s n table
@@ -129,6 +132,7 @@ text_exists None good (move_dest d) new good_new h text is = absurd h
 text_exists None good (walk_from x) new good_new h text is = absurd h
 text_exists None good (ask question) new good_new h text is = absurd h
 text_exists None good (ask_node question x) new good_new h text is = absurd h
+text_exists None good (push_ways table) new good_new h text is = absurd h
 text_exists (Some s) good (cut_link u v) new good_new h text is = change_text s new good good_new h.1.nodes
 text_exists (Some s) good (add_link u v) new good_new h text is = change_text s new good good_new h.1.nodes
 text_exists (Some s) good (join_nodes u v) new good_new h text is =
@@ -142,6 +146,8 @@ text_exists (Some s) good (ask Links) new good_new h text is = (links_json new.l
 text_exists (Some s) good (ask Counts) new good_new h text is = (counts_json new.counts, refl)
 text_exists (Some s) good (ask Hops) new good_new h text is = (hops_json is.0, (is.0, is.1, refl))
 text_exists (Some s) good (ask Ways) new good_new h text is = (ways_json new.dest is.0, (is.0, is.1, refl))
+text_exists (Some s) good (push_ways table) new good_new h text is =
+    (phases_json (shrinks table is.0) (growths table is.0), (is.0, is.1, refl))
 text_exists (Some s) good (ask_node node.Ways x) new good_new h text is =
     (node_ways_json (x == new.dest) is.0, (is.0, is.1, refl))
 text_exists (Some s) good (ask_node node.Nearest x) new good_new h text (inl is) =

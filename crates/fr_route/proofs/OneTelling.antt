@@ -1,6 +1,6 @@
 -- A line and the states before and after it determine the list of rerouted nodes.
 use Rattle.std.proofs.Common.{◌≡◌, ◌∙◌, ℕ, List, Option, Some, None, Result, Ok, Err, inl, inr, subst, sym}
-use Rattle.fr_lines.specs.Requests.{PlainRequest, new_network, cut_link, add_link, join_nodes, make_edits, move_dest, walk_from, ask, ask_node, order_pushes}
+use Rattle.fr_lines.specs.Requests.{PlainRequest, new_network, cut_link, add_link, join_nodes, make_edits, move_dest, walk_from, ask, ask_node, order_pushes, push_ways}
 use Rattle.fr_lines.specs.declared.requests.LineFault.{LineFault}
 use Rattle.fr_tables.specs.declared.hop.Hop.{Hop}
 use Rattle.fr_tables.specs.Pushes.{IsPushOrder}
@@ -50,6 +50,7 @@ tells_unique None (move_dest d) new old a b h k = absurd h
 tells_unique None (walk_from x) new old a b h k = absurd h
 tells_unique None (ask question) new old a b h k = absurd h
 tells_unique None (ask_node question x) new old a b h k = absurd h
+tells_unique None (push_ways table) new old a b h k = absurd h
 tells_unique (Some s) (cut_link u v) new old a b h k = rerouted_unique s new a b h k
 tells_unique (Some s) (add_link u v) new old a b h k = rerouted_unique s new a b h k
 tells_unique (Some s) (join_nodes u v) new old a b h k = rerouted_unique s new a b h k
@@ -58,6 +59,7 @@ tells_unique (Some s) (move_dest d) new old a b h k = rerouted_unique s new a b 
 tells_unique (Some s) (walk_from x) new old a b h k = h ∙ sym k
 tells_unique (Some s) (ask question) new old a b h k = h ∙ sym k
 tells_unique (Some s) (ask_node question x) new old a b h k = h ∙ sym k
+tells_unique (Some s) (push_ways table) new old a b h k = h ∙ sym k
 
 told_unique : (s : Option State) (r : PlainRequest) (next : Option State) (old a b : List ℕ)
     → IsTold s r next old a → IsTold s r next old b → a ≡ b

@@ -4,7 +4,7 @@ use Rattle.std.proofs.Common.{ℕ, ◌∙◌, ◌≡◌, ◌≢◌, ◌<◌, ◌
 use Rattle.std.proofs.lemmas.Option.{slice_get-get_or}
 use Rattle.std.specs.Prelude.{String}
 use Rattle.std.specs.declared.alloc.Global.{Global}
-use Rattle.fr_lines.specs.Requests.{PlainRequest, reading, ask, ask_node, cut_link, add_link, join_nodes, make_edits, move_dest, new_network, order_pushes, walk_from}
+use Rattle.fr_lines.specs.Requests.{PlainRequest, reading, ask, ask_node, cut_link, add_link, join_nodes, make_edits, move_dest, new_network, order_pushes, push_ways, walk_from}
 use Rattle.fr_lines.specs.declared.requests.LineFault.{LineFault}
 use Rattle.fr_lines.specs.declared.requests.LineFault.TheVariants.{NotJson, NotRequest, Memory as LineMemory}
 use Rattle.fr_lines.specs.declared.requests.Question.{Question}
@@ -297,6 +297,11 @@ pub ask_tells : (s : Option State) (question : Question) (nodes : List ℕ) (new
 ask_tells None question nodes new e = let no : ⊥ = cc in absurd no
 ask_tells (Some s) question nodes new e = refl
 
+pub push_ways_tells : (s : Option State) (table : List (List ℕ)) (nodes : List ℕ) (new : State) → s ≡ Some new
+    → TellsOf s (push_ways table) new nodes nodes
+push_ways_tells None table nodes new e = let no : ⊥ = cc in absurd no
+push_ways_tells (Some s) table nodes new e = refl
+
 pub ask_node_tells : (s : Option State) (question : NodeQuestion) (x : ℕ) (nodes : List ℕ) (new : State) → s ≡ Some new
     → TellsOf s (ask_node question x) new nodes nodes
 ask_node_tells None question x nodes new e = let no : ⊥ = cc in absurd no
@@ -331,6 +336,7 @@ refused_by None (move_dest d) refusal h = ap (λ (r : PlainRefusal). r.number) h
 refused_by None (walk_from x) refusal h = ap (λ (r : PlainRefusal). r.number) h
 refused_by None (ask question) refusal h = ap (λ (r : PlainRefusal). r.number) h
 refused_by None (ask_node question x) refusal h = ap (λ (r : PlainRefusal). r.number) h
+refused_by None (push_ways table) refusal h = ap (λ (r : PlainRefusal). r.number) h
 refused_by (Some s) (cut_link u v) refusal h = (h.0, h.1, number_is refusal h.0 (u ∷ v ∷ []) None h.3)
 refused_by (Some s) (add_link u v) refusal h = (h.0, h.1, number_is refusal h.0 (u ∷ v ∷ []) None h.3)
 refused_by (Some s) (join_nodes u v) refusal h = (h.0, h.1, number_is refusal h.0 (u ∷ v ∷ []) None h.3)

@@ -1,12 +1,13 @@
 -- The answer to each request and to each line, from the state before it: the definition of docs/LINES.md. This
 -- project's own.
-use Rattle.std.specs.Prelude.{◌≡◌, ◌==◌, ℕ, ◌<◌, ◌≤◌, ◌⊎◌, List, [], ◌∷◌, ◌++◌}
+use Rattle.std.specs.Prelude.{◌≡◌, ◌==◌, ℕ, ◌<◌, ◌≤◌, ◌⊎◌, List, [], ◌∷◌, ◌++◌, length}
 use Rattle.std.specs.Prelude.{MatchBool, Option, Some, None, Result, Ok, Err}
 use Rattle.fr_graph.specs.Batches.{IsBatchFault, IsEditFault}
 use Rattle.fr_graph.specs.Faults.{IsFirstFault, IsFaultless, IsNetworkOf}
+use Rattle.fr_graph.specs.Limits.{most_nodes}
 use Rattle.fr_graph.specs.Network.{Network}
 use Rattle.fr_lines.specs.Requests.{PlainRequest, new_network, cut_link, add_link, join_nodes}
-use Rattle.fr_lines.specs.Requests.{make_edits, move_dest, walk_from, ask, ask_node, order_pushes, reading}
+use Rattle.fr_lines.specs.Requests.{make_edits, move_dest, walk_from, ask, ask_node, order_pushes, push_ways, reading}
 use Rattle.fr_lines.specs.declared.requests.Question.TheVariants.{Links, Counts, Hops, Ways}
 use Rattle.fr_lines.specs.declared.requests.NodeQuestion.TheVariants as node
 use Rattle.fr_lines.specs.declared.requests.LineFault.{LineFault}
@@ -22,7 +23,9 @@ use Rattle.fr_route.specs.Routes.{IsRoute, AreHops}
 use Rattle.fr_route.specs.Changes.{CanTurnAfter, IsBatch, IsChanged, IsMoved, IsStill, MayStart}
 use Rattle.fr_route.specs.Pushing.{AreAsked, IsPushesRefused}
 use Rattle.fr_route.specs.Texts.{counts_text, links_text, hops_text, walk_text, no_walk_text, ways_text}
-use Rattle.fr_route.specs.Texts.{node_ways_text, nearest_text, no_nearest_text, pushes_text, report_text, refusal_text}
+use Rattle.fr_route.specs.Texts.{node_ways_text, nearest_text, no_nearest_text, phases_text, pushes_text, report_text}
+use Rattle.fr_route.specs.Texts.{refusal_text}
+use Rattle.fr_route.specs.WayPushes.{AreWayPushesRefused, IsPhasesText}
 use Rattle.fr_route.specs.declared.change.Change.TheVariants.{Cut, Add, Join, Destination}
 use Rattle.fr_tables.specs.declared.hop.Hop.{Hop}
 
@@ -39,7 +42,7 @@ fault_number Memory = 0
 -- The request is refused in this state, with this number. A network is refused for the first fault of its links, or for
 -- a destination that is not a node. Pushes are refused for their tables. Without a network, every other request is
 -- refused. A change is refused for its fault. A new destination, or the start of a route, is refused if it is not a
--- node.
+-- node. Pushes of ways are refused for a table that is too long.
 abbrev pub IsRefused : Option State → PlainRequest → ℕ → Type 0
 IsRefused s (new_network n d links) number =
     ((fault : NetFault) × IsFirstFault n links fault × (number ≡ fault_number fault))
@@ -58,6 +61,7 @@ IsRefused (Some s) (move_dest d) number = (s.nodes ≤ d) × (number ≡ 4)
 IsRefused (Some s) (walk_from x) number = (s.nodes ≤ x) × (number ≡ 4)
 IsRefused (Some s) (ask question) number = ⊥
 IsRefused (Some s) (ask_node question x) number = (s.nodes ≤ x) × (number ≡ 4)
+IsRefused (Some s) (push_ways table) number = (nodes : List ℕ) × AreWayPushesRefused s table number nodes
 
 -- the request is accepted, and `new` is the state after it: a network or a change begins a round, and all else changes
 -- nothing. Requests for pushes are defined by `AreAsked`, since they need no state
@@ -73,6 +77,7 @@ IsAccepted (Some s) (move_dest d) new = IsMoved s d new
 IsAccepted (Some s) (walk_from x) new = (x < s.nodes) × (new ≡ s)
 IsAccepted (Some s) (ask question) new = new ≡ s
 IsAccepted (Some s) (ask_node question x) new = (x < s.nodes) × (new ≡ s)
+IsAccepted (Some s) (push_ways table) new = (length table ≤ most_nodes) × (length table ≤ s.nodes) × (new ≡ s)
 
 -- the line that reports a round, from the state after it
 abbrev pub IsReportLine : State → List ℕ → Type 0
@@ -117,6 +122,7 @@ IsText s (ask Hops) text = IsHopsLine s text
 IsText s (ask Ways) text = IsWaysLine s text
 IsText s (ask_node node.Ways x) text = IsNodeWaysLine s x text
 IsText s (ask_node node.Nearest x) text = IsNearestLine s x text
+IsText s (push_ways table) text = IsPhasesText phases_text s table text
 IsText s (order_pushes table wanted) text = ⊥
 
 -- the answer to a request, and the state after it: refusals and pushes between tables do not change the state
@@ -159,6 +165,7 @@ MayStartFor (Some s) (move_dest d) = MayStart s (Destination d)
 MayStartFor (Some s) (walk_from x) = ⊥
 MayStartFor (Some s) (ask question) = ⊥
 MayStartFor (Some s) (ask_node question x) = ⊥
+MayStartFor (Some s) (push_ways table) = ⊥
 
 -- the same for a line that was read with this result
 abbrev pub MayStartForLine : Option State → Result PlainRequest LineFault → Type 0

@@ -14,6 +14,7 @@ use Rattle.fr_graph.specs.declared.fault.NetFault.{NetFault}
 use Rattle.fr_graph.specs.declared.fault.NetFault.TheVariants.{NoLink}
 use Rattle.fr_lines.specs.Requests.{PlainRequest, new_network, cut_link, add_link}
 use Rattle.fr_lines.specs.Requests.{join_nodes, make_edits, move_dest, walk_from, ask, ask_node, order_pushes}
+use Rattle.fr_lines.specs.Requests.{push_ways}
 use Rattle.fr_lines.specs.declared.requests.Question.TheVariants.{Links, Counts, Hops, Ways}
 use Rattle.fr_lines.specs.declared.requests.NodeQuestion.TheVariants as node
 use Rattle.fr_lines.specs.declared.requests.LineFault.{LineFault}
@@ -25,6 +26,7 @@ use Rattle.fr_route.specs.NodeWays.{AreAllWays, AreNodeWays, IsNearestRoute}
 use Rattle.fr_route.specs.Routes.{AreHops, IsHop, IsRoute}
 use Rattle.fr_route.specs.Separated.{comma_before, listed}
 use Rattle.fr_route.specs.States.{State, IsCutOff, IsReport, net_at}
+use Rattle.fr_route.specs.WayPushes.{AreWayPushesRefused, IsPhasesText}
 use Rattle.fr_tables.specs.declared.hop.Hop.{Hop}
 use Rattle.fr_tables.specs.declared.hop.Hop.TheVariants.{Here, To, CutOff}
 
@@ -82,6 +84,15 @@ change_json change = codes "[" ++ (decimal change.0 ++ (codes "," ++ (hop_json c
 
 abbrev pub pushes_json : List (ℕ × Hop) → List ℕ
 pushes_json pushes = codes "{\"pushes\":[" ++ (listed change_json pushes ++ codes "]}")
+
+-- a node with the list that it gets
+abbrev pub list_json : ℕ × List ℕ → List ℕ
+list_json push = codes "[" ++ (decimal push.0 ++ (codes ",[" ++ (listed decimal push.1 ++ codes "]]")))
+
+-- the pushes of two phases
+abbrev pub phases_json : List (ℕ × List ℕ) → List (ℕ × List ℕ) → List ℕ
+phases_json shrink grow = codes "{\"shrink\":["
+    ++ (listed list_json shrink ++ (codes "],\"grow\":[" ++ (listed list_json grow ++ codes "]}")))
 
 abbrev pub round_json : ℕ → ℕ → List ℕ
 round_json turned cut = codes "{\"turned\":" ++ (decimal turned ++ (codes ",\"cut_off\":" ++ decimal cut))
@@ -183,6 +194,9 @@ IsRefusal (Some s) (move_dest d) refusal = (s.nodes ≤ d) × (refusal ≡ no_no
 IsRefusal (Some s) (walk_from x) refusal = (s.nodes ≤ x) × (refusal ≡ no_node x)
 IsRefusal (Some s) (ask question) refusal = ⊥
 IsRefusal (Some s) (ask_node question x) refusal = (s.nodes ≤ x) × (refusal ≡ no_node x)
+IsRefusal (Some s) (push_ways table) refusal = (number : ℕ) × (nodes : List ℕ)
+    × AreWayPushesRefused s table number nodes
+    × (refusal ≡ record { number = number; nodes = nodes; edit = None })
 
 -- Answers
 
@@ -241,6 +255,7 @@ IsJsonText s (ask Hops) new text = IsJsonHops new text
 IsJsonText s (ask Ways) new text = IsJsonWays new text
 IsJsonText s (ask_node node.Ways x) new text = IsJsonNodeWays new x text
 IsJsonText s (ask_node node.Nearest x) new text = IsJsonNearest new x text
+IsJsonText s (push_ways table) new text = IsPhasesText phases_json new table text
 IsJsonText s (order_pushes table wanted) new text = ⊥
 
 -- the answer to a request of the line with this number, and the state after it: refusals and pushes between tables do

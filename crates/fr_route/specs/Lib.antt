@@ -11,6 +11,7 @@ pub mod Blank
 pub mod NodeWays
 pub mod KeptDistances
 pub mod WayPushes
+pub mod WayLists
 pub mod Separated
 pub mod Texts
 pub mod Pushing

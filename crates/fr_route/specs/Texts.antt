@@ -71,6 +71,20 @@ spaced_pushes (p ∷ ps) = codes " " ++ (decimal p.0 ++ (codes ">" ++ (hop_word 
 abbrev pub pushes_text : List (ℕ × Hop) → List ℕ
 pushes_text pushes = codes "pushes" ++ spaced_pushes pushes
 
+-- the word for a list that is pushed
+abbrev pub list_word : List ℕ → List ℕ
+list_word [] = codes "none"
+list_word (w ∷ ws) = listed decimal (w ∷ ws)
+
+-- for each push a space, its node, `>` and the word for its list
+abbrev pub spaced_lists : List (ℕ × List ℕ) → List ℕ
+spaced_lists [] = []
+spaced_lists (p ∷ ps) = codes " " ++ (decimal p.0 ++ (codes ">" ++ (list_word p.1 ++ spaced_lists ps)))
+
+-- the pushes of two phases
+abbrev pub phases_text : List (ℕ × List ℕ) → List (ℕ × List ℕ) → List ℕ
+phases_text shrink grow = codes "shrink" ++ (spaced_lists shrink ++ (codes " grow" ++ spaced_lists grow))
+
 abbrev pub report_text : ℕ → ℕ → List ℕ
 report_text turned cut = codes "turned " ++ (decimal turned ++ (codes " cut " ++ decimal cut))
 

@@ -3,7 +3,7 @@ use Rattle.std.specs.Prelude.{◌≡◌, ℕ, ◌⊎◌, List, Option, Some, Non
 use Rattle.std.specs.Prelude.{Ok, Err, String, IfOk, IfSome, IfNone, OnErr}
 use Rattle.std.specs.declared.alloc.Global.{Global}
 use Rattle.fr_lines.specs.Requests.{PlainRequest, new_network, cut_link, add_link}
-use Rattle.fr_lines.specs.Requests.{join_nodes, make_edits, move_dest, walk_from, ask, ask_node, order_pushes}
+use Rattle.fr_lines.specs.Requests.{join_nodes, make_edits, move_dest, walk_from, ask, ask_node, order_pushes, push_ways}
 use Rattle.fr_lines.specs.declared.requests.LineFault.{LineFault}
 use Rattle.fr_route.specs.Answers.{IsAccepted, IsRefused}
 use Rattle.fr_route.specs.Pushing.{AreAsked}
@@ -26,6 +26,7 @@ TellsOf (Some s) (move_dest d) new before after = AreRerouted s new after
 TellsOf (Some s) (walk_from x) new before after = after ≡ before
 TellsOf (Some s) (ask question) new before after = after ≡ before
 TellsOf (Some s) (ask_node question x) new before after = after ≡ before
+TellsOf (Some s) (push_ways table) new before after = after ≡ before
 
 -- what a request makes of the list, and the state after it: refusals and pushes between tables leave the list unchanged
 abbrev pub IsTold : Option State → PlainRequest → Option State → List ℕ → List ℕ → Type 0

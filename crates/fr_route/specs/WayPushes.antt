@@ -1,6 +1,9 @@
 -- The pushes of two phases that lead from a table of the caller to the ways of a settled network. This project's own.
-use Rattle.std.specs.Prelude.{◌≡◌, ◌≢◌, ℕ, List, length}
+use Rattle.std.specs.Prelude.{◌≡◌, ◌≢◌, ℕ, ◌<◌, ◌≤◌, ◌⊎◌, List, [], ◌∷◌, length, map}
+use Rattle.fr_graph.specs.Limits.{most_nodes}
 use Rattle.fr_ways.specs.Faults.{ArePhases}
+use Rattle.fr_ways.specs.Phases.{growing_nodes, kept, shrinking_nodes}
+use Rattle.fr_ways.specs.Ways.{ways}
 use Rattle.fr_ways.specs.declared.fault.WaysFault.{WaysFault}
 use Rattle.fr_ways.specs.declared.fault.WaysFault.TheVariants.{Length, Range, Cycle, Memory}
 use Rattle.fr_ways.specs.declared.plan.TwoPhases.{TwoPhases}
@@ -17,3 +20,24 @@ IsPhasesFault s table Length = length table ≢ s.nodes
 IsPhasesFault s table (Range y) = ⊥
 IsPhasesFault s table (Cycle nodes) = ⊥
 IsPhasesFault s table Memory = length table ≡ s.nodes
+
+-- the pushes of the first phase from one table to another: nodes, each with the list that it gets
+abbrev pub shrinks : List (List ℕ) → List (List ℕ) → List (ℕ × List ℕ)
+shrinks old new = map (λ x. (x, kept old new x)) (shrinking_nodes old new)
+
+-- the pushes of the second phase
+abbrev pub growths : List (List ℕ) → List (List ℕ) → List (ℕ × List ℕ)
+growths old new = map (λ x. (x, ways new x)) (growing_nodes old new)
+
+-- the text for the pushes of both phases, from the table to the ways of the state. A node that is missing at the end of
+-- the table has no ways
+abbrev pub IsPhasesText : (List (ℕ × List ℕ) → List (ℕ × List ℕ) → List ℕ) → State → List (List ℕ) → List ℕ → Type 0
+IsPhasesText text_for s table text = (wanted : List (List ℕ)) × AreAllWays s wanted
+    × (text ≡ text_for (shrinks table wanted) (growths table wanted))
+
+-- why a request for these pushes is refused in this state: the table is longer than that of any network, or than that
+-- of this one
+abbrev pub AreWayPushesRefused : State → List (List ℕ) → ℕ → List ℕ → Type 0
+AreWayPushesRefused s table number nodes =
+    ((most_nodes < length table) × (number ≡ 9) × (nodes ≡ []))
+    ⊎ ((length table ≤ most_nodes) × (s.nodes < length table) × (number ≡ 4) × (nodes ≡ s.nodes ∷ []))

@@ -4,7 +4,9 @@
 ghost use Rattle.std.specs.Prelude.{◌≡◌, ◌<◌, ◌≤◌, ◌++◌, ◌+◌, ◌*◌, ◌^◌, length, slice_get};
 ghost use Rattle.std.specs.Prelude.{IfOk, OnOk, codes, decimal, string_bytes};
 ghost use Rattle.fr_route.specs.Json.{change_json, counts_json, hop_json, pushes_json};
-ghost use Rattle.fr_route.specs.Json.{nearest_json, no_nearest_json, node_ways_json, ways_item, ways_json};
+ghost use Rattle.fr_route.specs.Json.{list_json, nearest_json, no_nearest_json, node_ways_json, phases_json};
+ghost use Rattle.fr_route.specs.Json.{ways_item, ways_json};
+ghost use Rattle.fr_route.specs.WayLists.{AreListed, pairs};
 ghost use Rattle.fr_route.specs.Pushing.{changes_of, hop_in};
 ghost use Rattle.fr_route.specs.Json.{hops_json, link_json, links_json, no_walk_json, place_json};
 ghost use Rattle.fr_route.specs.Json.{refusal_json, refused_json, report_json, round_json, shown_json, walk_json};
@@ -16,7 +18,7 @@ use crate::change::Report;
 use crate::refusals::Refusal;
 use fr_graph::Links;
 use fr_tables::Hop;
-use fr_ways::WayTable;
+use fr_ways::{Pushes, TwoPhases, WayTable};
 use itoa::Buffer;
 use std::alloc::{AllocError, Global};
 
@@ -225,6 +227,60 @@ pub(crate) fn node_ways_object(
     let mut line = begun(alloc, "{\"ways\":", ways.len())?;
     push_ways(&mut line, home, ways, &mut Buffer::new())?;
     line.push_str("}")?;
+    Ok(line)
+}
+
+/// Appends a node with the list that it gets, after a comma unless it is the first.
+fn push_list(
+    line: &mut String,
+    first: bool,
+    node: u32,
+    list: &[u32],
+    buffer: &mut Buffer,
+) -> Result<(), AllocError>
+    ensures { OnOk result
+        (string_bytes line.new ≡ string_bytes line.old ++ (comma_before first ++ list_json (node, list.now))) }
+{
+    push_comma(line, first)?;
+    line.push_str("[")?;
+    push_node(line, node, buffer)?;
+    line.push_str(",[")?;
+    push_nodes(line, list, buffer)?;
+    line.push_str("]]")
+}
+
+/// Appends the pushes of a phase, with commas between them.
+fn push_lists(line: &mut String, pushes: &Pushes, buffer: &mut Buffer) -> Result<(), AllocError>
+    requires { AreListed pushes.now }
+    ensures { OnOk result (string_bytes line.new ≡ string_bytes line.old ++ listed list_json (pairs pushes.now)) }
+{
+    let mut first = true;
+    for at in 0..pushes.nodes.len() {
+        push_list(
+            line,
+            first,
+            pushes.nodes[at],
+            pushes.lists.row(at as u32),
+            buffer,
+        )?;
+        first = false;
+    }
+    Ok(())
+}
+
+/// `{"shrink":[[5,[2]],[3,[]]],"grow":[[3,[5,7]]]}`: the pushes of two phases.
+#[inline(never)]
+pub(crate) fn phases_object(alloc: Global, phases: &TwoPhases) -> Result<String, AllocError>
+    requires { AreListed phases.now.shrink × AreListed phases.now.grow }
+    ensures { IfOk result (λ line. string_bytes line
+        ≡ phases_json (pairs phases.now.shrink) (pairs phases.now.grow)) }
+{
+    let mut line = begun(alloc, "{\"shrink\":[", 0)?;
+    let mut buffer = Buffer::new();
+    push_lists(&mut line, &phases.shrink, &mut buffer)?;
+    line.push_str("],\"grow\":[")?;
+    push_lists(&mut line, &phases.grow, &mut buffer)?;
+    line.push_str("]}")?;
     Ok(line)
 }
 

@@ -1,7 +1,7 @@
 //! The answers to questions about a router, in either form.
 
 ghost use Rattle.std.specs.Prelude.{◌≡◌, ◌==◌, ℕ, ◌<◌, None, IfErr, IfOk, string_bytes};
-ghost use Rattle.fr_lines.specs.Requests.{ask, ask_node, walk_from};
+ghost use Rattle.fr_lines.specs.Requests.{ask, ask_node, push_ways, walk_from};
 ghost use Rattle.fr_lines.specs.declared.requests.NodeQuestion.TheVariants.{Nearest, Ways};
 ghost use Rattle.fr_lines.specs.declared.requests.Question.TheVariants.{Ways as WaysOfAll};
 ghost use Rattle.fr_route.specs.NodeWays.{AreNodeWays, IsNearest};
@@ -15,14 +15,15 @@ use crate::form::Form;
 use crate::hops::Walked;
 use crate::json::{
     counts_object, hops_object, links_object, nearest_object, no_nearest_object, no_walk_object,
-    node_ways_object, walk_object, ways_object,
+    node_ways_object, phases_object, walk_object, ways_object,
 };
 use crate::router::Router;
 use crate::texts::{
     counts_line, hops_line, links_line, nearest_line, no_nearest_line, no_walk_line,
-    node_ways_line, walk_line, ways_line,
+    node_ways_line, phases_line, walk_line, ways_line,
 };
 use fr_lines::{NodeQuestion, Question};
+use fr_ways::{WayTable, known_phases};
 use std::alloc::{AllocError, Global};
 
 /// The answer to a question.
@@ -55,6 +56,25 @@ fn all_ways_in(alloc: Global, form: Form, router: &Router) -> Result<String, All
     match form {
         Form::Text => ways_line(alloc, router.dest(), &table),
         Form::Json => ways_object(alloc, router.dest(), &table),
+    }
+}
+
+/// The answer to a request for the pushes from these ways to those of each node.
+pub(crate) fn phases_in(
+    alloc: Global,
+    form: Form,
+    router: &Router,
+    table: &WayTable,
+) -> Result<String, AllocError>
+    ensures { IfOk result (λ text. IsTextIn form None (push_ways table.now) router.now (string_bytes text)) }
+{
+    // By this law, the number of nodes fits.
+    router.net().network_law();
+    let wanted = router.all_ways(alloc)?;
+    let phases = known_phases(alloc, table, &wanted)?;
+    match form {
+        Form::Text => phases_line(alloc, &phases),
+        Form::Json => phases_object(alloc, &phases),
     }
 }
 

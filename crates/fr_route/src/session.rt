@@ -7,8 +7,8 @@ ghost use Rattle.std.specs.Prelude.{option_map};
 ghost use Rattle.std.specs.declared.alloc.Global.{Global};
 ghost use Rattle.std.specs.declared.vec.Vec.{Vec};
 ghost use Rattle.fr_tables.specs.declared.hop.Hop.{Hop};
-ghost use Rattle.fr_lines.specs.Requests.{ask, ask_node, make_edits, move_dest, new_network, order_pushes, walk_from};
-ghost use Rattle.fr_lines.specs.Requests.{plain, reading};
+ghost use Rattle.fr_lines.specs.Requests.{ask, ask_node, make_edits, move_dest, new_network, order_pushes, push_ways};
+ghost use Rattle.fr_lines.specs.Requests.{plain, reading, walk_from};
 ghost use Rattle.fr_crew.specs.Settlements.{CanBegin};
 ghost use Rattle.fr_route.specs.Ways.{Settles, NeverStarts};
 ghost use Rattle.fr_route.specs.Blank.{is_blank as is_blank_line};
@@ -32,7 +32,7 @@ use crate::fault::{AnswerFault, NotMade, RouteFault};
 use crate::form::{AS_TEXT, Answer, Form, Line, Manner, accepted};
 use crate::outcome::ends as ends_of;
 use crate::pushing::{pushes_between, pushes_from};
-use crate::questions::{node_question_in, question_in, walk_in};
+use crate::questions::{node_question_in, phases_in, question_in, walk_in};
 use crate::refusals::Reason;
 use crate::refusing::{refuse, refuse_for};
 use crate::reports::{push_report_in, report_begun};
@@ -41,9 +41,10 @@ use crate::router::Router;
 use crate::settling::Asking;
 use crate::told::Told;
 use fr_crew::{Crew, CrewFault, Gate, Plan, settled_counts, settled_counts_alone};
-use fr_graph::{Edit, MAX_EDITS, Net, NetFault, Turns};
+use fr_graph::{Edit, MAX_EDITS, MAX_NODES, Net, NetFault, Turns};
 use fr_lines::{LineFault, NodeQuestion, Question, Request, read_line};
 use fr_tables::Hop;
+use fr_ways::WayTable;
 use std::alloc::Global;
 use std::marker::Model;
 use std::sync::Wait;
@@ -454,6 +455,29 @@ impl Session {
         pushes_from(alloc, manner, table, router.hops())
     }
 
+    /// The answer to a request for the pushes from a table of ways to the ways of each node.
+    fn way_pushes(
+        &self,
+        alloc: Global,
+        manner: Manner,
+        table: &WayTable,
+    ) -> Result<Answer, AnswerFault>
+        ensures reply { IfOk result (λ answer. IsStillReply manner self.now (push_ways table.now) answer) }
+        ensures memory { IfErr result (λ fault. fault ≡ Memory) }
+    {
+        let Some(router) = &self.router else {
+            return refuse(alloc, manner, Reason::NoNetwork, &[], None);
+        };
+        if table.len() > MAX_NODES as usize {
+            return refuse(alloc, manner, Reason::TooMany, &[], None);
+        }
+        let nodes = router.net().nodes();
+        if table.len() > nodes as usize {
+            return refuse(alloc, manner, Reason::NoNode, &[nodes], None);
+        }
+        Ok(accepted(phases_in(alloc, manner.form, router, table)?))
+    }
+
     /// Answers a question, as [`Session::answer`] does. This changes nothing. Fails only with `Memory`. O(b) for b
     /// bytes of answer, and for the ways of all nodes the cost of [`Router::all_ways`].
     pub fn answer_question(&self, alloc: Global, question: Question) -> Result<String, AnswerFault>
@@ -641,6 +665,7 @@ impl<'a, F: Fn(&Net, u32, Option<&[u32]>, Turns) -> Result<Turns, CrewFault>> As
                 session.node_question(self.alloc, manner, *question, *x)
             }
             Request::Pushes { table, wanted } => session.pushes(self.alloc, manner, table, wanted),
+            Request::WayPushes { table } => session.way_pushes(self.alloc, manner, table),
         }
     }
 

@@ -6,14 +6,16 @@ ghost use Rattle.fr_route.specs.Pushing.{changes_of};
 ghost use Rattle.fr_route.specs.Rooms.{Fits};
 ghost use Rattle.fr_route.specs.Texts.{counts_text, links_text, hops_text, hop_word, walk_text};
 ghost use Rattle.fr_route.specs.Texts.{no_walk_text, pushes_text, report_text, longest_report, refusal_text};
-ghost use Rattle.fr_route.specs.Texts.{nearest_text, no_nearest_text, node_ways_text, ways_text, ways_word};
+ghost use Rattle.fr_route.specs.Texts.{list_word, nearest_text, no_nearest_text, node_ways_text, phases_text};
+ghost use Rattle.fr_route.specs.Texts.{spaced_lists, ways_text, ways_word};
+ghost use Rattle.fr_route.specs.WayLists.{AreListed, pairs};
 
 use crate::change::Report;
 use crate::json::{hop_at, push_nodes};
 use crate::refusals::Reason;
 use fr_graph::{Links, MAX_NODES};
 use fr_tables::Hop;
-use fr_ways::WayTable;
+use fr_ways::{Pushes, TwoPhases, WayTable};
 use itoa::Buffer;
 use std::alloc::{AllocError, Global};
 
@@ -196,6 +198,44 @@ pub(crate) fn node_ways_line(alloc: Global, home: bool, ways: &[u32]) -> Result<
 {
     let mut line = begun(alloc, "ways ", ways.len())?;
     push_ways(&mut line, home, ways, &mut Buffer::new())?;
+    Ok(line)
+}
+
+/// Appends `>` and the list of a push: its nodes, or `none`.
+fn push_list(line: &mut String, list: &[u32], buffer: &mut Buffer) -> Result<(), AllocError>
+    ensures { OnOk result (string_bytes line.new ≡ string_bytes line.old ++ (codes ">" ++ list_word list.now)) }
+{
+    line.push_str(">")?;
+    if list.is_empty() {
+        return line.push_str("none");
+    }
+    push_nodes(line, list, buffer)
+}
+
+/// Appends a space and `node>list` for each push.
+fn push_lists(line: &mut String, pushes: &Pushes, buffer: &mut Buffer) -> Result<(), AllocError>
+    requires { AreListed pushes.now }
+    ensures { OnOk result (string_bytes line.new ≡ string_bytes line.old ++ spaced_lists (pairs pushes.now)) }
+{
+    for at in 0..pushes.nodes.len() {
+        push_number(line, " ", u64::from(pushes.nodes[at]), buffer)?;
+        push_list(line, pushes.lists.row(at as u32), buffer)?;
+    }
+    Ok(())
+}
+
+/// `shrink`, the pushes of the first phase, `grow`, and those of the second.
+#[inline(never)]
+pub(crate) fn phases_line(alloc: Global, phases: &TwoPhases) -> Result<String, AllocError>
+    requires { AreListed phases.now.shrink × AreListed phases.now.grow }
+    ensures { IfOk result (λ line. string_bytes line
+        ≡ phases_text (pairs phases.now.shrink) (pairs phases.now.grow)) }
+{
+    let mut line = begun(alloc, "shrink", 0)?;
+    let mut buffer = Buffer::new();
+    push_lists(&mut line, &phases.shrink, &mut buffer)?;
+    line.push_str(" grow")?;
+    push_lists(&mut line, &phases.grow, &mut buffer)?;
     Ok(line)
 }
 

@@ -15,7 +15,7 @@ use Rattle.fr_ways.specs.Ways.{ways}
 use Rattle.fr_ways.specs.declared.plan.Plan.{Plan}
 use Rattle.fr_ways.specs.declared.plan.Pushes.{Pushes}
 use Rattle.fr_ways.specs.declared.plan.TwoPhases.{TwoPhases}
-use Rattle.fr_ways.proofs.Shrinking.{shrunk_loser, shrunk_other}
+use Rattle.fr_ways.proofs.Shrinking.{same_loses, shrunk_loser, shrunk_other}
 
 -- tests
 
@@ -123,6 +123,13 @@ module _ (old new : List (List ℕ)) (x : ℕ) (before after : Plan) (is : IsPla
         (ways new x) before.phases.grow after.phases.grow)
         (sym (shrunk_other old new x f)) grows_too);
   }
+
+-- a node that has its new ways already
+pub plan_same : (old new : List (List ℕ)) (x : ℕ) (plan : Plan) → IsPlan old new x plan → ways old x ≡ ways new x
+    → IsPlan old new (x + 1) plan
+plan_same old new x plan is same = plan_other old new x plan plan is (same_loses old new x same) refl refl
+    (pushed_no x (ways new x) (differs (ways old x) (ways new x)) plan.phases.grow plan.phases.grow
+    (differs_no (ways old x) (ways new x) same) refl)
 
 -- nodes that keep no way have empty lists
 emptied_lists : (old new : List (List ℕ)) (xs : List ℕ)

@@ -61,6 +61,15 @@ module _ (p : ℕ → Bool) where
       ap (λ (b : Bool). cond b (x ∷ filter p xs) (filter p xs)) (all x (Contains-head x xs))
       ∙ ap (λ (ys : List ℕ). x ∷ ys) (filter_whole xs (λ y found. all y (Contains-tail y x xs found)))
 
+-- a node that has the same ways in both tables loses none
+pub same_loses : (old new : List (List ℕ)) (x : ℕ) → ways old x ≡ ways new x → loses old new x ≡ false
+same_loses old new x same = elim (cases_Bool (loses old new x)) [
+  | inl t ↦
+      let (y, was, lost) = any_true (λ y. not (is_way (ways new x) y)) (ways old x) t in
+      absurd (false≢true (sym (ap not (way_yes (ways new x) y (subst (λ (zs : List ℕ). Contains zs y) same was))) ∙ lost))
+  | inr f ↦ f
+]
+
 module _ (old new : List (List ℕ)) (x : ℕ) where
   pub shrunk_loser : loses old new x ≡ true → shrunk old new x ≡ kept old new x
   shrunk_loser t = ap (λ (b : Bool). cond b (kept old new x) (ways old x)) t

@@ -1,7 +1,7 @@
 //! The two phases from one table to another.
 
-ghost use Rattle.std.specs.Prelude.{◌≡◌, ℕ, ◌+◌, ◌++◌, [], ◌∷◌, IfErr, IfOk, OnOk, cond, length, map, not};
-ghost use Rattle.fr_ways.specs.Faults.{AreOneLength, ArePhases, IsFaultOf, IsPlanned};
+ghost use Rattle.std.specs.Prelude.{◌≡◌, ℕ, ◌<◌, ◌+◌, ◌++◌, ◌^◌, [], ◌∷◌, IfErr, IfOk, OnOk, cond, length, map, not};
+ghost use Rattle.fr_ways.specs.Faults.{ArePhases, IsFaultOf, IsPlanned};
 ghost use Rattle.fr_ways.specs.Phases.{differs, is_empty};
 ghost use Rattle.fr_ways.specs.Plans.{IsClear, IsPlan, IsPushedIf};
 ghost use Rattle.fr_ways.specs.Ways.{IsInRange};
@@ -85,12 +85,13 @@ pub fn phases(alloc: Global, old: &WayTable, new: &WayTable) -> Result<TwoPhases
     Ok(known_phases(alloc, old, new)?)
 }
 
-/// Does the same as [`phases`] without any test. The tables must have the same length, and all ways of `new` must name
-/// nodes. Fails with `AllocError` if an allocation is refused.
+/// Does the same as [`phases`] without any test. All ways of `new` must name nodes. A node that is missing at the end of
+/// `old` has no ways there, and `old` should not be longer than `new`: its other nodes get no push. Fails with
+/// `AllocError` if an allocation is refused.
 ///
 /// O(n + m) time and memory.
 pub fn known_phases(alloc: Global, old: &WayTable, new: &WayTable) -> Result<TwoPhases, AllocError>
-    requires tables { AreOneLength old.now new.now }
+    requires few { length new.now < 2 ^ 32 }
     requires range { IsInRange new.now }
     ensures { IfOk result (ArePhases old.now new.now) }
 {
@@ -138,6 +139,10 @@ impl Plan {
     {
         let was = old.row(x);
         let now = new.row(x);
+        // Most nodes keep their list.
+        if was == now {
+            return Ok(());
+        }
         if !spare.loses(was, now) {
             self.grow(x, was, now)?;
             return Ok(());

@@ -1,4 +1,4 @@
-use Rattle.fr_route.proofs.Replying.{still, walk_tells, ask_node_tells, ask_tells}
+use Rattle.fr_route.proofs.Replying.{still, walk_tells, ask_node_tells, ask_tells, push_ways_tells}
 use Rattle.fr_route.specs.Listing.{nodes_told}
 use Rattle.fr_route.proofs.settling.Asking.reply.Goals as goal
 
@@ -40,3 +40,9 @@ pub returns-in-Pushes : goal.returns-in-Pushes
 returns-in-Pushes g c =
     rw c.in-Pushes.is (still _ c.args.manner c.args.session.now _ c.args.told.now c.pushes.result
     (λ new accepted. absurd accepted) (rw c.deref-in-Pushes.ensures.value at c.pushes.ensures.reply) c.pushes.ensures.memory)
+
+pub returns-in-WayPushes : goal.returns-in-WayPushes
+returns-in-WayPushes g c =
+    rw c.in-WayPushes.is (still _ c.args.manner c.args.session.now _ c.args.told.now c.way_pushes.result
+    (λ new accepted. push_ways_tells c.args.session.now c.in-WayPushes.table (nodes_told c.args.told.now) new)
+    c.way_pushes.ensures.reply c.way_pushes.ensures.memory)

@@ -2,11 +2,12 @@ use Rattle.std.proofs.Common.{All, Global, List, Vec, [], ap, cond, false, lengt
 use Rattle.std.proofs.Common.{◌∙◌, ◌∷◌, ◌≡◌}
 use Rattle.std.specs.Prelude.{not}
 use Rattle.std.proofs.lemmas.List.Elements.{Contains-get_or}
+use lib.Pointwise.{bytes_decides}
 use Rattle.fr_ways.specs.Phases.{differs, is_empty, kept, loses}
 use Rattle.fr_ways.specs.Plans.{IsPushedIf}
 use Rattle.fr_ways.specs.Ways.{IsInRange, ways}
 use Rattle.fr_ways.specs.declared.plan.Pushes.{Pushes}
-use Rattle.fr_ways.proofs.Planning.{plan_loser, plan_other}
+use Rattle.fr_ways.proofs.Planning.{plan_loser, plan_other, plan_same}
 use Rattle.fr_ways.proofs.plan.Plan.add.Goals as goal
 use Rattle.fr_ways.proofs.plan.Plan.add.Goals.{After-loses}
 
@@ -31,6 +32,12 @@ keep-requires c = record {
     rw c.row-now.ensures (inside c.args.new.now c.args.x c.requires.range),
   );
 }
+
+pub returns-then-eq-clause-plan : goal.returns-then-eq-clause-plan
+returns-then-eq-clause-plan c =
+    let equal = (bytes_decides c.row-was.result.now c.row-now.result.now).0 (sym c.if-eq.ensures) in
+    plan_same c.args.old.now c.args.new.now c.args.x c.args.self.now c.requires.plan
+    (sym c.row-was.ensures ∙ (equal ∙ c.row-now.ensures))
 
 test : (c : After-loses) → c.loses.result ≡ loses c.args.old.now c.args.new.now c.args.x
 test c = rw (c.row-was.ensures, c.row-now.ensures) at c.loses.ensures.loses
