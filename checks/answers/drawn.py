@@ -32,7 +32,9 @@ NOT_REQUESTS = [
     b'["batch",[["dest",0]]]', b'["batch",[["links"]]]', b'["batch",[["cut",0]]]', b'["batch",[["batch",[]]]]',
     b'["batch",{}]', b"[" * 127 + b"]" * 127, b'{"a":' * 127 + b"1" + b"}" * 127,
     b'["[[[[",' + b"[" * 126 + b"]" * 127, b'["pushes"]', b'["pushes",0]', b'["pushes",{}]', b'["pushes",[],[],[]]',
-    b'["pushes",["fly"]]', b'["pushes",["Here"]]', b'["pushes",[-1]]', b'["pushes",[0.0]]', b'["pushes",[[0]]]',
+    b'["pushes",["fly"]]', b'["pushes",["Here"]]', b'["pushes",[-1]]', b'["pushes",[0.0]]', b'["pushes",[[0],0]]',
+    b'["pushes",[[0]],[]]', b'["pushes",[[0]],[[0]]]', b'["pushes",[["here"]]]', b'["pushes",[[[0]]]]', b'["pushes",[[-1]]]',
+    b'["pushes",[[0],"fly"]]', b'["pushes",[[],null]]', b'["pushes",[{}]]', b'["pushes",[[4294967296]]]',
     b'["ways",[0]]', b'["ways",0,1]', b'["ways",-1]', b'["nearest"]', b'["nearest",0,1]', b'["nearest","0"]',
     b'["pushes",[],null]', b'["pushes",[0],["cut",null]]', b'["pushes",["here",4294967296]]', b'["pushes","here"]',
 ]  # fmt: skip
@@ -41,6 +43,7 @@ QUESTIONS = (["links"], ["counts"], ["hops"], ["ways"])
 WITHOUT_NETWORK = (
     *(["cut", 0, 1], ["add", 0, 1], ["join", 0, 1], ["batch", []], ["dest", 0], ["walk", 0], *QUESTIONS),
     *(["ways", 0], ["nearest", 0], ["pushes", []], ["pushes", [0], ["here", 0]], ["pushes", ["here", 2, 0], ["here", 0, 1]]),
+    *(["pushes", [[]]], ["pushes", ["here", [0], "cut"]]),
 )
 
 
@@ -59,11 +62,12 @@ def full():
     most, more = ["cut"] * MOST_NODES, ["cut"] * (MOST_NODES + 1)
     yield from (["pushes", more], ["pushes", most], ["pushes", most, more], ["pushes", more, []])
     yield from (["pushes", [], ["here", *range(MOST_NODES - 1)]], ["pushes", most, [*range(1, MOST_NODES), 0]])
+    yield from (["pushes", [[1]] * MOST_NODES], ["pushes", [[1]] * (MOST_NODES + 1)], ["pushes", [[LARGEST, LARGEST]]])
 
 
 # The methods of Drawn that draw a line, and how often each is taken.
 NETWORKS = {"net": 2, "wild_net": 2, "double_net": 1, "cyclic_net": 4}
-ALL_KINDS = {"edit": 8, "batch": 6, "question": 6, "walk": 3, "about_a_node": 4, "move": 2, "pushes": 4, "no_request": 3, **NETWORKS}
+ALL_KINDS = {"edit": 8, "batch": 6, "question": 6, "walk": 3, "about_a_node": 4, "move": 2, "pushes": 4, "way_pushes": 4, "no_request": 3, **NETWORKS}
 CHANGES = {"edit": 6, "batch": 3, "move": 1, "net": 1}
 
 
@@ -137,6 +141,21 @@ class Drawn:
 
     def pushes(self):
         self.ask(["pushes", *(self.table() for _ in range(self.by.choice([1, 1, 2, 2, 2])))])
+
+    def lists(self):
+        """A table of ways that differs from those of the network in a few places, likewise."""
+        network = self.session.network
+        table = [network.ways_in_words(x) for x in range(self.size())] if network else [[]]
+        for _ in range(self.by.choice([0, 1, 2, 3, 8])):
+            x = self.by.randrange(len(table))
+            others = [self.node() for _ in range(self.by.choice([0, 1, 2]))]
+            kept = [y for y in table[x] if self.by.random() < 0.7] if isinstance(table[x], list) else []
+            table[x] = self.by.choice(["here", "cut", others, kept, kept[::-1], [*kept, *others], [*others, *kept]])
+        del table[len(table) - self.by.choice([0, 0, 0, 1, len(table)]) :]
+        return table + self.by.choice([[], [], [], [], [[]], [[0], "cut"]])
+
+    def way_pushes(self):
+        self.ask(["pushes", self.lists()])
 
     def order(self, size):
         """Links without a cycle."""

@@ -77,12 +77,16 @@ def is_hop(it):
     return is_number(it) or it == HERE or it == CUT
 
 
+def is_ways(it):
+    return it in (HERE, CUT) or isinstance(it, list) and all(map(is_number, it))
+
+
 def is_request(value):
     match value:
         case ["links"] | ["counts"] | ["hops"] | ["ways"]:
             return True
-        case ["pushes", [*table]] | ["pushes", [*table], []]:
-            return all(map(is_hop, table))
+        case ["pushes", [*table]]:
+            return all(map(is_hop, table)) or all(map(is_ways, table))
         case ["pushes", [*table], [*wanted]]:
             return all(map(is_hop, table + wanted))
         case ["walk" | "ways" | "nearest" | "dest", x]:
@@ -308,10 +312,12 @@ class Session:
         word, *items = request
         if word == "net":
             return self.round(Network(*items))
-        if word == "pushes":
+        if word == "pushes" and all(map(is_hop, items[0])):
             return self.pushed(*items)
         if not self.network:
             raise Refused(3)
+        if word == "pushes":
+            return self.phases(*items)
         match request:
             case ["links"]:
                 links = sorted(self.network.links)
@@ -360,6 +366,21 @@ class Session:
             raise Refused(7, loop)
         differ = pushes(dict(enumerate(table)), new)
         return listed("pushes", (f"{x}>{hop}" for x, hop in differ)), {"pushes": differ}
+
+    def phases(self, table):
+        """The pushes of two phases from a table of ways to those of the network."""
+        size = self.network.size
+        if len(table) > MOST_NODES:
+            raise Refused(9)
+        if len(table) > size:
+            raise Refused(4, [size])
+        old = dict.fromkeys(range(size), []) | {x: ways for x, ways in enumerate(table) if ways not in (HERE, CUT)}
+        new = {x: self.network.ways(x) for x in range(size)}
+        less = {x: [y for y in new[x] if y in old[x]] for x in new if {*old[x]} - {*new[x]}}
+        shrink = sorted(([x, ways] for x, ways in less.items()), key=lambda it: (not it[1], it[0]))
+        grow = [[x, ways] for x, ways in new.items() if (old | less)[x] != ways]
+        lines = (listed(word, (f"{x}>{with_commas(ways) or 'none'}" for x, ways in it)) for word, it in [("shrink", shrink), ("grow", grow)])
+        return listed("pushes", lines), {"shrink": shrink, "grow": grow}
 
     def round(self, network):
         """Settles a network, which is then the one of the session."""

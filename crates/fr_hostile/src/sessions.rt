@@ -25,6 +25,7 @@ const LINES: [&str; 20] = [
     r#"["add",0,1]"#,
     r#"["hops"]"#,
     r#"["pushes",[]]"#,
+    r#"["pushes",[[]]]"#,
     r#"["batch",[["cut",3,0],["add",1,0]]]"#,
     r#"["dest",3]"#,
     r#"["join",3,1]"#,

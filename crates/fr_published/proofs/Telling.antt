@@ -2,7 +2,7 @@
 use Rattle.std.proofs.Common.{List, Option, Some, None, Result, Ok, Err, IfErr, IfNone, IfOk, IfSome, OnErr, String, ap, false, inl, inr, length}
 use Rattle.std.proofs.Common.{refl, string_bytes, subst, sym, true, ℕ, ⊎_elim, ◌∙◌, ◌≡◌, ◌≢◌, ◌≤◌, ◌⊎◌}
 use Rattle.std.specs.declared.alloc.Global.{Global}
-use Rattle.fr_lines.specs.Requests.{PlainRequest, new_network, cut_link, add_link, join_nodes, make_edits, move_dest, walk_from, ask, ask_node, order_pushes, reading}
+use Rattle.fr_lines.specs.Requests.{PlainRequest, new_network, cut_link, add_link, join_nodes, make_edits, move_dest, walk_from, ask, ask_node, order_pushes, push_ways, reading}
 use Rattle.fr_lines.specs.declared.requests.LineFault.{LineFault}
 use Rattle.fr_route.specs.Answers.{IsAccepted, IsLineAnswer}
 use Rattle.fr_route.specs.Blank.{is_blank}
@@ -40,6 +40,7 @@ module _ (s : State) (settled : IsSettled s) (new : State) (before after : List 
   told_of_one (walk_from x) is acc told = inl (ap Some acc.1)
   told_of_one (ask question) is acc told = inl (ap Some acc)
   told_of_one (ask_node question x) is acc told = inl (ap Some acc.1)
+  told_of_one (push_ways table) is acc told = inl (ap Some acc.2)
   told_of_one (order_pushes table wanted) is acc told = absurd acc
 
 told_of : (s : Option State) → IsSettledSession s → (request : PlainRequest) (new : State) → IsSettled new → IsAccepted s request new
@@ -53,6 +54,7 @@ told_of None settled (move_dest d) new is acc before after told = absurd acc
 told_of None settled (walk_from x) new is acc before after told = absurd acc
 told_of None settled (ask question) new is acc before after told = absurd acc
 told_of None settled (ask_node question x) new is acc before after told = absurd acc
+told_of None settled (push_ways table) new is acc before after told = absurd acc
 told_of None settled (order_pushes table wanted) new is acc before after told = absurd acc
 told_of (Some s) settled request new is acc before after told = told_of_one s settled new before after request is acc told
 

@@ -12,7 +12,7 @@ use Rattle.fr_lines.specs.declared.requests.Question.TheVariants.{Links, Counts,
 use Rattle.fr_lines.specs.declared.requests.NodeQuestion.TheVariants as node
 use Rattle.fr_graph.specs.Evidence.{evidence}
 use Rattle.fr_route.specs.Forms.{IsAnswerIn}
-use Rattle.fr_route.specs.Json.{AreChanged, AreChanges, IsBatchRefusal, IsEditRefusal, IsJsonAnswer, IsJsonReport, IsJsonText, IsJsonWalk, IsNewRefusal, IsRefusal, PlainRefusal}
+use Rattle.fr_route.specs.Json.{AreChanged, AreChanges, IsBatchRefusal, IsEditRefusal, IsJsonAnswer, IsJsonReport, IsJsonText, IsJsonWalk, IsNewRefusal, IsRefusal, PlainRefusal, phases_json}
 use Rattle.fr_route.specs.Json.{IsJsonNearest, IsJsonNodeWays, IsJsonWays, nearest_json, node_ways_json, ways_json}
 use Rattle.fr_nearest.proofs.Walking.{one_list}
 use Rattle.fr_route.proofs.WaysExist.{nearest_unique}
@@ -31,6 +31,7 @@ use Rattle.fr_route.proofs.Routing.{route_joined, route_unique}
 use Rattle.fr_graph.proofs.Refusing.{fault_place, no_first_fault}
 use Rattle.fr_graph.specs.Laws.{AreAlike}
 use Rattle.fr_graph.proofs.Evidence.{batches_alike, edits_alike, links_alike}
+use Rattle.fr_route.proofs.WayPushes.{phases_text_unique, way_refusal_unique}
 
 -- the kind of a fault, its evidence and the nodes of the request determine the refusal
 refusal_by : ℕ → List ℕ → List ℕ → Option ℕ → PlainRefusal

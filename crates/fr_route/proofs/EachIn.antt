@@ -14,7 +14,7 @@ use Rattle.fr_tables.proofs.Existing.{order_exists}
 use Rattle.fr_graph.proofs.Refusing.{no_first_fault}
 use Rattle.fr_route.specs.Answers.{IsAccepted, IsAnswer, IsLineAnswer, IsRefused, IsText}
 use Rattle.fr_route.specs.Forms.{IsAnswerIn}
-use Rattle.fr_route.specs.Json.{IsJsonAnswer, IsJsonLineAnswer, IsJsonReport, IsJsonText, IsRefusal, PlainRefusal, bare_refusal, ends, ends_in, no_node, refusal_for}
+use Rattle.fr_route.specs.Json.{IsJsonAnswer, IsJsonLineAnswer, IsJsonReport, IsJsonText, IsRefusal, PlainRefusal, bare_refusal, ends, ends_in, no_node, refusal_for, phases_json}
 use Rattle.fr_route.specs.Json.{nearest_json, no_nearest_json, node_ways_json, ways_json}
 use Rattle.fr_route.specs.Json.{counts_json, hops_json, links_json, no_walk_json, pushes_json, refusal_json, report_json, walk_json}
 use Rattle.fr_route.specs.Outcomes.{IsSettledTable}
@@ -31,6 +31,7 @@ use Rattle.fr_route.proofs.EachAnswer.{IsReached, IsSettledState, each_line, hop
 use Rattle.fr_route.proofs.NamedFaults.{batch_named, edit_named, faultless_or_named}
 use Rattle.fr_route.proofs.RoundEnds.{round_within}
 use Rattle.fr_route.proofs.SettledHops.{resized_table, settled_in_range, settled_loop_free}
+use Rattle.fr_route.specs.WayPushes.{growths, shrinks}
 
 after_round : (s : State) → IsSettledState s → IsAfterRound s
 after_round s good = record { first = good.first; is_net = good.net; dest = good.dest; round = good.round }

@@ -43,6 +43,7 @@ use Rattle.fr_route.specs.declared.told.Told.{Told}
 use Rattle.fr_tables.specs.declared.hop.Hop.{Hop}
 use Rattle.fr_route.proofs.Changing.{add_by, cut_by, join_by, named_edit, refused_edit}
 use Rattle.fr_route.proofs.Determined.{asked_not_refused, not_both}
+use Rattle.fr_route.specs.WayPushes.{AreWayPushesRefused}
 
 -- a refusal is a reply
 refused_reply : (manner : Manner) (s : Option State) (asked : Result PlainRequest LineFault) (told : Told) (a : Answer) (next : Option State) (more : Told)
@@ -345,6 +346,8 @@ refused_by (Some s) (move_dest d) refusal h = (h.0, ap (λ (r : PlainRefusal). r
 refused_by (Some s) (walk_from x) refusal h = (h.0, ap (λ (r : PlainRefusal). r.number) h.1)
 refused_by (Some s) (ask question) refusal h = h
 refused_by (Some s) (ask_node question x) refusal h = (h.0, ap (λ (r : PlainRefusal). r.number) h.1)
+refused_by (Some s) (push_ways table) refusal h =
+    (h.1, subst (λ (k : ℕ). AreWayPushesRefused s table k h.1) (sym (ap (λ (r : PlainRefusal). r.number) h.3)) h.2)
 
 is_true : (b : Bool) → b ≡ true → IsTrue b
 is_true b e = search rules

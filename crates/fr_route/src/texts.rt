@@ -224,14 +224,14 @@ fn push_lists(line: &mut String, pushes: &Pushes, buffer: &mut Buffer) -> Result
     Ok(())
 }
 
-/// `shrink`, the pushes of the first phase, `grow`, and those of the second.
+/// `pushes shrink`, the pushes of the first phase, `grow`, and those of the second.
 #[inline(never)]
 pub(crate) fn phases_line(alloc: Global, phases: &TwoPhases) -> Result<String, AllocError>
     requires { AreListed phases.now.shrink × AreListed phases.now.grow }
     ensures { IfOk result (λ line. string_bytes line
         ≡ phases_text (pairs phases.now.shrink) (pairs phases.now.grow)) }
 {
-    let mut line = begun(alloc, "shrink", 0)?;
+    let mut line = begun(alloc, "pushes shrink", 0)?;
     let mut buffer = Buffer::new();
     push_lists(&mut line, &phases.shrink, &mut buffer)?;
     line.push_str(" grow")?;

@@ -14,7 +14,7 @@ use Rattle.std.specs.Prelude.{Err, Ok, codes, eqb}
 use Rattle.fr_lines.specs.declared.requests.Question.TheVariants.{Links, Counts, Hops, Ways}
 use Rattle.fr_lines.specs.declared.requests.NodeQuestion.TheVariants as node
 use Rattle.fr_lines.specs.declared.requests.LineFault.{LineFault}
-use Rattle.fr_lines.specs.Requests.{PlainRequest, new_network, cut_link, add_link, join_nodes, make_edits, move_dest, walk_from, ask, ask_node, order_pushes, reading}
+use Rattle.fr_lines.specs.Requests.{PlainRequest, new_network, cut_link, add_link, join_nodes, make_edits, move_dest, walk_from, ask, ask_node, order_pushes, push_ways, reading}
 use Rattle.fr_route.specs.Answers.{IsAnswer, IsLineAnswer, IsText}
 use Rattle.fr_route.specs.Blank.{is_blank}
 use Rattle.fr_route.specs.Json.{IsJsonAnswer}
@@ -150,6 +150,7 @@ no_refusal s (ask_node node.Ways x) answer is = rw is.2 refl
 no_refusal s (ask_node node.Nearest x) answer (inl is) = rw is.2 refl
 no_refusal s (ask_node node.Nearest x) answer (inr is) = rw is.1 refl
 no_refusal s (order_pushes table wanted) answer is = absurd is
+no_refusal s (push_ways table) answer is = rw is.2 refl
 
 -- pushes between tables begin no round
 asked_no_round : (s : Option State) (request : PlainRequest) (pushes : List (ℕ × Hop)) → AreAsked s request pushes → makes_round request ≡ false
@@ -163,6 +164,7 @@ asked_no_round s (walk_from x) pushes asked = absurd asked
 asked_no_round s (ask question) pushes asked = absurd asked
 asked_no_round s (ask_node question x) pushes asked = absurd asked
 asked_no_round s (order_pushes table wanted) pushes asked = refl
+asked_no_round s (push_ways table) pushes asked = absurd asked
 
 -- what follows an answer that is not a refusal: the round, if the request makes one
 pub round_follows : (s next : Option State) (number : ℕ) (request : PlainRequest) (answer rerouted told : List ℕ) → IsAnswer s request answer next

@@ -1,7 +1,7 @@
 -- The line of a story that says what a request asks. This project's own.
 use Rattle.std.specs.Prelude.{ℕ, List, [], ◌∷◌, ◌++◌, Result, Ok, Err, codes, decimal}
 use Rattle.fr_lines.specs.Requests.{PlainRequest, new_network, cut_link, add_link}
-use Rattle.fr_lines.specs.Requests.{join_nodes, make_edits, move_dest, walk_from, ask, ask_node, order_pushes}
+use Rattle.fr_lines.specs.Requests.{join_nodes, make_edits, move_dest, walk_from, ask, ask_node, order_pushes, push_ways}
 use Rattle.fr_graph.specs.declared.edit.Edit.{Edit}
 use Rattle.fr_graph.specs.declared.edit.Edit.TheVariants.{Cut, Add, Join}
 use Rattle.fr_lines.specs.declared.requests.LineFault.{LineFault}
@@ -47,6 +47,7 @@ request_text (walk_from x) = codes "walk" ++ (codes " " ++ decimal x)
 request_text (ask question) = question_text question
 request_text (ask_node question x) = node_question_text question ++ (codes " " ++ decimal x)
 request_text (order_pushes table wanted) = codes "pushes"
+request_text (push_ways table) = codes "pushes"
 
 -- the line for a request, and nothing for a line that is not a request
 abbrev pub asked_text : Result PlainRequest LineFault → List ℕ

@@ -3,7 +3,7 @@
 use Rattle.std.specs.Prelude.{◌≡◌, ℕ, ◌+◌, ◌%◌, ◌==◌, nat_le, ◌⊎◌, ◌&&◌, Bool, true, false, List, [], ◌∷◌, ◌++◌}
 use Rattle.std.specs.Prelude.{Option, Some, None, Result, Ok, Err, MatchBool, if◌then◌else◌, codes, decimal}
 use Rattle.fr_graph.specs.Network.{Network}
-use Rattle.fr_lines.specs.Requests.{PlainRequest, new_network, walk_from, ask, ask_node, order_pushes, reading}
+use Rattle.fr_lines.specs.Requests.{PlainRequest, new_network, walk_from, ask, ask_node, order_pushes, push_ways, reading}
 use Rattle.fr_lines.specs.declared.requests.LineFault.{LineFault}
 use Rattle.fr_lines.specs.declared.requests.Question.{Question}
 use Rattle.fr_lines.specs.declared.requests.Question.TheVariants.{Links, Counts, Hops}
@@ -90,6 +90,7 @@ makes_round (walk_from x) = false
 makes_round (ask question) = false
 makes_round (ask_node question x) = false
 makes_round (order_pushes table wanted) = false
+makes_round (push_ways table) = false
 makes_round request = true
 
 -- the network that a request changes if it is accepted, and if it is told; a new network changes none
@@ -100,6 +101,7 @@ net_before (Some s) (walk_from x) = None
 net_before (Some s) (ask question) = None
 net_before (Some s) (ask_node question x) = None
 net_before (Some s) (order_pushes table wanted) = None
+net_before (Some s) (push_ways table) = None
 net_before (Some s) request = if is_told s then Some (net_at s) else None
 
 -- the answer in JSON to a request that is refused, as a line

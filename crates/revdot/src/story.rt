@@ -171,7 +171,11 @@ fn makes_round(request: &Request) -> bool
 {
     !matches!(
         request,
-        Request::Walk { .. } | Request::Ask(_) | Request::AskNode { .. } | Request::Pushes { .. }
+        Request::Walk { .. }
+            | Request::Ask(_)
+            | Request::AskNode { .. }
+            | Request::Pushes { .. }
+            | Request::WayPushes { .. }
     )
 }
 
@@ -203,6 +207,7 @@ fn net_before(alloc: Global, session: &Session, request: &Request) -> Result<Bef
             | Request::Ask(_)
             | Request::AskNode { .. }
             | Request::Pushes { .. }
+            | Request::WayPushes { .. }
     ) || !is_told(router)
     {
         return Ok(Before { net: None });

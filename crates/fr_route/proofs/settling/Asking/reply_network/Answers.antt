@@ -3,7 +3,6 @@ use Rattle.fr_route.proofs.Replying.{done, faulty, new_refusal, new_text}
 use Rattle.std.specs.Prelude.{String}
 use Rattle.std.specs.declared.alloc.Global.{Global}
 use Rattle.fr_lines.specs.Requests.{new_network}
-use Rattle.fr_route.specs.Answers.{IsAccepted}
 use Rattle.fr_route.specs.Replies.{IsReportIn}
 use Rattle.fr_route.specs.Reroutes.{AreReplaced}
 use Rattle.fr_route.specs.States.{State}
