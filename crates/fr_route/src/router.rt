@@ -1,6 +1,6 @@
 //! A router: a settled network with its next hops and routes, and the changes after which it settles again.
 
-ghost use Rattle.std.specs.Prelude.{◌≡◌, ◌≢◌, ◌<◌, ◌≤◌, ◌⊎◌, [], ◌∷◌, length, replicate};
+ghost use Rattle.std.specs.Prelude.{◌≡◌, ◌≢◌, ◌<◌, ◌≤◌, [], ◌∷◌, length, replicate};
 ghost use Rattle.std.specs.Prelude.{Ok, Some, IfOk, IfErr, IfSome, MatchOption, OnErr, OnOk};
 ghost use Rattle.std.specs.Option.{option_copied};
 ghost use Rattle.fr_graph.specs.Limits.{most_edits};
@@ -364,43 +364,15 @@ impl Router {
         .change(self, &change, &|report| Ok(report), &mut Told::Nobody)
     }
 
-    /// Changes the network as `change` does, and lists the rerouted nodes in the caller's list: those that now send on
+    /// Changes the network as `change_alone` does, and lists the rerouted nodes in the caller's list: those that now send on
     /// to another node, that are now cut off, or that are no longer cut off. The hops of all other nodes are unchanged.
     /// The nodes are in push order: each one comes after the rerouted nodes on its new route. If routers get their hops
     /// in this order, no packet goes round a loop at any moment ([`push_law`](fr_tables::laws::push_law)). If the call
     /// fails, the list and the router are unchanged.
     ///
     /// The list gets room for all nodes before anything is changed, and keeps it. A caller that passes the same list
-    /// each time pays for this once. The cost is that of `change`, and for more than one rerouted node that of
+    /// each time pays for this once. The cost is that of `change_alone`, and for more than one rerouted node that of
     /// [`PushRoom::order`](fr_tables::PushRoom::order): little for a few nodes, at most O(n).
-    pub fn change_telling<R: Threads + Wait + Sync, G: Gate + Sync>(
-        &mut self,
-        crew: &Crew<'_, R, G>,
-        change: Change,
-        rerouted: &mut Vec<u32>,
-    ) -> Result<Report, RouteFault>
-        ensures changed { IfOk result (λ _. IsChanged self.old change self.new) }
-        ensures report { IfOk result (λ report. IsReport self.new report.turned report.cut) }
-        ensures told { TellsRerouted self.old result self.new rerouted.old.items rerouted.new.items }
-        ensures fault { IfErr result (IsRouteFault self.old change) }
-        ensures unchanged { OnErr result (self.new ≡ self.old) }
-        ensures no_start { (crew.now.plan.now.budget ≡ 0) ⊎ (crew.now.plan.now.workers ≡ 1)
-            → IfErr result (λ fault. fault ≢ Start) }
-    {
-        let mut told = Told::taken(rerouted, crew.alloc);
-        let report = Asking::new(
-            crew.alloc,
-            &|net, dest, from, turns|
-                requires { CanBegin net.now dest from turns }
-            { settled_counts(crew, net, dest, from, turns) },
-        )
-        .change(self, &change, &|report| Ok(report), &mut told);
-        *rerouted = told.into_list(crew.alloc);
-        report
-    }
-
-    /// Does the same on the calling thread. It starts no thread, does not wait, and never fails with `Start`. The cost
-    /// is that of `change_alone`, and for the list that of `change_telling`.
     pub fn change_telling_alone(
         &mut self,
         alloc: Global,

@@ -176,9 +176,9 @@ impl Session {
     }
 
     /// Does the same, and lists the nodes that the line reroutes in the caller's list, in push order: after a change as
-    /// [`Router::change_telling`] does, after a new network as [`Router::changed_since`] does. Any other answer leaves
-    /// the list unchanged, and so does a failure. The list gets room for all nodes before anything is changed, and
-    /// keeps it. The cost is the same, with the router's calls that list rerouted nodes.
+    /// [`Router::change_telling_alone`] does, after a new network as [`Router::changed_since`] does. Any other answer
+    /// leaves the list unchanged, and so does a failure. The list gets room for all nodes before anything is changed,
+    /// and keeps it. The cost is the same, with the router's calls that list rerouted nodes.
     pub fn answer_line_telling_alone(
         &mut self,
         alloc: Global,
