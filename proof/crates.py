@@ -117,6 +117,7 @@ def words(name, rlib_of, jobs):
     return [str(it) for it in [*made, "--jobs", jobs]]
 
 
-def rattle(*words, **how):
-    """Starts the toolchain's rattle, with standard output and standard error on one pipe."""
-    return subprocess.Popen([kit() / "bin" / "rattle", *words], stdout=subprocess.PIPE, stderr=subprocess.STDOUT, text=True, errors="replace", **how)
+def rattle(*words, niceness=0, **how):
+    """Starts the toolchain's rattle with a lower priority by so much, and with standard output and standard error on
+    one pipe."""
+    return subprocess.Popen(["nice", "-n", str(niceness), kit() / "bin" / "rattle", *words], stdout=subprocess.PIPE, stderr=subprocess.STDOUT, text=True, errors="replace", **how)

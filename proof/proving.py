@@ -24,6 +24,9 @@ ROOM = tempfile.TemporaryDirectory(prefix="revroute-proved-")
 # first answer took three minutes longer.
 MOST_JOBS = 4
 FUNCTIONS_OF_A_JOB = 20
+# Libraries beside the one that all others wait for: the number of their jobs, and how they give way to it.
+JOBS_BESIDE = 2
+NICENESS_BESIDE = 10
 # In seconds: longer than rt ci takes for all crates on one processor.
 MOST_TIME_BESIDE = 4 * 3600
 
@@ -113,9 +116,9 @@ def said_by(run, progress):
             progress.moved()
 
 
-def prove(progress, name, words):
+def prove(progress, name, words, niceness=0):
     """Proves and builds one crate, and returns what was said."""
-    run = progress.running[name] = crates.rattle("build", *words, cwd=crates.CRATES / name)
+    run = progress.running[name] = crates.rattle("build", *words, niceness=niceness, cwd=crates.CRATES / name)
     said = said_by(run, progress)
     del progress.running[name]
     proved = re.search(r"^logic=proved functions=(\d+)", said, re.M)
@@ -126,11 +129,12 @@ def prove(progress, name, words):
     return said
 
 
-def prove_library(progress, name, jobs):
+def prove_library(progress, name, jobs, niceness):
     """Proves and builds one library, and keeps it with a hash of its sources."""
     stamp = PROVED / f"{name}.stamp"
     stamp.unlink(missing_ok=True)
-    prove(progress, name, [*crates.words(name, own_rlib, jobs), "--statements", "-o", str(own_rlib(name))])
+    words = [*crates.words(name, own_rlib, jobs), "--statements", "-o", str(own_rlib(name))]
+    prove(progress, name, words, niceness)
     pack(name)
     stamp.write_text(crates.stamp(name))
 
@@ -160,23 +164,34 @@ def are_kept(names):
     return all(map(is_kept, names))
 
 
+def longest_lines(names):
+    """For each library the number of functions on the longest line of libraries that begins with it, in which each one
+    uses the one before."""
+    lengths = {}
+    for it in sorted(names, key=lambda it: -len(crates.below(it))):
+        above = [lengths[other] for other in lengths if it in crates.below(other)]
+        lengths[it] = crates.functions(it) + max(above, default=0)
+    return lengths
+
+
 def prove_each(progress, names, jobs):
-    """Proves libraries, each after those below it. Of the libraries that are ready, the one that most others depend on
-    gets all jobs that it can use, and each other one gets one job. If there is memory, there may be one job more than
-    processors: when the others have ended, no processor is idle."""
-    most = jobs + (crates.jobs_in_memory() > jobs)
-    above = {it: sum(it in crates.below(other) for other in names) for it in names}
-    left, running = sorted(names, key=lambda it: -above[it]), {}
+    """Proves libraries, each after those below it. Of the libraries that are left, the one with the longest line above
+    it gets all jobs that it can use. Each other one that is ready gets one job with a low priority, as long as there
+    is memory, so that no processor is idle while the first one uses fewer."""
+    most = min(jobs + JOBS_BESIDE, crates.jobs_in_memory())
+    lengths = longest_lines(names)
+    left, running = sorted(names, key=lambda it: -lengths[it]), {}
     with ThreadPoolExecutor(most) as pool:
         while left or running:
             waiting = {*left, *(it for it, _ in running.values())}
-            ready = [it for it in left if not waiting.intersection(crates.below(it))]
-            for at, it in enumerate(ready):
-                busy = sum(given for _, given in running.values())
-                if busy < most:
-                    given = max(1, min(useful_jobs(it), jobs - busy)) if at == 0 else 1
+            first = max(waiting, key=lengths.get)
+            for it in [it for it in left if not waiting.intersection(crates.below(it))]:
+                free = most - sum(given for _, given in running.values())
+                if free > 0:
+                    given = min(useful_jobs(it), jobs, free) if it == first else 1
                     left.remove(it)
-                    running[pool.submit(prove_library, progress, it, given)] = it, given
+                    niceness = 0 if it == first else NICENESS_BESIDE
+                    running[pool.submit(prove_library, progress, it, given, niceness)] = it, given
             for it in wait(running, return_when=FIRST_COMPLETED).done:
                 del running[it]
                 try:
