@@ -22,7 +22,9 @@ class Controller:
     """
 
     def __init__(self, addresses, gateway, links, target):
-        """`addresses` has each router's address by its name. The routes are for `target`, an address behind the gateway."""
+        """`addresses` has an address of each router by its name, on any of its devices. `links` are pairs of routers, and must
+        close no cycle: the second router of each should be nearer to the gateway. The routes are for `target`, an address behind
+        the gateway."""
         self.addresses, self.target = addresses, target
         self.network = revroute.Network(len(addresses), gateway, links, names=[*addresses])
         # the links in the network: another cut or join of one of them would be refused

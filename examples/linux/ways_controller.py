@@ -6,6 +6,7 @@ carrier, the kernels at both ends delete the nexthop object of their device, wit
 """
 
 import json
+import math
 import subprocess
 
 import revroute
@@ -16,16 +17,19 @@ SECONDS_TO_ANSWER = 10
 class WaysController:
     """The ways of all routers to one gateway.
 
-    Report what happens to links by `down` and `up`, at once or later, in the order in which it happened. After each report go
-    through `pushing()`. If the next event comes in the middle, stop there, report it, and begin a new `pushing()`: nothing has to
-    be undone.
+    Report what happens to links by `down` and `up`, at once or later, in the order in which it happened. Both routers of a link may
+    report it. After each report go through `pushing()`. If the next event comes in the middle, stop there, report it, and begin a
+    new `pushing()`: nothing has to be undone.
 
-    A router that gives no answer gets no pushes until `ask` is called for it. Until then the others get only ways that close no
-    cycle with those that it may hold. After a restart, call `ask` for each router.
+    After all pushes, the routers in `stale` lack ways that their kernels have refused: go through `pushing()` again later. Those in
+    `silent` gave no answer. They get no pushes until `ask` is called for them, and until then the others get only ways that close
+    no cycle with those that they may hold. After a restart, call `ask` for each router.
     """
 
     def __init__(self, addresses, gateway, links, target):
-        """`addresses` has each router's address by its name. The routes are for `target`, an address behind the gateway."""
+        """`addresses` has an address of each router by its name, on any of its devices. `links` are pairs of routers, and must
+        close no cycle: the second router of each should be nearer to the gateway. The routes are for `target`, an address behind
+        the gateway."""
         self.addresses, self.target = addresses, target
         self.ids = {name: at for at, name in enumerate(addresses, 1)}
         self.network = revroute.Network(len(addresses), gateway, links, names=[*addresses])
@@ -51,12 +55,18 @@ class WaysController:
         """A link has come back. If nobody has reported that it failed, it has flapped."""
         self.mark(u, v)
         if frozenset((u, v)) not in self.links:
-            self.network.join(u, v)
+            # a link to its nearer end keeps routes short
+            self.network.join(*sorted((u, v), key=self.distance, reverse=True))
             self.links.add(frozenset((u, v)))
+
+    def distance(self, router):
+        """How many links lead from a router to the gateway; infinity if it is cut off."""
+        distance = self.network.distance(router)
+        return math.inf if distance is None else distance
 
     def mark(self, u, v):
         """Each router of a link may have lost its way over it, even if the link is up again; or it may still hold it."""
-        self.stale |= {u, v}
+        self.stale |= {it for it in (u, v) if self.table.get(it)}
 
     def pushing(self):
         """Pushes what the kernels do not have yet, and yields each router once it has confirmed its push.
@@ -88,6 +98,8 @@ class WaysController:
             # what it holds now is not known, so it says that itself
             return self.ask(router)
         self.table[router] = [it for it in self.table[router] if it in ways]
+        if not ways:
+            self.stale.discard(router)
         return True
 
     def grow(self, router, ways):
@@ -134,7 +146,7 @@ class WaysController:
         routes = sorted(json.loads(said.stdout), key=lambda it: it["metric"])
         self.table[router] = [*dict.fromkeys(it["dev"] for it in routes)]
         self.highest[router] = routes[-1]["metric"] if routes else 0
-        self.stale.add(router)
+        self.stale.discard(router)
         self.silent.discard(router)
         return True
 
