@@ -23,7 +23,7 @@ class WaysController:
 
     After all pushes, the routers in `stale` lack ways that their kernels have refused: go through `pushing()` again later. Those in
     `silent` gave no answer. They get no pushes until `ask` is called for them, and until then the others get only ways that close
-    no cycle with those that they may hold. After a restart, call `ask` for each router.
+    no cycle with those that they may hold. After a restart, call `ask` for each router. After `ask`, go through `pushing()`.
     """
 
     def __init__(self, addresses, gateway, links, target):
@@ -94,7 +94,10 @@ class WaysController:
         router. Returns whether the router has confirmed."""
         # the kernel may have deleted them already: then there is nothing to flush, which is no error
         lines = [f"nexthop flush dev {it}" for it in self.table[router] if it not in ways]
-        if not self.ip(router, *lines):
+        is_done = self.ip(router, *lines)
+        if is_done is None:
+            return False
+        if not is_done:
             # what it holds now is not known, so it says that itself
             return self.ask(router)
         self.table[router] = [it for it in self.table[router] if it in ways]
