@@ -12,6 +12,8 @@ class Controller:
 
     def __init__(self, network, push):
         self.network, self.push, self.table, self.unconfirmed = network, push, {}, set()
+        # routers that may have lost the hop that the table has
+        self.stale = set()
         # the links in the network: another cut or join of one of them would be Refused
         self.links = {frozenset(link) for link in network.links()}
 
@@ -22,21 +24,30 @@ class Controller:
             self.links.remove(frozenset((u, v)))
 
     def down(self, u, v):
-        """A link has failed, and both routers have deleted their routes over it."""
-        for router, other in ((u, v), (v, u)):
-            if self.table.get(router) == other:
-                del self.table[router]
+        """A link has failed. Each of its routers may have lost its route over the link, or may still have it."""
+        self.mark(u, v)
         self.retire(u, v)
 
     def up(self, u, v):
-        """A link has come back."""
+        """A link has come back. If nobody has reported that it failed, it has flapped."""
+        self.mark(u, v)
         if frozenset((u, v)) not in self.links:
             self.network.join(u, v)
             self.links.add(frozenset((u, v)))
 
+    def mark(self, u, v):
+        """A router that sends over a link may have lost its route."""
+        self.stale |= {router for router, other in ((u, v), (v, u)) if self.table.get(router) == other}
+
+    def pushes(self):
+        """What is to be pushed: first the hops that routers may have lost and are to keep, and then what differs from the table."""
+        kept = [(node, self.table[node]) for node in self.stale]
+        again = [(node, hop) for node, hop in kept if hop == self.network.next_hop(node)]
+        return again + self.network.pushes(self.table)
+
     def update(self, interrupted=lambda: False):
         """Pushes the hops that the routers do not have yet, until an event waits (`interrupted`) or a router refuses."""
-        for node, hop in self.network.pushes(self.table):
+        for node, hop in self.pushes():
             if interrupted():
                 return
             route = self.network.walk(node)
@@ -51,10 +62,12 @@ class Controller:
                 self.unconfirmed.add(node)
             elif confirmed:
                 self.table[node] = hop
+                self.stale.discard(node)
             else:  # its link is down, and the event is not here yet
                 return
 
     def answered(self, node, hop):
         """An unconfirmed router has reported its hop, and no earlier push can still arrive."""
         self.unconfirmed.discard(node)
+        self.stale.discard(node)
         self.table[node] = hop

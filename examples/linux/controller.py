@@ -1,6 +1,10 @@
 """A controller for Linux routers: it follows links that fail and come back, and pushes each changed hop by `ip route`.
 
 Each router is a network namespace, and its link to the router r2 is a device called r2.
+
+When a link fails, Linux deletes the routes over it only at an end that is set down. An end that loses its carrier keeps its route,
+and uses it again once the link is back. So a router may have its route or have lost it. The controller takes it that it has it,
+and pushes it again.
 """
 
 import subprocess
@@ -13,53 +17,67 @@ class Controller:
     """The routes of all routers to one gateway.
 
     After each call of `down`, `up` or `retire`, go through `pushing()`. If the next event comes in the middle, stop there, report
-    it, and begin a new `pushing()`: nothing has to be undone. Take a retired link down only once its `pushing()` has ended; if
-    it fails before, call `forget`.
+    it, and begin a new `pushing()`: nothing has to be undone. Take a retired link down only once its `pushing()` has ended. If it
+    fails before, or later, that is an event as any other.
     """
 
     def __init__(self, addresses, gateway, links, target):
-        """`addresses` has each router's address by its name. The routes are for `target`, an address behind the gateway."""
+        """`addresses` has an address of each router by its name, on any of its devices. `links` are pairs of routers, and must
+        close no cycle: the second router of each should be nearer to the gateway. The routes are for `target`, an address behind
+        the gateway."""
         self.addresses, self.target = addresses, target
         self.network = revroute.Network(len(addresses), gateway, links, names=[*addresses])
-        # what each router's kernel has; a router that is missing here has no route
+        # the links in the network: another cut or join of one of them would be refused
+        self.links = {frozenset(link) for link in links}
+        # the hop that each router may have, and no other; a router that is missing here has no route
         self.table = {}
+        # routers that may have lost the hop that the table has
+        self.stale = set()
 
     def down(self, u, v):
         """A link has failed."""
-        self.forget(u, v)
-        self.network.cut(u, v)
+        self.mark(u, v)
+        self.retire(u, v)
 
     def up(self, u, v):
-        """A link has come back."""
-        self.network.join(u, v)
+        """A link has come back. If nobody has reported that it failed, it has flapped."""
+        self.mark(u, v)
+        if frozenset((u, v)) not in self.links:
+            self.network.join(u, v)
+            self.links.add(frozenset((u, v)))
 
     def retire(self, u, v):
         """A link is to be taken down, and still carries packets."""
-        self.network.cut(u, v)
+        if frozenset((u, v)) in self.links:
+            self.network.cut(u, v)
+            self.links.remove(frozenset((u, v)))
 
-    def forget(self, u, v):
-        """Drops the routes over a link from the table: Linux deletes them when the link goes down."""
-        for router, other in ((u, v), (v, u)):
-            if self.table.get(router) == other:
-                del self.table[router]
+    def mark(self, u, v):
+        """A router that sends over a link may have lost its route."""
+        self.stale |= {router for router, other in ((u, v), (v, u)) if self.table.get(router) == other}
 
     def pushing(self):
-        """Pushes what the kernels do not have yet, hop by hop, and yields each router once it has confirmed its hop."""
+        """Pushes what the kernels may lack, hop by hop, and yields each router once it has confirmed its hop."""
         for router, hop in self.pushes():
             self.push(router, hop)
             self.table[router] = hop
+            self.stale.discard(router)
             yield router
 
     def pushes(self):
-        """The routers whose hop in the table is not the settled one, with that hop, in push order."""
-        return self.network.pushes(self.table)
+        """The routers to be pushed, each with its hop: first those that may have lost the hop that they are to keep, and then those
+        whose hop in the table is not the settled one, in push order."""
+        kept = ((router, self.table[router]) for router in sorted(self.stale))
+        again = [(router, hop) for router, hop in kept if hop == self.network.next_hop(router)]
+        return again + self.network.pushes(self.table)
 
     def push(self, router, hop):
         """Gives a router its hop, and returns once its kernel has it."""
         if hop is NoHop.CUT_OFF:
-            self.route(router, "del", self.target)
+            # if the kernel has deleted the route already, there is nothing to flush, which is no error
+            self.route(router, "flush", self.target)
         elif hop is not NoHop.HERE:
             self.route(router, "replace", self.target, "via", self.addresses[hop], "dev", hop, "onlink")
 
     def route(self, router, *words):
-        subprocess.run(["ip", "-n", router, "route", *words], check=True)
+        subprocess.run(["ip", "-netns", router, "route", *words], check=True, stdout=subprocess.DEVNULL)

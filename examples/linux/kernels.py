@@ -28,6 +28,8 @@ SYSCTLS = {
     "icmp_ratelimit": 0,
     # a probe that comes back to its sender goes on, as in any loop
     "conf/all/accept_local": 1,
+    # a plain route over a link without carrier is not used: its packets would vanish without being counted
+    "conf/all/ignore_routes_with_linkdown": 1,
 }
 OFF = "rp_filter", "send_redirects", "accept_redirects"
 SYSCTLS |= {f"conf/{devices}/{name}": 0 for devices in ("all", "default") for name in OFF}
@@ -157,6 +159,12 @@ class Lab:
             ip(f"link set dev {device} {state}", inside=router)
         if state == "up":
             self.wait_for_link(u, v)
+
+    def fail_link(self, u, v):
+        """Sets the end of a link at u down, and waits until v has no carrier."""
+        self.routers[u].set_device(v, False)
+        if not wait(lambda: not self.routers[v].is_running(u)):
+            raise Wrong(f"{v} does not lose the carrier of its link to {u}")
 
     def wait_for_link(self, u, v):
         if not wait(lambda: self.routers[u].is_running(v) and self.routers[v].is_running(u)):

@@ -43,7 +43,8 @@ class Routers:
         return node, self.hops.get(node, NoHop.CUT_OFF)
 
     def forget(self, u, v):
-        for node, other in ((u, v), (v, u)):
+        """A link fails. Either or both of its routers lose their routes over it: the other may only have lost its carrier."""
+        for node, other in self.draw.choice([[(u, v)], [(v, u)], [(u, v), (v, u)]]):
             if self.hops.get(node) == other:
                 self.hops[node] = NoHop.CUT_OFF
             if self.late.get(node) == other:
@@ -80,13 +81,15 @@ class TestController(unittest.TestCase):
             for _ in range(100):
                 self.event(routers, controller, down)
                 controller.update(lambda: routers.draw.random() < 0.05)
+                if not controller.pushes() and not controller.unconfirmed:
+                    self.all_pushed(network, routers)
             for link in down:
                 controller.up(*link)
-            while network.pushes(controller.table):
+            while controller.pushes():
                 while routers.late:
                     controller.answered(*routers.arrive())
                 controller.update()
-            self.assertEqual([routers.hops[it] for it in range(SIDE * SIDE)], [network.next_hop(it) for it in range(SIDE * SIDE)])
+            self.all_pushed(network, routers)
             self.assertGreater(routers.pushed, 50)
 
     def test_a_link_that_comes_back_at_once(self):
@@ -99,10 +102,16 @@ class TestController(unittest.TestCase):
         controller.up(1, 0)
         controller.update()
         self.assertEqual(pushed[3:], [(1, 0)])
+        controller.up(1, 0)
+        controller.update()
+        self.assertEqual(pushed[4:], [(1, 0)])
         network.batch([("cut", 1, 0), ("join", 1, 0)])
         self.assertEqual((network.changed(), network.pushes(controller.table)), ([], []))
         del controller.table[1]
         self.assertEqual(network.pushes(controller.table), [(1, 0)])
+
+    def all_pushed(self, network, routers):
+        self.assertEqual([routers.hops.get(it, NoHop.CUT_OFF) for it in range(SIDE * SIDE)], network.hops())
 
     def event(self, routers, controller, down):
         """A late push arrives, a link comes back, or one fails."""

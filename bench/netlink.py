@@ -1,0 +1,134 @@
+"""The routes of a network namespace to one target, by netlink: a read or a push takes some 50 microseconds, and no process is
+started."""
+
+import errno
+import socket
+import struct
+
+REQUEST, ACK, REPLACE, CREATE, DUMP = 0x1, 0x4, 0x100, 0x400, 0x300
+NEWROUTE, DELROUTE, GETROUTE, NEWNEXTHOP, DELNEXTHOP = 24, 25, 26, 104, 105
+ERROR, DONE = 2, 3
+RTA_DST, RTA_OIF, RTA_GATEWAY, RTA_PRIORITY, RTA_MULTIPATH, RTA_NH_ID = 1, 4, 5, 6, 9, 30
+NHA_ID, NHA_OIF, NHA_GATEWAY = 1, 5, 6
+DEAD, ONLINK, LINKDOWN = 0x1, 0x4, 0x10
+MAIN, UNICAST, STATIC, HOST = 254, 1, 4, 32
+NETLINK_ROUTE, SOL_NETLINK, STRICT = 0, 270, 12
+# What is refused in pushes without harm: what is to be deleted is gone, or a way has no carrier.
+GONE, NO_CARRIER = (errno.ESRCH, errno.ENOENT), (errno.ENETDOWN, errno.EINVAL)
+
+
+class Routes:
+    """Make it within the namespace. `index` has the number of each device by its name."""
+
+    def __init__(self, target, index):
+        self.socket = socket.socket(socket.AF_NETLINK, socket.SOCK_RAW, NETLINK_ROUTE)
+        self.socket.setsockopt(socket.SOL_SOCKET, socket.SO_RCVBUF, 1 << 20)
+        self.socket.setsockopt(SOL_NETLINK, STRICT, 1)
+        self.socket.bind((0, 0))
+        self.target, self.index, self.number, self.ids = socket.inet_aton(target), index, 0, {}
+
+    def close(self):
+        self.socket.close()
+
+    def read(self):
+        """The devices of each route that the kernel would use, by rising metric. A device without carrier is left out."""
+        body = struct.pack("=8BI", socket.AF_INET, 0, 0, 0, MAIN, 0, 0, 0, 0)
+        self.send(GETROUTE, REQUEST | DUMP, body)
+        found = []
+        while True:
+            said = self.socket.recv(1 << 16)
+            for kind, begin, end in messages(said):
+                if kind in (ERROR, DONE):
+                    return [devices for _, devices in sorted(found) if devices]
+                if route := self.route_in(said, begin, end):
+                    found.append(route)
+
+    def route_in(self, said, begin, end):
+        """The metric and the devices of the route in a message, or None if it is for another target."""
+        length, table, flags = said[begin + 1], said[begin + 4], struct.unpack_from("=I", said, begin + 8)[0]
+        parts = {kind: said[at:to] for kind, at, to in attributes(said, begin + 12, end)}
+        if length != HOST or table != MAIN or parts.get(RTA_DST) != self.target:
+            return None
+        metric = struct.unpack("=I", parts[RTA_PRIORITY])[0] if RTA_PRIORITY in parts else 0
+        hops = several(parts[RTA_MULTIPATH]) if RTA_MULTIPATH in parts else [(flags, *struct.unpack("=I", parts[RTA_OIF]))]
+        return metric, [device for flags, device in hops if not flags & (DEAD | LINKDOWN)]
+
+    def do(self, *words):
+        """Does what `ip` would do for these words, as the controllers of examples/linux use them. Returns whether it was done."""
+        match words:
+            case "nexthop", "flush", "dev", device:
+                return self.ask(DELNEXTHOP, 0, nexthop(self.ids[device]), may=GONE) in (0, *GONE)
+            case "nexthop", "replace", "id", id, "via", address, "dev", device, "onlink":
+                self.ids[device] = int(id)
+                via = number(NHA_OIF, self.index[device]) + attribute(NHA_GATEWAY, socket.inet_aton(address))
+                return not self.ask(NEWNEXTHOP, REPLACE | CREATE, nexthop(int(id), ONLINK) + via, may=NO_CARRIER)
+            case "route", "replace", _, "nhid", id, "metric", metric:
+                body = self.route(UNICAST) + number(RTA_PRIORITY, int(metric)) + number(RTA_NH_ID, int(id))
+                return not self.ask(NEWROUTE, REPLACE | CREATE, body, may=NO_CARRIER)
+            case "route", "del", _, "metric", metric:
+                return not self.ask(DELROUTE, 0, self.route() + number(RTA_PRIORITY, int(metric)), may=GONE)
+            case "route", "replace", _, "via", address, "dev", device, "onlink":
+                via = attribute(RTA_GATEWAY, socket.inet_aton(address)) + number(RTA_OIF, self.index[device])
+                return not self.ask(NEWROUTE, REPLACE | CREATE, self.route(UNICAST, ONLINK) + via)
+            case "route", "flush", _:
+                return self.ask(DELROUTE, 0, self.route(), may=GONE) in (0, *GONE)
+        raise ValueError(f"no message for {' '.join(words)}")
+
+    def route(self, kind=0, flags=0):
+        """The beginning of a message about the route to the target: a kind of 0 fits any."""
+        words = socket.AF_INET, HOST, 0, 0, MAIN, STATIC if kind else 0, 0, kind, flags
+        return struct.pack("=8BI", *words) + attribute(RTA_DST, self.target)
+
+    def ask(self, kind, flags, body, may=()):
+        """Sends a message, and returns the kernel's error, which is 0 or one that may come."""
+        self.send(kind, REQUEST | ACK | flags, body)
+        while True:
+            said = self.socket.recv(1 << 16)
+            _, kind, _, number, _, error = struct.unpack_from("=IHHIIi", said)
+            if kind == ERROR and number == self.number:
+                if error and -error not in may:
+                    raise OSError(-error, "netlink")
+                return -error
+
+    def send(self, kind, flags, body):
+        self.number += 1
+        self.socket.send(struct.pack("=IHHII", 16 + len(body), kind, flags, self.number, 0) + body)
+
+
+def messages(said):
+    """The messages in what the kernel says: their kind, and where they begin and end."""
+    at = 0
+    while at + 16 <= len(said):
+        size, kind = struct.unpack_from("=IH", said, at)
+        yield kind, at + 16, at + size
+        at += size + 3 & ~3
+
+
+def attributes(said, at, end):
+    """The attributes of a message: their kind, and where their value begins and ends."""
+    while at + 4 <= end:
+        size, kind = struct.unpack_from("=HH", said, at)
+        yield kind, at + 4, at + size
+        at += size + 3 & ~3
+
+
+def several(hops):
+    """The flags and the device of each hop of a route with several."""
+    at = 0
+    while at + 8 <= len(hops):
+        size, flags, _, device = struct.unpack_from("=HBBI", hops, at)
+        yield flags, device
+        at += size + 3 & ~3
+
+
+def attribute(kind, value):
+    return struct.pack("=HH", 4 + len(value), kind) + value + bytes(-len(value) % 4)
+
+
+def number(kind, value):
+    return attribute(kind, struct.pack("=I", value))
+
+
+def nexthop(id, flags=0):
+    family = socket.AF_INET if flags else socket.AF_UNSPEC
+    return struct.pack("=4BI", family, 0, STATIC if flags else 0, 0, flags) + number(NHA_ID, id)
