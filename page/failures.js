@@ -37,6 +37,7 @@ const linkNames = links => links.map(([tail, head]) => tail + ARROW + head).join
 const isLast = () => viewer.blocks.length > 0 && blockAt(viewer.now) === viewer.blocks.length - 1;
 
 acts.hasFailed = (tail, head) => failing.links.length > 0 && isLast() && failedAt([tail, head]) >= 0;
+acts.ways = () => failing.links.length > 0 && isLast() ? failing.ways : null;
 acts.packet = () => failing.packet && isLast() ? failing.packet.walk : null;
 acts.isStuck = node => Boolean(failing.packet) && isLast() && failing.packet.stuck === node;
 
@@ -145,7 +146,8 @@ function sendPacket() {
 // Where a packet is drawn after so many links of its walk, also between two nodes.
 function placeOn(view, walk, links) {
   const from = Math.min(Math.floor(links), walk.length - 1), part = links - from;
-  if (!part) return view.place[walk[from]];
+  // At a node it lies on the rim, so that the number can be read.
+  if (!part) return view.place[walk[from]].map((side, at) => side + (at ? -15 : 15));
   const name = '[data-tail="' + walk[from] + '"][data-head="' + walk[from + 1] + '"]';
   const line = view.lines.querySelector('.link' + name + ' path'),
         {x, y} = line.getPointAtLength(part * line.getTotalLength());
@@ -154,6 +156,7 @@ function placeOn(view, walk, links) {
 
 // Draws the packet on its walk. It stays at the end until something else is done.
 function follow(view, packet) {
+  for (const last of view.group.querySelectorAll('.packet')) last.remove();
   const {walk} = packet, dot = make(view.group, 'circle', {r: 9, class: 'packet'}), begin = performance.now();
   const pace = matchMedia('(prefers-reduced-motion: reduce)').matches ? 0 : Number(by('speed').value) / 2;
   const step = () => {

@@ -153,6 +153,7 @@ acts.link = (tail, head) => {
   later(() => focusOn(node));
 };
 acts.node = node => {
+  failing.packet = null;
   if (viewer.picked === null || viewer.picked === node) return pick(node);
   const first = viewer.picked;
   if (!isEarlier()) ask('join', first, node);

@@ -145,6 +145,7 @@ const acts = {
   places: () => null,
   shown: () => {},
   hasFailed: () => false,
+  ways: () => null,
   packet: () => null,
   isStuck: () => false,
   pace: wait => wait

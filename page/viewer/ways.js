@@ -27,10 +27,10 @@ function waysOf(round) {
 }
 
 // The ways that packets can take at a step, or null where the page shows next hops: within a round, and while hops are
-// pushed, it always does. In the lab some ways may have failed.
+// pushed, it always does. In the lab some ways may have failed; then it has the ways as the engine answers them.
 function waysShown(round, state) {
   if (!state.hops || state.push || !isOfWays()) return null;
-  return round.ways.map((list, node) => list.filter(way => !acts.hasFailed(node, way)));
+  return (acts.ways() ?? round.ways).map((list, node) => list.filter(way => !acts.hasFailed(node, way)));
 }
 
 // From a node along the first way of each.

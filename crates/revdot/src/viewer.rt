@@ -81,6 +81,7 @@ summary{cursor:pointer;width:max-content}
 .link.now .tip{fill:var(--turn);stroke:none}
 .link.way path{stroke:var(--route);stroke-width:4.2}
 .link.way .tip{fill:var(--route);stroke:none}
+.link.next.way .tip{fill:var(--back);stroke:var(--route);stroke-width:1.6}
 .link.closed path{stroke:var(--bad);stroke-width:4.6;stroke-dasharray:14 3 3 3}
 .link.closed .tip{fill:var(--bad);stroke:none}
 .link.asked path{stroke-dasharray:7 5}
@@ -116,7 +117,7 @@ body{grid-template:'head' auto 'net' minmax(0,1fr) 'bar' auto 'side' 36vh 'foot'
 header{display:block;padding:.4rem .8rem}h1{white-space:nowrap;overflow:hidden;text-overflow:ellipsis}
 #say{align-content:start}aside{border:0;border-top:1px solid var(--edge)}
 #bar{padding:.4rem .8rem;gap:.35rem}#bar button{min-width:2.3rem;padding:.25rem .4rem}#bar #play{min-width:3.6rem}
-#bar select{padding:.25rem .1rem}#slide,#bar label:last-child{order:1}#slide{flex-basis:40%}#at{flex:1}}
+#bar select{padding:.25rem .1rem}#slide,#bar label:nth-last-child(-n+2){order:1}#slide{flex-basis:15%}#at{flex:1}}
 </style>
 <header><h1 id='title'>revroute</h1><p id='say' role='status' aria-live='polite'></p></header>
 <aside aria-label='Requests'>
@@ -166,7 +167,8 @@ header{display:block;padding:.4rem .8rem}h1{white-space:nowrap;overflow:hidden;t
 <li>below a number, if the drawing is large enough: how often the node has turned</li>
 </ul>
 <b>Proved:</b> the data of this page: each request, answer, link, turn, count, next hop and push.
-<b>Not proved:</b> the drawing. A script in this page makes it, and is tested in a browser.
+<b>Not proved:</b> the drawing, and ways and distances, which follow from the links. A script in this page makes them, and is
+tested in a browser.
 <b>Keys:</b> left and right, a step; up and down, a line; space, play; n and p, a node;
 w, next hops or ways;
 + and -, the size; 0 or f, fit; Shift and an arrow, move the drawing.
@@ -501,10 +503,10 @@ function waysOf(round) {
 }
 
 // The ways that packets can take at a step, or null where the page shows next hops: within a round, and while hops are
-// pushed, it always does. In the lab some ways may have failed.
+// pushed, it always does. In the lab some ways may have failed; then it has the ways as the engine answers them.
 function waysShown(round, state) {
   if (!state.hops || state.push || !isOfWays()) return null;
-  return round.ways.map((list, node) => list.filter(way => !acts.hasFailed(node, way)));
+  return (acts.ways() ?? round.ways).map((list, node) => list.filter(way => !acts.hasFailed(node, way)));
 }
 
 // From a node along the first way of each.
@@ -1432,6 +1434,7 @@ const acts = {
   places: () => null,
   shown: () => {},
   hasFailed: () => false,
+  ways: () => null,
   packet: () => null,
   isStuck: () => false,
   pace: wait => wait
