@@ -1,21 +1,5 @@
 // The lab: each action is a request. The proved program answers all requests so far. Then the round is played.
 'use strict';
-const {by, NL, acts, keys, controlled, pane, camera, room} = viewer;
-const {
-  load,
-  stepsIn,
-  blockAt,
-  show,
-  showNothing,
-  play,
-  pick,
-  fit,
-  lookAs,
-  keepInSight,
-  moveNode,
-  keepPlaces,
-  placesOf
-} = viewer;
 const MOST_BYTES = 1 << 20, MOST_TEXT = MOST_BYTES.toLocaleString('en'), MOST_TIME = 20000, MOST_DRAWN = 256;
 
 // A text has requests, one a line. Blank lines and comments are none. One comment may say where nodes are: for the
@@ -49,18 +33,22 @@ function tell(text) {
 }
 
 function hint() {
-  by('hint').className = fault ? 'no' : '';
+  by('hint').className = fault || failing.packet && failing.packet.stuck !== null ? 'no' : '';
   by('hint').textContent = fault ? fault :
       note                       ? note :
+      failureHint()              ? failureHint() :
       !viewer.blocks.length      ? 'Add a node, take a sample, or open a file of requests.' :
       viewer.picked === null     ? 'Click a link to cut it, two nodes to join them, empty space to add a node.' :
                                    'Node ' + viewer.picked + ' is chosen. Click another node to join the two.';
   by('home').disabled = by('remove').disabled = viewer.picked === null;
+  by('tell').disabled = !failing.links.length;
   by('undo').disabled = !lines.length && !replaced.length;
+  mark(by('fail'), {'aria-pressed': failing.isOn});
 }
 
 acts.shown = () => {
   fault = null;
+  by('say').textContent = [by('say').textContent, failureText()].join(' ').trim();
   hint();
 };
 acts.pace = wait =>
@@ -87,6 +75,7 @@ async function run(next, kept, where) {
   viewer.picked = note = null;
   play(false);
   load(kept, text);
+  forgetFailures(kept, isMore);
   if (!viewer.blocks.length) showNothing();
   else if (!isMore) showLast();
   else {
@@ -117,6 +106,7 @@ async function runAll(next, kept, where) {
 }
 
 async function takeBack() {
+  if (failing.links.length) return mendLast();
   const was = replaced.at(-1);
   if (was && was.count === lines.length) {
     if (await run(was.lines, 0, was.places)) replaced.pop();
@@ -156,12 +146,14 @@ function focusOn(node) {
 
 // A link that was cut cannot keep the focus. It goes to the node from which the keyboard came to the link.
 acts.link = (tail, head) => {
+  if (failing.isOn) return acts.fail(tail, head);
   if (isEarlier()) return;
   const node = near === head ? head : tail;
   ask('cut', tail, head);
   later(() => focusOn(node));
 };
 acts.node = node => {
+  failing.packet = null;
   if (viewer.picked === null || viewer.picked === node) return pick(node);
   const first = viewer.picked;
   if (!isEarlier()) ask('join', first, node);
@@ -373,6 +365,8 @@ function openText() {
 
 const openSamples = () => openDialog(by('samples'));
 document.querySelector('aside').prepend(by('lab'));
+by('legend').append(...by('lablegend').children);
+by('lablegend').remove();
 by('letters').parentNode.before(...by('labkeys').childNodes);
 by('labkeys').remove();
 Object.assign(keys, {
@@ -381,6 +375,9 @@ Object.assign(keys, {
   l: () => focusLink(1),
   k: () => focusLink(-1),
   d: makeHome,
+  b: switchFailing,
+  t: tellEngine,
+  g: sendPacket,
   i: () => add(),
   x: remove,
   Delete: remove,
@@ -400,6 +397,9 @@ Object.assign(controlled, {
 const buttons = {
   undo,
   home: makeHome,
+  fail: switchFailing,
+  tell: tellEngine,
+  packet: sendPacket,
   add: () => add(),
   remove,
   anew,

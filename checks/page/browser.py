@@ -117,9 +117,9 @@ class Browser:
     def mouse(self, kind, x, y, **more):
         self.call('Input.dispatchMouseEvent', type=kind, x=x, y=y, **more)
 
-    def click(self, x, y):
+    def click(self, x, y, shift=False):
         for kind in ('mousePressed', 'mouseReleased'):
-            self.mouse(kind, x, y, button='left', buttons=1, clickCount=1)
+            self.mouse(kind, x, y, button='left', buttons=1, clickCount=1, modifiers=8 * shift)
 
     def drag(self, begin, end):
         self.mouse('mousePressed', *begin, button='left', buttons=1, clickCount=1)

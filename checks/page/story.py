@@ -108,6 +108,31 @@ class Network:
         return ['here' if node == self.destination else str(min(self.heads[node])) if node in joined else 'cut'
                 for node in range(self.nodes)]
 
+    def distances(self):
+        """For each node the fewest links that lead from it to the destination, or None. They fall until nothing changes."""
+        far = [None] * self.nodes
+        far[self.destination] = 0
+        while True:
+            new = [0 if node == self.destination else min((far[head] + 1 for head in self.heads[node] if far[head] is not None), default=None) for node in range(self.nodes)]
+            if new == far:
+                return far
+            far = new
+
+    def ways(self):
+        """For each node the nodes to which its links point, by distance and then by number. A node that is cut off has none."""
+        far = self.distances()
+        return [sorted(heads, key=lambda head: (far[head], head)) if far[node] is not None else [] for node, heads in enumerate(self.heads)]
+
+    def ways_word(self, node):
+        return 'here' if node == self.destination else ','.join(map(str, self.ways()[node])) or 'cut'
+
+    def nearest(self, node):
+        ways = self.ways()
+        route = [node]
+        while ways[route[-1]]:
+            route.append(ways[route[-1]][0])
+        return words('nearest', route) + ('' if route[-1] == self.destination else ' cut')
+
     def walk(self, node):
         hops, route = self.hops(), [node]
         while hops[route[-1]].isdigit():
@@ -174,6 +199,10 @@ def answered(network, request):
     if request[0] == 'pushes':
         old, *wanted = [list(map(str, table)) for table in request[1:]]
         return pushes(old, *wanted or [network.hops()])
+    if request[0] == 'ways':
+        return words('ways', [network.ways_word(node) for node in request[1:] or range(network.nodes)])
+    if request[0] == 'nearest':
+        return network.nearest(request[1])
     return words('hops', network.hops()) if request[0] == 'hops' else network.walk(request[1])
 
 

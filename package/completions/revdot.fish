@@ -1,5 +1,6 @@
 # Completions of revdot for fish.
 complete -c revdot -f
+complete -c revdot -l ways -d 'The network with the ways of each node'
 complete -c revdot -l turns -d 'A graph for each turn of the last round'
 complete -c revdot -l page -d 'A page for a browser'
 complete -c revdot -s h -l help -d 'Print help'

@@ -16,7 +16,7 @@ function show(step, keep) {
   mark(net, {'data-line': block.line, 'data-turn': block.own ? turn : 0, 'data-push': push});
   mark(net, {'data-loop': push ? state.loop.join(' ') : null});
   if (drawn) {
-    const view = round.view, way = routeShown(block, state);
+    const view = round.view, ways = waysShown(round, state), way = routeShown(block, state, ways);
     const isNew = setUp(view);
     if (shown !== view) {
       net.replaceChildren(view.group);
@@ -24,20 +24,20 @@ function show(step, keep) {
       fit();
     } else if (isNew && camera.isFitted) fit();
     mark(net, {'aria-label': 'A network of ' + round.nodes + ' nodes, destination ' + round.home});
-    drawLinks(view, round, state, way, push ? state.loop : isApart ? [] : cycle);
-    drawNodes(view, round, state, way, news);
+    drawLinks(view, round, {state, ways}, way, push ? state.loop : isApart ? [] : cycle);
+    drawNodes(view, round, {state, ways}, way, news);
     const moved = state.sink ?? state.node;
     if (moved !== null && moved < round.nodes) keepInSight(view, moved);
   } else
     none.textContent = !round ? 'There is no network yet.' :
                                 'This network is larger than a page shows (256 nodes). The answers are in the list.';
   drawRing(isApart ? cycle : []);
-  tellNode(round, state);
+  tellNode(round, state, drawn ? waysShown(round, state) : null);
   tellStep(block, turn, state, changes);
   currentButton(at);
   clearTimeout(show.later);
   const part = push ? '&push=' + push : block.own ? '&turn=' + turn : '';
-  const named = '#line=' + block.line + part + (isRising() ? '&order=rising' : '');
+  const named = '#line=' + block.line + part + (isRising() ? '&order=rising' : '') + (isOfWays() ? '&lines=ways' : '');
   if (!keep) show.later = setTimeout(() => history.replaceState(null, '', named), 400);
   acts.shown();
 }
@@ -93,6 +93,7 @@ function goFragment() {
         at = blocks.findIndex(block => block.line === Number(words.get('line')));
   if (at < 0) return false;
   by('order').value = words.get('order') === 'rising' ? 'rising' : 'push';
+  by('lines').value = words.get('lines') === 'ways' ? 'ways' : 'hops';
   const block = blocks[at], turns = block.own && block.round.drawn ? block.round.turned : 0;
   const number = name => Math.max(0, Number(words.get(name)) || 0);
   const turn = words.has('turn') ? Math.min(turns, number('turn')) : turns;
@@ -111,6 +112,7 @@ const keys = {
   ' ': () => play(timer === null),
   n: () => pickNext(1),
   p: () => pickNext(-1),
+  w: () => chooseLines(isOfWays() ? 'hops' : 'ways'),
   Escape: () => {
     if (picked !== null) pick(picked);
   },
@@ -131,15 +133,21 @@ const shifted = {
 // Keys with Ctrl, which only the lab has.
 const controlled = {};
 
-// What a click on a node, on a link or beside them does, and who says where nodes are. The lab has its own.
+// What a click on a node, on a link or beside them does, who says where nodes are, and what has failed without the
+// engine's knowing. The lab has its own.
 const acts = {
   node: pick,
   link: () => {},
+  fail: () => {},
   empty: () => {},
   drag: null,
   drop: () => {},
   places: () => null,
   shown: () => {},
+  hasFailed: () => false,
+  ways: () => null,
+  packet: () => null,
+  isStuck: () => false,
   pace: wait => wait
 };
 
@@ -150,7 +158,7 @@ function actionOf({key, target, shiftKey, ctrlKey, metaKey, altKey}) {
   if (scrolling.has(key) && isScrolled(target) || isLetter(key) && !hasLetters()) return null;
   if (key === ' ' && target.matches('button, summary')) return null;
   const g = key === 'Enter' && target.closest('.node, .link');
-  return g ? () => act(g) : shiftKey && shifted[key] || keys[key];
+  return g ? () => act(g, shiftKey) : shiftKey && shifted[key] || keys[key];
 }
 
 function listenToKeys() {
@@ -177,9 +185,10 @@ function isScrolled(target) {
 // Keys that are letters, digits or signs can be turned off, for people who speak to their computer.
 const isLetter = key => key.length === 1 && key !== ' ', hasLetters = () => by('letters').checked;
 
-function act(g) {
+// With Shift a link fails without the engine's knowing, in the lab.
+function act(g, isShift) {
   if (g.classList.contains('node')) acts.node(Number(g.dataset.node));
-  else acts.link(Number(g.dataset.tail), Number(g.dataset.head));
+  else (isShift ? acts.fail : acts.link)(Number(g.dataset.tail), Number(g.dataset.head));
 }
 
 // What a reader has chosen is kept in the browser. Where nothing can be kept, the page goes on without it.
@@ -227,10 +236,10 @@ function start() {
   };
   for (const id in clicks) by(id).addEventListener('click', clicks[id]);
   by('slide').addEventListener('input', () => go(Number(by('slide').value)));
-  by('order').addEventListener('change', () => show(now));
+  for (const id of ['order', 'lines']) by(id).addEventListener('change', () => show(now));
   by('net').addEventListener('click', event => {
     const g = event.target.closest('.node, .link');
-    if (g) act(g);
+    if (g) act(g, event.shiftKey);
     else acts.empty(event);
   });
   by('list').addEventListener('click', event => {
@@ -259,7 +268,10 @@ function begin() {
 // What the lab uses of the viewer.
 const offered = {
   by,
+  make,
+  mark,
   NL,
+  ARROW,
   acts,
   keys,
   controlled,
@@ -279,6 +291,8 @@ const offered = {
   moveNode,
   keepPlaces,
   placesOf,
+  walkOf,
+  chooseLines,
   get blocks() { return blocks; },
   get starts() { return starts; },
   get steps() { return steps; },

@@ -62,7 +62,16 @@ function addShapes(view) {
     if (!view.shapes.has(key)) shapeOf(view, key);
 }
 
-function drawLinks(view, round, state, way, walk) {
+// How a link is drawn that is in the network. Where ways are shown, that to the first way of its tail is bold.
+function kindOf([tail, head], round, {state, ways, hop}) {
+  if (head === state.sink) return ' now';
+  if (acts.hasFailed(tail, head)) return ' failed';
+  if (ways && round.hops[tail] !== 'cut') return (ways[tail][0] === head ? ' first' : ' other') + (hop ? ' next' : '');
+  if (hop) return round.hops[tail] === String(head) ? ' hop' : ' hop old';
+  return round.hops[tail] === 'cut' ? ' out' : '';
+}
+
+function drawLinks(view, round, {state, ways}, way, walk) {
   const there = new Set(), steps = stepsOf(way), closed = stepsOf(walk), hops = hopsIn(state.hops || [], round.nodes);
   const marks = step => (steps.has(step) ? ' way' : '') + (closed.delete(step) ? ' closed' : '');
   for (const [tail, head] of state.links) {
@@ -77,16 +86,17 @@ function drawLinks(view, round, state, way, walk) {
       if (shape.hit) shape.hit.setAttribute('d', drawn.line);
       shape.tail = tail;
     }
-    const hop = hops.delete(step), old = round.hops[tail] !== String(head), out = round.hops[tail] === 'cut';
-    const kind = hop ? (old ? ' hop old' : ' hop') : head === state.sink ? ' now' : out ? ' out' : '';
+    const hop = hops.delete(step);
     mark(shape.g, {
-      class: 'link' + kind + marks(step),
+      class: 'link' + kindOf([tail, head], round, {state, ways, hop}) + marks(step),
       'data-tail': tail,
       'data-head': head,
       'data-hop': hop ? 1 : null,
       visibility: null
     });
-    if (isLab) mark(shape.g, {'aria-label': 'link from ' + tail + ' to ' + head, tabindex: hasLetters() ? -1 : 0});
+    if (!isLab) continue;
+    const label = 'link from ' + tail + ' to ' + head + (acts.hasFailed(tail, head) ? ', failed' : '');
+    mark(shape.g, {'aria-label': label, tabindex: hasLetters() ? -1 : 0});
   }
   for (const [key, shape] of view.shapes) {
     if (!there.has(key))
@@ -94,8 +104,16 @@ function drawLinks(view, round, state, way, walk) {
   }
   // What is left of both is no link: old next hops, and links that a refused line asked for.
   view.more.replaceChildren();
+  for (const shape of view.shapes.values())
+    if (shape.g.classList.contains('failed')) drawCross(view, shape);
   for (const step of hops) mark(arrowMore(view, there, step, 'link hop old' + marks(step)), {'data-hop': 1});
   for (const step of state.push ? [] : closed) arrowMore(view, there, step, 'link closed asked');
+}
+
+// A cross on a link that has failed.
+function drawCross(view, {line}) {
+  const {x, y} = line.getPointAtLength(line.getTotalLength() / 2);
+  make(view.more, 'path', {class: 'cross', d: 'M-8-8L8 8M-8 8L8-8', transform: 'translate(' + x + ' ' + y + ')'});
 }
 
 // An arrow that is no link of the network, beside the link of its ends where there is one.
@@ -141,19 +159,21 @@ function drawRing(cycle) {
   }
 }
 
-function drawNodes(view, round, state, way, news) {
+function drawNodes(view, round, {state, ways}, way, news) {
   view.spots.forEach((spot, node) => {
     const count = state.counts[node], isCut = round.hops[node] === 'cut', isHome = node === round.home;
     const hop = state.hops && state.hops[node], isSaid = hop === 'here' ? isHome : hop === 'cut' && isCut;
     const kinds = [
       ['home', isHome], ['out', isCut], ['now', node === state.sink], ['new', news.includes(node)],
-      ['push', node === state.node], ['way', way.includes(node)], ['pick', node === picked]
+      ['push', node === state.node], ['way', way.includes(node)], ['pick', node === picked],
+      ['stuck', acts.isStuck(node)]
     ];
     if (spot.count.textContent !== String(count)) spot.count.textContent = count;
     const label = 'node ' + node + (isHome ? ', the destination' : '') + ', turned ' + count +
         (count === 1 ? ' time' : ' times') + (node === state.sink ? ', turns next' : '') +
         (node === state.node ? ', gets its next hop now' : '') + (isCut ? ', cut off' : '') +
-        (hop && !isSaid ? ', ' + hopText(hop) : '');
+        (hop && !isSaid ? ', ' + (ways ? waysText(ways[node]) : hopText(hop)) : '') +
+        (acts.isStuck(node) ? ', a packet is stuck here' : '');
     mark(spot.g, {
       class: 'node' + kinds.filter(kind => kind[1]).map(kind => ' ' + kind[0]).join(''),
       'aria-label': label,

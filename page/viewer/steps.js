@@ -104,11 +104,14 @@ function changedHops(round) {
   return round.before && round.before.drawn && round.before.nodes === round.nodes ? round.pushes : [];
 }
 
-function routeShown(block, state) {
+function routeShown(block, state, ways) {
+  const walked = acts.packet();
   if (!state.hops) return [];
-  if (block.answer.startsWith('walk '))
+  if (walked) return walked;
+  if (/^(walk|nearest) /.test(block.answer))
     return block.answer.split(' ').slice(1).filter(word => word !== 'cut').map(Number);
-  return picked !== null && picked < block.round.nodes ? routeOf(state.hops, picked) : [];
+  if (picked === null || picked >= block.round.nodes) return [];
+  return ways ? walkOf(ways, picked) : routeOf(state.hops, picked);
 }
 
 // The hops of a table between nodes of the network, as steps.

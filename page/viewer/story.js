@@ -47,10 +47,11 @@ class Round {
   get gone() { return listed(this.said.gone, linkOf); }
   get fresh() { return listed(this.said.new, linkOf); }
   get isWhole() { return this.said.links !== undefined; }
-  // The links, counts and hops after the round.
+  // The links, counts, hops and ways after the round.
   get links() { return settled(this).links; }
   get counts() { return settled(this).counts; }
   get hops() { return settled(this).hops; }
+  get ways() { return settled(this).ways ??= waysOf(this); }
   // The links before the round: a link points as it did if its ends turned equally often.
   get first() { return this.links.map(([a, b]) => this.counts[a] === this.counts[b] ? [a, b] : [b, a]); }
 }
@@ -60,7 +61,7 @@ const keeping = [], MOST_KEPT = 8;
 
 function keep(round, state) {
   const sorted = [...state.links.values()].sort((a, b) => a[0] - b[0] || a[1] - b[1]);
-  round.kept = {links: sorted, counts: state.counts.slice(), hops: state.hops.slice()};
+  round.kept = {links: sorted, counts: state.counts.slice(), hops: state.hops.slice(), ways: null};
   keeping.push(round);
   if (keeping.length > MOST_KEPT) keeping.shift().kept = null;
   return round.kept;

@@ -1,6 +1,7 @@
 // What is said of a step, and of a chosen node.
 
 const hopText = hop => hop === 'here' ? 'is the destination' : hop === 'cut' ? 'has no next hop' : 'sends to ' + hop;
+const waysText = list => list.length ? 'ways ' + list.join(', ') : 'no way';
 const hopName = hop => hop === 'here' ? 'destination' : hop === 'cut' ? 'none' : hop;
 const changeText = (node, old, next) => node + ' (' + hopName(old) + ARROW + hopName(next) + ')';
 
@@ -106,16 +107,29 @@ function drawChart(node) {
   svg.removeAttribute('hidden');
 }
 
-function tellNode(round, state) {
+// The distance and the ways of the chosen node, once the round has ended.
+function tellWays(round, state) {
+  const list = state.hops ? round.ways[picked] : null, far = list ? walkOf(round.ways, picked).length - 1 : 0,
+        isAny = Boolean(list && list.length);
+  mark(by('picked'), {'data-ways': list ? list.join(' ') : null, 'data-distance': isAny ? far : null});
+  if (!isAny) return '.';
+  const named = list.map(way => way + (acts.hasFailed(picked, way) ? ' (failed)' : ''));
+  return ', distance ' + far + ', ' + waysText(named) + '.';
+}
+
+function routeText({hops}, route, ways) {
+  const isCut = hops[route.at(-1)] === 'cut';
+  return (ways ? 'nearest ' : 'walk ') + route.join(' ') + (isCut ? ' cut' : '');
+}
+
+function tellNode(round, state, ways) {
   const known = state && picked !== null && picked < round.nodes;
   by('picked').textContent = known ? 'Node ' + picked + (picked === round.home ? ', the destination' : '') +
-          ': turned ' + state.counts[picked] + ' in this round.' :
+          ': turned ' + state.counts[picked] + ' in this round' + tellWays(round, state) :
       isLab ? '' :
               'Choose a node to see its route and its count over time.';
-  const route = known && state.hops ? routeOf(state.hops, picked) : null;
-  const text = !known ? '' :
-      !route          ? 'It has a route once the round has ended.' :
-                        'walk ' + route.join(' ') + (state.hops[route.at(-1)] === 'cut' ? ' cut' : '');
+  const route = !known || !state.hops ? null : ways ? walkOf(ways, picked) : routeOf(state.hops, picked);
+  const text = !known ? '' : !route ? 'It has a route once the round has ended.' : routeText(state, route, ways);
   by('route').textContent = text;
   mark(by('route'), {'data-route': route ? text : null});
   if (known) drawChart(picked);

@@ -7,13 +7,14 @@ use Rattle.fr_core.specs.Legal.{NoneCanTurn}
 use Rattle.fr_route.specs.States.{State}
 use Rattle.fr_tables.specs.declared.hop.Hop.{Hop}
 use Rattle.fr_route.proofs.Determined.{hops_unique, answers_unique}
+use Rattle.fr_route.proofs.NodeWays.{all_ways_unique}
 use Rattle.fr_bytes.specs.Lines.{lines_of}
 use Rattle.revdot.specs.Drawings.{IsDrawing, IsPictureOf}
 use Rattle.revdot.specs.Graphs.{graph_text}
-use Rattle.revdot.specs.Settled.{IsGraphOf, settled_node, settled_link}
+use Rattle.revdot.specs.Settled.{IsGraphOf, IsWaysGraphOf, settled_node, settled_link, way_link}
 use Rattle.revdot.specs.Strips.{IsNext, IsStripOf, AreAllTurns, AreTurns, after_turn, after_turns, beginning, most_turns, turns_text}
 use Rattle.revdot.specs.declared.drawing.Picture.{Picture}
-use Rattle.revdot.specs.declared.drawing.Picture.TheVariants.{Network, Turns}
+use Rattle.revdot.specs.declared.drawing.Picture.TheVariants.{Network, Ways, Turns}
 
 graph_unique : (s : State) (a b : List ℕ) → IsGraphOf s a → IsGraphOf s b → a ≡ b
 graph_unique s a b p q =
@@ -21,6 +22,15 @@ graph_unique s a b p q =
     p.text
     ∙ (ap (λ (hs : List Hop). graph_text None s.dest (map (settled_node s.counts hs) (range_with_len 0 s.nodes)) (map (settled_link hs) s.links)) hops
     ∙ sym q.text)
+
+ways_graph_unique : (s : State) (a b : List ℕ) → IsWaysGraphOf s a → IsWaysGraphOf s b → a ≡ b
+ways_graph_unique s a b p q =
+    let hops : p.hops ≡ q.hops = hops_unique s s.nodes p.hops q.hops p.are_hops q.are_hops in
+    let table : p.table ≡ q.table = all_ways_unique s p.table q.table p.are_ways q.are_ways in
+    let text = λ (hs : List Hop) (ws : List (List ℕ)).
+    graph_text None s.dest (map (settled_node s.counts hs) (range_with_len 0 s.nodes)) (map (way_link hs ws) s.links) in
+    let texts : text p.hops p.table ≡ text q.hops q.table = λ i. text (hops i) (table i) in
+    p.text ∙ (texts ∙ sym q.text)
 
 next_unique : (n d : ℕ) (m : Moment) (x y : ℕ) → IsNext n d m x → IsNext n d m y → x ≡ y
 next_unique n d m x y p q =
@@ -80,6 +90,7 @@ strip_unique s a b p q =
 picture_unique : (picture : Picture) (last : Option State) (a b : List ℕ) → IsPictureOf picture last a → IsPictureOf picture last b → a ≡ b
 picture_unique picture None a b p q = p ∙ sym q
 picture_unique Network (Some s) a b p q = graph_unique s a b p q
+picture_unique Ways (Some s) a b p q = ways_graph_unique s a b p q
 picture_unique Turns (Some s) a b p q = strip_unique s a b p q
 
 -- an input has only one picture

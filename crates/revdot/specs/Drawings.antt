@@ -3,10 +3,10 @@ use Rattle.std.specs.Prelude.{◌≡◌, ℕ, List, [], Option, Some, None}
 use Rattle.fr_route.specs.States.{State}
 use Rattle.fr_route.specs.Answers.{AreAnswers}
 use Rattle.fr_bytes.specs.Lines.{lines_of}
-use Rattle.revdot.specs.Settled.{IsGraphOf}
+use Rattle.revdot.specs.Settled.{IsGraphOf, IsWaysGraphOf}
 use Rattle.revdot.specs.Strips.{IsStripOf}
 use Rattle.revdot.specs.declared.drawing.Picture.{Picture}
-use Rattle.revdot.specs.declared.drawing.Picture.TheVariants.{Network, Turns}
+use Rattle.revdot.specs.declared.drawing.Picture.TheVariants.{Network, Ways, Turns}
 
 -- the state after the lines of an input; `None` if there is no network
 abbrev pub IsLeftBy : List ℕ → Option State → Type 0
@@ -16,6 +16,7 @@ IsLeftBy bytes last = (answers : List ℕ) × AreAnswers None (lines_of bytes) a
 abbrev pub IsPictureOf : Picture → Option State → List ℕ → Type 0
 IsPictureOf picture None out = out ≡ []
 IsPictureOf Network (Some s) out = IsGraphOf s out
+IsPictureOf Ways (Some s) out = IsWaysGraphOf s out
 IsPictureOf Turns (Some s) out = IsStripOf s out
 
 -- the picture of the state after the lines of an input

@@ -50,6 +50,10 @@ link_look_text link.Plain = []
 link_look_text link.NextHop = codes " color = black penwidth = 2.5"
 link_look_text link.CutOff = codes " color = gray80"
 link_look_text link.Turning = codes " color = darkorange penwidth = 2"
+link_look_text link.Way = codes " color = black penwidth = 0.6"
+link_look_text link.WayToHop = codes " color = black penwidth = 0.6 arrowhead = empty"
+link_look_text link.FirstWay = codes " color = black penwidth = 2.5"
+link_look_text link.FirstWayToHop = codes " color = black penwidth = 2.5 arrowhead = empty"
 
 -- an arrow that points up
 abbrev pub back_text : Bool → List ℕ

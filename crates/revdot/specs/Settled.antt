@@ -1,10 +1,13 @@
 -- The graph of a settled network. This project's own.
-use Rattle.std.specs.Prelude.{◌≡◌, ℕ, ◌==◌, if◌then◌else◌, false, List, None, map, slice_index, slice_index_or}
+use Rattle.std.specs.Prelude.{◌≡◌, ℕ, ◌==◌, if◌then◌else◌, Bool, false, List, Option, Some, None, map, slice_get, slice_index}
+use Rattle.std.specs.Prelude.{slice_index_or}
 use Rattle.std.specs.List.{range_with_len}
+use Rattle.fr_route.specs.NodeWays.{AreAllWays}
 use Rattle.fr_route.specs.States.{State}
 use Rattle.fr_route.specs.Routes.{AreHops}
 use Rattle.fr_tables.specs.declared.hop.Hop.{Hop}
 use Rattle.fr_tables.specs.declared.hop.Hop.TheVariants.{Here, To, CutOff}
+use Rattle.fr_ways.specs.Ways.{ways}
 use Rattle.revdot.specs.Graphs.{graph_text}
 use Rattle.revdot.specs.declared.graphs.NodeLook.{NodeLook}
 use Rattle.revdot.specs.declared.graphs.NodeLook.TheVariants as node
@@ -46,3 +49,35 @@ pub record IsGraphOf (s : State) (out : List ℕ) : Type 0 where
   pub are_hops : AreHops s s.nodes hops
   pub text : out ≡ graph_text None s.dest (map (settled_node s.counts hops) (range_with_len 0 s.nodes))
       (map (settled_link hops) s.links)
+
+-- whether this is the first way
+abbrev pub is_first : Option ℕ → ℕ → Bool
+is_first (Some way) head = way == head
+is_first None head = false
+
+-- the look of a link to this head, where its tail has this hop and this first way: that to the first way is bold, and
+-- that to the next hop has a hollow head
+abbrev pub way_look : Hop → Option ℕ → ℕ → LinkLook
+way_look Here first head = link.Plain
+way_look (To y) first head =
+    if is_first first head
+    then (if y == head then link.FirstWayToHop else link.FirstWay)
+    else (if y == head then link.WayToHop else link.Way)
+way_look CutOff first head = link.CutOff
+
+abbrev pub way_link : List Hop → List (List ℕ) → ℕ × ℕ → DrawnLink
+way_link hops table l = record {
+  tail = l.0;
+  head = l.1;
+  look = way_look (slice_index_or hops l.0 Here) (slice_get (ways table l.0) 0) l.1;
+  back = false;
+}
+
+-- the graph of a state that shows which way of each node is the first
+pub record IsWaysGraphOf (s : State) (out : List ℕ) : Type 0 where
+  pub hops : List Hop
+  pub are_hops : AreHops s s.nodes hops
+  pub table : List (List ℕ)
+  pub are_ways : AreAllWays s table
+  pub text : out ≡ graph_text None s.dest (map (settled_node s.counts hops) (range_with_len 0 s.nodes))
+      (map (way_link hops table) s.links)

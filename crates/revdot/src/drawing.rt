@@ -5,7 +5,7 @@ ghost use Rattle.fr_bytes.specs.Bytes.{ReadsAtMostOneTooMany};
 ghost use Rattle.revdot.specs.Drawings.{IsDrawing, IsPictureOf};
 ghost use Rattle.revdot.specs.Written.{WritesText, IsTextFault};
 
-use crate::settled::push_settled;
+use crate::settled::{push_settled, push_settled_ways};
 use crate::standing::session_after;
 use crate::strips::push_strip;
 use fr_bytes::{RunFault, read_input, write_out};
@@ -18,6 +18,8 @@ use std::io::{Read, Write};
 pub enum Picture {
     /// The network after the last line.
     Network,
+    /// The network after the last line, and which way of each node is the nearest.
+    Ways,
     /// Each turn of the last round, and then the network after it.
     Turns,
 }
@@ -60,6 +62,7 @@ fn picture_of(alloc: Global, session: &Session, picture: Picture) -> Result<Stri
     };
     match picture {
         Picture::Network => push_settled(&mut text, alloc, router)?,
+        Picture::Ways => push_settled_ways(&mut text, alloc, router)?,
         Picture::Turns => push_strip(&mut text, alloc, router)?,
     }
     Ok(text)

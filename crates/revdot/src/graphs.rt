@@ -32,6 +32,14 @@ pub enum LinkLook {
     CutOff,
     /// An orange arrow.
     Turning,
+    /// A very thin arrow.
+    Way,
+    /// A very thin arrow with a hollow head.
+    WayToHop,
+    /// A bold arrow.
+    FirstWay,
+    /// A bold arrow with a hollow head.
+    FirstWayToHop,
 }
 
 /// A node of a graph.
@@ -198,5 +206,9 @@ fn look_of_link(look: LinkLook) -> &'static str
         LinkLook::NextHop => " color = black penwidth = 2.5",
         LinkLook::CutOff => " color = gray80",
         LinkLook::Turning => " color = darkorange penwidth = 2",
+        LinkLook::Way => " color = black penwidth = 0.6",
+        LinkLook::WayToHop => " color = black penwidth = 0.6 arrowhead = empty",
+        LinkLook::FirstWay => " color = black penwidth = 2.5",
+        LinkLook::FirstWayToHop => " color = black penwidth = 2.5 arrowhead = empty",
     }
 }

@@ -31,9 +31,10 @@ use viewer::{FIRST_PART, LAST_PART};
 const HELP: &str = "\
 Draws the network that the lines of standard input leave, as a graph in Graphviz's language.
 
-usage: revdot [--turns] < LINES | dot -Tsvg > PICTURE
+usage: revdot [--ways | --turns] < LINES | dot -Tsvg > PICTURE
        revdot --page < LINES > PAGE
 
+  --ways         the network with bold arrows to the nearest ways, and hollow heads at the next hops
   --turns        a graph for each turn of the last round, and then the network (dot -Tsvg -O FILE makes a picture of each)
   --page         a page for a browser: the answer to each line, and each round turn by turn and push by push
   -h, --help     this text
@@ -109,6 +110,7 @@ fn task_of<R: Env + Alloc<A = Global>>(rt: &R) -> Result<Task, RunFault> {
     let mut task = Task::Draw(Picture::Network);
     for word in words.skip(1) {
         match word.as_str() {
+            "--ways" => task = Task::Draw(Picture::Ways),
             "--turns" => task = Task::Draw(Picture::Turns),
             "--page" => task = Task::Page,
             "-h" | "--help" => return Ok(Task::Help),

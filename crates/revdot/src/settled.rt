@@ -1,11 +1,13 @@
 //! The graph of a settled network.
 
-ghost use Rattle.std.specs.Prelude.{◌≡◌, ◌++◌, ℕ, List, length, map, IfOk, OnOk, string_bytes};
+ghost use Rattle.std.specs.Prelude.{◌≡◌, ◌++◌, ℕ, List, length, map, slice_get, IfOk, OnOk, string_bytes};
 ghost use Rattle.std.specs.List.{range_with_len};
 ghost use Rattle.revdot.specs.Settled.{node_look, link_look, settled_node, settled_link, IsGraphOf};
+ghost use Rattle.revdot.specs.Settled.{is_first as is_first_of, way_link, way_look, IsWaysGraphOf};
 
 use crate::graphs::{DrawnLink, DrawnNode, LinkLook, NodeLook, push_graph};
 use fr_route::{Hop, Router};
+use fr_ways::WayTable;
 use std::alloc::{AllocError, Global};
 
 /// Appends the graph of a settled network.
@@ -16,6 +18,22 @@ pub fn push_settled(text: &mut String, alloc: Global, router: &Router) -> Result
     let hops = router.hops();
     let nodes = settled_nodes(alloc, router, hops)?;
     let links = settled_links(alloc, router, hops)?;
+    push_graph(text, None, router.dest(), &nodes, &links)
+}
+
+/// Appends the graph of a settled network that shows which way of each node is the first.
+pub fn push_settled_ways(
+    text: &mut String,
+    alloc: Global,
+    router: &Router,
+) -> Result<(), AllocError>
+    ensures { OnOk result ((graph : List ℕ) × IsWaysGraphOf router.now graph
+        × (string_bytes text.new ≡ string_bytes text.old ++ graph)) }
+{
+    let hops = router.hops();
+    let table = router.all_ways(alloc)?;
+    let nodes = settled_nodes(alloc, router, hops)?;
+    let links = way_links(alloc, router, hops, &table)?;
     push_graph(text, None, router.dest(), &nodes, &links)
 }
 
@@ -81,5 +99,55 @@ fn look_of_link(hop: Hop, head: u32) -> LinkLook
             }
         }
         Hop::CutOff => LinkLook::CutOff,
+    }
+}
+
+/// The links, in order, where ways are shown.
+fn way_links(
+    alloc: Global,
+    router: &Router,
+    hops: &[Hop],
+    table: &WayTable,
+) -> Result<Vec<DrawnLink>, AllocError>
+    requires { length hops.now ≡ router.now.nodes }
+    ensures { IfOk result (λ links. links.items ≡ map (way_link hops.now table.now) router.now.links) }
+{
+    let net = router.net();
+    net.network_law();
+    let mut links = Vec::new(alloc);
+    for (tail, head) in net.links() {
+        links.push(DrawnLink {
+            tail,
+            head,
+            look: look_of_way(hops[tail as usize], table.row(tail), head),
+            back: false,
+        })?;
+    }
+    Ok(links)
+}
+
+/// The look of a link to `head` whose tail has this hop and these ways.
+fn look_of_way(hop: Hop, ways: &[u32], head: u32) -> LinkLook
+    ensures { result ≡ way_look hop (slice_get ways.now 0) head }
+{
+    match hop {
+        Hop::Here => LinkLook::Plain,
+        Hop::To(next) => match (is_first(ways, head), next == head) {
+            (true, true) => LinkLook::FirstWayToHop,
+            (true, false) => LinkLook::FirstWay,
+            (false, true) => LinkLook::WayToHop,
+            (false, false) => LinkLook::Way,
+        },
+        Hop::CutOff => LinkLook::CutOff,
+    }
+}
+
+/// Whether the first of these ways is `head`.
+fn is_first(ways: &[u32], head: u32) -> bool
+    ensures { result ≡ is_first_of (slice_get ways.now 0) head }
+{
+    match ways.get(0) {
+        Some(way) => *way == head,
+        None => false,
     }
 }

@@ -11,9 +11,9 @@ pub const FIRST_PART: &str = "\
 <title>revroute</title>
 <style>
 :root{--back:#fbfbf9;--panel:#fff;--ink:#1d2329;--soft:#5c6670;--edge:#d5d9dd;--link:#39434d;--hop:#1259b5;--turn:#b35c00;--gold:#ffd24d;
---grey:#828a92;--route:#0b7a4b;--face:#eef3f9;--bad:#a8261c;--push:#c4dcfb}
+--grey:#828a92;--route:#0b7a4b;--face:#eef3f9;--bad:#a8261c;--push:#c4dcfb;--way:#7b2fa8}
 @media (prefers-color-scheme:dark){:root{--back:#14181c;--panel:#1b2126;--ink:#e8ecef;--soft:#a0abb5;--edge:#343c44;--link:#d3dae0;--hop:#76b2ff;
---turn:#ffab4a;--gold:#7a5c00;--grey:#707b85;--route:#4fd39a;--face:#26303a;--bad:#ff8a80;--push:#1b477d}}
+--turn:#ffab4a;--gold:#7a5c00;--grey:#707b85;--route:#4fd39a;--face:#26303a;--bad:#ff8a80;--push:#1b477d;--way:#d5a3ff}}
 *{box-sizing:border-box}
 html{font:15px/1.45 system-ui,sans-serif;font-size:clamp(15px,min(1.05vw,1.86vh),60px);-webkit-text-size-adjust:100%;text-size-adjust:100%}
 body{margin:0;background:var(--back);color:var(--ink);height:100vh;height:100dvh;overflow:hidden;display:grid;
@@ -71,12 +71,17 @@ summary{cursor:pointer;width:max-content}
 .link.hop path{stroke:var(--hop);stroke-width:3.2}
 .link.hop .tip{fill:var(--hop);stroke:none}
 .link.old path{stroke-dasharray:2 4}
+.link.first path{stroke:var(--way);stroke-width:3.8}
+.link.other path{stroke:var(--way);stroke-width:1.1}
+.link:is(.first,.other) .tip{fill:var(--way);stroke:none}
+.link.next .tip{fill:var(--back);stroke:var(--way);stroke-width:1.6}
 .link.out path{stroke:var(--grey)}
 .link.out .tip{fill:var(--grey);stroke:none}
 .link.now path{stroke:var(--turn);stroke-width:2.6}
 .link.now .tip{fill:var(--turn);stroke:none}
 .link.way path{stroke:var(--route);stroke-width:4.2}
 .link.way .tip{fill:var(--route);stroke:none}
+.link.next.way .tip{fill:var(--back);stroke:var(--route);stroke-width:1.6}
 .link.closed path{stroke:var(--bad);stroke-width:4.6;stroke-dasharray:14 3 3 3}
 .link.closed .tip{fill:var(--bad);stroke:none}
 .link.asked path{stroke-dasharray:7 5}
@@ -112,7 +117,7 @@ body{grid-template:'head' auto 'net' minmax(0,1fr) 'bar' auto 'side' 36vh 'foot'
 header{display:block;padding:.4rem .8rem}h1{white-space:nowrap;overflow:hidden;text-overflow:ellipsis}
 #say{align-content:start}aside{border:0;border-top:1px solid var(--edge)}
 #bar{padding:.4rem .8rem;gap:.35rem}#bar button{min-width:2.3rem;padding:.25rem .4rem}#bar #play{min-width:3.6rem}
-#bar select{padding:.25rem .1rem}#slide,#bar label:last-child{order:1}#slide{flex-basis:40%}#at{flex:1}}
+#bar select{padding:.25rem .1rem}#slide,#bar label:nth-last-child(-n+2){order:1}#slide{flex-basis:15%}#at{flex:1}}
 </style>
 <header><h1 id='title'>revroute</h1><p id='say' role='status' aria-live='polite'></p></header>
 <aside aria-label='Requests'>
@@ -136,12 +141,17 @@ header{display:block;padding:.4rem .8rem}h1{white-space:nowrap;overflow:hidden;t
 <option value='300'>fast</option><option value='60'>very fast</option></select></label>
 <label><span>Pushes </span><select id='order' aria-label='Pushes' title='The order of the pushes'>
 <option value='push' selected>in push order</option><option value='rising'>by rising number</option></select></label>
+<label><span>Bold </span><select id='lines' aria-label='Bold lines' title='What bold lines lead to'>
+<option value='hops' selected>next hops</option><option value='ways'>first ways</option></select></label>
 </div>
 <footer><details id='fold'><summary>Legend, keys, and what is proved</summary>
 <div id='below' tabindex='0' role='group' aria-label='Legend, keys, and what is proved'>
 <ul id='legend' aria-label='What is drawn'>
 <li><svg width='26' height='26' aria-hidden='true'><g class='node home' transform='translate(13 13)'><circle r='12' class='ring'/><circle r='9.5' class='face'/></g></svg>the destination</li>
 <li><svg width='38' height='26' aria-hidden='true'><g class='link hop'><path d='M2 13H28'/><path class='tip' d='M36 13L27 8.4V17.6Z'/></g></svg>to the next hop</li>
+<li><svg width='38' height='26' aria-hidden='true'><g class='link first'><path d='M2 13H28'/><path class='tip' d='M36 13L27 8.4V17.6Z'/></g></svg>to the first way, which is the nearest</li>
+<li><svg width='38' height='26' aria-hidden='true'><g class='link other'><path d='M2 13H28'/><path class='tip' d='M36 13L27 8.4V17.6Z'/></g></svg>to another way</li>
+<li><svg width='38' height='26' aria-hidden='true'><g class='link other next'><path d='M2 13H28'/><path class='tip' d='M36 13L27 8.4V17.6Z'/></g></svg>a hollow head: to the next hop, where ways are shown</li>
 <li><svg width='38' height='26' aria-hidden='true'><g class='link'><path d='M2 13H28'/><path class='tip' d='M36 13L27 8.4V17.6Z'/></g></svg>another link</li>
 <li><svg width='64' height='26' aria-hidden='true'><g class='node now' transform='translate(13 13)'><circle r='12' class='ring'/><circle r='9.5' class='face'/></g><g class='link now'><path d='M28 13H54'/><path class='tip' d='M62 13L53 8.4V17.6Z'/></g></svg>turns next</li>
 <li><svg width='64' height='26' aria-hidden='true'><g class='node out' transform='translate(13 13)'><circle r='12' class='ring'/><circle r='9.5' class='face'/></g><g class='link out'><path d='M28 13H54'/><path class='tip' d='M62 13L53 8.4V17.6Z'/></g></svg>cut off</li>
@@ -157,8 +167,10 @@ header{display:block;padding:.4rem .8rem}h1{white-space:nowrap;overflow:hidden;t
 <li>below a number, if the drawing is large enough: how often the node has turned</li>
 </ul>
 <b>Proved:</b> the data of this page: each request, answer, link, turn, count, next hop and push.
-<b>Not proved:</b> the drawing. A script in this page makes it, and is tested in a browser.
+<b>Not proved:</b> the drawing, and ways and distances, which follow from the links. A script in this page makes them, and is
+tested in a browser.
 <b>Keys:</b> left and right, a step; up and down, a line; space, play; n and p, a node;
+w, next hops or ways;
 + and -, the size; 0 or f, fit; Shift and an arrow, move the drawing.
 <label><input id='letters' type='checkbox' checked>Keys that are letters, digits or signs; without them, Tab goes to each node</label>
 </div></details></footer>
@@ -242,10 +254,11 @@ class Round {
   get gone() { return listed(this.said.gone, linkOf); }
   get fresh() { return listed(this.said.new, linkOf); }
   get isWhole() { return this.said.links !== undefined; }
-  // The links, counts and hops after the round.
+  // The links, counts, hops and ways after the round.
   get links() { return settled(this).links; }
   get counts() { return settled(this).counts; }
   get hops() { return settled(this).hops; }
+  get ways() { return settled(this).ways ??= waysOf(this); }
   // The links before the round: a link points as it did if its ends turned equally often.
   get first() { return this.links.map(([a, b]) => this.counts[a] === this.counts[b] ? [a, b] : [b, a]); }
 }
@@ -255,7 +268,7 @@ const keeping = [], MOST_KEPT = 8;
 
 function keep(round, state) {
   const sorted = [...state.links.values()].sort((a, b) => a[0] - b[0] || a[1] - b[1]);
-  round.kept = {links: sorted, counts: state.counts.slice(), hops: state.hops.slice()};
+  round.kept = {links: sorted, counts: state.counts.slice(), hops: state.hops.slice(), ways: null};
   keeping.push(round);
   if (keeping.length > MOST_KEPT) keeping.shift().kept = null;
   return round.kept;
@@ -442,11 +455,14 @@ function changedHops(round) {
   return round.before && round.before.drawn && round.before.nodes === round.nodes ? round.pushes : [];
 }
 
-function routeShown(block, state) {
+function routeShown(block, state, ways) {
+  const walked = acts.packet();
   if (!state.hops) return [];
-  if (block.answer.startsWith('walk '))
+  if (walked) return walked;
+  if (/^(walk|nearest) /.test(block.answer))
     return block.answer.split(' ').slice(1).filter(word => word !== 'cut').map(Number);
-  return picked !== null && picked < block.round.nodes ? routeOf(state.hops, picked) : [];
+  if (picked === null || picked >= block.round.nodes) return [];
+  return ways ? walkOf(ways, picked) : routeOf(state.hops, picked);
 }
 
 // The hops of a table between nodes of the network, as steps.
@@ -457,6 +473,52 @@ function hopsIn(table, nodes) {
     if (next !== null && node < nodes && next < nodes) hops.add(node + '>' + next);
   }
   return hops;
+}
+// The ways of nodes: the nodes to which the links of a settled network point, nearest first. The page shows them if a
+// reader asks for them.
+
+const isOfWays = () => by('lines').value === 'ways';
+
+// The distance of each node: the fewest links that lead from it down to the destination. A node that is cut off has
+// none.
+function distancesOf({nodes, home, links}) {
+  const tails = Array.from({length: nodes}, () => []), far = Array(nodes).fill(null), near = [home];
+  for (const [tail, head] of links) tails[head].push(tail);
+  far[home] = 0;
+  for (const node of near)
+    for (const tail of tails[node])
+      if (far[tail] === null) {
+        far[tail] = far[node] + 1;
+        near.push(tail);
+      }
+  return far;
+}
+
+function waysOf(round) {
+  const far = distancesOf(round), ways = far.map(() => []);
+  for (const [tail, head] of round.links)
+    if (far[tail] !== null) ways[tail].push(head);
+  for (const list of ways) list.sort((a, b) => far[a] - far[b] || a - b);
+  return ways;
+}
+
+// The ways that packets can take at a step, or null where the page shows next hops: within a round, and while hops are
+// pushed, it always does. In the lab some ways may have failed; then it has the ways as the engine answers them.
+function waysShown(round, state) {
+  if (!state.hops || state.push || !isOfWays()) return null;
+  return (acts.ways() ?? round.ways).map((list, node) => list.filter(way => !acts.hasFailed(node, way)));
+}
+
+// From a node along the first way of each.
+function walkOf(ways, node) {
+  const walk = [node];
+  while (ways[walk.at(-1)].length) walk.push(ways[walk.at(-1)][0]);
+  return walk;
+}
+
+function chooseLines(name) {
+  by('lines').value = name;
+  show(now);
 }
 // Where nodes are, and how links go round them.
 
@@ -729,7 +791,16 @@ function addShapes(view) {
     if (!view.shapes.has(key)) shapeOf(view, key);
 }
 
-function drawLinks(view, round, state, way, walk) {
+// How a link is drawn that is in the network. Where ways are shown, that to the first way of its tail is bold.
+function kindOf([tail, head], round, {state, ways, hop}) {
+  if (head === state.sink) return ' now';
+  if (acts.hasFailed(tail, head)) return ' failed';
+  if (ways && round.hops[tail] !== 'cut') return (ways[tail][0] === head ? ' first' : ' other') + (hop ? ' next' : '');
+  if (hop) return round.hops[tail] === String(head) ? ' hop' : ' hop old';
+  return round.hops[tail] === 'cut' ? ' out' : '';
+}
+
+function drawLinks(view, round, {state, ways}, way, walk) {
   const there = new Set(), steps = stepsOf(way), closed = stepsOf(walk), hops = hopsIn(state.hops || [], round.nodes);
   const marks = step => (steps.has(step) ? ' way' : '') + (closed.delete(step) ? ' closed' : '');
   for (const [tail, head] of state.links) {
@@ -744,16 +815,17 @@ function drawLinks(view, round, state, way, walk) {
       if (shape.hit) shape.hit.setAttribute('d', drawn.line);
       shape.tail = tail;
     }
-    const hop = hops.delete(step), old = round.hops[tail] !== String(head), out = round.hops[tail] === 'cut';
-    const kind = hop ? (old ? ' hop old' : ' hop') : head === state.sink ? ' now' : out ? ' out' : '';
+    const hop = hops.delete(step);
     mark(shape.g, {
-      class: 'link' + kind + marks(step),
+      class: 'link' + kindOf([tail, head], round, {state, ways, hop}) + marks(step),
       'data-tail': tail,
       'data-head': head,
       'data-hop': hop ? 1 : null,
       visibility: null
     });
-    if (isLab) mark(shape.g, {'aria-label': 'link from ' + tail + ' to ' + head, tabindex: hasLetters() ? -1 : 0});
+    if (!isLab) continue;
+    const label = 'link from ' + tail + ' to ' + head + (acts.hasFailed(tail, head) ? ', failed' : '');
+    mark(shape.g, {'aria-label': label, tabindex: hasLetters() ? -1 : 0});
   }
   for (const [key, shape] of view.shapes) {
     if (!there.has(key))
@@ -761,8 +833,16 @@ function drawLinks(view, round, state, way, walk) {
   }
   // What is left of both is no link: old next hops, and links that a refused line asked for.
   view.more.replaceChildren();
+  for (const shape of view.shapes.values())
+    if (shape.g.classList.contains('failed')) drawCross(view, shape);
   for (const step of hops) mark(arrowMore(view, there, step, 'link hop old' + marks(step)), {'data-hop': 1});
   for (const step of state.push ? [] : closed) arrowMore(view, there, step, 'link closed asked');
+}
+
+// A cross on a link that has failed.
+function drawCross(view, {line}) {
+  const {x, y} = line.getPointAtLength(line.getTotalLength() / 2);
+  make(view.more, 'path', {class: 'cross', d: 'M-8-8L8 8M-8 8L8-8', transform: 'translate(' + x + ' ' + y + ')'});
 }
 
 // An arrow that is no link of the network, beside the link of its ends where there is one.
@@ -808,19 +888,21 @@ function drawRing(cycle) {
   }
 }
 
-function drawNodes(view, round, state, way, news) {
+function drawNodes(view, round, {state, ways}, way, news) {
   view.spots.forEach((spot, node) => {
     const count = state.counts[node], isCut = round.hops[node] === 'cut', isHome = node === round.home;
     const hop = state.hops && state.hops[node], isSaid = hop === 'here' ? isHome : hop === 'cut' && isCut;
     const kinds = [
       ['home', isHome], ['out', isCut], ['now', node === state.sink], ['new', news.includes(node)],
-      ['push', node === state.node], ['way', way.includes(node)], ['pick', node === picked]
+      ['push', node === state.node], ['way', way.includes(node)], ['pick', node === picked],
+      ['stuck', acts.isStuck(node)]
     ];
     if (spot.count.textContent !== String(count)) spot.count.textContent = count;
     const label = 'node ' + node + (isHome ? ', the destination' : '') + ', turned ' + count +
         (count === 1 ? ' time' : ' times') + (node === state.sink ? ', turns next' : '') +
         (node === state.node ? ', gets its next hop now' : '') + (isCut ? ', cut off' : '') +
-        (hop && !isSaid ? ', ' + hopText(hop) : '');
+        (hop && !isSaid ? ', ' + (ways ? waysText(ways[node]) : hopText(hop)) : '') +
+        (acts.isStuck(node) ? ', a packet is stuck here' : '');
     mark(spot.g, {
       class: 'node' + kinds.filter(kind => kind[1]).map(kind => ' ' + kind[0]).join(''),
       'aria-label': label,
@@ -965,6 +1047,7 @@ function keepInSight(view, node) {
 // What is said of a step, and of a chosen node.
 
 const hopText = hop => hop === 'here' ? 'is the destination' : hop === 'cut' ? 'has no next hop' : 'sends to ' + hop;
+const waysText = list => list.length ? 'ways ' + list.join(', ') : 'no way';
 const hopName = hop => hop === 'here' ? 'destination' : hop === 'cut' ? 'none' : hop;
 const changeText = (node, old, next) => node + ' (' + hopName(old) + ARROW + hopName(next) + ')';
 
@@ -1070,16 +1153,29 @@ function drawChart(node) {
   svg.removeAttribute('hidden');
 }
 
-function tellNode(round, state) {
+// The distance and the ways of the chosen node, once the round has ended.
+function tellWays(round, state) {
+  const list = state.hops ? round.ways[picked] : null, far = list ? walkOf(round.ways, picked).length - 1 : 0,
+        isAny = Boolean(list && list.length);
+  mark(by('picked'), {'data-ways': list ? list.join(' ') : null, 'data-distance': isAny ? far : null});
+  if (!isAny) return '.';
+  const named = list.map(way => way + (acts.hasFailed(picked, way) ? ' (failed)' : ''));
+  return ', distance ' + far + ', ' + waysText(named) + '.';
+}
+
+function routeText({hops}, route, ways) {
+  const isCut = hops[route.at(-1)] === 'cut';
+  return (ways ? 'nearest ' : 'walk ') + route.join(' ') + (isCut ? ' cut' : '');
+}
+
+function tellNode(round, state, ways) {
   const known = state && picked !== null && picked < round.nodes;
   by('picked').textContent = known ? 'Node ' + picked + (picked === round.home ? ', the destination' : '') +
-          ': turned ' + state.counts[picked] + ' in this round.' :
+          ': turned ' + state.counts[picked] + ' in this round' + tellWays(round, state) :
       isLab ? '' :
               'Choose a node to see its route and its count over time.';
-  const route = known && state.hops ? routeOf(state.hops, picked) : null;
-  const text = !known ? '' :
-      !route          ? 'It has a route once the round has ended.' :
-                        'walk ' + route.join(' ') + (state.hops[route.at(-1)] === 'cut' ? ' cut' : '');
+  const route = !known || !state.hops ? null : ways ? walkOf(ways, picked) : routeOf(state.hops, picked);
+  const text = !known ? '' : !route ? 'It has a route once the round has ended.' : routeText(state, route, ways);
   by('route').textContent = text;
   mark(by('route'), {'data-route': route ? text : null});
   if (known) drawChart(picked);
@@ -1209,7 +1305,7 @@ function show(step, keep) {
   mark(net, {'data-line': block.line, 'data-turn': block.own ? turn : 0, 'data-push': push});
   mark(net, {'data-loop': push ? state.loop.join(' ') : null});
   if (drawn) {
-    const view = round.view, way = routeShown(block, state);
+    const view = round.view, ways = waysShown(round, state), way = routeShown(block, state, ways);
     const isNew = setUp(view);
     if (shown !== view) {
       net.replaceChildren(view.group);
@@ -1217,20 +1313,20 @@ function show(step, keep) {
       fit();
     } else if (isNew && camera.isFitted) fit();
     mark(net, {'aria-label': 'A network of ' + round.nodes + ' nodes, destination ' + round.home});
-    drawLinks(view, round, state, way, push ? state.loop : isApart ? [] : cycle);
-    drawNodes(view, round, state, way, news);
+    drawLinks(view, round, {state, ways}, way, push ? state.loop : isApart ? [] : cycle);
+    drawNodes(view, round, {state, ways}, way, news);
     const moved = state.sink ?? state.node;
     if (moved !== null && moved < round.nodes) keepInSight(view, moved);
   } else
     none.textContent = !round ? 'There is no network yet.' :
                                 'This network is larger than a page shows (256 nodes). The answers are in the list.';
   drawRing(isApart ? cycle : []);
-  tellNode(round, state);
+  tellNode(round, state, drawn ? waysShown(round, state) : null);
   tellStep(block, turn, state, changes);
   currentButton(at);
   clearTimeout(show.later);
   const part = push ? '&push=' + push : block.own ? '&turn=' + turn : '';
-  const named = '#line=' + block.line + part + (isRising() ? '&order=rising' : '');
+  const named = '#line=' + block.line + part + (isRising() ? '&order=rising' : '') + (isOfWays() ? '&lines=ways' : '');
   if (!keep) show.later = setTimeout(() => history.replaceState(null, '', named), 400);
   acts.shown();
 }
@@ -1286,6 +1382,7 @@ function goFragment() {
         at = blocks.findIndex(block => block.line === Number(words.get('line')));
   if (at < 0) return false;
   by('order').value = words.get('order') === 'rising' ? 'rising' : 'push';
+  by('lines').value = words.get('lines') === 'ways' ? 'ways' : 'hops';
   const block = blocks[at], turns = block.own && block.round.drawn ? block.round.turned : 0;
   const number = name => Math.max(0, Number(words.get(name)) || 0);
   const turn = words.has('turn') ? Math.min(turns, number('turn')) : turns;
@@ -1304,6 +1401,7 @@ const keys = {
   ' ': () => play(timer === null),
   n: () => pickNext(1),
   p: () => pickNext(-1),
+  w: () => chooseLines(isOfWays() ? 'hops' : 'ways'),
   Escape: () => {
     if (picked !== null) pick(picked);
   },
@@ -1324,15 +1422,21 @@ const shifted = {
 // Keys with Ctrl, which only the lab has.
 const controlled = {};
 
-// What a click on a node, on a link or beside them does, and who says where nodes are. The lab has its own.
+// What a click on a node, on a link or beside them does, who says where nodes are, and what has failed without the
+// engine's knowing. The lab has its own.
 const acts = {
   node: pick,
   link: () => {},
+  fail: () => {},
   empty: () => {},
   drag: null,
   drop: () => {},
   places: () => null,
   shown: () => {},
+  hasFailed: () => false,
+  ways: () => null,
+  packet: () => null,
+  isStuck: () => false,
   pace: wait => wait
 };
 
@@ -1343,7 +1447,7 @@ function actionOf({key, target, shiftKey, ctrlKey, metaKey, altKey}) {
   if (scrolling.has(key) && isScrolled(target) || isLetter(key) && !hasLetters()) return null;
   if (key === ' ' && target.matches('button, summary')) return null;
   const g = key === 'Enter' && target.closest('.node, .link');
-  return g ? () => act(g) : shiftKey && shifted[key] || keys[key];
+  return g ? () => act(g, shiftKey) : shiftKey && shifted[key] || keys[key];
 }
 
 function listenToKeys() {
@@ -1370,9 +1474,10 @@ function isScrolled(target) {
 // Keys that are letters, digits or signs can be turned off, for people who speak to their computer.
 const isLetter = key => key.length === 1 && key !== ' ', hasLetters = () => by('letters').checked;
 
-function act(g) {
+// With Shift a link fails without the engine's knowing, in the lab.
+function act(g, isShift) {
   if (g.classList.contains('node')) acts.node(Number(g.dataset.node));
-  else acts.link(Number(g.dataset.tail), Number(g.dataset.head));
+  else (isShift ? acts.fail : acts.link)(Number(g.dataset.tail), Number(g.dataset.head));
 }
 
 // What a reader has chosen is kept in the browser. Where nothing can be kept, the page goes on without it.
@@ -1420,10 +1525,10 @@ function start() {
   };
   for (const id in clicks) by(id).addEventListener('click', clicks[id]);
   by('slide').addEventListener('input', () => go(Number(by('slide').value)));
-  by('order').addEventListener('change', () => show(now));
+  for (const id of ['order', 'lines']) by(id).addEventListener('change', () => show(now));
   by('net').addEventListener('click', event => {
     const g = event.target.closest('.node, .link');
-    if (g) act(g);
+    if (g) act(g, event.shiftKey);
     else acts.empty(event);
   });
   by('list').addEventListener('click', event => {
@@ -1452,7 +1557,10 @@ function begin() {
 // What the lab uses of the viewer.
 const offered = {
   by,
+  make,
+  mark,
   NL,
+  ARROW,
   acts,
   keys,
   controlled,
@@ -1472,6 +1580,8 @@ const offered = {
   moveNode,
   keepPlaces,
   placesOf,
+  walkOf,
+  chooseLines,
   get blocks() { return blocks; },
   get starts() { return starts; },
   get steps() { return steps; },
