@@ -1,5 +1,6 @@
 -- The results of calls on nodes. This project's own.
-use Rattle.std.specs.Prelude.{Bool, IsTrue, List, None, Option, Some, [], false, length, map, not, true, ℕ, ◌++◌, ◌<◌, ◌==◌, ◌∷◌, ◌↔◌, ◌≡◌, ◌≢◌, ◌⊎◌, if◌then◌else◌}
+use Rattle.std.specs.Prelude.{Bool, IsTrue, List, None, Some, [], false, length, map, not, true, ℕ}
+use Rattle.std.specs.Prelude.{◌++◌, ◌<◌, ◌==◌, ◌∷◌, ◌↔◌, ◌≡◌, ◌≢◌, ◌⊎◌, if◌then◌else◌}
 use Rattle.fr_node.specs.declared.message.Message.{Message}
 use Rattle.fr_node.specs.declared.message.TheConstants.{CUT_OFF, MESSAGE_LENGTH}
 use Rattle.fr_node.specs.declared.node.Node.{Node}
@@ -16,7 +17,9 @@ use Rattle.fr_node.specs.Routers.{IsSaidBy, Restarts, Router}
 use Rattle.revroute_c.specs.declared.nodes.NodePolicy.{NodePolicy}
 use Rattle.revroute_c.specs.Machines.{HeldNode, Kept}
 use Rattle.revroute_c.specs.Replies.{IsWritten, Outcome}
-use Rattle.revroute_c.specs.Statuses.{REVROUTE_ANSWERED, REVROUTE_LINK_DOWN, REVROUTE_NO_MEMORY, REVROUTE_NO_MESSAGE, REVROUTE_NO_ROUTE, REVROUTE_REFUSED, REVROUTE_TOO_SHORT, REVROUTE_UNWRITTEN}
+use Rattle.revroute_c.specs.Statuses.{REVROUTE_ANSWERED, REVROUTE_LINK_DOWN, REVROUTE_NO_MEMORY}
+use Rattle.revroute_c.specs.Statuses.{REVROUTE_NO_MESSAGE, REVROUTE_NO_ROUTE, REVROUTE_REFUSED, REVROUTE_TOO_SHORT}
+use Rattle.revroute_c.specs.Statuses.{REVROUTE_UNWRITTEN}
 
 -- a call on a node: `Does` relates the node before and after it, and `none` holds if the handle is null
 abbrev pub InNode : (Kept → Kept → Type 0) → Type 0 → HeldNode → HeldNode → Type 0

@@ -2,8 +2,9 @@
 
 ghost use Rattle.std.specs.Prelude.{◌≡◌, ◌<◌, ◌≤◌, ◌⊎◌, [], Some, length, true, vec_capacity, vec_len};
 ghost use Rattle.fr_node.specs.Nodes.{lets_in, sends_to};
-ghost use Rattle.revroute_c.specs.NodeCalls.{HearsBytes, HearsMessage, InNode, IsWrittenNow, KnowsNeighbour, OfNode, SaysTo, TellsNews};
-ghost use Rattle.revroute_c.specs.NodeCalls.{AreNeighbours, AreWaysOf, TellsNodeDistance, TurnsLink, neighbours_of, number_of_flag};
+ghost use Rattle.revroute_c.specs.NodeCalls.{AreNeighbours, AreWaysOf, HearsBytes, HearsMessage, InNode};
+ghost use Rattle.revroute_c.specs.NodeCalls.{IsWrittenNow, KnowsNeighbour, OfNode, SaysTo, TellsNews};
+ghost use Rattle.revroute_c.specs.NodeCalls.{TellsNodeDistance, TurnsLink, neighbours_of, number_of_flag};
 ghost use Rattle.revroute_c.specs.Replies.{outcome, GivesList, IsWritten};
 
 use crate::replies::hand_out;

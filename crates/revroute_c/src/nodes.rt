@@ -4,8 +4,8 @@ ghost use Rattle.std.specs.Prelude.{◌≡◌, ◌≢◌, ◌↔◌, ◌⊎◌, 
 ghost use denote.RawPtr.{null_ptr};
 ghost use Rattle.fr_node.specs.Nodes.{lets_in, sends_to};
 ghost use Rattle.revroute_c.specs.NodeCalls.{AreWaysOf, HearsBytes, InNode, IsNoRise, IsOpened, IsOpenedGateway};
-ghost use Rattle.revroute_c.specs.NodeCalls.{IsWrittenNow, KnowsNeighbour, OfNode, SaysTo, TellsNews, TellsNodeDistance};
-ghost use Rattle.revroute_c.specs.NodeCalls.{TurnsLink, number_of_flag, policy_of};
+ghost use Rattle.revroute_c.specs.NodeCalls.{IsWrittenNow, KnowsNeighbour, OfNode, SaysTo, TellsNews};
+ghost use Rattle.revroute_c.specs.NodeCalls.{TellsNodeDistance, TurnsLink, number_of_flag, policy_of};
 ghost use Rattle.revroute_c.specs.NodeLending.{IsSameNode};
 ghost use Rattle.revroute_c.specs.Replies.{outcome, GivesList};
 ghost use Rattle.revroute_c.specs.Statuses.{REVROUTE_ANSWERED, REVROUTE_NO_MEMORY};
@@ -53,8 +53,8 @@ fn policy_in(policy: NodePolicy) -> Policy
     }
 }
 
-/// Starts a router, and puts it into `handle`. A node that was there is closed. `me`, `boot`, `height` and the policy are
-/// as for [`Node::new`]. Nothing has to be written for it yet, because it has no links. Returns `ANSWERED`, or:
+/// Starts a router, and puts it into `handle`. A node that was there is closed. `me`, `boot`, `height` and the policy
+/// are as for [`Node::new`]. Nothing has to be written for it yet, because it has no links. Returns `ANSWERED`, or:
 ///
 /// - `REFUSED`: the policy has an unknown kind of rise. This is tested first.
 /// - `NO_MEMORY`: an allocation was refused.

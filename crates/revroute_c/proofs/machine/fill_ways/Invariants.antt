@@ -6,4 +6,5 @@ abbrev none : Way
 none = record { neighbour = 0; distance = 0 }
 
 abbrev pub invariant-loop-at : goal.invariant-loop-at
-invariant-loop-at l = (length l.place ≡ length l.ways) × ((y : ℕ) → y < l.at → get_or l.place y 0 ≡ (get_or l.ways y none).neighbour)
+invariant-loop-at l = (length l.place ≡ length l.ways)
+    × ((y : ℕ) → y < l.at → get_or l.place y 0 ≡ (get_or l.ways y none).neighbour)
