@@ -16,13 +16,13 @@ links    | revroute_links | Network::links Session::links | Network.links Sessio
 counts   | revroute_counts | Network::counts Session::counts | Network.counts Session.counts
 hops     | revroute_hops | Network::hops Session::hops | Network.hops Network.hops_into Session.hops
 walk     | revroute_walk revroute_reader_walk | Network::walk Session::walk Reader::walk | Network.walk Session.walk Reader.walk
-ways     | revroute_ways revroute_all_ways | Network::ways Network::all_ways Session::ways Session::all_ways | Network.ways Network.all_ways Session.ways Session.all_ways
+ways     | revroute_ways revroute_all_ways revroute_node_ways | Network::ways Network::all_ways Session::ways Session::all_ways NodeTable::ways | Network.ways Network.all_ways Session.ways Session.all_ways Node.ways
 nearest  | revroute_nearest | Network::nearest Session::nearest | Network.nearest Session.nearest
 net      | revroute_open | Network::new | Network
 pushes   | revroute_pushes | Network::pushes Session::pushes | Network.pushes Session.pushes
 shrink   | revroute_shrink | Network::shrink Session::shrink | Network.shrink Session.shrink
 grow     | revroute_grow | Network::grow Session::grow | Network.grow Session.grow
-distance | revroute_distance | Network::distance Session::distance | Network.distance Session.distance
+distance | revroute_distance revroute_node_distance | Network::distance Session::distance NodeTable::distance | Network.distance Session.distance Node.distance
 next_hop | revroute_next_hop revroute_reader_next_hop | Network::next_hop Network::try_next_hop Session::next_hop Reader::next_hop Reader::try_next_hop | Network.next_hop Session.next_hop Reader.next_hop
 changed  | revroute_changed | Network::changed Session::changed | Network.changed Session.changed
 push_order | revroute_push_order | push_order | push_order
@@ -34,17 +34,30 @@ learn    | revroute_reader_learn | Reader::learn | Reader.learn
 answer   | revroute_answer | Session::answer | Session.answer Session.last_answer
 take     | revroute_take | Session::take | Session.take
 finish   | revroute_finish | Session::finish | Session.finish
-close    | revroute_close revroute_reader_close | | Network.close Session.close Reader.close
+close    | revroute_close revroute_reader_close revroute_node_close | | Network.close Session.close Reader.close Node.close
 version  | revroute_version | version | version
 cycle    | revroute_closed_walk revroute_closed_walk_of | Refused::ClosedWalk | 
 session  | | Session::new | Session
 table    | | | Network.table
 networkx | | | Network.from_networkx Network.to_networkx
+node     | revroute_node_open | Node::new | Node
+gateway  | revroute_node_open_gateway | Node::gateway | Node.gateway
+know     | revroute_node_know | Node::know | Node.know
+link_up  | revroute_node_link_up | Node::link_up Unwritten::link_up | Node.link_up
+link_down | revroute_node_link_down | Node::link_down Unwritten::link_down | Node.link_down
+hear     | revroute_node_hear | Node::hear Unwritten::hear | Node.hear
+written  | revroute_node_written | Unwritten::written | Node.written
+say      | revroute_node_say | Node::say | Node.say
+news     | revroute_node_has_news | Node::has_news | Node.has_news
+height   | revroute_node_height | NodeTable::height | Node.height
+lets_in  | revroute_node_lets_in | NodeTable::lets_in | Node.lets_in
+sends_to | revroute_node_sends_to | NodeTable::sends_to | Node.sends_to
 """
 # Names that do not have the word of their row.
 OF_THEIR_OWN = {"revroute_change", "revroute_open", "Network::new", "Session::new", "Network", "Network::try_clone", "Reader::try_clone"}
 OF_THEIR_OWN |= {"revroute_closed_walk", "revroute_closed_walk_of", "Refused::ClosedWalk"}
 WORDS_OF_LINES = 13
+RUST_TYPES = ("Network", "Session", "Reader", "Node", "NodeTable", "Unwritten")
 
 
 def rows():
@@ -75,7 +88,7 @@ def names_of_rust():
         for line in text.splitlines():
             if head := re.match(r"(?:impl(?:<[^>]*>)?|pub enum) (\w+)(?:<[^>]*>)? \{", line):
                 owner = head[1]
-            if (call := re.match(r"    pub (?:const )?fn (\w+)", line)) and owner in ("Network", "Session", "Reader") and call[1] not in deprecated:
+            if (call := re.match(r"    pub (?:const )?fn (\w+)", line)) and owner in RUST_TYPES and call[1] not in deprecated:
                 found.add(f"{owner}::{call[1]}")
             if (variant := re.match(r"    (Cut|Add|Join|ClosedWalk)\(", line)) and owner in ("Edit", "Refused"):
                 found.add(f"{owner}::{variant[1]}")
@@ -86,9 +99,9 @@ def names_of_rust():
 def classes_of_python():
     """The public classes with calls, and each public method or property that is not deprecated, with its kind."""
     found = {}
-    for name in ("network", "session", "reader"):
+    for name in ("network", "session", "reader", "node"):
         tree = ast.parse((TOP / "embed" / "python" / "src" / "revroute" / f"{name}.py").read_text())
-        for owner in (it for it in tree.body if isinstance(it, ast.ClassDef) and it.name in ("Network", "Session", "Reader")):
+        for owner in (it for it in tree.body if isinstance(it, ast.ClassDef) and it.name in ("Network", "Session", "Reader", "Node")):
             for call in (it for it in owner.body if isinstance(it, ast.FunctionDef) and not it.name.startswith("_")):
                 if "_deprecate(" not in ast.unparse(call):
                     is_property = any(isinstance(it, ast.Name) and it.id == "property" for it in call.decorator_list)
@@ -100,7 +113,7 @@ def names_of_python():
     methods = {f"{owner}.{name}" for owner, name in classes_of_python()}
     texts = ((TOP / "embed" / "python" / "src" / "revroute" / f"{name}.py").read_text() for name in ("session", "tables"))
     functions = {it for text in texts for it in re.findall(r"^def ([a-z]\w*)\(", text, re.M)}
-    return methods | {*functions, "Network", "Session"}
+    return methods | {*functions, "Network", "Session", "Node"}
 
 
 def wrong_words():

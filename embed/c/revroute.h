@@ -26,12 +26,14 @@
  *     ..
  *     revroute_reader_close(&copy);
  *
+ * A router that needs no controller has a node instead of a session: see revroute_node below, and docs/NODES.md.
+ *
  * The caller must ensure the following. No call tests it.
  *
  * - Pointers. A pointer to bytes or to an array covers as many elements as the length beside it says; no length means
  *   'unbounded'. If that length is 0, the pointer may be null. If a pointer to bytes or to an array is null although
  *   its length is not 0, for example after a malloc that failed, the call returns REVROUTE_NULL_ARRAY. No other
- *   pointer is null. (The `at` of a session or a reader may be.) Lines and buffers can have any address. Everything
+ *   pointer is null. (The `at` of a session, a reader or a node may be.) Lines and buffers can have any address. Everything
  *   else has the alignment of its type. This header tests the arrays, and the exported symbols do not: a program that
  *   calls the symbols without this header passes no null pointer, also if the length is 0.
  * - Arguments. The memory that the arguments point to does not overlap. Until the call returns, nobody else uses it.
@@ -44,12 +46,15 @@
  *   session, and the session itself, may be used by different threads at the same time. revroute_reader_open is a
  *   call on the session and on the reader. revroute_reader_copy and revroute_reader_learn are calls on both of their
  *   readers.
+ * - One call at a time on a node, also a question. A node may move to another thread as a session may. Different nodes
+ *   share nothing.
  * - Readers of one session. Both readers of revroute_reader_learn were opened from the same session, or are copies of
  *   such readers.
  * - Copies. A session starts as REVROUTE_NEW, and from then on only these calls read or write it. Do not copy it:
  *   closing two copies would free the same memory twice. You may move it in memory, for example by realloc or an
- *   assignment, if you no longer use the old place. The same holds for a reader, which starts as REVROUTE_NO_READER.
- *   Memory that is all zeros is a new session, or a null reader.
+ *   assignment, if you no longer use the old place. The same holds for a reader, which starts as REVROUTE_NO_READER,
+ *   and for a node, which starts as REVROUTE_NO_NODE. Memory that is all zeros is a new session, or a null reader or
+ *   node.
  * - Allocator. The library calls malloc, realloc and free of the process. They must belong to the same allocator for
  *   as long as a session or a reader is open. So make no call from a signal handler, nor in the child after a process
  *   with threads has forked.
@@ -102,12 +107,13 @@ typedef enum revroute_status {
     REVROUTE_TOO_SHORT = 2,
     /* Memory ran out. You can make the same call again. *length is 0. */
     REVROUTE_NO_MEMORY = 3,
-    /* The session has no network yet, or the reader is null. *length is 0. */
+    /* The session has no network yet, or the reader or the node is null. *length is 0. */
     REVROUTE_NO_NETWORK = 4,
     /* The node has no route: it is cut off from the destination, or there is no such node. *length is 0.
-     * (revroute_reader_walk says what this means for a walk.) */
+     * (revroute_reader_walk says what this means for a walk, and revroute_node_distance for a node.) */
     REVROUTE_NO_ROUTE = 5,
-    /* The network, the edits, the destination or the tables are refused, and *refusal says why. */
+    /* The network, the edits, the destination or the tables are refused, and *refusal says why. Or a policy or a
+     * neighbour of a node is refused. */
     REVROUTE_REFUSED = 6,
     /* The links or the edits are not refused for a cycle: they are accepted, or refused for another reason.
      * *length is 0. */
@@ -121,7 +127,13 @@ typedef enum revroute_status {
     REVROUTE_NO_TABLE = 10,
     /* A pointer to bytes or to an array is null although its length is not 0. Each call tests this before everything
      * else, and writes nothing then: *length keeps its value. */
-    REVROUTE_NULL_ARRAY = 11
+    REVROUTE_NULL_ARRAY = 11,
+    /* The ways and gates of the node have to be written first (revroute_node_written). *length is 0. */
+    REVROUTE_UNWRITTEN = 12,
+    /* The bytes are not a message of a node. Nothing has changed. */
+    REVROUTE_NO_MESSAGE = 13,
+    /* The neighbour is not known to the node, or the link to it is down. *length is 0. */
+    REVROUTE_LINK_DOWN = 14
 } revroute_status;
 
 /* Returns what a status means, as a constant text in English. */
@@ -131,14 +143,17 @@ static inline const char *revroute_status_text(revroute_status status_) {
     case REVROUTE_BLANK: return "the line is blank";
     case REVROUTE_TOO_SHORT: return "the buffer or the array is too short";
     case REVROUTE_NO_MEMORY: return "no memory";
-    case REVROUTE_NO_NETWORK: return "there is no network yet, or the reader is null";
+    case REVROUTE_NO_NETWORK: return "there is no network yet, or the reader or the node is null";
     case REVROUTE_NO_ROUTE: return "the node has no route";
-    case REVROUTE_REFUSED: return "the network, the change or the tables are refused";
+    case REVROUTE_REFUSED: return "the network, the change, the tables, the policy or the neighbour are refused";
     case REVROUTE_NO_WALK: return "there is no cycle";
     case REVROUTE_BEGUN: return "no line has ended yet";
     case REVROUTE_TOO_LONG: return "the line is too long";
     case REVROUTE_NO_TABLE: return "the table does not have one valid entry for each node";
     case REVROUTE_NULL_ARRAY: return "an array is null although its length is not 0";
+    case REVROUTE_UNWRITTEN: return "the ways and gates are not written yet";
+    case REVROUTE_NO_MESSAGE: return "the bytes are not a message";
+    case REVROUTE_LINK_DOWN: return "the neighbour is not known, or the link to it is down";
     }
     return "an unknown status";
 }
@@ -531,6 +546,133 @@ revroute_status revroute_reader_walk(revroute_reader *reader, uint32_t node, uin
  * readers are closed. O(1), or O(4,096) if the table is freed. */
 void revroute_reader_close(revroute_reader *reader);
 
+/* Nodes. A node is the state machine of one router, for one destination, in a network without a controller. Each router
+ * runs its own, and they exchange messages. docs/NODES.md says what they promise, and has a whole daemon.
+ *
+ * At no moment do the links that routers use contain a loop, whatever happens to messages, and whichever routers
+ * restart. A link is used if the router at one end sends packets over it, and the router at the other end lets them in.
+ * This needs three things of the program:
+ *
+ * 1. After an event, that is revroute_node_link_up, revroute_node_link_down or revroute_node_hear, the program writes
+ *    the ways and gates to the forwarding table, and only then calls revroute_node_written. Until then
+ *    revroute_node_say returns REVROUTE_UNWRITTEN. More events may come before.
+ * 2. The router drops packets from each neighbour that revroute_node_lets_in does not let in.
+ * 3. At each start, `boot` is greater than at all earlier starts of this router.
+ *
+ *     revroute_node node = REVROUTE_NO_NODE;
+ *     revroute_policy policy = {REVROUTE_FULL, 0, 0, 1};
+ *     if (revroute_node_open(&node, 7, boot, 0, &policy) == REVROUTE_ANSWERED
+ *         && revroute_node_know(&node, 8) == REVROUTE_ANSWERED) ..
+ *     revroute_node_link_up(&node, 8);
+ *     ..                                  (write what revroute_node_ways and revroute_node_lets_in say)
+ *     revroute_node_written(&node);
+ *     uint8_t message[REVROUTE_MESSAGE_LENGTH];
+ *     if (revroute_node_say(&node, 8, message, sizeof message, &length) == REVROUTE_ANSWERED) ..     (send it)
+ *
+ * All calls on a null node return REVROUTE_NO_NETWORK, except those that return a flag. After any status but
+ * REVROUTE_ANSWERED the node is unchanged, and so is what the call could write, except *length. Only the two calls that
+ * open a node and revroute_node_know take memory. The costs use d for the number of known neighbours. */
+
+/* A node. Whoever creates it owns it, and closes it when it is no longer needed. */
+typedef struct revroute_node {
+    void *at;
+} revroute_node;
+
+/* The null node. It holds no memory. Initialize or assign a node with it: revroute_node node = REVROUTE_NO_NODE; */
+#ifdef __cplusplus
+#define REVROUTE_NO_NODE (revroute_node{NULL})
+#else
+#define REVROUTE_NO_NODE (__extension__(revroute_node){NULL})
+#endif
+
+/* The length of a message in bytes. */
+#define REVROUTE_MESSAGE_LENGTH 56
+
+/* When a node raises its height. */
+typedef enum revroute_rise {
+    /* If it has no way: above all neighbours. This is full link reversal. Routers that are cut off from all gateways
+     * raise their heights for ever. */
+    REVROUTE_FULL = 0,
+    /* If it knows no distance: above the neighbour with the least distance below the cap. The number of routers is a
+     * large enough cap. */
+    REVROUTE_JUMP = 1
+} revroute_rise;
+
+/* When a node changes its height. No policy can make a loop. `rise` is one of the two kinds, and a call refuses any
+ * other number. `cap` is the cap of REVROUTE_JUMP. If `lower` is not 0, the node lowers its height to its distance once
+ * its nearest way stays a way. If `wait` is not 0, it keeps its old height and ways until the neighbours that it lets in
+ * have acknowledged a greater height. */
+typedef struct revroute_policy {
+    uint32_t rise;
+    uint32_t cap;
+    uint32_t lower;
+    uint32_t wait;
+} revroute_policy;
+
+/* Starts a router with this number and this height, and puts it into *node. A node that was there is closed. No other
+ * router has the number. `boot` is greater than at all earlier starts of this router.
+ *
+ * REVROUTE_ANSWERED; REVROUTE_REFUSED if the policy has an unknown kind of rise, which is tested first;
+ * REVROUTE_NO_MEMORY. O(1). */
+revroute_status revroute_node_open(revroute_node *node, uint32_t me, uint64_t boot, uint64_t height,
+                                   const revroute_policy *policy);
+
+/* Starts a gateway in the same way: a router that takes packets out of the network, and sends them to no neighbour. One
+ * destination may have several gateways. REVROUTE_ANSWERED or REVROUTE_NO_MEMORY. O(1). */
+revroute_status revroute_node_open_gateway(revroute_node *node, uint32_t me, uint64_t boot);
+
+/* Makes a neighbour known. The link to it is down until revroute_node_link_up. A neighbour that is known already stays as
+ * it is. REVROUTE_ANSWERED; REVROUTE_REFUSED if it is the router itself, which is tested first; REVROUTE_NO_MEMORY.
+ * O(d). */
+revroute_status revroute_node_know(revroute_node *node, uint32_t neighbour);
+
+/* Events. The link to a neighbour comes up, or goes down. If the neighbour is not known, no link changes. A link that
+ * goes down keeps what was heard on it. The policy may change the height. O(d). */
+revroute_status revroute_node_link_up(revroute_node *node, uint32_t neighbour);
+revroute_status revroute_node_link_down(revroute_node *node, uint32_t neighbour);
+
+/* An event: a message of `count` bytes is heard. It changes the node only if it is for this router, from a known
+ * neighbour, and not from an earlier start of either. The policy may change the height. REVROUTE_NO_MESSAGE if the bytes
+ * are not a message, because of their number or their header. O(d). */
+revroute_status revroute_node_hear(revroute_node *node, const uint8_t *bytes, size_t count);
+
+/* Call this once the ways and gates are written as they are now. O(1). */
+revroute_status revroute_node_written(revroute_node *node);
+
+/* Writes the message for a neighbour to the front of a buffer of `room` bytes, and its length to *length, which is
+ * always REVROUTE_MESSAGE_LENGTH. A message may be said as often as you like. Messages may be lost, so say one to each
+ * neighbour again after some time.
+ *
+ * The first of these that holds: REVROUTE_UNWRITTEN; REVROUTE_TOO_SHORT; REVROUTE_LINK_DOWN; REVROUTE_ANSWERED. O(d). */
+revroute_status revroute_node_say(revroute_node *node, uint32_t neighbour, uint8_t *message, size_t room,
+                                  size_t *length);
+
+/* Writes to *news 1 if the link to the neighbour is up and the message for it is not the last one that was said to it,
+ * and 0 otherwise. REVROUTE_UNWRITTEN, and *news is unchanged, if the ways and gates are not written. O(d). */
+revroute_status revroute_node_has_news(revroute_node *node, uint32_t neighbour, uint32_t *news);
+
+/* Writes the neighbours to which packets may be sent, the nearest first, and equally near ones by number, to the front of
+ * an array of `room` places, as the questions on a session do. A router may send packets to any of them. A gateway has
+ * none. It needs no memory. O(d log d). */
+revroute_status revroute_node_ways(revroute_node *node, uint32_t *ways, size_t room, size_t *length);
+
+/* Writes to *distance how many links a packet crosses from this router to a gateway, by what it has heard: 0 at a
+ * gateway. REVROUTE_NO_ROUTE, and *distance is unchanged, if there is no way, or if the distance is not below the cap of
+ * the policy. O(d). */
+revroute_status revroute_node_distance(revroute_node *node, uint32_t *distance);
+
+/* Writes the height in use to *height. O(1). */
+revroute_status revroute_node_height(revroute_node *node, uint64_t *height);
+
+/* Returns 1 if packets from this neighbour are let in, and 0 if they have to be dropped, as for a null node. O(d). */
+uint32_t revroute_node_lets_in(revroute_node *node, uint32_t neighbour);
+
+/* Returns 1 if packets may be sent to this neighbour, and 0 otherwise, as for a null node. O(d). */
+uint32_t revroute_node_sends_to(revroute_node *node, uint32_t neighbour);
+
+/* Closes a node, which is then as REVROUTE_NO_NODE made it. O(1). */
+void revroute_node_close(revroute_node *node);
+
 /* The version of this header. A program can compare it with the version of the library that it runs with. */
 #define REVROUTE_VERSION_MAJOR 0
 #define REVROUTE_VERSION_MINOR 3
@@ -709,6 +851,27 @@ static inline revroute_status revroute_reader_walk_(revroute_reader *reader_, ui
     return revroute_reader_walk(reader_, node_, REVROUTE_SOME(uint32_t, nodes_, length_), room_, length_);
 }
 #define revroute_reader_walk revroute_reader_walk_
+
+static inline revroute_status revroute_node_hear_(revroute_node *node_, const uint8_t *bytes_, size_t count_) {
+    if (REVROUTE_IS_MISSING(bytes_, count_)) return REVROUTE_NULL_ARRAY;
+    const uint8_t none_ = 0;
+    return revroute_node_hear(node_, bytes_ ? bytes_ : &none_, count_);
+}
+#define revroute_node_hear revroute_node_hear_
+
+static inline revroute_status revroute_node_say_(revroute_node *node_, uint32_t neighbour_, uint8_t *message_,
+                                                 size_t room_, size_t *length_) {
+    if (REVROUTE_IS_MISSING(message_, room_)) return REVROUTE_NULL_ARRAY;
+    return revroute_node_say(node_, neighbour_, REVROUTE_SOME(uint8_t, message_, length_), room_, length_);
+}
+#define revroute_node_say revroute_node_say_
+
+static inline revroute_status revroute_node_ways_(revroute_node *node_, uint32_t *ways_, size_t room_,
+                                                  size_t *length_) {
+    if (REVROUTE_IS_MISSING(ways_, room_)) return REVROUTE_NULL_ARRAY;
+    return revroute_node_ways(node_, REVROUTE_SOME(uint32_t, ways_, length_), room_, length_);
+}
+#define revroute_node_ways revroute_node_ways_
 
 static inline revroute_status revroute_version_(uint8_t *text_, size_t room_, size_t *length_) {
     if (REVROUTE_IS_MISSING(text_, room_)) return REVROUTE_NULL_ARRAY;

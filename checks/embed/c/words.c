@@ -1,5 +1,5 @@
-/* What the header adds to the library's calls, as a program in C and in C++: REVROUTE_NEW and REVROUTE_NO_READER are
- * assigned, arrays without elements are null, each status and each refusal has a text, and the names of the last version
+/* What the header adds to the library's calls, as a program in C and in C++: REVROUTE_NEW, REVROUTE_NO_READER and
+ * REVROUTE_NO_NODE are assigned, arrays without elements are null, each status and each refusal has a text, and the names of the last version
  * do what the new ones do. */
 #include <revroute.h>
 #include <stdio.h>
@@ -13,7 +13,7 @@ static void expect(int holds, const char *what) {
 }
 
 static void look_at_texts(void) {
-    for (uint32_t at = 0; at <= REVROUTE_NULL_ARRAY; at++)
+    for (uint32_t at = 0; at <= REVROUTE_LINK_DOWN; at++)
         for (uint32_t other = 0; other < at; other++)
             expect(strcmp(revroute_status_text((revroute_status)at), revroute_status_text((revroute_status)other)), "two statuses have one text");
     for (uint32_t at = 0; at <= REVROUTE_TOO_MANY; at++)
@@ -59,6 +59,19 @@ static void pass_null(revroute *session, revroute_reader *reader) {
     expect(revroute_dest(session) == 1, "the destination is another");
 }
 
+/* The calls on a node that take an array, with null for no elements. */
+static void pass_null_to_node(void) {
+    revroute_node node = REVROUTE_NO_NODE;
+    size_t length;
+    expect(revroute_node_open_gateway(&node, 0, 1) == REVROUTE_ANSWERED, "there is no gateway");
+    expect(revroute_node_hear(&node, NULL, 0) == REVROUTE_NO_MESSAGE, "null is a message");
+    expect(revroute_node_say(&node, 1, NULL, 0, &length) == REVROUTE_TOO_SHORT && length == REVROUTE_MESSAGE_LENGTH, "a message fits into null");
+    expect(revroute_node_ways(&node, NULL, 0, &length) == REVROUTE_ANSWERED && !length, "a gateway has a way");
+    revroute_node_close(&node);
+    node = REVROUTE_NO_NODE;
+    expect(!node.at, "what is new is not null");
+}
+
 #ifdef __GNUC__
 #pragma GCC diagnostic ignored "-Wdeprecated-declarations"
 #endif
@@ -98,6 +111,7 @@ int main(void) {
     revroute_round round = {7, 7};
     look_at_texts();
     pass_null(&session, &reader);
+    pass_null_to_node();
     compare_names(&session, &reader);
     revroute_close(&session);
     revroute_reader_close(&reader);

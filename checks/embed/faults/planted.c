@@ -17,6 +17,12 @@ revroute_status engine_finish(revroute *, uint8_t *, size_t, size_t *);
 revroute_status engine_links(revroute *, revroute_link *, size_t, size_t *);
 revroute_status engine_move_dest(revroute *, uint32_t, revroute_round *, revroute_refusal *);
 revroute_status engine_nearest(revroute *, uint32_t, uint32_t *, size_t, size_t *);
+revroute_status engine_node_hear(revroute_node *, const uint8_t *, size_t);
+uint32_t engine_node_lets_in(revroute_node *, uint32_t);
+revroute_status engine_node_link_down(revroute_node *, uint32_t);
+revroute_status engine_node_say(revroute_node *, uint32_t, uint8_t *, size_t, size_t *);
+revroute_status engine_node_ways(revroute_node *, uint32_t *, size_t, size_t *);
+revroute_status engine_node_written(revroute_node *);
 revroute_status engine_open(revroute *, uint32_t, uint32_t, const revroute_link *, size_t, revroute_round *, revroute_refusal *);
 revroute_status engine_push_order(const uint32_t *, size_t, const uint32_t *, size_t, uint32_t *, size_t, size_t *, revroute_refusal *);
 revroute_status engine_pushes(revroute *, const uint32_t *, size_t, uint32_t *, size_t, size_t *);
@@ -114,7 +120,16 @@ enum {
     a_walk_without_its_destination,
     a_walk_of_no_route_with_a_length,
     a_walk_that_wants_too_little_room,
-    a_walk_that_leaves_its_last_place
+    a_walk_that_leaves_its_last_place,
+    a_node_that_speaks_before_it_is_written,
+    a_short_message_that_is_written,
+    noise_told_as_heard,
+    noise_that_is_to_be_written,
+    the_message_read_too_far,
+    a_message_that_is_not_heard,
+    a_way_of_a_node_too_few,
+    a_gate_that_is_open_too_early,
+    a_null_node_that_lets_in
 };
 
 /* Asks once more with enough room, as if the state had changed although the buffer was too short. */
@@ -467,4 +482,40 @@ revroute_status revroute_version(uint8_t *text, size_t room, size_t *length) {
     uint32_t status = engine_version(text, room, length);
     if (FAULT == another_version && status == REVROUTE_ANSWERED) text[0]++;
     return status;
+}
+
+revroute_status revroute_node_say(revroute_node *node, uint32_t neighbour, uint8_t *message, size_t room, size_t *length) {
+    if (FAULT == a_node_that_speaks_before_it_is_written) engine_node_written(node);
+    revroute_status status = engine_node_say(node, neighbour, message, room, length);
+    if (FAULT == a_short_message_that_is_written && status == REVROUTE_TOO_SHORT && room) message[0] = 'F';
+    return status;
+}
+
+revroute_status revroute_node_hear(revroute_node *node, const uint8_t *bytes, size_t count) {
+    if (FAULT == a_message_that_is_not_heard && node->at && count == REVROUTE_MESSAGE_LENGTH)
+        return memcmp(bytes, "FRN\1", 4) ? REVROUTE_NO_MESSAGE : engine_node_link_down(node, UINT32_MAX);
+    if (FAULT == the_message_read_too_far) (void)*(const volatile uint8_t *)(bytes + count);
+    revroute_status status = engine_node_hear(node, bytes, count);
+    if (FAULT == noise_that_is_to_be_written && status == REVROUTE_NO_MESSAGE) engine_node_link_down(node, UINT32_MAX);
+    return FAULT == noise_told_as_heard && status == REVROUTE_NO_MESSAGE ? REVROUTE_ANSWERED : status;
+}
+
+revroute_status revroute_node_ways(revroute_node *node, uint32_t *ways, size_t room, size_t *length) {
+    revroute_status status = engine_node_ways(node, ways, room, length);
+    if (FAULT == a_way_of_a_node_too_few && status == REVROUTE_ANSWERED && *length > 1) --*length;
+    return status;
+}
+
+uint32_t revroute_node_lets_in(revroute_node *node, uint32_t neighbour) {
+    uint32_t is_open = engine_node_lets_in(node, neighbour);
+    if (FAULT == a_gate_that_is_open_too_early && node->at) return 1;
+    return FAULT == a_null_node_that_lets_in && !node->at ? 1 : is_open;
+}
+
+revroute_status revroute_node_link_down(revroute_node *node, uint32_t neighbour) {
+    return engine_node_link_down(node, neighbour);
+}
+
+revroute_status revroute_node_written(revroute_node *node) {
+    return engine_node_written(node);
 }

@@ -44,3 +44,15 @@ REVROUTE_TOO_LONG = 9
 -- the table is not one for this network
 abbrev pub REVROUTE_NO_TABLE : ℕ
 REVROUTE_NO_TABLE = 10
+
+-- the ways and gates of the node are not written yet
+abbrev pub REVROUTE_UNWRITTEN : ℕ
+REVROUTE_UNWRITTEN = 12
+
+-- the bytes are not a message
+abbrev pub REVROUTE_NO_MESSAGE : ℕ
+REVROUTE_NO_MESSAGE = 13
+
+-- the neighbour is not known, or the link to it is down
+abbrev pub REVROUTE_LINK_DOWN : ℕ
+REVROUTE_LINK_DOWN = 14

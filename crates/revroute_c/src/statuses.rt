@@ -32,3 +32,14 @@ pub(crate) const TOO_LONG: u32 = 9;
 
 /// The table does not have one hop for each node, or one of its hops does not name a node.
 pub(crate) const NO_TABLE: u32 = 10;
+
+// 11 is a status of the header alone.
+
+/// The ways and gates of the node are not written yet.
+pub(crate) const UNWRITTEN: u32 = 12;
+
+/// The bytes are not a message.
+pub(crate) const NO_MESSAGE: u32 = 13;
+
+/// The neighbour is not known, or the link to it is down.
+pub(crate) const LINK_DOWN: u32 = 14;

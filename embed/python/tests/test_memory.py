@@ -49,6 +49,27 @@ def ask_poor(session, line, first, last):
 
 
 class MemoryTest(unittest.TestCase):
+    def test_without_memory_there_is_no_node_and_no_neighbour(self):
+        left = ctypes.c_long.in_dll(library, "refusing_left")
+        for make in (lambda: revroute.Node(1, 1), lambda: revroute.Node.gateway(1, 1)):
+            left.value = 1
+            self.assertRaises(MemoryError, make)
+        node = revroute.Node(1, 1)
+        # One allocation is for the list of ways, and one for the neighbours.
+        for number in (1, 2, 1):
+            left.value = number
+            self.assertRaises(MemoryError, node.know, 2)
+        left.value = 1
+        self.assertRaises(ValueError, node.know, 1)
+        node.link_up(2)
+        node.written()
+        self.assertIsNone(node.say(2))
+        left.value = 0
+        node.know(2)
+        node.link_up(2)
+        node.written()
+        self.assertIsNotNone(node.say(2))
+
     def test_without_memory_the_session_is_as_it_was(self):
         left = ctypes.c_long.in_dll(library, "refusing_left")
         with revroute.Session() as session:

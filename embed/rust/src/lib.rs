@@ -19,6 +19,8 @@
 //!
 //! A [`Session`] answers lines of text, as the program `revroute run` does.
 //!
+//! A [`Node`] is the state machine of one router in a network without a controller.
+//!
 //! The engine is a static library, written and proved in Rattle. This crate calls it, and takes care of most of what
 //! a caller in C has to ensure. What is left: the process has one allocator; no call is made from a signal handler,
 //! or in the child after a process with threads has forked; and each thread that makes a call has 256 KiB of stack
@@ -31,6 +33,7 @@
 mod engine;
 mod hop;
 mod network;
+mod node;
 mod pieces;
 mod push_order;
 mod questions;
@@ -42,6 +45,7 @@ mod table;
 
 pub use hop::{Hop, Report, Size};
 pub use network::{Edit, Network, Walk};
+pub use node::{MESSAGE_LENGTH, Node, NodeFault, NodeTable, Policy, Rise, Unwritten};
 pub use pieces::TakeFault;
 pub use push_order::push_order;
 pub use reader::{MAX_NODES, Reader, Walked};

@@ -26,6 +26,17 @@ impl ReaderHandle {
     pub const NONE: ReaderHandle = ReaderHandle { at: null_mut() };
 }
 
+/// The handle of a node. Only the library reads it.
+#[repr(C)]
+pub struct NodeHandle {
+    at: *mut c_void,
+}
+
+impl NodeHandle {
+    /// The null node. It holds no memory.
+    pub const NONE: NodeHandle = NodeHandle { at: null_mut() };
+}
+
 /// The call succeeded. What it writes is at the front of the buffer or the array.
 pub const ANSWERED: u32 = 0;
 /// The line is blank.
@@ -34,7 +45,7 @@ pub const BLANK: u32 = 1;
 pub const TOO_SHORT: u32 = 2;
 /// Memory ran out. Nothing has changed.
 pub const NO_MEMORY: u32 = 3;
-/// The session has no network yet, or the reader is null.
+/// The session has no network yet, or the reader or the node is null.
 pub const NO_NETWORK: u32 = 4;
 /// The node has no route to the destination.
 pub const NO_ROUTE: u32 = 5;
@@ -47,7 +58,11 @@ pub const BEGUN: u32 = 8;
 /// The line is longer than the limit. Nothing was taken.
 pub const TOO_LONG: u32 = 9;
 // `NO_TABLE`, 10, is never returned: the crate checks a table before it passes it on. Neither is `NULL_ARRAY`, 11: no
-// slice is null.
+// slice is null. `UNWRITTEN`, 12, is never returned, because only a `Node` can say something.
+/// The bytes are not a message of a node. Nothing has changed.
+pub const NO_MESSAGE: u32 = 13;
+/// The neighbour is not known, or the link to it is down.
+pub const LINK_DOWN: u32 = 14;
 
 /// In place of a next hop: the node is the destination.
 pub const HERE: u32 = 0xffff_ffff;
@@ -113,6 +128,19 @@ pub struct Refusal {
     pub u: u32,
     pub v: u32,
     pub at: usize,
+}
+
+/// The kinds of rise of a node.
+pub const FULL: u32 = 0;
+pub const JUMP: u32 = 1;
+
+/// When a node changes its height.
+#[repr(C)]
+pub struct NodePolicy {
+    pub rise: u32,
+    pub cap: u32,
+    pub lower: u32,
+    pub wait: u32,
 }
 
 unsafe extern "C" {
@@ -317,6 +345,53 @@ unsafe extern "C" {
     ) -> u32;
 
     pub fn revroute_reader_close(reader: *mut ReaderHandle);
+
+    pub fn revroute_node_open(
+        node: *mut NodeHandle,
+        me: u32,
+        boot: u64,
+        height: u64,
+        policy: *const NodePolicy,
+    ) -> u32;
+
+    pub fn revroute_node_open_gateway(node: *mut NodeHandle, me: u32, boot: u64) -> u32;
+
+    pub fn revroute_node_know(node: *mut NodeHandle, neighbour: u32) -> u32;
+
+    pub fn revroute_node_link_up(node: *mut NodeHandle, neighbour: u32) -> u32;
+
+    pub fn revroute_node_link_down(node: *mut NodeHandle, neighbour: u32) -> u32;
+
+    pub fn revroute_node_hear(node: *mut NodeHandle, bytes: *const u8, count: usize) -> u32;
+
+    pub fn revroute_node_written(node: *mut NodeHandle) -> u32;
+
+    pub fn revroute_node_say(
+        node: *mut NodeHandle,
+        neighbour: u32,
+        message: *mut u8,
+        room: usize,
+        length: *mut usize,
+    ) -> u32;
+
+    pub fn revroute_node_has_news(node: *mut NodeHandle, neighbour: u32, news: *mut u32) -> u32;
+
+    pub fn revroute_node_ways(
+        node: *mut NodeHandle,
+        ways: *mut u32,
+        room: usize,
+        length: *mut usize,
+    ) -> u32;
+
+    pub fn revroute_node_distance(node: *mut NodeHandle, distance: *mut u32) -> u32;
+
+    pub fn revroute_node_height(node: *mut NodeHandle, height: *mut u64) -> u32;
+
+    pub fn revroute_node_lets_in(node: *mut NodeHandle, neighbour: u32) -> u32;
+
+    pub fn revroute_node_sends_to(node: *mut NodeHandle, neighbour: u32) -> u32;
+
+    pub fn revroute_node_close(node: *mut NodeHandle);
 
     pub fn revroute_version(text: *mut u8, room: usize, length: *mut usize) -> u32;
 }

@@ -58,9 +58,12 @@ a change:
 graph and keeps its names. `to_networkx()` makes a networkx graph.
 
 A `Session` answers lines of text, as the program `revroute run` does.
+
+A `Node` is the state machine of one router, in a network without a controller.
 """
 
 from .network import Network, Refused
+from .node import MESSAGE_LENGTH, Node, NotAMessage, Unwritten
 from .reader import Reader, WalkTooLong
 from .session import AnswerLost, LineTooLong, NoHop, NoSuchNode, Report, Session, Size, version
 from .tables import push_order
@@ -69,14 +72,18 @@ __version__ = version()
 __all__ = [
     "AnswerLost",
     "LineTooLong",
+    "MESSAGE_LENGTH",
     "Network",
     "NoHop",
     "NoSuchNode",
+    "Node",
+    "NotAMessage",
     "Reader",
     "Refused",
     "Report",
     "Session",
     "Size",
+    "Unwritten",
     "WalkTooLong",
     "__version__",
     "push_order",

@@ -9,10 +9,12 @@ import ctypes
 from pathlib import Path
 from typing import Any
 
-# The last status of the header, NULL_ARRAY, is never returned: no argument here is null.
+# The status NULL_ARRAY, 11, is never returned: no argument here is null.
 ANSWERED, BLANK, TOO_SHORT, NO_MEMORY, NO_NETWORK, NO_ROUTE, REFUSED, NO_WALK, BEGUN, TOO_LONG, NO_TABLE = range(11)
+UNWRITTEN, NO_MESSAGE, LINK_DOWN = range(12, 15)
 HERE, CUT_OFF, NO_SUCH_NODE, NO_HOP = range(0xFFFFFFFF, 0xFFFFFFFB, -1)
 CUT, ADD, JOIN = range(3)
+FULL, JUMP = range(2)
 UNKNOWN_EDIT, RANGE, SELF_LINK, TWICE, CLOSED_WALK, NO_LINK, TOO_MANY = 2, *range(4, 10)
 
 
@@ -26,6 +28,18 @@ class ReaderHandle(ctypes.Structure):
     """The handle of a reader. Only the library reads it, and it is never copied."""
 
     _fields_ = [("at", ctypes.c_void_p)]
+
+
+class NodeHandle(ctypes.Structure):
+    """The handle of a node. Only the library reads it, and it is never copied."""
+
+    _fields_ = [("at", ctypes.c_void_p)]
+
+
+class Policy(ctypes.Structure):
+    """When a node changes its height."""
+
+    _fields_ = [("rise", ctypes.c_uint32), ("cap", ctypes.c_uint32), ("lower", ctypes.c_uint32), ("wait", ctypes.c_uint32)]
 
 
 class Link(ctypes.Structure):
@@ -49,7 +63,7 @@ class Refusal(ctypes.Structure):
 _number, _wide, _size = ctypes.c_uint32, ctypes.c_uint64, ctypes.c_size_t
 # Links, edits, hops and tables of ways are passed as bytes. The two numbers of a round are passed by their address.
 _given, _round, _handle = ctypes.c_char_p, ctypes.c_void_p, ctypes.POINTER(Handle)
-_reader = ctypes.POINTER(ReaderHandle)
+_reader, _node = ctypes.POINTER(ReaderHandle), ctypes.POINTER(NodeHandle)
 _text, _length, _numbers = ctypes.POINTER(ctypes.c_char), ctypes.POINTER(_size), ctypes.POINTER(_number)
 _ended = [_round, ctypes.POINTER(Refusal)]
 _WORDS: dict[str, list[Any]] = {
@@ -84,6 +98,21 @@ _WORDS: dict[str, list[Any]] = {
     "reader_next_hop": [_reader, _number],
     "reader_walk": [_reader, _number, _numbers, _size, _length],
     "reader_close": [_reader],
+    "node_open": [_node, _number, _wide, _wide, ctypes.POINTER(Policy)],
+    "node_open_gateway": [_node, _number, _wide],
+    "node_know": [_node, _number],
+    "node_link_up": [_node, _number],
+    "node_link_down": [_node, _number],
+    "node_hear": [_node, ctypes.c_char_p, _size],
+    "node_written": [_node],
+    "node_say": [_node, _number, _text, _size, _length],
+    "node_has_news": [_node, _number, _numbers],
+    "node_ways": [_node, _numbers, _size, _length],
+    "node_distance": [_node, _numbers],
+    "node_height": [_node, ctypes.POINTER(_wide)],
+    "node_lets_in": [_node, _number],
+    "node_sends_to": [_node, _number],
+    "node_close": [_node],
     "version": [_text, _size, _length],
     "close": [_handle],
 }
@@ -99,7 +128,7 @@ def load(kind: Any = ctypes.CDLL) -> Any:
     for name, words in _WORDS.items():
         call = getattr(library, f"revroute_{name}")
         call.argtypes, call.restype = words, _number
-    library.revroute_close.restype = library.revroute_reader_close.restype = None
+    library.revroute_close.restype = library.revroute_reader_close.restype = library.revroute_node_close.restype = None
     return library
 
 

@@ -1,0 +1,12 @@
+-- The value of a `Machine` in contracts, and what holds of its fields. For proofs only.
+use Rattle.std.specs.Prelude.{Some, vec_capacity, vec_len, ◌≡◌, ◌≤◌}
+use Rattle.revroute_c.specs.Machines.{HeldNode}
+use Rattle.revroute_c.specs.declared.machine.Machine.TheInside.{Inside}
+
+abbrev pub kept_in : Inside → HeldNode
+kept_in m = Some (record { node = m.node; is_written = m.is_written })
+
+-- the list has capacity for as many ways as there are known neighbours
+pub record HasCapacity (m : Inside) : Type 0 where
+  pub me : m.me ≡ m.node.own.me
+  pub ways : vec_len m.node.links ≤ vec_capacity m.ways

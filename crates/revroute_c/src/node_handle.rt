@@ -1,0 +1,110 @@
+//! The handle that C has of a node.
+
+ghost use Rattle.std.specs.Prelude.{◌≡◌, ◌≢◌, MatchOption};
+ghost use Rattle.std.specs.Borrow.{sem};
+ghost use denote.RawPtr.{null_ptr};
+ghost use Rattle.revroute_c.specs.Machines.{HeldNode, no_machine};
+ghost use Rattle.revroute_c.specs.Owning.{owned_at};
+ghost use Rattle.revroute_c.specs.contracts.machine.Machine.{the_row as machine_row};
+
+use crate::loose::Loose;
+use crate::machine::Machine;
+use std::alloc::Global;
+use std::marker::{Model, Send};
+use std::mem::replace;
+use std::ptr::null_mut;
+
+/// The handle that C has of a node: a pointer that only this library reads. Null is no node, so C makes a handle by
+/// writing null.
+#[repr(C)]
+#[derive(Drop)]
+pub struct NodeHandle {
+    at: *mut u8,
+    pub ghost machine: { HeldNode },
+}
+
+impl Model for NodeHandle {
+    ghost also_owns = { λ handle. owned_at machine_row no_machine handle.at handle.machine };
+}
+
+// A handle owns its machine, which may go to another thread.
+unsafe impl Send for NodeHandle {}
+
+impl NodeHandle {
+    ghost use Rattle.revroute_c.specs.NodeLending.{LendsMachine, kept_by};
+
+    /// The null handle, without a node.
+    fn empty() -> NodeHandle
+        ensures held { kept_by result ≡ no_machine }
+        ensures null { result.at ≡ null_ptr }
+    {
+        NodeHandle { at: null_mut() }
+    }
+
+    /// The handle of a machine.
+    fn of(loose: Loose<Machine, Global>) -> NodeHandle
+        ensures { kept_by result ≡ loose.value }
+    {
+        let Loose { at, alloc: _ } = loose;
+        NodeHandle {
+            at: at.cast::<u8>(),
+        }
+    }
+
+    /// The machine of a handle, unless the handle is null.
+    fn into_loose(self, alloc: Global) -> Option<Loose<Machine, Global>>
+        ensures { MatchOption result (kept_by self ≡ no_machine) (λ loose. kept_by self ≡ loose.value) }
+    {
+        let NodeHandle { at } = self;
+        if at.is_null() {
+            None
+        } else {
+            Some(Loose {
+                at: at.cast::<Machine>(),
+                alloc,
+            })
+        }
+    }
+
+    /// Takes the machine out of a handle, which is then null. `None` if it was null before.
+    pub(crate) fn taken(handle: &mut NodeHandle, alloc: Global) -> Option<Box<Machine>>
+        ensures held { MatchOption result (kept_by handle.old ≡ no_machine)
+            (λ machine. kept_by handle.old ≡ machine.value) }
+        ensures left { kept_by handle.new ≡ no_machine }
+        ensures null { handle.new.at ≡ null_ptr }
+    {
+        let held = replace(handle, NodeHandle::empty());
+        match held.into_loose(alloc) {
+            Some(loose) => Some(loose.into_box()),
+            None => None,
+        }
+    }
+
+    /// The machine of a handle, in place. `None` if the handle is null.
+    pub(crate) fn machine_mut(&mut self) -> Option<&mut Machine>
+        ensures* writes_back { sem 𝓛 (LendsMachine self.entry result) }
+        ensures value { MatchOption result ((self.old.at ≡ null_ptr) × (kept_by self.old ≡ no_machine))
+            (λ machine. (self.old.at ≢ null_ptr) × (machine.now ≡ kept_by self.old)) }
+    {
+        if self.at.is_null() {
+            return None;
+        }
+        unsafe { Some(&mut *self.at.cast::<Machine>()) }
+    }
+
+    /// Puts a machine into a handle. A node that was there is closed.
+    pub(crate) fn put(handle: &mut NodeHandle, alloc: Global, machine: Box<Machine>)
+        ensures { kept_by handle.new ≡ machine.value }
+    {
+        drop(NodeHandle::taken(handle, alloc));
+        *handle = NodeHandle::of(Loose::of(machine));
+    }
+}
+
+/// Compiles only if values of type `T` may go to another thread.
+fn may_be_sent<T: Send>() {}
+
+/// Shows that a handle may go to another thread. It only has to pass the check.
+fn node_handle_may_be_sent() {
+    may_be_sent::<NodeHandle>();
+}

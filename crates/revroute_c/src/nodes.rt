@@ -1,0 +1,348 @@
+//! The calls by which C drives a node: a router that needs no controller.
+
+ghost use Rattle.std.specs.Prelude.{◌≡◌, ◌≢◌, ◌↔◌, ◌⊎◌, None, false, true};
+ghost use denote.RawPtr.{null_ptr};
+ghost use Rattle.fr_node.specs.Nodes.{lets_in, sends_to};
+ghost use Rattle.revroute_c.specs.NodeCalls.{AreWaysOf, HearsBytes, InNode, IsNoRise, IsOpened, IsOpenedGateway};
+ghost use Rattle.revroute_c.specs.NodeCalls.{IsWrittenNow, KnowsNeighbour, OfNode, SaysTo, TellsNews};
+ghost use Rattle.revroute_c.specs.NodeCalls.{TellsNodeDistance, TurnsLink, number_of_flag, policy_of};
+ghost use Rattle.revroute_c.specs.NodeLending.{IsSameNode};
+ghost use Rattle.revroute_c.specs.Replies.{outcome, GivesList};
+ghost use Rattle.revroute_c.specs.Statuses.{REVROUTE_ANSWERED, REVROUTE_NO_MEMORY};
+ghost use Rattle.revroute_c.specs.Statuses.{REVROUTE_NO_NETWORK, REVROUTE_REFUSED, REVROUTE_TOO_SHORT};
+
+use crate::machine::Machine;
+use crate::node_handle::NodeHandle;
+use crate::statuses::{ANSWERED, NO_MEMORY, NO_NETWORK, REFUSED};
+use fr_node::{Node, Policy, Rise};
+use std::alloc::Global;
+
+/// When a node changes its height.
+#[repr(C)]
+#[derive(Clone, Copy)]
+pub struct NodePolicy {
+    /// When it raises its height: one of [`FULL`] and [`JUMP`].
+    pub rise: u32,
+    /// The cap of [`JUMP`].
+    pub cap: u32,
+    /// Whether it lowers its height. 0: no.
+    pub lower: u32,
+    /// Whether it waits for acknowledgements before it uses a greater height. 0: no.
+    pub wait: u32,
+}
+
+/// The node raises its height above all neighbours if it has no way.
+const FULL: u32 = 0;
+
+/// The node raises its height above the nearest neighbour if it knows no distance.
+const JUMP: u32 = 1;
+
+/// The policy that a struct of C names. A kind that is not `FULL` counts as `JUMP`.
+fn policy_in(policy: NodePolicy) -> Policy
+    ensures { result ≡ policy_of policy }
+{
+    let rise = if policy.rise == FULL {
+        Rise::Full
+    } else {
+        Rise::Jump(policy.cap)
+    };
+    Policy {
+        rise,
+        lower: policy.lower != 0,
+        wait: policy.wait != 0,
+    }
+}
+
+/// Starts a router, and puts it into `handle`. A node that was there is closed. `me`, `boot`, `height` and the policy
+/// are as for [`Node::new`]. Nothing has to be written for it yet, because it has no links. Returns `ANSWERED`, or:
+///
+/// - `REFUSED`: the policy has an unknown kind of rise. This is tested first.
+/// - `NO_MEMORY`: an allocation was refused.
+///
+/// In both cases the handle is unchanged. O(1).
+#[unsafe(no_mangle)]
+pub extern "C" fn revroute_node_open(
+    alloc: Global,
+    handle: &mut NodeHandle,
+    me: u32,
+    boot: u64,
+    height: u64,
+    policy: &NodePolicy,
+) -> u32
+    ensures opened { result ≡ REVROUTE_ANSWERED
+        → OfNode (IsOpened me boot height policy.now) ⊥ handle.new.machine }
+    ensures kept { result ≢ REVROUTE_ANSWERED → handle.new ≡ handle.old }
+    ensures refused { (result ≡ REVROUTE_REFUSED) ↔ IsNoRise policy.now }
+    ensures status { (result ≡ REVROUTE_ANSWERED) ⊎ (result ≡ REVROUTE_NO_MEMORY) ⊎ (result ≡ REVROUTE_REFUSED) }
+{
+    if policy.rise > JUMP {
+        return REFUSED;
+    }
+    let node = Node::new(alloc, me, boot, height, policy_in(*policy));
+    match Box::new(alloc, Machine::new(alloc, me, node)) {
+        Ok(machine) => {
+            NodeHandle::put(handle, alloc, machine);
+            ANSWERED
+        }
+        Err(_) => NO_MEMORY,
+    }
+}
+
+/// Starts a gateway, and puts it into `handle`. A node that was there is closed. `me` and `boot` are as for
+/// [`Node::gateway`]. Returns `NO_MEMORY` if an allocation was refused; then the handle is unchanged. O(1).
+#[unsafe(no_mangle)]
+pub extern "C" fn revroute_node_open_gateway(
+    alloc: Global,
+    handle: &mut NodeHandle,
+    me: u32,
+    boot: u64,
+) -> u32
+    ensures opened { result ≡ REVROUTE_ANSWERED → OfNode (IsOpenedGateway me boot) ⊥ handle.new.machine }
+    ensures kept { result ≢ REVROUTE_ANSWERED → handle.new ≡ handle.old }
+    ensures status { (result ≡ REVROUTE_ANSWERED) ⊎ (result ≡ REVROUTE_NO_MEMORY) }
+{
+    let node = Node::gateway(alloc, me, boot);
+    match Box::new(alloc, Machine::new(alloc, me, node)) {
+        Ok(machine) => {
+            NodeHandle::put(handle, alloc, machine);
+            ANSWERED
+        }
+        Err(_) => NO_MEMORY,
+    }
+}
+
+/// Makes a neighbour known, as [`Node::know`] does. The link to it is down. This is the only call on an open node that
+/// takes memory. Returns `ANSWERED`, or:
+///
+/// - `REFUSED`: the neighbour is the router itself.
+/// - `NO_MEMORY`: an allocation was refused.
+/// - `NO_NETWORK`: the handle is null.
+///
+/// In these cases the node is unchanged. O(d) for d known neighbours.
+#[unsafe(no_mangle)]
+pub extern "C" fn revroute_node_know(handle: &mut NodeHandle, neighbour: u32) -> u32
+    ensures known { InNode (KnowsNeighbour neighbour result) (result ≡ REVROUTE_NO_NETWORK)
+        handle.old.machine handle.new.machine }
+    ensures same_handle { handle.new.at ≡ handle.old.at }
+{
+    match handle.machine_mut() {
+        Some(machine) => machine.know(neighbour),
+        None => NO_NETWORK,
+    }
+}
+
+/// Call this when the link to a neighbour comes up. If the neighbour is not known, no link changes. The policy may
+/// change the height. Then ways and gates have to be written: until [`revroute_node_written`] nothing is said. Events
+/// may come meanwhile. Returns `NO_NETWORK` if the handle is null. It takes no memory. O(d).
+#[unsafe(no_mangle)]
+pub extern "C" fn revroute_node_link_up(
+    alloc: Global,
+    handle: &mut NodeHandle,
+    neighbour: u32,
+) -> u32
+    ensures up { InNode (TurnsLink neighbour true result) (result ≡ REVROUTE_NO_NETWORK)
+        handle.old.machine handle.new.machine }
+    ensures same_handle { handle.new.at ≡ handle.old.at }
+{
+    match handle.machine_mut() {
+        Some(machine) => machine.turn_link(alloc, neighbour, true),
+        None => NO_NETWORK,
+    }
+}
+
+/// Call this when the link to a neighbour goes down. All else is as for [`revroute_node_link_up`]. O(d).
+#[unsafe(no_mangle)]
+pub extern "C" fn revroute_node_link_down(
+    alloc: Global,
+    handle: &mut NodeHandle,
+    neighbour: u32,
+) -> u32
+    ensures down { InNode (TurnsLink neighbour false result) (result ≡ REVROUTE_NO_NETWORK)
+        handle.old.machine handle.new.machine }
+    ensures same_handle { handle.new.at ≡ handle.old.at }
+{
+    match handle.machine_mut() {
+        Some(machine) => machine.turn_link(alloc, neighbour, false),
+        None => NO_NETWORK,
+    }
+}
+
+/// Hears the message with these bytes. Then ways and gates have to be written, as after [`revroute_node_link_up`].
+/// Returns `ANSWERED`, or:
+///
+/// - `NO_MESSAGE`: the bytes are not a message, because of their number or their header. The node is unchanged.
+/// - `NO_NETWORK`: the handle is null.
+///
+/// It takes no memory. O(d).
+#[unsafe(no_mangle)]
+pub extern "C" fn revroute_node_hear(alloc: Global, handle: &mut NodeHandle, bytes: &[u8]) -> u32
+    ensures heard { InNode (HearsBytes bytes.now result) (result ≡ REVROUTE_NO_NETWORK)
+        handle.old.machine handle.new.machine }
+    ensures same_handle { handle.new.at ≡ handle.old.at }
+{
+    match handle.machine_mut() {
+        Some(machine) => machine.hear(alloc, bytes),
+        None => NO_NETWORK,
+    }
+}
+
+/// The caller says that the ways and gates are written, as they are now. From then on messages may be said. Returns
+/// `NO_NETWORK` if the handle is null. O(1).
+#[unsafe(no_mangle)]
+pub extern "C" fn revroute_node_written(handle: &mut NodeHandle) -> u32
+    ensures written { InNode (λ k j. IsWrittenNow k j × (result ≡ REVROUTE_ANSWERED)) (result ≡ REVROUTE_NO_NETWORK)
+        handle.old.machine handle.new.machine }
+    ensures same_handle { handle.new.at ≡ handle.old.at }
+{
+    match handle.machine_mut() {
+        Some(machine) => {
+            machine.written();
+            ANSWERED
+        }
+        None => NO_NETWORK,
+    }
+}
+
+/// Says the message for a neighbour now: writes its bytes to the front of `message`, and their number to `size`. It may
+/// be said as often as the caller likes. Returns `ANSWERED`, or:
+///
+/// - `UNWRITTEN`: ways and gates are not written yet. This is tested first.
+/// - `TOO_SHORT`: the place has less than 56 bytes. `size` is 56.
+/// - `LINK_DOWN`: the neighbour is not known, or the link to it is down.
+/// - `NO_NETWORK`: the handle is null.
+///
+/// In these cases the node and the place are unchanged, and `size` is 0 except for `TOO_SHORT`. O(d).
+#[unsafe(no_mangle)]
+pub extern "C" fn revroute_node_say(
+    handle: &mut NodeHandle,
+    neighbour: u32,
+    message: &mut [u8],
+    size: &mut usize,
+) -> u32
+    ensures says { InNode (SaysTo neighbour (outcome result message.old message.new size.new))
+        ((result ≡ REVROUTE_NO_NETWORK) × (message.new ≡ message.old) × (size.new ≡ 0))
+        handle.old.machine handle.new.machine }
+    ensures same_handle { handle.new.at ≡ handle.old.at }
+{
+    *size = 0;
+    match handle.machine_mut() {
+        Some(machine) => machine.say(neighbour, message, size),
+        None => NO_NETWORK,
+    }
+}
+
+/// Writes to `news` whether there is news for a neighbour: 1 if its link is up and the message for it is not the last
+/// one that was said, and 0 otherwise. Returns `ANSWERED`, or:
+///
+/// - `UNWRITTEN`: ways and gates are not written yet.
+/// - `NO_NETWORK`: the handle is null.
+///
+/// In both cases `news` is unchanged. O(d).
+#[unsafe(no_mangle)]
+pub extern "C" fn revroute_node_has_news(
+    handle: &mut NodeHandle,
+    neighbour: u32,
+    news: &mut u32,
+) -> u32
+    ensures news { OfNode (TellsNews neighbour result news.old news.new)
+        ((result ≡ REVROUTE_NO_NETWORK) × (news.new ≡ news.old)) handle.old.machine }
+    ensures same { IsSameNode handle.old handle.new }
+{
+    match handle.machine_mut() {
+        Some(machine) => machine.tell_news(neighbour, news),
+        None => NO_NETWORK,
+    }
+}
+
+/// Writes the neighbours to which packets may be sent to the front of `ways`, the nearest first, and equally near ones
+/// by number, and their number to `size`. A gateway has none. Returns `ANSWERED`, or:
+///
+/// - `TOO_SHORT`: there is too little room.
+/// - `NO_NETWORK`: the handle is null. `size` is 0.
+///
+/// In both cases `ways` is unchanged. The node never changes. It takes no memory. O(d log d).
+#[unsafe(no_mangle)]
+pub extern "C" fn revroute_node_ways(
+    handle: &mut NodeHandle,
+    ways: &mut [u32],
+    size: &mut usize,
+) -> u32
+    ensures same { IsSameNode handle.old handle.new }
+    ensures gives { GivesList (AreWaysOf handle.old.machine) (outcome result ways.old ways.new size.new) }
+    ensures no_network { (result ≡ REVROUTE_NO_NETWORK) ↔ (handle.old.machine ≡ None) }
+    ensures status { (result ≡ REVROUTE_ANSWERED) ⊎ (result ≡ REVROUTE_TOO_SHORT) ⊎ (result ≡ REVROUTE_NO_NETWORK) }
+{
+    *size = 0;
+    match handle.machine_mut() {
+        Some(machine) => machine.list_ways(ways, size),
+        None => NO_NETWORK,
+    }
+}
+
+/// Writes to `distance` how many links a packet crosses from this router to a gateway, by what it has heard: 0 at a
+/// gateway. Returns `ANSWERED`, or:
+///
+/// - `NO_ROUTE`: there is no way, or the distance is not below the cap of the policy.
+/// - `NO_NETWORK`: the handle is null.
+///
+/// In both cases `distance` is unchanged. O(d).
+#[unsafe(no_mangle)]
+pub extern "C" fn revroute_node_distance(handle: &mut NodeHandle, distance: &mut u32) -> u32
+    ensures distance { OfNode (TellsNodeDistance result distance.old distance.new)
+        ((result ≡ REVROUTE_NO_NETWORK) × (distance.new ≡ distance.old)) handle.old.machine }
+    ensures same { IsSameNode handle.old handle.new }
+{
+    match handle.machine_mut() {
+        Some(machine) => machine.tell_distance(distance),
+        None => NO_NETWORK,
+    }
+}
+
+/// Writes the height in use to `height`. Returns `NO_NETWORK` if the handle is null; then `height` is unchanged. O(1).
+#[unsafe(no_mangle)]
+pub extern "C" fn revroute_node_height(handle: &mut NodeHandle, height: &mut u64) -> u32
+    ensures height { OfNode (λ k. (result ≡ REVROUTE_ANSWERED) × (height.new ≡ k.node.own.used))
+        ((result ≡ REVROUTE_NO_NETWORK) × (height.new ≡ height.old)) handle.old.machine }
+    ensures same { IsSameNode handle.old handle.new }
+{
+    match handle.machine_mut() {
+        Some(machine) => {
+            *height = machine.height();
+            ANSWERED
+        }
+        None => NO_NETWORK,
+    }
+}
+
+/// Returns 1 if packets from a neighbour are let in, and 0 if they are to be dropped, as for a null handle. O(d).
+#[unsafe(no_mangle)]
+pub extern "C" fn revroute_node_lets_in(handle: &mut NodeHandle, neighbour: u32) -> u32
+    ensures open { OfNode (λ k. result ≡ number_of_flag (lets_in k.node neighbour)) (result ≡ 0) handle.old.machine }
+    ensures same { IsSameNode handle.old handle.new }
+{
+    match handle.machine_mut() {
+        Some(machine) => machine.lets_in(neighbour),
+        None => 0,
+    }
+}
+
+/// Returns 1 if packets may be sent to a neighbour, and 0 otherwise, as for a null handle. O(d).
+#[unsafe(no_mangle)]
+pub extern "C" fn revroute_node_sends_to(handle: &mut NodeHandle, neighbour: u32) -> u32
+    ensures way { OfNode (λ k. result ≡ number_of_flag (sends_to k.node neighbour)) (result ≡ 0) handle.old.machine }
+    ensures same { IsSameNode handle.old handle.new }
+{
+    match handle.machine_mut() {
+        Some(machine) => machine.sends_to(neighbour),
+        None => 0,
+    }
+}
+
+/// Closes a node. The handle is then null. O(1).
+#[unsafe(no_mangle)]
+pub extern "C" fn revroute_node_close(alloc: Global, handle: &mut NodeHandle)
+    ensures none { handle.new.machine ≡ None }
+    ensures null { handle.new.at ≡ null_ptr }
+{
+    drop(NodeHandle::taken(handle, alloc));
+}

@@ -1,0 +1,95 @@
+"""A router without a controller: one process for each router, with UDP between neighbours on this machine.
+
+usage: router.py ME PORT NEIGHBOUR:PORT..            (router 0 is the gateway)
+
+It prints its table as a line of JSON whenever the table changes. In a real router `write` changes the forwarding table
+and the filters of the system. Without a datagram for DEAD seconds a link is down; an empty datagram only says that the
+link is there.
+"""
+
+import json
+import socket
+import sys
+import time
+
+from revroute import Node, NotAMessage
+
+HELLO, DEAD, CAP = 0.1, 0.5, 64
+NOTHING = {"ways": [], "gates": [], "distance": None}
+
+
+def write(table):
+    """Close the gates that are not listed, change the ways, then open gates. Return once the system has confirmed it."""
+    print(json.dumps(table), flush=True)
+
+
+class Router:
+    def __init__(self, me, port, neighbours):
+        # The boot number has to grow: this clock must not go back. A counter in a file would do as well.
+        boot = time.time_ns()
+        self.node = Node(me, boot, cap=CAP) if me else Node.gateway(me, boot)
+        self.addresses = {number: ("127.0.0.1", at) for number, at in neighbours.items()}
+        self.heard, self.table = dict.fromkeys(neighbours, None), NOTHING
+        for number in neighbours:
+            self.node.know(number)
+        self.socket = socket.socket(socket.AF_INET, socket.SOCK_DGRAM)
+        self.socket.bind(("127.0.0.1", port))
+        # An earlier process may have left its ways and gates in the system.
+        write(self.table)
+
+    def listen(self, seconds):
+        """Waits for one datagram. Returns whether there was an event."""
+        self.socket.settimeout(max(seconds, 0.001))
+        try:
+            data, address = self.socket.recvfrom(2048)
+        except socket.timeout:
+            return False
+        sender = next((it for it, at in self.addresses.items() if at == address), None)
+        if sender is None:
+            return False
+        is_new, self.heard[sender] = self.heard[sender] is None, time.monotonic()
+        if is_new:
+            self.node.link_up(sender)
+        try:
+            self.node.hear(data)
+        except NotAMessage:
+            return is_new
+        return True
+
+    def notice_silence(self):
+        """Takes down the links on which nothing was heard for too long. Returns whether there was an event."""
+        late = [it for it, at in self.heard.items() if at is not None and time.monotonic() - at > DEAD]
+        for it in late:
+            self.heard[it] = None
+            self.node.link_down(it)
+        return bool(late)
+
+    def write(self):
+        gates = [it for it in self.addresses if self.node.lets_in(it)]
+        table = {"ways": self.node.ways(), "gates": gates, "distance": self.node.distance}
+        if table != self.table:
+            write(table)
+            self.table = table
+        self.node.written()
+
+    def speak(self, is_time):
+        """Sends news at once, and everything again when it is time."""
+        for number, address in self.addresses.items():
+            if is_time or self.node.has_news(number):
+                self.socket.sendto(self.node.say(number) or b"", address)
+
+    def run(self):
+        next_time = time.monotonic()
+        while True:
+            is_event = self.listen(next_time - time.monotonic())
+            if self.notice_silence() or is_event:
+                self.write()
+            is_time = time.monotonic() >= next_time
+            self.speak(is_time)
+            if is_time:
+                next_time = time.monotonic() + HELLO
+
+
+if __name__ == "__main__":
+    number, port, *others = sys.argv[1:]
+    Router(int(number), int(port), {int(it): int(at) for it, _, at in (other.partition(":") for other in others)}).run()

@@ -1,0 +1,213 @@
+"""The state machine of one router, in a network without a controller."""
+
+from __future__ import annotations
+
+import ctypes
+import weakref
+from operator import index
+from threading import RLock
+from typing import Any, NoReturn, Optional
+
+from . import _calls
+from ._calls import questions
+
+MESSAGE_LENGTH = 56
+_MOST = {4: 0xFFFFFFFF, 8: 0xFFFFFFFFFFFFFFFF}
+
+
+class Unwritten(Exception):
+    """The ways and gates of the node have to be written first, and then `Node.written` has to be called."""
+
+
+class NotAMessage(ValueError):
+    """The bytes are not a message of a node. Nothing has changed."""
+
+
+def _number(value: int, size: int = 4) -> int:
+    """A number of this many bytes."""
+    number = index(value)
+    if not 0 <= number <= _MOST[size]:
+        raise OverflowError(f"{number} is not a number of {8 * size} bits")
+    return number
+
+
+class Node:
+    """The state machine of one router, for one destination, in a network without a controller. Each router runs its
+    own, and they exchange messages.
+
+    Events are `link_up`, `link_down` and `hear`. After an event, write the ways and gates to the forwarding table, and
+    then call `written`. Only then `say` has messages. So at no moment do the links that routers use contain a loop,
+    whatever happens to messages and whichever routers restart. For this, each router has to drop packets from
+    neighbours that it does not let in, and `boot` has to be greater at each start.
+
+    >>> import revroute
+    >>> gateway, router = revroute.Node.gateway(0, boot=1), revroute.Node(1, boot=1, height=1, cap=16)
+    >>> gateway.know(1), router.know(0)
+    (None, None)
+    >>> gateway.link_up(1), router.link_up(0)
+    (None, None)
+    >>> gateway.written(), router.written()
+    (None, None)
+    >>> for _ in range(2):
+    ...     router.hear(gateway.say(1))
+    ...     router.written()
+    ...     gateway.hear(router.say(0))
+    ...     gateway.written()
+    >>> router.ways(), router.distance, gateway.lets_in(1)
+    ([0], 1, True)
+
+    `me` is the number of the router, which no other router has. `boot` is greater than at all earlier starts of this
+    router. `height` is the height at which it starts. Without a `cap`, a router that has no way rises above all its
+    neighbours: this is full link reversal, and routers that are cut off from all gateways rise for ever. With a `cap`,
+    a router that knows no distance rises above the nearest neighbour whose distance is below it; the number of routers
+    is a large enough cap. With `lower`, a router lowers its height to its distance if its nearest way stays a way. With
+    `wait`, it keeps its old height and ways until the neighbours that it lets in have acknowledged a greater height. No
+    choice can make a loop.
+
+    Raises OverflowError if `boot` or `height` has more than 64 bits or another number has more than 32, and
+    MemoryError if memory runs out. A call on a closed node raises ValueError. Any thread may call. Calls on one node
+    wait for each other.
+
+    Costs: all calls are O(d) for d known neighbours, `ways` is O(d log d), and `height` and `written` are O(1).
+    """
+
+    def __init__(
+        self, me: int, boot: int, height: int = 0, *, cap: Optional[int] = None, lower: bool = True, wait: bool = True
+    ) -> None:
+        rise = _calls.FULL if cap is None else _calls.JUMP
+        policy = _calls.Policy(rise, _number(cap or 0), bool(lower), bool(wait))
+        words = _number(me), _number(boot, 8), _number(height, 8), ctypes.byref(policy)
+        self._start(lambda at: questions.revroute_node_open(at, *words))
+
+    @classmethod
+    def gateway(cls, me: int, boot: int) -> Node:
+        """A gateway: a router that takes packets out of the network, and sends them to no neighbour. One destination
+        may have several gateways."""
+        words = _number(me), _number(boot, 8)
+        node = cls.__new__(cls)
+        node._start(lambda at: questions.revroute_node_open_gateway(at, *words))
+        return node
+
+    def _start(self, opened: Any) -> None:
+        self._lock, self._handle = RLock(), _calls.NodeHandle()
+        self._at = ctypes.byref(self._handle)
+        if opened(self._at) == _calls.NO_MEMORY:
+            raise MemoryError
+        self._end = weakref.finalize(self, questions.revroute_node_close, self._at)
+        self._end.atexit = False
+
+    def know(self, neighbour: int) -> None:
+        """Makes a neighbour known. The link to it is down until `link_up`. A neighbour that is known stays as it is.
+
+        Raises ValueError if it is the router itself, and MemoryError if memory runs out. Then nothing has changed.
+        """
+        status = self._call(questions.revroute_node_know, _number(neighbour))
+        if status == _calls.REFUSED:
+            raise ValueError("a router is no neighbour of itself")
+        if status == _calls.NO_MEMORY:
+            raise MemoryError
+
+    def link_up(self, neighbour: int) -> None:
+        """An event: the link to a neighbour comes up. If the neighbour is not known, no link changes."""
+        self._call(questions.revroute_node_link_up, _number(neighbour))
+
+    def link_down(self, neighbour: int) -> None:
+        """An event: the link to a neighbour goes down. What was heard on it is kept."""
+        self._call(questions.revroute_node_link_down, _number(neighbour))
+
+    def hear(self, message: bytes) -> None:
+        """An event: a message is heard. It changes the node only if it is for this router, from a known neighbour, and
+        not from an earlier start of either.
+
+        Raises NotAMessage if the bytes are not a message, because of their number or their header. Then nothing has
+        changed.
+        """
+        message = bytes(memoryview(message))
+        if self._call(questions.revroute_node_hear, message, len(message)) == _calls.NO_MESSAGE:
+            raise NotAMessage("the bytes are not a message")
+
+    def written(self) -> None:
+        """Call this once the ways and gates are written to the forwarding table, as they are now."""
+        self._call(questions.revroute_node_written)
+
+    def say(self, neighbour: int) -> Optional[bytes]:
+        """The message for a neighbour, or None if the link to it is down. It may be said as often as you like.
+        Messages may be lost, so say one to each neighbour again after some time.
+
+        Raises Unwritten if the ways and gates are not written.
+        """
+        message, length = ctypes.create_string_buffer(MESSAGE_LENGTH), ctypes.c_size_t()
+        words = _number(neighbour), message, MESSAGE_LENGTH, ctypes.byref(length)
+        status = self._call(questions.revroute_node_say, *words)
+        self._expect_written(status)
+        return message.raw if status == _calls.ANSWERED else None
+
+    def has_news(self, neighbour: int) -> bool:
+        """Whether the link to a neighbour is up and the message for it is not the last one that was said to it.
+
+        Raises Unwritten if the ways and gates are not written.
+        """
+        news = ctypes.c_uint32()
+        self._expect_written(self._call(questions.revroute_node_has_news, _number(neighbour), ctypes.byref(news)))
+        return bool(news.value)
+
+    def ways(self) -> list[int]:
+        """The neighbours to which packets may be sent, the nearest first, and equally near ones by number. The router
+        may send packets to any of them. A gateway has none."""
+        room, length, status = 8, ctypes.c_size_t(), _calls.TOO_SHORT
+        with self._lock:
+            while status == _calls.TOO_SHORT:
+                ways = (ctypes.c_uint32 * room)()
+                status = self._call(questions.revroute_node_ways, ways, room, ctypes.byref(length))
+                room = length.value
+        return ways[: length.value]
+
+    @property
+    def distance(self) -> Optional[int]:
+        """How many links a packet crosses from this router to a gateway, by what it has heard: 0 at a gateway. None if
+        there is no way, or if the distance is not below the cap."""
+        distance = ctypes.c_uint32()
+        status = self._call(questions.revroute_node_distance, ctypes.byref(distance))
+        return distance.value if status == _calls.ANSWERED else None
+
+    @property
+    def height(self) -> int:
+        """The height in use."""
+        height = ctypes.c_uint64()
+        self._call(questions.revroute_node_height, ctypes.byref(height))
+        return height.value
+
+    def lets_in(self, neighbour: int) -> bool:
+        """Whether packets from a neighbour are let in. All others have to be dropped."""
+        return bool(self._call(questions.revroute_node_lets_in, _number(neighbour)))
+
+    def sends_to(self, neighbour: int) -> bool:
+        """Whether packets may be sent to a neighbour."""
+        return bool(self._call(questions.revroute_node_sends_to, _number(neighbour)))
+
+    def close(self) -> None:
+        """Frees the memory. A second call does nothing."""
+        with self._lock:
+            self._end()
+
+    def _call(self, call: Any, *words: Any) -> int:
+        with self._lock:
+            if not self._end.alive:
+                raise ValueError("the node is closed")
+            return call(self._at, *words)  # type: ignore[no-any-return]
+
+    def _expect_written(self, status: int) -> None:
+        if status == _calls.UNWRITTEN:
+            raise Unwritten("write the ways and gates, and then call `written`")
+
+    def __enter__(self) -> Node:
+        return self
+
+    def __exit__(self, *_: object) -> None:
+        self.close()
+
+    def __reduce__(self) -> NoReturn:
+        raise TypeError("a node can neither be copied nor pickled")
+
+    def __repr__(self) -> str:
+        return "<revroute.Node>" if self._end.alive else "<revroute.Node, closed>"
