@@ -9,6 +9,7 @@ const {
   show,
   showNothing,
   chooseLines,
+  waysIn,
   walkOf,
   play,
   pick,
@@ -42,10 +43,7 @@ acts.packet = () => failing.packet && isLast() ? failing.packet.walk : null;
 acts.isStuck = node => Boolean(failing.packet) && isLast() && failing.packet.stuck === node;
 
 // The answer to ["ways"], as a list for each node.
-function readWays(answer) {
-  const listOf = word => word === 'here' || word === 'cut' ? [] : word.split(',').map(Number);
-  return answer.startsWith('ways ') ? answer.split(' ').slice(1).map(listOf) : null;
-}
+function readWays(answer) { return answer.startsWith('ways ') ? answer.split(' ').slice(1).map(waysIn) : null; }
 
 // Asks the engine for the ways of the network as the last request leaves it. Returns whether they are known.
 async function askWays() {

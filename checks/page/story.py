@@ -109,22 +109,22 @@ class Network:
                 for node in range(self.nodes)]
 
     def distances(self):
-        """For each node the fewest links that lead from it to the destination, or None. They fall until nothing changes."""
-        far = [None] * self.nodes
-        far[self.destination] = 0
-        while True:
-            new = [0 if node == self.destination else min((far[head] + 1 for head in self.heads[node] if far[head] is not None), default=None) for node in range(self.nodes)]
-            if new == far:
-                return far
-            far = new
+        """For each node the fewest links that lead from it to the destination, or None."""
+        far, near = {self.destination: 0}, collections.deque([self.destination])
+        while near:
+            node = near.popleft()
+            for tail in self.tails[node] - far.keys():
+                far[tail] = far[node] + 1
+                near.append(tail)
+        return [far.get(node) for node in range(self.nodes)]
 
     def ways(self):
         """For each node the nodes to which its links point, by distance and then by number. A node that is cut off has none."""
         far = self.distances()
         return [sorted(heads, key=lambda head: (far[head], head)) if far[node] is not None else [] for node, heads in enumerate(self.heads)]
 
-    def ways_word(self, node):
-        return 'here' if node == self.destination else ','.join(map(str, self.ways()[node])) or 'cut'
+    def ways_words(self):
+        return ['here' if node == self.destination else ','.join(map(str, list_)) or 'cut' for node, list_ in enumerate(self.ways())]
 
     def nearest(self, node):
         ways = self.ways()
@@ -200,7 +200,8 @@ def answered(network, request):
         old, *wanted = [list(map(str, table)) for table in request[1:]]
         return pushes(old, *wanted or [network.hops()])
     if request[0] == 'ways':
-        return words('ways', [network.ways_word(node) for node in request[1:] or range(network.nodes)])
+        all_ways = network.ways_words()
+        return words('ways', [all_ways[node] for node in request[1:]] or all_ways)
     if request[0] == 'nearest':
         return network.nearest(request[1])
     return words('hops', network.hops()) if request[0] == 'hops' else network.walk(request[1])
@@ -208,21 +209,22 @@ def answered(network, request):
 
 def state_of(network):
     """The lines of a whole state."""
-    return [words('links', texts(network.links())), words('counts', network.counts), words('hops', network.hops())]
+    return [words('links', texts(network.links())), words('counts', network.counts), words('hops', network.hops()), words('ways', network.ways_words())]
 
 
 def changes_of(before, network):
-    """The lines of what a round changed in the links that were there before it."""
-    links = network.links()
+    """The lines of what a round changed in the links and ways that were there before it."""
+    links, (before, old), ways = network.links(), before, network.ways()
     joined = {frozenset(link) for link in links}
     return [words('gone', texts(link for link in before if frozenset(link) not in joined)),
             words('new', texts(sorted(set(links) - set(before)))),
-            words('counted', [f'{node}:{count}' for node, count in enumerate(network.counts) if count])]
+            words('counted', [f'{node}:{count}' for node, count in enumerate(network.counts) if count]),
+            words('listed', [':'.join(map(str, (node, *ways[node]))) for node in range(network.nodes) if ways[node] != old[node]])]
 
 
 def round_of(network, before, old):
     """The answer to a round, the lines of the story after it, and the round: its links at first and its turns.
-    Before the round the links were `before`, or None for a new network, and the table was `old`."""
+    Before the round the links and ways were `before`, or None for a new network, and the table was `old`."""
     first = network.links()
     turns = network.settle() if network.nodes <= NODES else network.settle_by_steps()
     answer = f'turned {sum(network.counts)} cut {network.nodes - len(network.joined())}'
@@ -272,7 +274,8 @@ class Story:
         out.append(words('asks', asked(request)))
         if answer.startswith('refused'):
             return [*out, f'refusal {in_json}']
-        before = None if request[0] == 'net' else self.network.links() if answer.startswith('turned') else None
+        is_change = request[0] != 'net' and answer.startswith('turned')
+        before = (self.network.links(), self.network.nodes <= NODES and self.network.ways()) if is_change else None
         self.network = changed(self.network, request)
         if answer.startswith('turned'):
             expected, lines, self.rounds[number] = round_of(self.network, before, self.table)

@@ -291,6 +291,7 @@ const offered = {
   moveNode,
   keepPlaces,
   placesOf,
+  waysIn,
   walkOf,
   chooseLines,
   get blocks() { return blocks; },

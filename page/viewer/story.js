@@ -12,13 +12,17 @@ const faults = {
   8: (u, v) => 'there is no link between ' + u + ' and ' + v,
   9: () => 'more nodes, links or edits than the limits'
 };
-const roundLines = new Set(['turns', 'gone', 'new', 'counted', 'links', 'counts', 'hops', 'pushes']);
+const roundLines = new Set(['turns', 'gone', 'new', 'counted', 'listed', 'links', 'counts', 'hops', 'ways', 'pushes']);
 const listed = (text, item) => text.split(' ').slice(1).map(item);
 const linkOf = word => word.split('>').map(Number);
 const hopIn = word => {
   const [node, hop] = word.split(':');
   return [Number(node), hop];
 };
+
+// A node and its ways, as 3:1:2; and the ways of one node in an answer, as 1,2.
+const numbersIn = word => word.split(':').map(Number);
+const waysIn = word => word === 'here' || word === 'cut' ? [] : word.split(',').map(Number);
 
 // How many items a line has after its first word.
 function itemsIn(line) {
@@ -51,7 +55,7 @@ class Round {
   get links() { return settled(this).links; }
   get counts() { return settled(this).counts; }
   get hops() { return settled(this).hops; }
-  get ways() { return settled(this).ways ??= waysOf(this); }
+  get ways() { return settled(this).ways; }
   // The links before the round: a link points as it did if its ends turned equally often.
   get first() { return this.links.map(([a, b]) => this.counts[a] === this.counts[b] ? [a, b] : [b, a]); }
 }
@@ -61,7 +65,7 @@ const keeping = [], MOST_KEPT = 8;
 
 function keep(round, state) {
   const sorted = [...state.links.values()].sort((a, b) => a[0] - b[0] || a[1] - b[1]);
-  round.kept = {links: sorted, counts: state.counts.slice(), hops: state.hops.slice(), ways: null};
+  round.kept = {links: sorted, counts: state.counts.slice(), hops: state.hops.slice(), ways: state.ways.slice()};
   keeping.push(round);
   if (keeping.length > MOST_KEPT) keeping.shift().kept = null;
   return round.kept;
@@ -75,14 +79,18 @@ function settled(round) {
   const later = [];
   let from = round;
   for (; !from.kept && !from.isWhole; from = from.before) later.push(from);
-  const {links, counts, hops} = from.kept ?? wholeState(from),
-                        state = {links: byKey(links), counts: counts.slice(), hops: hops.slice()};
+  const {links, counts, hops, ways} = from.kept ?? wholeState(from);
+  const state = {links: byKey(links), counts: counts.slice(), hops: hops.slice(), ways: ways.slice()};
   while (later.length) change(state, later.pop());
   return keep(round, state);
 }
 
-const wholeState = ({said}) =>
-    ({links: listed(said.links, linkOf), counts: listed(said.counts, Number), hops: listed(said.hops, String)});
+const wholeState = ({said}) => ({
+  links: listed(said.links, linkOf),
+  counts: listed(said.counts, Number),
+  hops: listed(said.hops, String),
+  ways: listed(said.ways, waysIn)
+});
 
 function change(state, round) {
   for (const link of round.gone) state.links.delete(keyOf(...link));
@@ -90,6 +98,7 @@ function change(state, round) {
   state.counts.fill(0);
   for (const [node, count] of listed(round.said.counted, hopIn)) state.counts[node] = Number(count);
   for (const [node, hop] of listed(round.said.pushes, hopIn)) state.hops[node] = hop;
+  for (const [node, ...ways] of listed(round.said.listed, numbersIn)) state.ways[node] = ways;
 }
 
 // The story, read: a block for each line of the input; a round has what its block says, and a question the round before

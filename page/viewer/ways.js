@@ -3,29 +3,6 @@
 
 const isOfWays = () => by('lines').value === 'ways';
 
-// The distance of each node: the fewest links that lead from it down to the destination. A node that is cut off has
-// none.
-function distancesOf({nodes, home, links}) {
-  const tails = Array.from({length: nodes}, () => []), far = Array(nodes).fill(null), near = [home];
-  for (const [tail, head] of links) tails[head].push(tail);
-  far[home] = 0;
-  for (const node of near)
-    for (const tail of tails[node])
-      if (far[tail] === null) {
-        far[tail] = far[node] + 1;
-        near.push(tail);
-      }
-  return far;
-}
-
-function waysOf(round) {
-  const far = distancesOf(round), ways = far.map(() => []);
-  for (const [tail, head] of round.links)
-    if (far[tail] !== null) ways[tail].push(head);
-  for (const list of ways) list.sort((a, b) => far[a] - far[b] || a - b);
-  return ways;
-}
-
 // The ways that packets can take at a step, or null where the page shows next hops: within a round, and while hops are
 // pushed, it always does. In the lab some ways may have failed; then it has the ways as the engine answers them.
 function waysShown(round, state) {

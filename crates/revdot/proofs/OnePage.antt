@@ -4,12 +4,13 @@ use Rattle.std.specs.Prelude.{Result, Ok, Err, codes}
 use Rattle.fr_lines.specs.Requests.{PlainRequest, ask, reading}
 use Rattle.fr_lines.specs.declared.requests.LineFault.{LineFault}
 use Rattle.fr_lines.specs.declared.requests.Question.{Question}
-use Rattle.fr_lines.specs.declared.requests.Question.TheVariants.{Links, Counts, Hops}
+use Rattle.fr_lines.specs.declared.requests.Question.TheVariants.{Links, Counts, Hops, Ways}
 use Rattle.fr_route.specs.Blank.{is_blank}
 use Rattle.fr_route.specs.States.{State}
 use Rattle.fr_graph.specs.Network.{Network}
 use Rattle.fr_route.proofs.AnsweredIn.{refusal_unique}
 use Rattle.fr_route.proofs.Determined.{answer_unique, asked_not_accepted, asked_not_refused, hops_unique, line_unique, not_both}
+use Rattle.fr_route.proofs.NodeWays.{all_ways_unique}
 use Rattle.fr_route.proofs.OneTelling.{line_told_unique}
 use Rattle.fr_route.proofs.Replying.{refused_by}
 use Rattle.fr_route.specs.Json.{PlainRefusal, refusal_json}
@@ -17,8 +18,8 @@ use Rattle.fr_route.specs.Told.{IsLineTold}
 use Rattle.fr_bytes.specs.Lines.{lines_of}
 use Rattle.revdot.specs.Pages.{IsPage}
 use Rattle.revdot.specs.Asked.{asked_text}
-use Rattle.revdot.specs.Changes.{pushes_line}
-use Rattle.revdot.specs.Stories.{AreBlocks, AreSettledLines, IsAnswerLine, IsAnsweredBlock, IsBlock, IsLineSequel, IsMark}
+use Rattle.revdot.specs.Changes.{changes_text, listed_line, pushes_line}
+use Rattle.revdot.specs.Stories.{AreBlocks, AreListed, AreSettledLines, AreWaysBefore, IsAnswerLine, IsAnsweredBlock, IsBlock, IsLineSequel, IsMark}
 use Rattle.revdot.specs.Stories.{IsRefusalLine, IsResult, IsRoundStory, IsSequel, IsStep, IsToldRound, IsTurnByTurn, answer_text}
 use Rattle.revdot.specs.Stories.{is_marked, is_told, makes_round, most_told_turns, net_before, net_text, refusal_line, turns_line}
 use Rattle.revdot.specs.Strips.{beginning}
@@ -32,41 +33,56 @@ settled_unique s a b h k =
     let links : h.links ≡ k.links = line_text_unique s Links h.links k.links h.are_links k.are_links in
     let counts : h.counts ≡ k.counts = line_text_unique s Counts h.counts k.counts h.are_counts k.are_counts in
     let hops : h.hops ≡ k.hops = line_text_unique s Hops h.hops k.hops h.are_hops k.are_hops in
-    let texts : h.links ++ (h.counts ++ h.hops) ≡ k.links ++ (k.counts ++ k.hops) = (λ i. links i ++ (counts i ++ hops i)) in
+    let ways : h.ways ≡ k.ways = line_text_unique s Ways h.ways k.ways h.are_ways k.are_ways in
+    let texts : h.links ++ (h.counts ++ (h.hops ++ h.ways)) ≡ k.links ++ (k.counts ++ (k.hops ++ k.ways)) =
+    (λ i. links i ++ (counts i ++ (hops i ++ ways i))) in
     h.text ∙ (texts ∙ sym k.text)
 
-result_unique : (before : Option Network) (s : State) (a b : List ℕ) → IsResult before s a → IsResult before s b → a ≡ b
-result_unique None s a b h k = settled_unique (Some s) a b h k
-result_unique (Some net) s a b h k = h.1 ∙ sym k.1
+listed_unique : (old : List (List ℕ)) (s : State) (a b : List ℕ) → AreListed old s a → AreListed old s b → a ≡ b
+listed_unique old s a b h k = h.2 ∙ (ap (listed_line s.nodes old) (all_ways_unique s h.0 k.0 h.1 k.1) ∙ sym k.2)
 
-turn_by_turn_unique : (before : Option Network) (s : State) (rerouted a b : List ℕ) → IsTurnByTurn before s rerouted a
-    → IsTurnByTurn before s rerouted b → a ≡ b
-turn_by_turn_unique before s rerouted a b h k =
+result_unique : (before : Option Network) (old : List (List ℕ)) (s : State) (a b : List ℕ) → IsResult before old s a
+    → IsResult before old s b → a ≡ b
+result_unique None old s a b h k = settled_unique (Some s) a b h k
+result_unique (Some net) old s a b h k =
+    let listed : h.1 ≡ k.1 = listed_unique old s h.1 k.1 h.2 k.2 in
+    h.3 ∙ (ap (λ (t : List ℕ). changes_text net.links s.links s.counts ++ t) listed ∙ sym k.3)
+
+-- the ways before a round
+before_unique : (s : Option State) (before : Option Network) (a b : List (List ℕ)) → AreWaysBefore s before a
+    → AreWaysBefore s before b → a ≡ b
+before_unique None before a b h k = h ∙ sym k
+before_unique (Some s) None a b h k = h ∙ sym k
+before_unique (Some s) (Some net) a b h k = all_ways_unique s a b h k
+
+turn_by_turn_unique : (before : Option Network) (old : List (List ℕ)) (s : State) (rerouted a b : List ℕ)
+    → IsTurnByTurn before old s rerouted a → IsTurnByTurn before old s rerouted b → a ≡ b
+turn_by_turn_unique before old s rerouted a b h k =
     let turns : h.turns ≡ k.turns =
     all_turns_unique most_told_turns s.nodes s.dest (beginning s) h.turns k.turns h.are_all k.are_all in
-    let left : h.left ≡ k.left = result_unique before s h.left k.left h.is_result k.is_result in
+    let left : h.left ≡ k.left = result_unique before old s h.left k.left h.is_result k.is_result in
     let hops : h.hops ≡ k.hops = hops_unique s s.nodes h.hops k.hops h.are_hops k.are_hops in
     let texts : turns_line h.turns ++ (h.left ++ pushes_line h.hops rerouted)
     ≡ turns_line k.turns ++ (k.left ++ pushes_line k.hops rerouted) =
     (λ i. turns_line (turns i) ++ (left i ++ pushes_line (hops i) rerouted)) in
     h.text ∙ (texts ∙ sym k.text)
 
-told_round_unique : (before : Option Network) (s : State) (rerouted a b : List ℕ) → IsToldRound before s rerouted a
-    → IsToldRound before s rerouted b → a ≡ b
-told_round_unique before s rerouted a b h k = of (is_told s) h k
+told_round_unique : (before : Option Network) (old : List (List ℕ)) (s : State) (rerouted a b : List ℕ)
+    → IsToldRound before old s rerouted a → IsToldRound before old s rerouted b → a ≡ b
+told_round_unique before old s rerouted a b h k = of (is_told s) h k
   where
-    of : (told : Bool) → MatchBool told (IsTurnByTurn before s rerouted a) (a ≡ codes "omitted\n")
-        → MatchBool told (IsTurnByTurn before s rerouted b) (b ≡ codes "omitted\n") → a ≡ b
-    of true h k = turn_by_turn_unique before s rerouted a b h k
+    of : (told : Bool) → MatchBool told (IsTurnByTurn before old s rerouted a) (a ≡ codes "omitted\n")
+        → MatchBool told (IsTurnByTurn before old s rerouted b) (b ≡ codes "omitted\n") → a ≡ b
+    of true h k = turn_by_turn_unique before old s rerouted a b h k
     of false h k = h ∙ sym k
 
-round_story_unique : (began : Bool) (before : Option Network) (s : Option State) (rerouted a b : List ℕ)
-    → IsRoundStory began before s rerouted a → IsRoundStory began before s rerouted b → a ≡ b
-round_story_unique true before (Some s) rerouted a b h k =
-    let one = told_round_unique before s rerouted h.0 k.0 h.1 k.1 in
+round_story_unique : (began : Bool) (before : Option Network) (old : List (List ℕ)) (s : Option State) (rerouted a b : List ℕ)
+    → IsRoundStory began before old s rerouted a → IsRoundStory began before old s rerouted b → a ≡ b
+round_story_unique true before old (Some s) rerouted a b h k =
+    let one = told_round_unique before old s rerouted h.0 k.0 h.1 k.1 in
     h.2 ∙ (ap (λ (t : List ℕ). net_text s.nodes s.dest ++ t) one ∙ sym k.2)
-round_story_unique true before None rerouted a b h k = h ∙ sym k
-round_story_unique false before s rerouted a b h k = h ∙ sym k
+round_story_unique true before old None rerouted a b h k = h ∙ sym k
+round_story_unique false before old s rerouted a b h k = h ∙ sym k
 
 refusal_line_unique : (s : Option State) (number : ℕ) (request : PlainRequest) (a b : List ℕ) → IsRefusalLine s number request a
     → IsRefusalLine s number request b → a ≡ b
@@ -77,14 +93,17 @@ refusal_line_unique s number request a b h k =
 sequel_unique : (s : Option State) (number : ℕ) (request : PlainRequest) (next : Option State) (rerouted a b : List ℕ)
     → IsSequel s number request next rerouted a → IsSequel s number request next rerouted b → a ≡ b
 sequel_unique s number request next rerouted a b (inl h) (inl k) = refusal_line_unique s number request a b h k
-sequel_unique s number request next rerouted a b (inl h) (inr (inl (n, g, f))) = absurd (not_both s request h.0.number n (refused_by s request h.0 h.1) g)
+sequel_unique s number request next rerouted a b (inl h) (inr (inl (n, g, v, x, f))) = absurd (not_both s request h.0.number n (refused_by s request h.0 h.1) g)
 sequel_unique s number request next rerouted a b (inl h) (inr (inr (n, g, f))) = absurd (asked_not_refused s request n h.0.number g (refused_by s request h.0 h.1))
-sequel_unique s number request next rerouted a b (inr (inl (m, h, e))) (inl k) = absurd (not_both s request k.0.number m (refused_by s request k.0 k.1) h)
-sequel_unique s number request next rerouted a b (inr (inl (m, h, e))) (inr (inl (n, g, f))) =
-    round_story_unique (makes_round request) (net_before s request) next rerouted a b e f
-sequel_unique s number request next rerouted a b (inr (inl (m, h, e))) (inr (inr (n, g, f))) = absurd (asked_not_accepted s request n m g h)
+sequel_unique s number request next rerouted a b (inr (inl (m, h, u, w, e))) (inl k) = absurd (not_both s request k.0.number m (refused_by s request k.0 k.1) h)
+sequel_unique s number request next rerouted a b (inr (inl (m, h, u, w, e))) (inr (inl (n, g, v, x, f))) =
+    let same : u ≡ v = before_unique s (net_before s request) u v w x in
+    let at : IsRoundStory (makes_round request) (net_before s request) v next rerouted a =
+    subst (λ (t : List (List ℕ)). IsRoundStory (makes_round request) (net_before s request) t next rerouted a) same e in
+    round_story_unique (makes_round request) (net_before s request) v next rerouted a b at f
+sequel_unique s number request next rerouted a b (inr (inl (m, h, u, w, e))) (inr (inr (n, g, f))) = absurd (asked_not_accepted s request n m g h)
 sequel_unique s number request next rerouted a b (inr (inr (m, h, e))) (inl k) = absurd (asked_not_refused s request m k.0.number h (refused_by s request k.0 k.1))
-sequel_unique s number request next rerouted a b (inr (inr (m, h, e))) (inr (inl (n, g, f))) = absurd (asked_not_accepted s request m n h g)
+sequel_unique s number request next rerouted a b (inr (inr (m, h, e))) (inr (inl (n, g, v, x, f))) = absurd (asked_not_accepted s request m n h g)
 sequel_unique s number request next rerouted a b (inr (inr (m, h, e))) (inr (inr (n, g, f))) = e ∙ sym f
 
 line_sequel_unique : (s : Option State) (number : ℕ) (asked : Result PlainRequest LineFault) (next : Option State) (rerouted a b : List ℕ)

@@ -22,7 +22,7 @@ use Rattle.fr_route.specs.Texts.{refusal_text}
 use Rattle.fr_route.specs.Told.{IsTold}
 use Rattle.revdot.specs.Asked.{asked_text}
 use Rattle.revdot.specs.Changes.{pushes_line}
-use Rattle.revdot.specs.Stories.{AreBlocks, AreSettledLines, IsAnswerLine, IsAnsweredBlock, IsBlock, IsMark, IsRefusalLine, IsResult}
+use Rattle.revdot.specs.Stories.{AreBlocks, AreSettledLines, AreWaysBefore, IsAnswerLine, IsAnsweredBlock, IsBlock, IsMark, IsRefusalLine, IsResult}
 use Rattle.revdot.specs.Stories.{IsRoundStory, IsSequel, IsStep, IsStory, IsTurnByTurn, answer_text, is_told, makes_round}
 use Rattle.revdot.specs.Stories.{most_told_turns, net_before, net_text, refusal_line, turns_line}
 use Rattle.revdot.specs.Strips.{AreAllTurns, beginning}
@@ -89,35 +89,39 @@ all_told whole left now number old new none h =
     let last : AreBlocks now (number + 1) left [] = rw none refl in
     (h.told ++ [], h.rest [] last, h.text ∙ ap (λ (t : List ℕ). old ++ t) (sym (append-nil h.told)))
 
--- the three answers, one after the other
-pub settled_told : (s : Option State) (links counts hops old one two new : List ℕ) → IsAnswerLine s Links links
-    → IsAnswerLine s Counts counts → IsAnswerLine s Hops hops
-    → one ≡ old ++ links → two ≡ one ++ counts → new ≡ two ++ hops → (out : List ℕ) × AreSettledLines s out × (new ≡ old ++ out)
-settled_told s links counts hops old one two new are_links are_counts are_hops e f g =
-    let lines : AreSettledLines s (links ++ (counts ++ hops)) = record {
+-- the four answers, one after the other
+pub settled_told : (s : Option State) (links counts hops ways old one two more new : List ℕ) → IsAnswerLine s Links links
+    → IsAnswerLine s Counts counts → IsAnswerLine s Hops hops → IsAnswerLine s Ways ways
+    → one ≡ old ++ links → two ≡ one ++ counts → more ≡ two ++ hops → new ≡ more ++ ways
+    → (out : List ℕ) × AreSettledLines s out × (new ≡ old ++ out)
+settled_told s links counts hops ways old one two more new are_links are_counts are_hops are_ways e f g k =
+    let lines : AreSettledLines s (links ++ (counts ++ (hops ++ ways))) = record {
       links = links;
       counts = counts;
       hops = hops;
+      ways = ways;
       are_links = are_links;
       are_counts = are_counts;
       are_hops = are_hops;
+      are_ways = are_ways;
       text = refl;
     } in
-    (links ++ (counts ++ hops), lines, three old links counts hops one two new e f g)
+    let end : new ≡ two ++ (hops ++ ways) = k ∙ (ap (λ (t : List ℕ). t ++ ways) g ∙ append_assoc two hops ways) in
+    (links ++ (counts ++ (hops ++ ways)), lines, three old links counts (hops ++ ways) one two new e f end)
 
 -- a round: its nodes and destination, its turns, its result, and the nodes that it reroutes
-pub round_told : (before : Option Network) (s : State) (session : Option State) (turns left rerouted : List ℕ) (hops : List Hop)
+pub round_told : (before : Option Network) (ways : List (List ℕ)) (s : State) (session : Option State) (turns left rerouted : List ℕ) (hops : List Hop)
     (old one two more new : List ℕ) → Some s ≡ session → is_told s ≡ true
-    → AreAllTurns most_told_turns s.nodes s.dest (beginning s) turns → IsResult before s left → AreHops s s.nodes hops
+    → AreAllTurns most_told_turns s.nodes s.dest (beginning s) turns → IsResult before ways s left → AreHops s s.nodes hops
     → one ≡ old ++ net_text s.nodes s.dest → two ≡ one ++ turns_line turns → more ≡ two ++ left
     → new ≡ more ++ pushes_line hops rerouted
-    → (out : List ℕ) × IsRoundStory true before session rerouted out × (new ≡ old ++ out)
-round_told before s session turns left rerouted hops old one two more new some small are_all is_result are_hops e f g k =
+    → (out : List ℕ) × IsRoundStory true before ways session rerouted out × (new ≡ old ++ out)
+round_told before ways s session turns left rerouted hops old one two more new some small are_all is_result are_hops e f g k =
     let net = net_text s.nodes s.dest in
     let pushes = pushes_line hops rerouted in
     let end : new ≡ two ++ (left ++ pushes) = k ∙ (ap (λ (t : List ℕ). t ++ pushes) g ∙ append_assoc two left pushes) in
     let rest = turns_line turns ++ (left ++ pushes) in
-    let told : IsTurnByTurn before s rerouted rest = record {
+    let told : IsTurnByTurn before ways s rerouted rest = record {
       begins = λ first net below round. begins s.nodes s.dest first s net below round;
       turns = turns;
       are_all = are_all;
@@ -127,8 +131,8 @@ round_told before s session turns left rerouted hops old one two more new some s
       are_hops = are_hops;
       text = refl;
     } in
-    let story : IsRoundStory true before (Some s) rerouted (net ++ rest) = (rest, rw small told, refl) in
-    let in_session = subst (λ (t : Option State). IsRoundStory true before t rerouted (net ++ rest)) some story in
+    let story : IsRoundStory true before ways (Some s) rerouted (net ++ rest) = (rest, rw small told, refl) in
+    let in_session = subst (λ (t : Option State). IsRoundStory true before ways t rerouted (net ++ rest)) some story in
     (net ++ rest, in_session, three old net (turns_line turns) (left ++ pushes) one two new e f end)
 
 -- the answer to an accepted request is not a refusal
@@ -167,13 +171,16 @@ asked_no_round s (order_pushes table wanted) pushes asked = refl
 asked_no_round s (push_ways table) pushes asked = absurd asked
 
 -- what follows an answer that is not a refusal: the round, if the request makes one
-pub round_follows : (s next : Option State) (number : ℕ) (request : PlainRequest) (answer rerouted told : List ℕ) → IsAnswer s request answer next
-    → starts_with eqb answer (codes "refused") ≡ false → IsRoundStory (makes_round request) (net_before s request) next rerouted told
+pub round_follows : (s next : Option State) (number : ℕ) (request : PlainRequest) (answer rerouted told : List ℕ) (old : List (List ℕ))
+    → IsAnswer s request answer next → starts_with eqb answer (codes "refused") ≡ false
+    → AreWaysBefore s (net_before s request) old
+    → IsRoundStory (makes_round request) (net_before s request) old next rerouted told
     → IsSequel s number request next rerouted told
-round_follows s next number request answer rerouted told (inl (why, refused, is, same)) e round =
+round_follows s next number request answer rerouted told old (inl (why, refused, is, same)) e ways round =
     absurd (both_ways (starts_with eqb answer (codes "refused")) e (rw is refl))
-round_follows s next number request answer rerouted told (inr (inl (new, accepted, is, same))) e round = inr (inl (new, accepted, round))
-round_follows s next number request answer rerouted told (inr (inr (pushes, asked, is, same))) e round =
+round_follows s next number request answer rerouted told old (inr (inl (new, accepted, is, same))) e ways round =
+    inr (inl (new, accepted, old, ways, round))
+round_follows s next number request answer rerouted told old (inr (inr (pushes, asked, is, same))) e ways round =
     inr (inr (pushes, asked, rw (asked_no_round s request pushes asked) at round))
 
 -- the answer to a request, what it asks, and what follows

@@ -1,7 +1,7 @@
 -- What a round changed, as lines of a story. This project's own.
-use Rattle.std.specs.Prelude.{ℕ, ◌+◌, ◌==◌, ◌||◌, ◌⊎◌, ◌↔◌, Bool, false, if◌then◌else◌, not, List, [], ◌∷◌, ◌++◌}
+use Rattle.std.specs.Prelude.{ℕ, ◌+◌, ◌==◌, ◌||◌, ◌⊎◌, ◌↔◌, Bool, false, if◌then◌else◌, not, List, [], ◌∷◌, ◌++◌, bytes_eq}
 use Rattle.std.specs.Prelude.{slice_index_or, codes, decimal}
-use Rattle.std.specs.List.{filter}
+use Rattle.std.specs.List.{filter, flat_map, range_with_len}
 use Rattle.fr_graph.specs.Links.{Joins, Points}
 use Rattle.fr_graph.specs.Rows.{has_link}
 use Rattle.fr_graph.specs.declared.first.First.{First}
@@ -9,6 +9,7 @@ use Rattle.fr_graph.specs.declared.first.First.TheVariants.{Inward, Outward}
 use Rattle.fr_route.specs.Texts.{hop_word, spaced_links}
 use Rattle.fr_tables.specs.declared.hop.Hop.{Hop}
 use Rattle.fr_tables.specs.declared.hop.Hop.TheVariants.{CutOff}
+use Rattle.fr_ways.specs.Ways.{ways}
 
 -- whether the entry of a row is that of a link to this node
 abbrev pub leads_to : ℕ → ℕ × First → Bool
@@ -59,3 +60,16 @@ abbrev pub changes_text : List (ℕ × ℕ) → List (ℕ × ℕ) → List ℕ �
 changes_text before after counts =
     links_line (codes "gone") (gone_links before after)
     ++ (links_line (codes "new") (new_links before after) ++ counted_line counts)
+
+-- a colon and a number
+abbrev pub colon_number : ℕ → List ℕ
+colon_number w = codes ":" ++ decimal w
+
+-- a node with its new ways, if they differ from its old ones: a space, the node, and each way after a colon
+abbrev pub new_ways : List (List ℕ) → List (List ℕ) → ℕ → List ℕ
+new_ways old new x =
+    if bytes_eq (ways old x) (ways new x) then [] else codes " " ++ (decimal x ++ flat_map colon_number (ways new x))
+
+-- the nodes whose ways changed, each with its new ways, as a line; there are this many nodes
+abbrev pub listed_line : ℕ → List (List ℕ) → List (List ℕ) → List ℕ
+listed_line n old new = codes "listed" ++ (flat_map (new_ways old new) (range_with_len 0 n) ++ codes "\n")

@@ -6,9 +6,10 @@ use Rattle.fr_graph.specs.Network.{Network}
 use Rattle.fr_lines.specs.Requests.{PlainRequest, new_network, walk_from, ask, ask_node, order_pushes, push_ways, reading}
 use Rattle.fr_lines.specs.declared.requests.LineFault.{LineFault}
 use Rattle.fr_lines.specs.declared.requests.Question.{Question}
-use Rattle.fr_lines.specs.declared.requests.Question.TheVariants.{Links, Counts, Hops}
+use Rattle.fr_lines.specs.declared.requests.Question.TheVariants.{Links, Counts, Hops, Ways}
 use Rattle.fr_route.specs.Answers.{IsAccepted, IsAnswer, IsLineAnswer}
 use Rattle.fr_route.specs.Blank.{is_blank}
+use Rattle.fr_route.specs.NodeWays.{AreAllWays}
 use Rattle.fr_route.specs.Json.{IsRefusal, PlainRefusal, refusal_json}
 use Rattle.fr_route.specs.Pushing.{AreAsked}
 use Rattle.fr_route.specs.Routes.{AreHops}
@@ -18,7 +19,7 @@ use Rattle.fr_route.specs.Told.{IsLineTold}
 use Rattle.fr_bytes.specs.Lines.{lines_of}
 use Rattle.fr_tables.specs.declared.hop.Hop.{Hop}
 use Rattle.revdot.specs.Asked.{asked_text}
-use Rattle.revdot.specs.Changes.{LinksFollow, changes_text, pushes_line}
+use Rattle.revdot.specs.Changes.{LinksFollow, changes_text, listed_line, pushes_line}
 use Rattle.revdot.specs.Strips.{AreAllTurns, BeginsTheRound, beginning}
 
 -- the greatest network whose rounds are told, and the greatest number of turns of a round that are
@@ -51,38 +52,46 @@ pub record AreSettledLines (s : Option State) (out : List ℕ) : Type 0 where
   pub links : List ℕ
   pub counts : List ℕ
   pub hops : List ℕ
+  pub ways : List ℕ
   pub are_links : IsAnswerLine s Links links
   pub are_counts : IsAnswerLine s Counts counts
   pub are_hops : IsAnswerLine s Hops hops
-  pub text : out ≡ links ++ (counts ++ hops)
+  pub are_ways : IsAnswerLine s Ways ways
+  pub text : out ≡ links ++ (counts ++ (hops ++ ways))
 
--- the result of a round: what it changed in the network before it, or the whole state of a new network
-abbrev pub IsResult : Option Network → State → List ℕ → Type 0
-IsResult None s out = AreSettledLines (Some s) out
-IsResult (Some before) s out = LinksFollow before.links s.links × (out ≡ changes_text before.links s.links s.counts)
+-- the nodes whose ways a round changed, as a line, with the state after it; `old` has the ways before it
+abbrev pub AreListed : List (List ℕ) → State → List ℕ → Type 0
+AreListed old s out = (new : List (List ℕ)) × AreAllWays s new × (out ≡ listed_line s.nodes old new)
+
+-- the result of a round: what it changed in the network before it, which had these ways, or the whole state of a new
+-- network
+abbrev pub IsResult : Option Network → List (List ℕ) → State → List ℕ → Type 0
+IsResult None old s out = AreSettledLines (Some s) out
+IsResult (Some before) old s out = LinksFollow before.links s.links
+    × (listed : List ℕ) × AreListed old s listed × (out ≡ changes_text before.links s.links s.counts ++ listed)
 
 -- the story of a round: its first turns, all if they are few; its result; and the nodes that get new hops
-pub record IsTurnByTurn (before : Option Network) (s : State) (rerouted out : List ℕ) : Type 0 where
+pub record IsTurnByTurn (before : Option Network) (old : List (List ℕ)) (s : State) (rerouted out : List ℕ) : Type 0 where
   pub begins : BeginsTheRound s
   pub turns : List ℕ
   pub are_all : AreAllTurns most_told_turns s.nodes s.dest (beginning s) turns
   pub left : List ℕ
-  pub is_result : IsResult before s left
+  pub is_result : IsResult before old s left
   pub hops : List Hop
   pub are_hops : AreHops s s.nodes hops
   pub text : out ≡ turns_line turns ++ (left ++ pushes_line hops rerouted)
 
 -- the part after the line of nodes and destination
-abbrev pub IsToldRound : Option Network → State → List ℕ → List ℕ → Type 0
-IsToldRound before s rerouted out =
-    MatchBool (is_told s) (IsTurnByTurn before s rerouted out) (out ≡ codes "omitted\n")
+abbrev pub IsToldRound : Option Network → List (List ℕ) → State → List ℕ → List ℕ → Type 0
+IsToldRound before old s rerouted out =
+    MatchBool (is_told s) (IsTurnByTurn before old s rerouted out) (out ≡ codes "omitted\n")
 
 -- the story of a round for the state after it, if the line began one
-abbrev pub IsRoundStory : Bool → Option Network → Option State → List ℕ → List ℕ → Type 0
-IsRoundStory true before (Some s) rerouted told =
-    (out : List ℕ) × IsToldRound before s rerouted out × (told ≡ net_text s.nodes s.dest ++ out)
-IsRoundStory true before None rerouted told = told ≡ []
-IsRoundStory false before s rerouted told = told ≡ []
+abbrev pub IsRoundStory : Bool → Option Network → List (List ℕ) → Option State → List ℕ → List ℕ → Type 0
+IsRoundStory true before old (Some s) rerouted told =
+    (out : List ℕ) × IsToldRound before old s rerouted out × (told ≡ net_text s.nodes s.dest ++ out)
+IsRoundStory true before old None rerouted told = told ≡ []
+IsRoundStory false before old s rerouted told = told ≡ []
 
 -- a request that begins a round if it is accepted: a network or a change
 abbrev pub makes_round : PlainRequest → Bool
@@ -104,6 +113,12 @@ net_before (Some s) (order_pushes table wanted) = None
 net_before (Some s) (push_ways table) = None
 net_before (Some s) request = if is_told s then Some (net_at s) else None
 
+-- the ways of that network, and no table if there is none
+abbrev pub AreWaysBefore : Option State → Option Network → List (List ℕ) → Type 0
+AreWaysBefore None before old = old ≡ []
+AreWaysBefore (Some s) None old = old ≡ []
+AreWaysBefore (Some s) (Some before) old = AreAllWays s old
+
 -- the answer in JSON to a request that is refused, as a line
 abbrev pub refusal_line : List ℕ → List ℕ
 refusal_line refusal = codes "refusal " ++ (refusal ++ codes "\n")
@@ -117,8 +132,8 @@ IsRefusalLine s number request out =
 abbrev pub IsSequel : Option State → ℕ → PlainRequest → Option State → List ℕ → List ℕ → Type 0
 IsSequel s number request next rerouted told =
     IsRefusalLine s number request told
-    ⊎ (((new : State) × IsAccepted s request new
-    × IsRoundStory (makes_round request) (net_before s request) next rerouted told)
+    ⊎ (((new : State) × IsAccepted s request new × (old : List (List ℕ)) × AreWaysBefore s (net_before s request) old
+    × IsRoundStory (makes_round request) (net_before s request) old next rerouted told)
     ⊎ ((pushes : List (ℕ × Hop)) × AreAsked s request pushes × (told ≡ [])))
 
 -- the same for a line that was read with this result

@@ -1,17 +1,18 @@
 //! What a round changed, as lines of a story.
 
 ghost use Rattle.std.specs.Prelude.{◌≡◌, ◌++◌, IfOk, OnOk, codes, decimal, slice_index_or, string_bytes};
-ghost use Rattle.std.specs.List.{list_any};
+ghost use Rattle.std.specs.List.{flat_map, list_any, range_with_len};
 ghost use Rattle.fr_graph.specs.Rows.{has_link as has_link_of};
 ghost use Rattle.fr_route.specs.Texts.{hop_word};
 ghost use Rattle.fr_tables.specs.declared.hop.Hop.TheVariants.{CutOff};
 ghost use Rattle.revdot.specs.Changes.{LinksFollow, changes_text, counted_line, gone_links as gone_links_of};
 ghost use Rattle.revdot.specs.Changes.{leads_to as leads_to_of, links_line, new_links as new_links_of, of_node};
-ghost use Rattle.revdot.specs.Changes.{pushes_line, spaced_counts, spaced_pushes};
+ghost use Rattle.revdot.specs.Changes.{colon_number, listed_line, new_ways, pushes_line, spaced_counts, spaced_pushes};
 
 use crate::links::push_links;
 use fr_graph::{First, Net};
 use fr_route::Hop;
+use fr_ways::WayTable;
 use std::alloc::{AllocError, Global};
 use std::fmt::Write;
 
@@ -123,6 +124,61 @@ fn push_counts(story: &mut String, counts: &[u64]) -> Result<(), AllocError>
         if counts[x] != 0 {
             write!(story, " {x}:{}", counts[x])?;
         }
+    }
+    Ok(())
+}
+
+/// Appends the nodes whose ways differ in two tables, each with its new ways. The network has this many nodes.
+pub fn push_listed(
+    story: &mut String,
+    nodes: u32,
+    old: &WayTable,
+    new: &WayTable,
+) -> Result<(), AllocError>
+    ensures { OnOk result (string_bytes story.new ≡ string_bytes story.old ++ listed_line nodes old.now new.now) }
+{
+    story.push_str("listed")?;
+    push_all_new_ways(story, nodes, old, new)?;
+    story.push_str("\n")
+}
+
+fn push_all_new_ways(
+    story: &mut String,
+    nodes: u32,
+    old: &WayTable,
+    new: &WayTable,
+) -> Result<(), AllocError>
+    ensures { OnOk result (string_bytes story.new
+        ≡ string_bytes story.old ++ flat_map (new_ways old.now new.now) (range_with_len 0 nodes)) }
+{
+    for x in 0..nodes {
+        push_new_ways(story, x, old, new)?;
+    }
+    Ok(())
+}
+
+/// Appends a node and its new ways, if they differ from its old ones.
+fn push_new_ways(
+    story: &mut String,
+    x: u32,
+    old: &WayTable,
+    new: &WayTable,
+) -> Result<(), AllocError>
+    ensures { OnOk result (string_bytes story.new ≡ string_bytes story.old ++ new_ways old.now new.now x) }
+{
+    let row = new.row(x);
+    if old.row(x) == row {
+        return Ok(());
+    }
+    write!(story, " {x}")?;
+    push_row(story, row)
+}
+
+fn push_row(story: &mut String, row: &[u32]) -> Result<(), AllocError>
+    ensures { OnOk result (string_bytes story.new ≡ string_bytes story.old ++ flat_map colon_number row.now) }
+{
+    for way in row {
+        write!(story, ":{}", *way)?;
     }
     Ok(())
 }

@@ -1,17 +1,18 @@
 //! The part of a story about a round: its turns, its result, and the nodes that get new hops.
 
-ghost use Rattle.std.specs.Prelude.{◌≡◌, ◌++◌, ℕ, List, true, IfOk, OnOk, string_bytes, option_copied};
+ghost use Rattle.std.specs.Prelude.{◌≡◌, ◌++◌, ℕ, List, Some, true, IfOk, OnOk, string_bytes};
 ghost use Rattle.revdot.specs.Replays.{IsReplay, moment_of};
 ghost use Rattle.revdot.specs.Strips.{AreAllTurns, beginning};
 ghost use Rattle.fr_route.specs.Texts.{spaced};
-ghost use Rattle.revdot.specs.Stories.{IsRoundStory, IsResult, AreSettledLines, IsAnswerLine, turns_line};
+ghost use Rattle.revdot.specs.Stories.{IsRoundStory, IsResult, AreListed, AreSettledLines, IsAnswerLine, turns_line};
 ghost use Rattle.revdot.specs.Stories.{is_told as is_told_of, most_told_turns, net_text};
 
-use crate::changes::{follow_law, push_changes, push_pushes};
+use crate::changes::{follow_law, push_changes, push_listed, push_pushes};
+use crate::story::Before;
 use crate::turns::Replay;
-use fr_graph::Net;
 use fr_lines::Question;
 use fr_route::{Router, Session};
+use fr_ways::WayTable;
 use std::alloc::{AllocError, Global};
 use std::fmt::Write;
 
@@ -26,11 +27,12 @@ const MOST_TURNS: u64 = 4_096;
 pub fn push_round(
     story: &mut String,
     alloc: Global,
-    before: Option<&Net>,
+    before: &Before,
     session: &Session,
     rerouted: &[u32],
 ) -> Result<(), AllocError>
-    ensures { OnOk result ((told : List ℕ) × IsRoundStory true (option_copied before.entry) session.now rerouted.now told
+    ensures { OnOk result ((told : List ℕ)
+        × IsRoundStory true before.now.net before.now.ways session.now rerouted.now told
         × (string_bytes story.new ≡ string_bytes story.old ++ told)) }
 {
     let Some(router) = session.router() else {
@@ -76,22 +78,37 @@ fn push_turns(story: &mut String, alloc: Global, router: &Router) -> Result<(), 
 fn push_result(
     story: &mut String,
     alloc: Global,
-    before: Option<&Net>,
+    before: &Before,
     session: &Session,
     router: &Router,
 ) -> Result<(), AllocError>
     requires { session.now ≡ Some router.now }
-    ensures { OnOk result ((left : List ℕ) × IsResult (option_copied before.entry) router.now left
+    ensures { OnOk result ((left : List ℕ) × IsResult before.now.net before.now.ways router.now left
         × (string_bytes story.new ≡ string_bytes story.old ++ left)) }
 {
-    match before {
-        Some(before) => {
+    match &before.net {
+        Some(net) => {
             let after = router.net();
-            follow_law(before, after);
-            push_changes(story, alloc, before, after, router.counts())
+            follow_law(net, after);
+            push_changes(story, alloc, net, after, router.counts())?;
+            push_changed_ways(story, alloc, &before.ways, router)
         }
         None => push_settled_lines(story, alloc, session),
     }
+}
+
+/// Appends the nodes whose ways a round changed. Before it they were `old`.
+fn push_changed_ways(
+    story: &mut String,
+    alloc: Global,
+    old: &WayTable,
+    router: &Router,
+) -> Result<(), AllocError>
+    ensures { OnOk result ((listed : List ℕ) × AreListed old.now router.now listed
+        × (string_bytes story.new ≡ string_bytes story.old ++ listed)) }
+{
+    let new = router.all_ways(alloc)?;
+    push_listed(story, router.net().nodes(), old, &new)
 }
 
 fn push_nodes(story: &mut String, nodes: &[u32]) -> Result<(), AllocError>
@@ -121,7 +138,7 @@ fn turns_of(alloc: Global, router: &Router, mut replay: Replay) -> Result<Vec<u3
     Ok(turns)
 }
 
-/// Appends a whole state: the links, the counts and the hops, as a session answers them.
+/// Appends a whole state: the links, the counts, the hops and the ways, as a session answers them.
 pub fn push_settled_lines(
     story: &mut String,
     alloc: Global,
@@ -132,7 +149,8 @@ pub fn push_settled_lines(
 {
     push_answer_to(story, alloc, session, Question::Links)?;
     push_answer_to(story, alloc, session, Question::Counts)?;
-    push_answer_to(story, alloc, session, Question::Hops)
+    push_answer_to(story, alloc, session, Question::Hops)?;
+    push_answer_to(story, alloc, session, Question::Ways)
 }
 
 /// Appends the answer of a session to a question.

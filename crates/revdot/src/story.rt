@@ -1,14 +1,14 @@
 //! The story of an input: the answer to each line, why a request was refused, and each round turn by turn, with what it
 //! changed and the nodes that get new hops.
 
-ghost use Rattle.std.specs.Prelude.{◌≡◌, ◌++◌, ℕ, IfOk, List, Ok, OnOk, codes, string_bytes};
+ghost use Rattle.std.specs.Prelude.{◌≡◌, ◌++◌, ℕ, IfOk, List, [], None, Ok, OnOk, codes, string_bytes};
 ghost use Rattle.fr_lines.specs.Requests.{plain, reading};
 ghost use Rattle.fr_route.specs.Json.{IsJsonLineAnswer};
 ghost use Rattle.fr_route.specs.Refusals.{number_of};
 ghost use Rattle.fr_route.specs.Texts.{refusal_text};
 ghost use Rattle.revdot.specs.Stories.{IsAnsweredBlock, IsBlock, IsMark, IsStep, IsStory, answer_text, refusal_line};
 ghost use Rattle.revdot.specs.Stories.{makes_round as makes_round_of};
-ghost use Rattle.revdot.specs.Stories.{is_marked as is_marked_at, net_before as net_before_of};
+ghost use Rattle.revdot.specs.Stories.{AreWaysBefore, is_marked as is_marked_at, net_before as net_before_of};
 
 use crate::asked::push_asked;
 use crate::rounds::{is_told, push_round, push_settled_lines};
@@ -16,6 +16,7 @@ use fr_bytes::Lines;
 use fr_graph::Net;
 use fr_lines::{LineFault, Request, read_line};
 use fr_route::{Form, Line, Reason, Session, is_blank};
+use fr_ways::WayTable;
 use std::alloc::{AllocError, Global};
 use std::fmt::Write;
 
@@ -139,7 +140,7 @@ fn push_answered(
     if answer.starts_with("refused") {
         push_refusal(story, alloc, session, line)
     } else if makes_round(request) {
-        push_round(story, alloc, before.net.as_ref(), session, &rerouted)
+        push_round(story, alloc, &before, session, &rerouted)
     } else {
         Ok(())
     }
@@ -180,25 +181,30 @@ fn makes_round(request: &Request) -> bool
 }
 
 /// What a request may change.
-struct Before {
+pub struct Before {
     /// The network, if rounds on it are told. A new network changes none.
-    net: Option<Net>,
+    pub net: Option<Net>,
+    /// The ways of this network, or no table.
+    pub ways: WayTable,
 }
 
 // A call, so that each return of a function that owns this has little to prove.
 impl Drop for Before {
     fn drop(self) {
-        let Before { net } = self;
+        let Before { net, ways } = self;
         drop(net);
+        drop(ways);
     }
 }
 
 /// The network that a request changes if it is accepted, and if it is told.
 fn net_before(alloc: Global, session: &Session, request: &Request) -> Result<Before, AllocError>
-    ensures { IfOk result (λ before. before.net ≡ net_before_of session.now (plain request.now)) }
+    ensures net { IfOk result (λ before. before.net ≡ net_before_of session.now (plain request.now)) }
+    ensures ways { IfOk result
+        (λ before. AreWaysBefore session.now (net_before_of session.now (plain request.now)) before.ways) }
 {
     let Some(router) = session.router() else {
-        return Ok(Before { net: None });
+        return nothing_before(alloc);
     };
     if matches!(
         request,
@@ -210,8 +216,20 @@ fn net_before(alloc: Global, session: &Session, request: &Request) -> Result<Bef
             | Request::WayPushes { .. }
     ) || !is_told(router)
     {
-        return Ok(Before { net: None });
+        return nothing_before(alloc);
     }
+    let ways = router.all_ways(alloc)?;
     let net = Some(router.net().copied(alloc)?);
-    Ok(Before { net })
+    Ok(Before { net, ways })
+}
+
+/// What a request may change that changes no network whose rounds are told.
+fn nothing_before(alloc: Global) -> Result<Before, AllocError>
+    ensures net { IfOk result (λ before. before.net ≡ None) }
+    ensures ways { IfOk result (λ before. before.ways ≡ []) }
+{
+    Ok(Before {
+        net: None,
+        ways: WayTable::with_capacity(alloc, 0, 0)?,
+    })
 }

@@ -166,9 +166,8 @@ header{display:block;padding:.4rem .8rem}h1{white-space:nowrap;overflow:hidden;t
 <li><svg width='38' height='26' aria-hidden='true'><g class='link closed asked'><path d='M2 13H28'/><path class='tip' d='M36 13L27 8.4V17.6Z'/></g></svg>its link that was asked for</li>
 <li>below a number, if the drawing is large enough: how often the node has turned</li>
 </ul>
-<b>Proved:</b> the data of this page: each request, answer, link, turn, count, next hop and push.
-<b>Not proved:</b> the drawing, and ways and distances, which follow from the links. A script in this page makes them, and is
-tested in a browser.
+<b>Proved:</b> the data of this page: each request, answer, link, turn, count, next hop, push and way.
+<b>Not proved:</b> the drawing. A script in this page makes it, and is tested in a browser.
 <b>Keys:</b> left and right, a step; up and down, a line; space, play; n and p, a node;
 w, next hops or ways;
 + and -, the size; 0 or f, fit; Shift and an arrow, move the drawing.
@@ -219,13 +218,17 @@ const faults = {
   8: (u, v) => 'there is no link between ' + u + ' and ' + v,
   9: () => 'more nodes, links or edits than the limits'
 };
-const roundLines = new Set(['turns', 'gone', 'new', 'counted', 'links', 'counts', 'hops', 'pushes']);
+const roundLines = new Set(['turns', 'gone', 'new', 'counted', 'listed', 'links', 'counts', 'hops', 'ways', 'pushes']);
 const listed = (text, item) => text.split(' ').slice(1).map(item);
 const linkOf = word => word.split('>').map(Number);
 const hopIn = word => {
   const [node, hop] = word.split(':');
   return [Number(node), hop];
 };
+
+// A node and its ways, as 3:1:2; and the ways of one node in an answer, as 1,2.
+const numbersIn = word => word.split(':').map(Number);
+const waysIn = word => word === 'here' || word === 'cut' ? [] : word.split(',').map(Number);
 
 // How many items a line has after its first word.
 function itemsIn(line) {
@@ -258,7 +261,7 @@ class Round {
   get links() { return settled(this).links; }
   get counts() { return settled(this).counts; }
   get hops() { return settled(this).hops; }
-  get ways() { return settled(this).ways ??= waysOf(this); }
+  get ways() { return settled(this).ways; }
   // The links before the round: a link points as it did if its ends turned equally often.
   get first() { return this.links.map(([a, b]) => this.counts[a] === this.counts[b] ? [a, b] : [b, a]); }
 }
@@ -268,7 +271,7 @@ const keeping = [], MOST_KEPT = 8;
 
 function keep(round, state) {
   const sorted = [...state.links.values()].sort((a, b) => a[0] - b[0] || a[1] - b[1]);
-  round.kept = {links: sorted, counts: state.counts.slice(), hops: state.hops.slice(), ways: null};
+  round.kept = {links: sorted, counts: state.counts.slice(), hops: state.hops.slice(), ways: state.ways.slice()};
   keeping.push(round);
   if (keeping.length > MOST_KEPT) keeping.shift().kept = null;
   return round.kept;
@@ -282,14 +285,18 @@ function settled(round) {
   const later = [];
   let from = round;
   for (; !from.kept && !from.isWhole; from = from.before) later.push(from);
-  const {links, counts, hops} = from.kept ?? wholeState(from),
-                        state = {links: byKey(links), counts: counts.slice(), hops: hops.slice()};
+  const {links, counts, hops, ways} = from.kept ?? wholeState(from);
+  const state = {links: byKey(links), counts: counts.slice(), hops: hops.slice(), ways: ways.slice()};
   while (later.length) change(state, later.pop());
   return keep(round, state);
 }
 
-const wholeState = ({said}) =>
-    ({links: listed(said.links, linkOf), counts: listed(said.counts, Number), hops: listed(said.hops, String)});
+const wholeState = ({said}) => ({
+  links: listed(said.links, linkOf),
+  counts: listed(said.counts, Number),
+  hops: listed(said.hops, String),
+  ways: listed(said.ways, waysIn)
+});
 
 function change(state, round) {
   for (const link of round.gone) state.links.delete(keyOf(...link));
@@ -297,6 +304,7 @@ function change(state, round) {
   state.counts.fill(0);
   for (const [node, count] of listed(round.said.counted, hopIn)) state.counts[node] = Number(count);
   for (const [node, hop] of listed(round.said.pushes, hopIn)) state.hops[node] = hop;
+  for (const [node, ...ways] of listed(round.said.listed, numbersIn)) state.ways[node] = ways;
 }
 
 // The story, read: a block for each line of the input; a round has what its block says, and a question the round before
@@ -478,29 +486,6 @@ function hopsIn(table, nodes) {
 // reader asks for them.
 
 const isOfWays = () => by('lines').value === 'ways';
-
-// The distance of each node: the fewest links that lead from it down to the destination. A node that is cut off has
-// none.
-function distancesOf({nodes, home, links}) {
-  const tails = Array.from({length: nodes}, () => []), far = Array(nodes).fill(null), near = [home];
-  for (const [tail, head] of links) tails[head].push(tail);
-  far[home] = 0;
-  for (const node of near)
-    for (const tail of tails[node])
-      if (far[tail] === null) {
-        far[tail] = far[node] + 1;
-        near.push(tail);
-      }
-  return far;
-}
-
-function waysOf(round) {
-  const far = distancesOf(round), ways = far.map(() => []);
-  for (const [tail, head] of round.links)
-    if (far[tail] !== null) ways[tail].push(head);
-  for (const list of ways) list.sort((a, b) => far[a] - far[b] || a - b);
-  return ways;
-}
 
 // The ways that packets can take at a step, or null where the page shows next hops: within a round, and while hops are
 // pushed, it always does. In the lab some ways may have failed; then it has the ways as the engine answers them.
@@ -1580,6 +1565,7 @@ const offered = {
   moveNode,
   keepPlaces,
   placesOf,
+  waysIn,
   walkOf,
   chooseLines,
   get blocks() { return blocks; },

@@ -1,4 +1,4 @@
-use Rattle.std.proofs.Common.{◌≡◌, ◌∙◌, ◌++◌, string_bytes, sym, true, option_copied}
+use Rattle.std.proofs.Common.{◌≡◌, ◌∙◌, ◌++◌, string_bytes, sym, true}
 use Rattle.std.proofs.lemmas.Result.{on_ok_weaker}
 use Rattle.revdot.specs.Changes.{pushes_line}
 use Rattle.revdot.specs.Stories.{is_told, net_text}
@@ -19,7 +19,7 @@ returns c =
     let last = string_bytes c.push_pushes.new.story in
     on_ok_weaker c.push_pushes.result
     (λ (pushes : last ≡ left ++ pushes_line hops c.args.rerouted.now).
-    round_told (option_copied c.args.before) s c.args.session.now turns.0 result.0 c.args.rerouted.now hops
+    round_told c.args.before.now.net c.args.before.now.ways s c.args.session.now turns.0 result.0 c.args.rerouted.now hops
     (string_bytes c.args.story.now) (string_bytes c.push_net.new.story) (string_bytes c.push_turns.new.story) left last
     c.in-Some.ensures small turns.1 result.1 c.hops.ensures net turns.2 result.2 pushes)
     c.push_pushes.ensures

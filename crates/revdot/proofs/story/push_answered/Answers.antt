@@ -1,4 +1,4 @@
-use Rattle.std.proofs.Common.{◌≡◌, ◌∙◌, ◌++◌, List, Ok, [], append-nil, codes, eqb, false, option_copied, refl, rules, string_bytes, subst, sym, true, ℕ}
+use Rattle.std.proofs.Common.{◌≡◌, ◌∙◌, ◌++◌, List, Ok, [], append-nil, codes, eqb, false, refl, rules, string_bytes, subst, sym, true, ℕ}
 use Rattle.std.proofs.lemmas.Result.{on_ok_weaker}
 use Rattle.std.specs.List.{starts_with}
 use Rattle.fr_lines.specs.Requests.{plain, reading}
@@ -33,15 +33,16 @@ returns-then-makes_round c =
     let two = string_bytes c.push_asked.new.story in
     let new = string_bytes c.push_round.new.story in
     let tells : IsTold s request next [] rerouted = rw c.new-rerouted.ensures.items at c.in-Ok.ensures.told in
-    let starts : starts_with eqb (string_bytes c.in-Ok.answer) (codes "refused") ≡ false = search rules in
+    let starts : starts_with eqb (string_bytes c.in-Ok.answer) (codes "refused") ≡ false =
+    search (rules, c.if-starts_with.ensures, c.deref.ensures) in
     let makes : true ≡ makes_round request = search rules in
-    let before : option_copied c.as_ref.result ≡ net_before s request = c.as_ref.ensures.value ∙ c.in_ok-before.ensures in
+    let before = c.in_ok-before.before in
     on_ok_weaker c.push_round.result
-    (λ (round : (told : List ℕ) × IsRoundStory true (option_copied c.as_ref.result) next
+    (λ (round : (told : List ℕ) × IsRoundStory true before.net before.ways next
     c.deref-then-makes_round.result.now told × (new ≡ two ++ told)).
     answered_told s next c.args.line.number request _ rerouted round.0 (string_bytes c.args.story.now) _ two new c.in-Ok.ensures.text tells
-    (round_follows s next c.args.line.number request _ rerouted round.0 c.in-Ok.ensures.text starts
-    (rw (← makes, ← before, ← c.deref-then-makes_round.ensures.value) round.1))
+    (round_follows s next c.args.line.number request _ rerouted round.0 before.ways c.in-Ok.ensures.text starts
+    c.in_ok-before.ensures.ways (rw (← makes, ← c.in_ok-before.ensures.net, ← c.deref-then-makes_round.ensures.value) round.1))
     c.in_ok-writeln.ensures.bytes c.in_ok-push_asked.ensures round.2)
     c.push_round.ensures
 
@@ -56,7 +57,8 @@ returns c =
     let starts : starts_with eqb (string_bytes c.in-Ok.answer) (codes "refused") ≡ false =
     search (rules, c.if-starts_with.ensures, c.deref.ensures) in
     let none : makes_round request ≡ false = search rules in
-    let nothing : IsRoundStory (makes_round request) (net_before s request) next rerouted [] = rw none refl in
+    let before = c.in_ok-before.before in
+    let nothing : IsRoundStory (makes_round request) (net_before s request) before.ways next rerouted [] = rw none refl in
     answered_told s next c.args.line.number request _ rerouted [] (string_bytes c.args.story.now) _ two two c.in-Ok.ensures.text tells
-    (round_follows s next c.args.line.number request _ rerouted [] c.in-Ok.ensures.text starts nothing)
+    (round_follows s next c.args.line.number request _ rerouted [] before.ways c.in-Ok.ensures.text starts c.in_ok-before.ensures.ways nothing)
     c.in_ok-writeln.ensures.bytes c.in_ok-push_asked.ensures (sym (append-nil two))
