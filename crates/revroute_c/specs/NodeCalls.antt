@@ -13,7 +13,7 @@ use Rattle.fr_node.specs.Histories.{IsHistory}
 use Rattle.fr_node.specs.Links.{Hears, IsKnown, Says, SetsUp, link_to, unknown}
 use Rattle.fr_node.specs.Nodes.{IsMessageTo, Steps, router}
 use Rattle.fr_node.specs.Policies.{Acts}
-use Rattle.fr_node.specs.Routers.{IsSaidBy, Restarts, Router}
+use Rattle.fr_node.specs.Routers.{IsOpen, IsSaidBy, IsWay, Restarts, Router}
 use Rattle.revroute_c.specs.declared.nodes.NodePolicy.{NodePolicy}
 use Rattle.revroute_c.specs.Machines.{HeldNode, Kept}
 use Rattle.revroute_c.specs.Replies.{IsWritten, Outcome}
@@ -135,7 +135,7 @@ pub record SaysTo (neighbour : ℕ) (o : Outcome ℕ) (k j : Kept) : Type 0 wher
   pub said : o.status ≡ REVROUTE_ANSWERED → IsSaid neighbour k j o
   -- before the ways and gates are written, nothing is said
   pub unwritten : (o.status ≡ REVROUTE_UNWRITTEN) ↔ (k.is_written ≡ false)
-  pub too_short : o.status ≡ REVROUTE_TOO_SHORT → length o.before < MESSAGE_LENGTH
+  pub too_short : (o.status ≡ REVROUTE_TOO_SHORT) ↔ ((k.is_written ≡ true) × (length o.before < MESSAGE_LENGTH))
   pub down : o.status ≡ REVROUTE_LINK_DOWN → ¬ IsTrue (link_to k.node.links.items neighbour).up
   pub unchanged : o.status ≢ REVROUTE_ANSWERED → IsSame k j × (o.after ≡ o.before)
   pub size : (o.status ≡ REVROUTE_ANSWERED) ⊎ (o.status ≡ REVROUTE_TOO_SHORT) → o.size ≡ MESSAGE_LENGTH
@@ -179,3 +179,11 @@ pub record TellsNodeDistance (status old new : ℕ) (k : Kept) : Type 0 where
 abbrev pub number_of_flag : Bool → ℕ
 number_of_flag true = 1
 number_of_flag false = 0
+
+-- if packets from a neighbour are let in, its gate may be open by the law, whatever the node had announced
+abbrev pub IsSafeGate : ℕ → ℕ → Kept → Type 0
+IsSafeGate neighbour flag k = flag ≡ 1 → (h : ℕ → ℕ) → IsHistory k.node.own h → IsOpen (router k.node h) neighbour
+
+-- if packets may be sent to a neighbour, it is a way by the law
+abbrev pub IsSafeWay : ℕ → ℕ → Kept → Type 0
+IsSafeWay neighbour flag k = flag ≡ 1 → (h : ℕ → ℕ) → IsWay (router k.node h) k.node.own.me neighbour

@@ -1,9 +1,9 @@
 //! What the handle of a node points to.
 
-ghost use Rattle.std.specs.Prelude.{◌≡◌, ◌<◌, ◌≤◌, ◌⊎◌, [], Some, length, true, vec_capacity, vec_len};
+ghost use Rattle.std.specs.Prelude.{◌≡◌, ◌<◌, ◌≤◌, ◌⊎◌, [], IsTrue, Some, length, true, vec_capacity, vec_len};
 ghost use Rattle.fr_node.specs.Nodes.{lets_in, sends_to};
 ghost use Rattle.revroute_c.specs.NodeCalls.{AreNeighbours, AreWaysOf, HearsBytes, HearsMessage, InNode};
-ghost use Rattle.revroute_c.specs.NodeCalls.{IsWrittenNow, KnowsNeighbour, OfNode, SaysTo, TellsNews};
+ghost use Rattle.revroute_c.specs.NodeCalls.{IsSafeGate, IsSafeWay, IsWrittenNow, KnowsNeighbour, OfNode, SaysTo, TellsNews};
 ghost use Rattle.revroute_c.specs.NodeCalls.{TellsNodeDistance, TurnsLink, neighbours_of, number_of_flag};
 ghost use Rattle.revroute_c.specs.Replies.{outcome, GivesList, IsWritten};
 
@@ -176,14 +176,16 @@ impl Machine {
 
     /// Whether packets from a neighbour are let in, as a number.
     pub(crate) fn lets_in(&self, neighbour: u32) -> u32
-        ensures { OfNode (λ k. result ≡ number_of_flag (lets_in k.node neighbour)) ⊥ self.now }
+        ensures open { OfNode (λ k. result ≡ number_of_flag (lets_in k.node neighbour)) ⊥ self.now }
+        ensures safe { OfNode (IsSafeGate neighbour result) ⊥ self.now }
     {
         number(self.node.lets_in(neighbour))
     }
 
     /// Whether packets may be sent to a neighbour, as a number.
     pub(crate) fn sends_to(&self, neighbour: u32) -> u32
-        ensures { OfNode (λ k. result ≡ number_of_flag (sends_to k.node neighbour)) ⊥ self.now }
+        ensures way { OfNode (λ k. result ≡ number_of_flag (sends_to k.node neighbour)) ⊥ self.now }
+        ensures safe { OfNode (IsSafeWay neighbour result) ⊥ self.now }
     {
         number(self.node.sends_to(neighbour))
     }
@@ -204,7 +206,8 @@ fn has_capacity(ways: &mut Vec<Way>, count: usize) -> bool
 
 /// A flag as a number.
 fn number(flag: bool) -> u32
-    ensures { result ≡ number_of_flag flag }
+    ensures value { result ≡ number_of_flag flag }
+    ensures set { result ≡ 1 → IsTrue flag }
 {
     if flag { 1 } else { 0 }
 }

@@ -1,10 +1,10 @@
 //! The calls by which C drives a node: a router that needs no controller.
 
-ghost use Rattle.std.specs.Prelude.{◌≡◌, ◌≢◌, ◌↔◌, ◌⊎◌, None, false, true};
+ghost use Rattle.std.specs.Prelude.{◌≡◌, ◌≢◌, ◌↔◌, ◌⊎◌, None, false, true, ⊤};
 ghost use denote.RawPtr.{null_ptr};
 ghost use Rattle.fr_node.specs.Nodes.{lets_in, sends_to};
 ghost use Rattle.revroute_c.specs.NodeCalls.{AreWaysOf, HearsBytes, InNode, IsNoRise, IsOpened, IsOpenedGateway};
-ghost use Rattle.revroute_c.specs.NodeCalls.{IsWrittenNow, KnowsNeighbour, OfNode, SaysTo, TellsNews};
+ghost use Rattle.revroute_c.specs.NodeCalls.{IsSafeGate, IsSafeWay, IsWrittenNow, KnowsNeighbour, OfNode, SaysTo, TellsNews};
 ghost use Rattle.revroute_c.specs.NodeCalls.{TellsNodeDistance, TurnsLink, number_of_flag, policy_of};
 ghost use Rattle.revroute_c.specs.NodeLending.{IsSameNode};
 ghost use Rattle.revroute_c.specs.Replies.{outcome, GivesList};
@@ -318,6 +318,7 @@ pub extern "C" fn revroute_node_height(handle: &mut NodeHandle, height: &mut u64
 #[unsafe(no_mangle)]
 pub extern "C" fn revroute_node_lets_in(handle: &mut NodeHandle, neighbour: u32) -> u32
     ensures open { OfNode (λ k. result ≡ number_of_flag (lets_in k.node neighbour)) (result ≡ 0) handle.old.machine }
+    ensures safe { OfNode (IsSafeGate neighbour result) ⊤ handle.old.machine }
     ensures same { IsSameNode handle.old handle.new }
 {
     match handle.machine_mut() {
@@ -330,6 +331,7 @@ pub extern "C" fn revroute_node_lets_in(handle: &mut NodeHandle, neighbour: u32)
 #[unsafe(no_mangle)]
 pub extern "C" fn revroute_node_sends_to(handle: &mut NodeHandle, neighbour: u32) -> u32
     ensures way { OfNode (λ k. result ≡ number_of_flag (sends_to k.node neighbour)) (result ≡ 0) handle.old.machine }
+    ensures safe { OfNode (IsSafeWay neighbour result) ⊤ handle.old.machine }
     ensures same { IsSameNode handle.old handle.new }
 {
     match handle.machine_mut() {
