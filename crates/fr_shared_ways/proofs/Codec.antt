@@ -1,8 +1,10 @@
 -- Words of ways: a word holds the ways that were put into it.
-use Rattle.std.proofs.Common.{All, List, [], ap, arith, drop, get_or, length, map, refl, set, slice_index, subst, suc, sym, take}
+use Rattle.std.proofs.Common.{All, List, [], ap, arith, drop, get_or, length, map, refl, set, slice_index, subst, suc}
+use Rattle.std.proofs.Common.{sym, take}
 use Rattle.std.proofs.Common.{zero, ℕ, ⊎_elim, ◌*◌, ◌+◌, ◌/◌, ◌%◌, ◌^◌, ◌<◌, ◌∙◌, ◌∷◌, ◌≡◌, ◌≤◌}
 use Rattle.std.proofs.lemmas.Bool.{cases_eq}
-use Rattle.std.proofs.lemmas.List.{get_or-drop, get_or-set_other, get_or-set_same, get_or-take, length-drop, length-take}
+use Rattle.std.proofs.lemmas.List.{get_or-drop, get_or-set_other, get_or-set_same, get_or-take, length-drop}
+use Rattle.std.proofs.lemmas.List.{length-take}
 use Rattle.std.proofs.lemmas.Nat.{shr-shr}
 use Rattle.std.proofs.Math.Nat.{one-le-pow, pow-suc}
 use Rattle.fr_ways.specs.Ways.{ways}
@@ -11,7 +13,8 @@ use Rattle.fr_shared_ways.specs.Inside.{AreWords, held_table}
 use Rattle.fr_shared_ways.specs.Words.{Fit, digits_in, digits_of, ways_of, word_of}
 use Rattle.fr_shared_ways.proofs.Histories.{blank_ways}
 
-digits_again : (ys : List ℕ) → ((k : ℕ) → k < length ys → get_or ys k 0 < 4096) → digits_in (length ys) (digits_of ys) ≡ ys
+digits_again : (ys : List ℕ) → ((k : ℕ) → k < length ys → get_or ys k 0 < 4096)
+    → digits_in (length ys) (digits_of ys) ≡ ys
 digits_again [] low = refl
 digits_again (y ∷ ys) low =
     let here : (y + 4096 * digits_of ys) % 4096 ≡ y = let l = low 0 (omega arith) in omega arith in
@@ -29,7 +32,8 @@ word_again ys fit =
     ∙ (ap (λ (w : ℕ). digits_in (length ys) w) rest ∙ digits_again ys fit.low)
 
 -- the words of a table hold it
-pub ways_held : (table : List (List ℕ)) → ((x : ℕ) → Fit (ways table x)) → (x : ℕ) → ways table x ≡ ways_of (slice_index (map word_of table) x)
+pub ways_held : (table : List (List ℕ)) → ((x : ℕ) → Fit (ways table x)) → (x : ℕ)
+    → ways table x ≡ ways_of (slice_index (map word_of table) x)
 ways_held [] fit x = refl
 ways_held (ys ∷ table) fit zero = sym (word_again ys (fit 0))
 ways_held (ys ∷ table) fit (suc x) = ways_held table (λ z. fit (suc z)) x
@@ -57,13 +61,16 @@ digit_at zero rest k low = absurd (omega (arith, low))
 digit_at (suc c) rest zero low = let whole : rest / 1 ≡ rest = omega arith in ap (λ (v : ℕ). v % 4096) (sym whole)
 digit_at (suc c) rest (suc k) low =
     let more : 12 + 12 * k ≡ 12 * suc k = omega arith in
-    digit_at c (rest / 4096) k (omega (arith, low)) ∙ ap (λ (v : ℕ). v % 4096) (shr-shr rest 12 (12 * k) ∙ ap (λ (j : ℕ). rest / 2 ^ j) more)
+    digit_at c (rest / 4096) k (omega (arith, low))
+    ∙ ap (λ (v : ℕ). v % 4096) (shr-shr rest 12 (12 * k) ∙ ap (λ (j : ℕ). rest / 2 ^ j) more)
 
 pub way_at : (word k : ℕ) → k < length (ways_of word) → word / 2 ^ (4 + 12 * k) % 4096 ≡ get_or (ways_of word) k 0
-way_at word k inside = sym (digit_at (word % 16) (word / 16) k (omega (arith, inside, length-digits_in (word % 16) (word / 16)))
+way_at word k inside = sym (digit_at (word % 16) (word / 16) k
+    (omega (arith, inside, length-digits_in (word % 16) (word / 16)))
     ∙ ap (λ (v : ℕ). v % 4096) (shr-shr word 4 (12 * k)))
 
-digits_low : (n : ℕ) (ys : List ℕ) → length ys ≤ n → ((k : ℕ) → k < length ys → get_or ys k 0 < 4096) → digits_of ys + 1 ≤ 4096 ^ n
+digits_low : (n : ℕ) (ys : List ℕ) → length ys ≤ n → ((k : ℕ) → k < length ys → get_or ys k 0 < 4096)
+    → digits_of ys + 1 ≤ 4096 ^ n
 digits_low n [] short low = let one : 1 ≤ 4096 ^ n = one-le-pow n 4096 (omega arith) in omega (arith, one)
 digits_low zero (y ∷ ys) short low = absurd (omega (arith, short))
 digits_low (suc n) (y ∷ ys) short low =

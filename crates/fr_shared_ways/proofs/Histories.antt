@@ -1,5 +1,6 @@
 -- Tables after pushes.
-use Rattle.std.proofs.Common.{append-nil, append_assoc, Contains, List, [], ap, arith, length, length-set, map, refl, replicate, set, subst, suc, sym, zero, ℕ}
+use Rattle.std.proofs.Common.{append-nil, append_assoc, Contains, List, [], ap, arith, length, length-set, map, refl}
+use Rattle.std.proofs.Common.{replicate, set, subst, suc, sym, zero, ℕ}
 use Rattle.std.proofs.Common.{◌++◌, ◌∙◌, ◌∷◌, ◌≡◌}
 use Rattle.std.proofs.lemmas.List.{length-replicate}
 use Rattle.fr_tables.proofs.Members.{Contains-none}
@@ -13,11 +14,13 @@ use Rattle.fr_shared_ways.specs.Histories.{AreAllTables, IsHistory, IsTable, Sta
 pub all_known : (h : List Push) → StartsWith h h
 all_known h = ([], sym (append-nil h))
 
-pub after_append : (table : List (List ℕ)) (h k : List Push) → table_after table (h ++ k) ≡ table_after (table_after table h) k
+pub after_append : (table : List (List ℕ)) (h k : List Push)
+    → table_after table (h ++ k) ≡ table_after (table_after table h) k
 after_append table [] k = refl
 after_append table (p ∷ ps) k = after_append (set table p.node p.ways) ps k
 
-pub tables_more : (n : ℕ) (table : List (List ℕ)) (h : List Push) (p : Push) → AreAllTables n table h → IsTable n (set (table_after table h) p.node p.ways)
+pub tables_more : (n : ℕ) (table : List (List ℕ)) (h : List Push) (p : Push) → AreAllTables n table h
+    → IsTable n (set (table_after table h) p.node p.ways)
     → AreAllTables n table (h ++ p ∷ [])
 tables_more n table [] p are more = (are, more)
 tables_more n table (q ∷ qs) p are more = (are.0, tables_more n (set table q.node q.ways) qs p are.1 more)
@@ -64,4 +67,5 @@ blank_words zero = refl
 blank_words (suc n) = ap (λ (l : List ℕ). 0 ∷ l) (blank_words n)
 
 pub starts_after : (last mid first : List Push) → StartsWith last mid → StartsWith mid first → StartsWith last first
-starts_after last mid first a b = (b.0 ++ a.0, a.1 ∙ (ap (λ (h : List Push). h ++ a.0) b.1 ∙ append_assoc first b.0 a.0))
+starts_after last mid first a b =
+    (b.0 ++ a.0, a.1 ∙ (ap (λ (h : List Push). h ++ a.0) b.1 ∙ append_assoc first b.0 a.0))

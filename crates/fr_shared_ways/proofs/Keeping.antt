@@ -1,5 +1,6 @@
 -- Each step keeps the rule, and shows what `specs/Steps.antt` says of it.
-use Rattle.std.proofs.Common.{List, [], ap, append_assoc, arith, false, get_or, length, map, refl, replicate, set, slice_index, subst}
+use Rattle.std.proofs.Common.{List, [], ap, append_assoc, arith, false, get_or, length, map, refl, replicate, set}
+use Rattle.std.proofs.Common.{slice_index, subst}
 use Rattle.std.proofs.Common.{suc, sym, true, true≢false, zero, ℕ, ⊎_elim, ◌++◌, ◌<◌, ◌≤◌, ◌∙◌, ◌∷◌, ◌≡◌, ◌≢◌}
 use Rattle.std.proofs.lemmas.List.{get_or-set_same, length-set, map-set, set-get_or}
 use mathlib.Core.Option.{none, some, some-injective, some-ne-none}
@@ -14,7 +15,8 @@ use Rattle.fr_shared_ways.specs.Histories.{IsHistory, IsTable, StartsWith, blank
 use Rattle.fr_shared_ways.specs.Rule.{AllFit, KeepsRule, ViewFits, first_view, reader_view, spent_view, with_met}
 use Rattle.fr_shared_ways.specs.Steps.{caught_up, compared, looked, recalled, written}
 use Rattle.fr_shared_ways.specs.Laws.{Explains, StepsKeepTheRule}
-use Rattle.fr_shared_ways.proofs.Histories.{after_append, all_known, blank_is_table, blank_words, last_is_table, tables_more}
+use Rattle.fr_shared_ways.proofs.Histories.{after_append, all_known, blank_is_table, blank_words, last_is_table}
+use Rattle.fr_shared_ways.proofs.Histories.{tables_more}
 use Rattle.fr_shared_ways.proofs.Codec.{table_held, ways_held, word_again, word_at}
 use Rattle.std.proofs.lemmas.List.Elements.{Contains-get_or}
 
@@ -29,14 +31,16 @@ fit_set h at views id w fits others j v e = ⊎_elim
     (λ (t : (j ≢ id) × (get_elem? views j ≡ some v)). others j v t.0 t.1)
     (at_set views id j w v e)
 
-fit_more : (h : List Push) (at : ℕ) (views : List View) (w : View) → AllFit h at views → ((j : ℕ) → ViewFits h at j w) → AllFit h at (views ++ w ∷ [])
+fit_more : (h : List Push) (at : ℕ) (views : List View) (w : View) → AllFit h at views → ((j : ℕ) → ViewFits h at j w)
+    → AllFit h at (views ++ w ∷ [])
 fit_more h at views w all fits j v e = ⊎_elim
     (λ (old : get_elem? views j ≡ some v). all j v old)
     (λ (new : w ≡ v). subst (ViewFits h at j) new (fits j))
     (at_snoc views w v j e)
 
 -- a seat that reads, and has met nobody
-reader_fits : (h : List Push) (at j : ℕ) (v : View) → StartsWith h v.known → v.met ≡ [] → v.writes ≡ false → ViewFits h at j v
+reader_fits : (h : List Push) (at j : ℕ) (v : View) → StartsWith h v.known → v.met ≡ [] → v.writes ≡ false
+    → ViewFits h at j v
 reader_fits h at j v begins empty is = record {
   begins = begins;
   met = (h, sym (ap (λ (k : List Push). k ++ h) empty));
@@ -52,31 +56,52 @@ words_more n h x ys words same =
     ∙ ap (map word_of) (sym (after_append (blank n) h (push x ys ∷ []))))
 
 starts_more : (h k : List Push) (p : Push) → StartsWith h k → StartsWith (h ++ p ∷ []) k
-starts_more h k p begins = (begins.0 ++ p ∷ [], ap (λ (l : List Push). l ++ p ∷ []) begins.1 ∙ append_assoc k begins.0 (p ∷ []))
+starts_more h k p begins =
+    (begins.0 ++ p ∷ [], ap (λ (l : List Push). l ++ p ∷ []) begins.1 ∙ append_assoc k begins.0 (p ∷ []))
 
 -- the ways of each node fit into a word
 pub fits : (n : ℕ) (table : List (List ℕ)) → IsTable n table → n ≤ 4096 → (x : ℕ) → Fit (ways table x)
 fits n table is few x = record {
   few = is.few x;
-  low = λ k l. omega (arith, is.in_range x (get_or (ways table x) k 0) (Contains-get_or (ways table x) k 0 l), is.one_each, few);
+  low = λ k l. omega (
+    arith,
+    is.in_range x (get_or (ways table x) k 0)
+        (Contains-get_or (ways table x) k 0 l),
+    is.one_each,
+    few,
+  );
 }
 
-pub set_fits : (n : ℕ) (table : List (List ℕ)) (x : ℕ) (ys : List ℕ) → x < n → n ≤ 4096 → IsTable n (set table x ys) → Fit ys
+pub set_fits : (n : ℕ) (table : List (List ℕ)) (x : ℕ) (ys : List ℕ) → x < n → n ≤ 4096 → IsTable n (set table x ys)
+    → Fit ys
 set_fits n table x ys low few is =
-    let here : ways (set table x ys) x ≡ ys = get_or-set_same table x ys [] (omega (arith, low, is.one_each, length-set table x ys)) in
+    let here : ways (set table x ys) x ≡ ys =
+    get_or-set_same table x ys [] (omega (arith, low, is.one_each, length-set table x ys)) in
     subst Fit here (fits n (set table x ys) is few x)
 
 module _ {S : Type 0} where
   -- the words and the history are unchanged
-  stays : (n : ℕ) (s t : State S View) (r : KeepsRule n s) → t.words ≡ s.words → AllFit r.history r.at t.views → KeepsRule n t
-  stays n s t r words views = record { history = r.history; at = r.at; few = r.few; tables = r.tables; words = words ∙ r.words; views = views }
+  stays : (n : ℕ) (s t : State S View) (r : KeepsRule n s) → t.words ≡ s.words → AllFit r.history r.at t.views
+      → KeepsRule n t
+  stays n s t r words views =
+      record { history = r.history; at = r.at; few = r.few; tables = r.tables; words = words ∙ r.words; views = views }
 
   -- a load that shows the seat nothing new
   same_views : (n : ℕ) (s : State S View) (id : ℕ) (me : Me S View) (x : ℕ) (r : KeepsRule n s)
       → get_elem? s.views id ≡ some me.0
-      → KeepsRule n (record { words = set s.words x (slice_index s.words x); homes = s.homes; views = set s.views id me.0 })
+      → KeepsRule n (record {
+        words = set s.words x (slice_index s.words x);
+        homes = s.homes;
+        views =
+            set s.views id me.0;
+      })
   same_views n s id me x r here =
-      let t : State S View = record { words = set s.words x (slice_index s.words x); homes = s.homes; views = set s.views id me.0 } in
+      let t : State S View = record {
+        words = set s.words x (slice_index s.words x);
+        homes = s.homes;
+        views =
+            set s.views id me.0;
+      } in
       stays n s t r (set-get_or s.words x 0)
       (fit_set r.history r.at s.views id me.0 (r.views id me.0 here) (λ j v _ old. r.views j v old))
 
@@ -106,19 +131,38 @@ module _ {S : Type 0} where
       let w : View = record me.0 { known = r.history } in
       let last = last_is_table n r.history r.tables in
       let there = ways_held (table_of n r.history) (low n s r) x in
-      let fit : ViewFits r.history r.at id w = record { begins = all_known r.history; met = mine.met; writer = λ writes. ((mine.writer writes).0, refl) } in (
+      let fit : ViewFits r.history r.at id w =
+      record {
+        begins = all_known r.history;
+        met = mine.met;
+        writer =
+            λ writes. ((mine.writer writes).0, refl);
+      } in (
         w,
         keeps,
         tt,
-        stays n s (record { words = set s.words x (slice_index s.words x); homes = s.homes; views = set s.views id w }) r (set-get_or s.words x 0)
+        stays n s (record {
+          words = set s.words x (slice_index s.words x);
+          homes = s.homes;
+          views =
+              set s.views id w;
+        }) r (set-get_or s.words x 0)
             (fit_set r.history r.at s.views id w fit (λ j v _ old. r.views j v old)),
-        (refl, mine.begins, r.tables, there ∙ ap (λ (words : List ℕ). ways_of (slice_index words x)) (sym r.words), refl),
+        (
+          refl,
+          mine.begins,
+          r.tables,
+          there
+              ∙ ap (λ (words : List ℕ). ways_of (slice_index words x)) (sym r.words),
+          refl,
+        ),
       )
 
   pub looks_at : (n slots id : ℕ) (me : Me S View) (x : ℕ) → me.0.nodes ≡ n → x < n
       → Allows {S = S} (KeepsRule n) slots id me x (λ word. word) (looked (step slots x 0 0 none) me)
   looks_at n slots id me x nodes inside =
-      subst (λ (k : ℕ). Allows {S = S} (KeepsRule k) slots id me x (λ word. word) (looked (step slots x 0 0 none) me)) nodes (looks slots id me x (omega arith))
+      subst (λ (k : ℕ). Allows {S = S} (KeepsRule k) slots id me x (λ word. word)
+      (looked (step slots x 0 0 none) me)) nodes (looks slots id me x (omega arith))
 
   -- a load after which the seat knows the whole history
   catches_up : (slots id : ℕ) (me : Me S View) (x : ℕ)
@@ -141,7 +185,8 @@ module _ {S : Type 0} where
   pub catches_up_at : (n slots id : ℕ) (me : Me S View) (x : ℕ) → me.0.nodes ≡ n
       → Allows {S = S} (KeepsRule n) slots id me x (λ word. word) (caught_up (step slots x 0 0 none) me)
   catches_up_at n slots id me x nodes =
-      subst (λ (k : ℕ). Allows {S = S} (KeepsRule k) slots id me x (λ word. word) (caught_up (step slots x 0 0 none) me))
+      subst (λ (k : ℕ). Allows {S = S} (KeepsRule k) slots id me x (λ word. word)
+      (caught_up (step slots x 0 0 none) me))
       nodes (catches_up slots id me x)
 
   recalls : (slots id : ℕ) (me : Me S View) (x : ℕ) → me.0.writes ≡ true → x < me.0.nodes
@@ -156,7 +201,8 @@ module _ {S : Type 0} where
         same_views n s id me x r here,
         (
           refl,
-          subst (λ (h : List Push). slice_index s.words x ≡ word_of (ways (table_of n h) x)) (sym (mine.writer works).1) found,
+          subst (λ (h : List Push). slice_index s.words x ≡ word_of (ways (table_of n h) x))
+              (sym (mine.writer works).1) found,
           refl,
         ),
       )
@@ -164,20 +210,24 @@ module _ {S : Type 0} where
   pub recalls_at : (n slots id : ℕ) (me : Me S View) (x : ℕ) → me.0.nodes ≡ n → me.0.writes ≡ true → x < n
       → Allows {S = S} (KeepsRule n) slots id me x (λ word. word) (recalled (step slots x 0 0 none) me)
   recalls_at n slots id me x nodes works inside =
-      subst (λ (k : ℕ). Allows {S = S} (KeepsRule k) slots id me x (λ word. word) (recalled (step slots x 0 0 none) me)) nodes
+      subst (λ (k : ℕ). Allows {S = S} (KeepsRule k) slots id me x (λ word. word)
+      (recalled (step slots x 0 0 none) me)) nodes
       (recalls slots id me x works (omega arith))
 
   writes : (slots id : ℕ) (me : Me S View) (x : ℕ) (ys : List ℕ) → me.0.writes ≡ true → x < me.0.nodes
       → IsTable me.0.nodes (set (table_of me.0.nodes me.0.known) x ys)
-      → Allows {S = S} (KeepsRule me.0.nodes) slots id me x (λ _. word_of ys) (λ _. written (step slots x (word_of ys) 0 none) me (word_of ys))
+      → Allows {S = S} (KeepsRule me.0.nodes) slots id me x (λ _. word_of ys)
+      (λ _. written (step slots x (word_of ys) 0 none) me (word_of ys))
   writes slots id me x ys works inside table s r _ here _ =
       let n : ℕ = me.0.nodes in
       let mine = r.views id me.0 here in
       let known : me.0.known ≡ r.history = (mine.writer works).1 in
-      let long : length (set (table_of n me.0.known) x ys) ≡ length (table_of n me.0.known) = length-set (table_of n me.0.known) x ys in
+      let long : length (set (table_of n me.0.known) x ys) ≡ length (table_of n me.0.known) =
+      length-set (table_of n me.0.known) x ys in
       let set_here : ways (set (table_of n me.0.known) x ys) x ≡ ys =
       get_or-set_same (table_of n me.0.known) x ys [] (omega (arith, table.one_each, long)) in
-      let again : ways_of (word_of ys) ≡ ys = word_again ys (subst Fit set_here (fits n (set (table_of n me.0.known) x ys) table r.few x)) in
+      let again : ways_of (word_of ys) ≡ ys =
+      word_again ys (subst Fit set_here (fits n (set (table_of n me.0.known) x ys) table r.few x)) in
       let p : Push = push x (ways_of (word_of ys)) in
       let same : p ≡ push x ys = ap (push x) again in
       let w : View = record me.0 { known = me.0.known ++ p ∷ [] } in
@@ -213,10 +263,13 @@ module _ {S : Type 0} where
 
   pub writes_at : (n slots id : ℕ) (me : Me S View) (x : ℕ) (ys : List ℕ) → me.0.nodes ≡ n → me.0.writes ≡ true → x < n
       → IsTable n (set (table_of n me.0.known) x ys)
-      → Allows {S = S} (KeepsRule n) slots id me x (λ _. word_of ys) (λ _. written (step slots x (word_of ys) 0 none) me (word_of ys))
+      → Allows {S = S} (KeepsRule n) slots id me x (λ _. word_of ys)
+      (λ _. written (step slots x (word_of ys) 0 none) me (word_of ys))
   writes_at n slots id me x ys nodes works inside table =
-      subst (λ (k : ℕ). Allows {S = S} (KeepsRule k) slots id me x (λ _. word_of ys) (λ _. written (step slots x (word_of ys) 0 none) me (word_of ys))) nodes
-      (writes slots id me x ys works (omega arith) (subst (λ (k : ℕ). IsTable k (set (table_of k me.0.known) x ys)) (sym nodes) table))
+      subst (λ (k : ℕ). Allows {S = S} (KeepsRule k) slots id me x (λ _. word_of ys)
+      (λ _. written (step slots x (word_of ys) 0 none) me (word_of ys))) nodes
+      (writes slots id me x ys works (omega arith)
+      (subst (λ (k : ℕ). IsTable k (set (table_of k me.0.known) x ys)) (sym nodes) table))
 
   pub splits : (n id : ℕ) (v : View) → Splits {S = S} (KeepsRule n) id v v (reader_view v)
   splits n id v s r here =
@@ -226,7 +279,8 @@ module _ {S : Type 0} where
       (fit_set r.history r.at s.views id v mine (λ j u _ old. r.views j u old))
       (λ j. reader_fits r.history r.at j (reader_view v) mine.begins refl refl))
 
-  pub joins : (n id : ℕ) (v : View) (other : ℕ) (w : View) → Joins {S = S} (KeepsRule n) id v other w (with_met v w) spent_view
+  pub joins : (n id : ℕ) (v : View) (other : ℕ) (w : View)
+      → Joins {S = S} (KeepsRule n) id v other w (with_met v w) spent_view
   joins n id v other w s r here apart there =
       let mine = r.views id v here in
       let both = with_met v w in
@@ -265,7 +319,8 @@ steps_keep n = record {
   compares = compares n;
 }
 
-pub only_first : (n : ℕ) (words : List ℕ) → KeepsRule {S = Unit {0}} n (opening words [] (first_view n)) → words ≡ replicate {A = ℕ} n 0
+pub only_first : (n : ℕ) (words : List ℕ) → KeepsRule {S = Unit {0}} n (opening words [] (first_view n))
+    → words ≡ replicate {A = ℕ} n 0
 only_first n words r =
     let none_yet : [] ≡ r.history = ((r.views 0 (first_view n) refl).writer refl).1 in
     r.words ∙ (ap (λ (h : List Push). map word_of (table_of n h)) (sym none_yet) ∙ sym (blank_words n))

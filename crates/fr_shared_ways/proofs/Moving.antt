@@ -1,19 +1,24 @@
 -- Walks while the ways of one new table are pushed.
-use Rattle.std.proofs.Common.{Bool, Contains, List, [], add-one, ap, append-nil, append_assoc, arith, cond, drop, eqb, false, inl, inr}
-use Rattle.std.proofs.Common.{length, length-append, length-set, map, refl, set, subst, suc, sym, take, true, zero, ℕ, ⊎_elim, ◌++◌, ◌+◌, ◌-◌}
+use Rattle.std.proofs.Common.{Bool, Contains, List, [], add-one, ap, append-nil, append_assoc, arith, cond, drop, eqb}
+use Rattle.std.proofs.Common.{false, inl, inr}
+use Rattle.std.proofs.Common.{length, length-append, length-set, map, refl, set, subst, suc, sym, take, true, zero, ℕ}
+use Rattle.std.proofs.Common.{⊎_elim, ◌++◌, ◌+◌, ◌-◌}
 use Rattle.std.proofs.Common.{◌<◌, ◌≤◌, ◌∙◌, ◌∷◌, ◌≡◌, ◌⊎◌}
 use Rattle.std.specs.List.{count_by, filter, range_with_len}
 use Rattle.std.specs.Prelude.{not, ◌&&◌}
 use Rattle.std.proofs.lemmas.Bool.{cases_Bool, cases_eq, cases_lt, false≢true}
-use Rattle.std.proofs.lemmas.List.{append_cancel_left, get_or-set_other, get_or-set_same, get_or_past, set_past, take-append-drop}
+use Rattle.std.proofs.lemmas.List.{append_cancel_left, get_or-set_other, get_or-set_same, get_or_past, set_past}
+use Rattle.std.proofs.lemmas.List.{take-append-drop}
 use Rattle.std.proofs.lemmas.List.{take-append-le, take_at}
 use Rattle.std.proofs.Math.Seq.{take-append-add}
-use Rattle.std.proofs.lemmas.List.Elements.{Contains-append_cases, Contains-append_left, Contains-append_right, Contains-push}
+use Rattle.std.proofs.lemmas.List.Elements.{Contains-append_cases, Contains-append_left, Contains-append_right}
+use Rattle.std.proofs.lemmas.List.Elements.{Contains-push}
 use Rattle.std.proofs.lemmas.List.Sums.{sum_by-append}
 use Rattle.fr_tables.specs.Walks.{IsWalk, end_of}
 use Rattle.fr_tables.proofs.Members.{Contains-cases, Contains-head, Contains-none, Contains-tail}
 use Rattle.fr_tables.proofs.Relations.{come_more, come_once}
-use Rattle.fr_ways.specs.Phases.{empties, growing_nodes, is_empty, is_way, kept, loses, nodes_of, sheds, shrinking_nodes}
+use Rattle.fr_ways.specs.Phases.{empties, growing_nodes, is_empty, is_way, kept, loses, nodes_of, sheds}
+use Rattle.fr_ways.specs.Phases.{shrinking_nodes}
 use Rattle.fr_ways.specs.Ways.{IsPartOf, Sends, ways}
 use Rattle.fr_ways.proofs.Shrinking.{any_yes, way_true}
 use Rattle.fr_shared_ways.specs.declared.view.Push.{Push}
@@ -38,12 +43,14 @@ range_has (suc n) y low =
 filter_yes : (p : ℕ → Bool) (xs : List ℕ) (y : ℕ) → Contains xs y → p y ≡ true → Contains (filter p xs) y
 filter_yes p [] y found t = absurd (Contains-none y found)
 filter_yes p (x ∷ xs) y found t = elim (cases_Bool (p x)) [
-  | inl here ↦ subst (λ (l : List ℕ). Contains l y) (sym (ap (λ (b : Bool). cond b (x ∷ filter p xs) (filter p xs)) here))
+  | inl here ↦ subst (λ (l : List ℕ). Contains l y)
+      (sym (ap (λ (b : Bool). cond b (x ∷ filter p xs) (filter p xs)) here))
       (⊎_elim
       (λ e. subst (Contains (x ∷ filter p xs)) e (Contains-head x (filter p xs)))
       (λ later. Contains-tail y x (filter p xs) (filter_yes p xs y later t))
       (Contains-cases y x xs found))
-  | inr fails ↦ subst (λ (l : List ℕ). Contains l y) (sym (ap (λ (b : Bool). cond b (x ∷ filter p xs) (filter p xs)) fails))
+  | inr fails ↦ subst (λ (l : List ℕ). Contains l y)
+      (sym (ap (λ (b : Bool). cond b (x ∷ filter p xs) (filter p xs)) fails))
       (⊎_elim
       (λ e. absurd (false≢true (sym fails ∙ (ap p e ∙ t))))
       (λ later. filter_yes p xs y later t)
@@ -66,7 +73,8 @@ map_from f (x ∷ xs) p found = ⊎_elim
 
 take_within : (k : ℕ) (ps : List Push) (p : Push) → Contains (take k ps) p → Contains ps p
 take_within k ps p found =
-    subst (λ (l : List Push). Contains l p) (take-append-drop k ps) (Contains-append_left (take k ps) (drop k ps) p found)
+    subst (λ (l : List Push). Contains l p) (take-append-drop k ps)
+    (Contains-append_left (take k ps) (drop k ps) p found)
 
 take_past : (ps qs : List Push) (k : ℕ) → length ps ≤ k → take k (ps ++ qs) ≡ ps ++ take (k - length ps) qs
 take_past ps qs k high =
@@ -82,7 +90,11 @@ after_one : (table : List (List ℕ)) (p : Push) (y : ℕ)
     → (ways (set table p.node p.ways) y ≡ ways table y) ⊎ ((p.node ≡ y) × (ways (set table p.node p.ways) y ≡ p.ways))
 after_one table p y = ⊎_elim
     (λ e. ⊎_elim
-    (λ low. inr (sym e, ap (λ (z : ℕ). ways (set table p.node p.ways) z) e ∙ get_or-set_same table p.node p.ways [] low))
+    (λ low. inr (
+      sym e,
+      ap (λ (z : ℕ). ways (set table p.node p.ways) z) e
+          ∙ get_or-set_same table p.node p.ways [] low,
+    ))
     (λ past. inl (ap (λ (t : List (List ℕ)). ways t y) (set_past table p.node p.ways past)))
     (cases_lt p.node (length table)))
     (λ apart. inl (get_or-set_other table p.node y p.ways [] apart))
@@ -117,7 +129,8 @@ after_some table (q ∷ qs) p found low =
     ))
     (λ (r, there, node, list). (r, Contains-tail r q qs there, node, list))
     (after_all mid qs p.node))
-    (λ later. let (r, there, node, list) = after_some mid qs p later (omega (arith, low, length-set table q.node q.ways)) in
+    (λ later. let (r, there, node, list) =
+    after_some mid qs p later (omega (arith, low, length-set table q.node q.ways)) in
     (r, Contains-tail r q qs there, node, list))
     (Contains-cases p q qs found)
 
@@ -158,10 +171,12 @@ module _ (old new : List (List ℕ)) (long : length old ≡ length new) where
   loser_listed x low t =
       let there : Contains (nodes_of new) x = range_has (length new) x low in
       elim (cases_Bool (is_empty (kept old new x))) [
-        | inl none ↦ Contains-append_right (filter (sheds old new) (nodes_of new)) (filter (empties old new) (nodes_of new)) x
+        | inl none ↦ Contains-append_right (filter (sheds old new) (nodes_of new))
+            (filter (empties old new) (nodes_of new)) x
             (filter_yes (empties old new) (nodes_of new) x there
             (ap (λ (b : Bool). b && is_empty (kept old new x)) t ∙ none))
-        | inr some ↦ Contains-append_left (filter (sheds old new) (nodes_of new)) (filter (empties old new) (nodes_of new)) x
+        | inr some ↦ Contains-append_left (filter (sheds old new) (nodes_of new))
+            (filter (empties old new) (nodes_of new)) x
             (filter_yes (sheds old new) (nodes_of new) x there
             (ap (λ (b : Bool). b && not (is_empty (kept old new x))) t ∙ ap not some))
       ]
@@ -215,7 +230,8 @@ starts_long whole known starts = omega (arith, ap length starts.1, length-append
 goes_starts : (n : ℕ) (known : List Push) (x : ℕ) (ys : List ℕ) (after : List Push) → GoesBy n known x ys after
     → StartsWith after known
 goes_starts n known x [] after goes = goes.0
-goes_starts n known x (y ∷ ys) after goes = starts_after after goes.0 known (goes_starts n goes.0 y ys after goes.4) goes.1
+goes_starts n known x (y ∷ ys) after goes =
+    starts_after after goes.0 known (goes_starts n goes.0 y ys after goes.4) goes.1
 
 -- the nodes of a walk: first along one table, and then along another
 record IsSplit (old new : List (List ℕ)) (x : ℕ) (nodes : List ℕ) : Type 0 where
@@ -268,7 +284,8 @@ module _ {n : ℕ} {before : List Push} {new : List (List ℕ)} {known after : L
   splits h x (y ∷ ys) begins goes =
       let g : List Push = goes.0 in
       let from : StartsWith g before = starts_after g h before goes.1 begins in
-      let sends = subst (λ (t : List (List ℕ)). Sends t x y) (history_is g from (goes_starts n g y ys after goes.4)) goes.3 in
+      let sends = subst (λ (t : List (List ℕ)). Sends t x y)
+      (history_is g from (goes_starts n g y ys after goes.4)) goes.3 in
       elim (cases_lt (count g) (length (shrinks old new))) [
         | inl low ↦ let s = splits g y ys from goes.4 in record {
           first = y ∷ s.first;

@@ -1,5 +1,6 @@
 -- What the publisher pushes, and the tables meanwhile.
-use Rattle.std.proofs.Common.{append-nil, append_assoc, Bool, Contains, List, [], ap, arith, cond, false, inl, inr, length, length-set}
+use Rattle.std.proofs.Common.{append-nil, append_assoc, Bool, Contains, List, [], ap, arith, cond, false, inl, inr}
+use Rattle.std.proofs.Common.{length, length-set}
 use Rattle.std.proofs.Common.{map, refl, set, subst, sym, true, ℕ, ⊎_elim, ◌++◌, ◌+◌, ◌<◌, ◌≤◌, ◌∙◌, ◌∷◌, ◌≡◌, ◌≢◌, ◌⊎◌}
 use Rattle.std.specs.List.{filter, list_any, range_with_len}
 use Rattle.std.specs.Prelude.{bytes_eq, not, ◌&&◌}
@@ -21,7 +22,8 @@ use Rattle.fr_shared_ways.proofs.Histories.{after_append, length_table}
 -- One node of a table gets other ways, which it has in a table without cycles
 
 module _ (n : ℕ) (bound table : List (List ℕ)) (x : ℕ) (ys : List ℕ) (is : IsTable n bound) (was : IsTable n table)
-    (part : IsPartOf table bound) (low : x < n) (few : length ys ≤ 5) (of : (z : ℕ) → Contains ys z → Sends bound x z) where
+    (part : IsPartOf table bound) (low : x < n) (few : length ys ≤ 5) (of : (z : ℕ) → Contains ys z
+    → Sends bound x z) where
   set_here : ways (set table x ys) x ≡ ys
   set_here = get_or-set_same table x ys [] (omega (arith, low, was.one_each))
 
@@ -38,7 +40,14 @@ module _ (n : ℕ) (bound table : List (List ℕ)) (x : ℕ) (ys : List ℕ) (is
   pub set_table : IsTable n (set table x ys)
   set_table = record {
     one_each = length-set table x ys ∙ was.one_each;
-    in_range = λ y z sends. omega (arith, is.in_range y z (set_part y z sends), is.one_each, was.one_each, length-set table x ys);
+    in_range = λ y z sends. omega (
+      arith,
+      is.in_range y z
+          (set_part y z sends),
+      is.one_each,
+      was.one_each,
+      length-set table x ys,
+    );
     few = λ y. ⊎_elim
         (λ e. omega (arith, few, ap length (ap (λ (w : ℕ). ways (set table x ys) w) e ∙ set_here)))
         (λ apart. omega (arith, was.few y, ap length (set_there y apart)))
@@ -107,12 +116,14 @@ one_more {old} {now} {after} {p} {f} {x} done low is =
     record {
       history = is ∙ (ap (λ (k : Knowledge). record k { known = k.known ++ pushes }) done.history
           ∙ ap (λ (h : List Push). record old { known = h })
-          (append_assoc old.known (pushes_below p f x) pushes ∙ ap (λ (h : List Push). old.known ++ h) (sym (below_more p f x))));
+          (append_assoc old.known (pushes_below p f x) pushes
+          ∙ ap (λ (h : List Push). old.known ++ h) (sym (below_more p f x))));
       below = λ y lower. ⊎_elim
           (λ e. subst (λ (z : ℕ). ways (last_table after) z ≡ cond (p z) (f z) (ways (last_table old) z)) (sym e)
           (at x ∙ (after_here (last_table now) (p x) x (f x) low
           ∙ ap (λ (l : List ℕ). cond (p x) (f x) l) (done.others x (omega arith)))))
-          (λ apart. at y ∙ (after_there (last_table now) (p x) x (f x) y apart ∙ done.below y (omega (arith, lower, apart))))
+          (λ apart. at y ∙ (after_there (last_table now) (p x) x (f x) y apart
+          ∙ done.below y (omega (arith, lower, apart))))
           (cases_eq y x);
       others = λ y higher. at y ∙ (after_there (last_table now) (p x) x (f x) y (λ e. omega (arith, higher, e))
           ∙ done.others y (omega (arith, higher)));
@@ -134,7 +145,8 @@ pushed_part {old} {now} {p} {f} {x} bound done part of y z sends = ⊎_elim
 
 -- Tests of two tables in which a node has the same ways
 
-empties_same : (some other new : List (List ℕ)) (x : ℕ) → ways some x ≡ ways other x → empties some new x ≡ empties other new x
+empties_same : (some other new : List (List ℕ)) (x : ℕ) → ways some x ≡ ways other x
+    → empties some new x ≡ empties other new x
 empties_same some other new x same = ap (λ (l : List ℕ). empties (l ∷ []) (ways new x ∷ []) 0) same
 
 kept_same : (some other new : List (List ℕ)) (x : ℕ) → ways some x ≡ ways other x → kept some new x ≡ kept other new x
@@ -144,7 +156,8 @@ pub drops_same : (emptied : Bool) (some other new : List (List ℕ)) (x : ℕ) �
     → drops emptied some new x ≡ drops emptied other new x
 drops_same emptied some other new x same = ap (λ (l : List ℕ). drops emptied (l ∷ []) (ways new x ∷ []) 0) same
 
-pub changes_same : (some other new : List (List ℕ)) (x : ℕ) → ways some x ≡ ways other x → changes some new x ≡ changes other new x
+pub changes_same : (some other new : List (List ℕ)) (x : ℕ) → ways some x ≡ ways other x
+    → changes some new x ≡ changes other new x
 changes_same some other new x same = ap (λ (l : List ℕ). changes (l ∷ []) (ways new x ∷ []) 0) same
 
 module _ (old new : List (List ℕ)) (x : ℕ) where
@@ -177,7 +190,8 @@ and_not true true t = sym t
 and_not true false t = refl
 and_not false b t = refl
 
-module _ (old shed new : List (List ℕ)) (were : (y : ℕ) → ways shed y ≡ cond (sheds old new y) (kept old new y) (ways old y)) where
+module _ (old shed new : List (List ℕ)) (were : (y : ℕ)
+    → ways shed y ≡ cond (sheds old new y) (kept old new y) (ways old y)) where
   were_shed : (x : ℕ) → sheds old new x ≡ true → ways shed x ≡ kept old new x
   were_shed x t = were x ∙ ap (λ (b : Bool). cond b (kept old new x) (ways old x)) t
 
@@ -206,7 +220,8 @@ module _ (old shed new : List (List ℕ)) (were : (y : ℕ) → ways shed y ≡ 
   module _ (table : List (List ℕ))
       (are : (y : ℕ) → ways table y ≡ cond (empties shed new y) (kept shed new y) (ways shed y)) where
     are_emptied : (x : ℕ) → empties old new x ≡ true → ways table x ≡ kept old new x
-    are_emptied x t = are x ∙ (ap (λ (b : Bool). cond b (kept shed new x) (ways shed x)) (empties_then x ∙ t) ∙ kept_then x t)
+    are_emptied x t = are x
+        ∙ (ap (λ (b : Bool). cond b (kept shed new x) (ways shed x)) (empties_then x ∙ t) ∙ kept_then x t)
 
     are_left : (x : ℕ) → empties old new x ≡ false → ways table x ≡ ways shed x
     are_left x f = are x ∙ ap (λ (b : Bool). cond b (kept shed new x) (ways shed x)) (empties_then x ∙ f)
@@ -262,7 +277,8 @@ grown some new x ys is = elim (cases_Bool (changes some new x)) [
 
 pub all_grown : (n : ℕ) (table new : List (List ℕ)) → length table ≡ n → length new ≡ n
     → ((x : ℕ) → x < n → ways table x ≡ ways new x) → table ≡ new
-all_grown n table new long too same = ext_get_or [] table new (long ∙ sym too) (λ i low. same i (omega (arith, low, long)))
+all_grown n table new long too same =
+    ext_get_or [] table new (long ∙ sym too) (λ i low. same i (omega (arith, low, long)))
 
 -- a node that is not in the tables has no way, and is not pushed
 pub past_shrunk : (b : Bool) (old new : List (List ℕ)) (x : ℕ) → length old ≤ x → length new ≤ x
@@ -277,7 +293,8 @@ past_shrunk b old new x past too =
 
 module _ (old now after : Knowledge) (new : List (List ℕ)) (x : ℕ) (low : x < old.nodes) where
   -- one more node is looked at in the first phase
-  pub shrink_more : (emptied : Bool) → IsPushedBelow old now (drops emptied (last_table old) new) (kept (last_table old) new) x
+  pub shrink_more : (emptied : Bool)
+      → IsPushedBelow old now (drops emptied (last_table old) new) (kept (last_table old) new) x
       → after ≡ record now {
         known = now.known
             ++ push_if (drops emptied (last_table now) new x) x (kept (last_table now) new x);
@@ -323,7 +340,10 @@ table_grown old now new one_each done =
 -- All pushes from one table to another
 
 pub all_pushes : (k shed emptied after : Knowledge) (new : List (List ℕ)) → length new ≡ k.nodes
-    → shed ≡ record k { known = k.known ++ pushes_below (drops false (last_table k) new) (kept (last_table k) new) k.nodes }
+    → shed ≡ record k {
+      known =
+          k.known ++ pushes_below (drops false (last_table k) new) (kept (last_table k) new) k.nodes;
+    }
     → ((y : ℕ) → ways (last_table shed) y
     ≡ cond (drops false (last_table k) new y) (kept (last_table k) new y) (ways (last_table k) y))
     → emptied ≡ record shed {
@@ -354,13 +374,19 @@ all_pushes k shed emptied after new one_each is_shed were is_emptied are is_afte
     pushes_same (empties first new) (empties old new) (kept first new) (kept old new) xs
     (empties_then old first new were) (kept_then old first new were) in
     let h2 : emptied ≡ record shed { known = shed.known ++ b } =
-    is_emptied ∙ (ap (λ (n : ℕ). record shed { known = shed.known ++ pushes_below (empties first new) (kept first new) n }) n2
+    is_emptied ∙ (ap (λ (n : ℕ). record shed {
+      known =
+          shed.known ++ pushes_below (empties first new) (kept first new) n;
+    }) n2
     ∙ ap (λ (h : List Push). record shed { known = shed.known ++ h }) same_b) in
     let same_c : pushes_below (changes last new) (ways new) (length new) ≡ c =
     pushes_same (changes last new) (grow_test old new) (ways new) (ways new) xs
     (changes_then old first new were last are) (λ x t. refl) in
     let h3 : after ≡ record emptied { known = emptied.known ++ c } =
-    is_after ∙ (ap (λ (n : ℕ). record emptied { known = emptied.known ++ pushes_below (changes last new) (ways new) n }) n3
+    is_after ∙ (ap (λ (n : ℕ). record emptied {
+      known =
+          emptied.known ++ pushes_below (changes last new) (ways new) n;
+    }) n3
     ∙ ap (λ (h : List Push). record emptied { known = emptied.known ++ h }) same_c) in
     let split : shrinks old new ≡ a ++ b =
     map-append (λ (x : ℕ). push x (kept old new x)) (filter (sheds old new) xs) (filter (empties old new) xs) in

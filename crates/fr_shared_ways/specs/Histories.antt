@@ -1,4 +1,5 @@
--- Histories of pushes, and the tables that they make. This project's own; tables, cycles and phases are those of fr_ways.
+-- Histories of pushes, and the tables that they make. This project's own; tables, cycles and phases are those of
+-- fr_ways.
 use Rattle.std.specs.Prelude.{◌≡◌, ◌≤◌, ℕ, List, [], ◌∷◌, ◌++◌, map, length, replicate, slice_set}
 use Rattle.fr_ways.specs.Phases.{growing_nodes, kept, shrinking_nodes}
 use Rattle.fr_ways.specs.Ways.{HasNoCycle, IsInRange, ways}

@@ -54,7 +54,8 @@ pub record StepsKeepTheRule (n : ℕ) : Type 0 where
   pub recall : (slots id : ℕ) (me : Me (Unit {0}) View) (x : ℕ) → me.0.nodes ≡ n → me.0.writes ≡ true → x < n
       → Allows (KeepsRule n) slots id me x (λ word. word) (recalled (step slots x 0 0 none) me)
   -- the publisher's store of ways with which the table has no cycle
-  pub store : (slots id : ℕ) (me : Me (Unit {0}) View) (x : ℕ) (ys : List ℕ) → me.0.nodes ≡ n → me.0.writes ≡ true → x < n
+  pub store : (slots id : ℕ) (me : Me (Unit {0}) View) (x : ℕ) (ys : List ℕ) → me.0.nodes ≡ n → me.0.writes ≡ true
+      → x < n
       → IsTable n (slice_set (table_of n me.0.known) x ys)
       → Allows (KeepsRule n) slots id me x (λ _. word_of ys)
       (λ _. written (step slots x (word_of ys) 0 none) me (word_of ys))

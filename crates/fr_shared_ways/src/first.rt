@@ -33,8 +33,8 @@ impl Model for FirstWays {
 }
 
 impl FirstWays {
-    /// A table of this many nodes, none of which has a way. Fails with `AllocError` if an allocation is refused. O(n) for
-    /// n nodes.
+    /// A table of this many nodes, none of which has a way. Fails with `AllocError` if an allocation is refused. O(n)
+    /// for n nodes.
     pub fn new(alloc: Global, nodes: u32) -> Result<FirstWays, AllocError>
         ensures { IfOk result (λ table. table ≡ blank nodes) }
     {

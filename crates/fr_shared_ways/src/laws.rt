@@ -1,7 +1,7 @@
 //! The laws of a shared table. Each clause is a law of `specs/Laws.antt`, proved. The function does nothing.
 
-ghost use Rattle.fr_shared_ways.specs.Laws.{EveryStepKeepsTheRule, IsTableAtEachMoment, LearnedIsRead, VisitsTwiceAtMost};
-ghost use Rattle.fr_shared_ways.specs.Laws.{NoOtherStateIsFirst, OneHistoryExplainsAll, RuleHoldsAtFirst};
+ghost use Rattle.fr_shared_ways.specs.Laws.{EveryStepKeepsTheRule, IsTableAtEachMoment, LearnedIsRead};
+ghost use Rattle.fr_shared_ways.specs.Laws.{NoOtherStateIsFirst, OneHistoryExplainsAll, RuleHoldsAtFirst, VisitsTwiceAtMost};
 
 /// At each moment, whatever the threads do, the words are a table without cycles: the last table of one history of
 /// pushes. The publisher knows the whole history, and each reader knows a beginning of it. This follows from a rule.

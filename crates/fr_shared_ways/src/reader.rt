@@ -61,10 +61,10 @@ impl Reader {
         let _nodes = self.nodes;
     }
 
-    /// Writes the ways of node `x`, which must be in the table, to the front of `list`, nearest first if they were pushed
-    /// so. Returns how many they are; the rest of the list is unchanged. The ways are all of one moment: those in the
-    /// last table of a history that extends what the reader knew. No table of this history has a cycle. Two calls can
-    /// read different tables.
+    /// Writes the ways of node `x`, which must be in the table, to the front of `list`, in the order in which they were
+    /// pushed. Returns how many they are; the rest of the list is unchanged. The ways are all of one moment: those in
+    /// the last table of a history that extends what the reader knew. No table of this history has a cycle. Two calls
+    /// can read different tables.
     ///
     /// It makes one load, and does not allocate or wait. O(1).
     pub fn ways(&mut self, x: u32, list: &mut [u32; MOST]) -> usize
@@ -118,8 +118,8 @@ impl Reader {
 
     /// Learns what the publisher, or another reader, knew. From then on the reader never answers from an earlier table.
     ///
-    /// Hand a [`Past`] on wherever one thread continues after another, as after a message that ways were pushed. Without
-    /// it contracts promise no more than that a reader never goes back: not that it ever sees a push.
+    /// Hand a [`Past`] on wherever one thread continues after another, as after a message that ways were pushed.
+    /// Without it contracts promise no more than that a reader never goes back: not that it ever sees a push.
     ///
     /// The past must be of the same table. It makes two loads, and does not allocate or wait. O(1).
     pub fn learn(&mut self, past: Past)

@@ -1,6 +1,8 @@
-use Rattle.std.proofs.Common.{All, Contains, List, [], arith, drop, length, subst, sym, take, ap, ℕ, ⊎_elim, ◌++◌, ◌<◌, ◌∙◌, ◌∷◌, ◌≡◌, ◌≤◌, slice_set}
+use Rattle.std.proofs.Common.{All, Contains, List, [], arith, drop, length, subst, sym, take, ap, ℕ, ⊎_elim, ◌++◌}
+use Rattle.std.proofs.Common.{◌<◌, ◌∙◌, ◌∷◌, ◌≡◌, ◌≤◌, slice_set}
 use Rattle.std.proofs.lemmas.Bool.{cases_eq, cases_lt}
-use Rattle.std.proofs.lemmas.List.{get_or-set_other, get_or-set_same, get_or_past, length-set, length-take, take-append-drop}
+use Rattle.std.proofs.lemmas.List.{get_or-set_other, get_or-set_same, get_or_past, length-set, length-take}
+use Rattle.std.proofs.lemmas.List.{take-append-drop}
 use Rattle.std.proofs.lemmas.List.Elements.{Contains-append_left}
 use Rattle.fr_tables.specs.Walks.{IsWalk}
 use Rattle.fr_tables.proofs.Members.{Contains-none}
@@ -19,7 +21,8 @@ falls_free : (table : List (List ℕ)) → ((y z : ℕ) → Sends table y z → 
 falls_free table lower [] is = is
 falls_free table lower (x ∷ xs) is = omega (arith, walk_falls (Sends table) lower x xs x is)
 
-module _ (table : List (List ℕ)) (x : ℕ) (list : List ℕ) (node : x < 8) (low : All (λ (y : ℕ). y < x) list) (is : IsTable 8 table)
+module _ (table : List (List ℕ)) (x : ℕ) (list : List ℕ) (node : x < 8) (low : All (λ (y : ℕ). y < x) list)
+    (is : IsTable 8 table)
     (lower : (y z : ℕ) → Sends table y z → z < y) where
   abbrev after : List (List ℕ)
   after = slice_set table x (take 5 list)
@@ -33,7 +36,8 @@ module _ (table : List (List ℕ)) (x : ℕ) (list : List ℕ) (node : x < 8) (l
   still_lower : (y z : ℕ) → Sends after y z → z < y
   still_lower y z sends = ⊎_elim
       (λ e.
-      let found : Contains (take 5 list) z = subst (λ (l : List ℕ). Contains l z) (ap (λ (w : ℕ). ways after w) e ∙ here) sends in
+      let found : Contains (take 5 list) z =
+      subst (λ (l : List ℕ). Contains l z) (ap (λ (w : ℕ). ways after w) e ∙ here) sends in
       let whole = subst (λ (l : List ℕ). Contains l z) (take-append-drop 5 list)
       (Contains-append_left (take 5 list) (drop 5 list) z found) in
       omega (arith, e, subst (λ (w : ℕ). w < x) whole.2 (low whole.0 z whole.1)))

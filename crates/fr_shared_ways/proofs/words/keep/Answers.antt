@@ -1,4 +1,5 @@
-use Rattle.std.proofs.Common.{List, [], ap, arith, cond, eqb, get_or, length, length-set, sym, take, ℕ, ◌++◌, ◌+◌, ◌<◌, ◌∙◌, ◌∷◌, ◌≡◌, Bool, append-nil}
+use Rattle.std.proofs.Common.{List, [], ap, arith, cond, eqb, get_or, length, length-set, sym, take, ℕ, ◌++◌, ◌+◌}
+use Rattle.std.proofs.Common.{◌<◌, ◌∙◌, ◌∷◌, ◌≡◌, Bool, append-nil}
 use Rattle.std.specs.Cmp.{nat_eq_equiv}
 use Rattle.std.specs.List.{filter, list_any}
 use Rattle.std.proofs.lemmas.List.{take_more, take_more_set}
@@ -32,7 +33,8 @@ loop-y-preserved c =
             rw (w.list-is, w.count-is) (take_more_set c.loop-y.list c.loop-y.count y
             (omega (arith, before.few, before.size, low, c.requires))) in
             all ∙ (ap (λ (l : List ℕ). l ++ y ∷ []) before.front
-            ∙ sym (more ∙ ap (λ (b : Bool). filter (is_way c.args.old.now) (take c.loop-y.y-index c.args.new.now) ++ cond b (y ∷ []) []) (test ∙ w.if-contains.true)));
+            ∙ sym (more ∙ ap (λ (b : Bool). filter (is_way c.args.old.now)
+            (take c.loop-y.y-index c.args.new.now) ++ cond b (y ∷ []) []) (test ∙ w.if-contains.true)));
       }
       | else-contains w ↦ record {
         few = omega (arith, before.few, w.count-is);
@@ -40,6 +42,7 @@ loop-y-preserved c =
         size = c.if-contains.array_long;
         front = rw (w.list-is, w.count-is) (before.front
             ∙ (sym (append-nil (filter (is_way c.args.old.now) (take c.loop-y.y-index c.args.new.now)))
-            ∙ sym (more ∙ ap (λ (b : Bool). filter (is_way c.args.old.now) (take c.loop-y.y-index c.args.new.now) ++ cond b (y ∷ []) []) (test ∙ w.if-contains.false))));
+            ∙ sym (more ∙ ap (λ (b : Bool). filter (is_way c.args.old.now)
+            (take c.loop-y.y-index c.args.new.now) ++ cond b (y ∷ []) []) (test ∙ w.if-contains.false))));
       }
     ]

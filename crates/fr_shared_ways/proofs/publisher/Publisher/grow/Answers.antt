@@ -7,13 +7,16 @@ pub loop-x-preserved : goal.loop-x-preserved
 loop-x-preserved c = record {
   low = omega (arith, c.loop-x-test.true, ap (λ (k : Knowledge). k.nodes) c.self.view_is);
   pushed = grow_more c.args.self.now c.loop-x.self c.grow_node.new.self c.args.new.now c.loop-x.x
-      (omega (arith, c.loop-x-test.true, ap (λ (k : Knowledge). k.nodes) c.self.view_is)) c.loop-x.invariant.pushed c.grow_node.ensures;
+      (omega (arith, c.loop-x-test.true, ap (λ (k : Knowledge). k.nodes) c.self.view_is))
+      c.loop-x.invariant.pushed c.grow_node.ensures;
 }
 
 pub returns-clause-table : goal.returns-clause-table
 returns-clause-table c =
-    let all : c.loop-x.x ≡ c.args.self.now.nodes = omega (arith, c.loop-x.invariant.low, c.loop-x-test.false, ap (λ (k : Knowledge). k.nodes) c.self.view_is) in
-    table_grown c.args.self.now c.loop-x.self c.args.new.now c.requires.new.one_each (rw all at c.loop-x.invariant.pushed)
+    let all : c.loop-x.x ≡ c.args.self.now.nodes =
+    omega (arith, c.loop-x.invariant.low, c.loop-x-test.false, ap (λ (k : Knowledge). k.nodes) c.self.view_is) in
+    table_grown c.args.self.now c.loop-x.self c.args.new.now c.requires.new.one_each
+    (rw all at c.loop-x.invariant.pushed)
 
 pub grow_node-requires-clause-part : goal.grow_node-requires-clause-part
 grow_node-requires-clause-part c =

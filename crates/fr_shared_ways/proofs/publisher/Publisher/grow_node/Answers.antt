@@ -13,5 +13,6 @@ push-requires-clause-table c =
     let list : take c.ways_in-count.result c.ways_in-count.new.list ≡ ways new c.args.x =
     c.ways_in-count.ensures.ways ∙ c.word-word.ensures.held in
     rw (c.word.ensures.kept, list)
-    (set_table k.nodes new (last_table k) c.args.x (ways new c.args.x) c.requires.new (last_is_table k.nodes k.known c.history_law.ensures)
+    (set_table k.nodes new (last_table k) c.args.x (ways new c.args.x) c.requires.new
+    (last_is_table k.nodes k.known c.history_law.ensures)
     c.requires.part c.requires.node (c.requires.new.few c.args.x) (λ z found. found))

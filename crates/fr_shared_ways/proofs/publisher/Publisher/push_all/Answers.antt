@@ -11,4 +11,5 @@ grow-requires-clause-part c =
 pub returns-clause-history : goal.returns-clause-history
 returns-clause-history c =
     all_pushes c.args.self.now c.shrink.new.self c.shrink-2.new.self c.grow.new.self c.args.new.now c.requires.one_each
-    c.shrink.ensures.history c.shrink.ensures.ways c.shrink-2.ensures.history c.shrink-2.ensures.ways c.grow.ensures.history
+    c.shrink.ensures.history c.shrink.ensures.ways
+    c.shrink-2.ensures.history c.shrink-2.ensures.ways c.grow.ensures.history

@@ -8,5 +8,6 @@ use Rattle.fr_shared_ways.proofs.publisher.Publisher.shrink.Given as goal
 abbrev pub invariant-loop-x : goal.invariant-loop-x
 invariant-loop-x l = record {
   low : l.x ≤ l.fn.self.nodes;
-  pushed : IsPushedBelow l.fn.self l.self (drops l.emptied (last_table l.fn.self) l.new) (kept (last_table l.fn.self) l.new) l.x;
+  pushed : IsPushedBelow l.fn.self l.self (drops l.emptied (last_table l.fn.self) l.new)
+      (kept (last_table l.fn.self) l.new) l.x;
 }

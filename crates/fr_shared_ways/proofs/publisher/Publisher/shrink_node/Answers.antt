@@ -1,4 +1,5 @@
-use Rattle.std.proofs.Common.{Bool, List, [], ap, arith, cond, eqb, false, inl, inr, length, refl, suc, sym, take, true, zero, ℕ, ◌++◌, ◌∙◌, ◌∷◌, ◌≡◌, ◌≤◌}
+use Rattle.std.proofs.Common.{Bool, List, [], ap, arith, cond, eqb, false, inl, inr, length, refl, suc, sym, take}
+use Rattle.std.proofs.Common.{true, zero, ℕ, ◌++◌, ◌∙◌, ◌∷◌, ◌≡◌, ◌≤◌}
 use Rattle.std.specs.Bool.{beq}
 use Rattle.std.specs.Prelude.{not}
 use Rattle.std.proofs.lemmas.Bool.{cases_Bool, eqb-true}
@@ -17,7 +18,8 @@ kept_by_loser-requires-clause-old c =
     omega (arith, ap length c.word.ensures.held, (last_is_table k.nodes k.known c.history_law.ensures).few c.args.x)
 
 -- a list of this many elements is empty if they are none
-empty_test : (count : ℕ) (list front : List ℕ) → count ≤ length list → take count list ≡ front → is_empty front ≡ eqb count 0
+empty_test : (count : ℕ) (list front : List ℕ) → count ≤ length list → take count list ≡ front
+    → is_empty front ≡ eqb count 0
 empty_test zero list front low is = ap is_empty (sym is)
 empty_test (suc count) [] front low is = absurd (omega (arith, low))
 empty_test (suc count) (y ∷ ys) front low is = ap is_empty (sym is) ∙ elim (cases_Bool (eqb (suc count) 0)) [
@@ -55,11 +57,13 @@ returns-then-count-emptied c =
     let list : take count c.kept_by_loser.new.list ≡ kept old new x =
     rw (c.word.ensures.held, c.word-2.ensures.held) at c.in-Some.ensures.kept in
     let lost : loses old new x ≡ true = rw (c.word.ensures.held, c.word-2.ensures.held) at c.in-Some.ensures.loses in
-    let few : count ≤ length c.kept_by_loser.new.list = omega (arith, c.in-Some.ensures.few, c.kept_by_loser.array_long) in
+    let few : count ≤ length c.kept_by_loser.new.list =
+    omega (arith, c.in-Some.ensures.few, c.kept_by_loser.array_long) in
     let empty = empty_test count c.kept_by_loser.new.list (kept old new x) few list in
     let drops_it : drops c.args.emptied old new x ≡ true =
     drops_some old new x c.args.emptied lost
-    ∙ (ap (λ (b : Bool). cond c.args.emptied b (not b)) empty ∙ as_wanted (eqb count 0) c.args.emptied c.if-count-emptied.true) in
+    ∙ (ap (λ (b : Bool). cond c.args.emptied b (not b)) empty
+    ∙ as_wanted (eqb count 0) c.args.emptied c.if-count-emptied.true) in
     c.push.ensures
     ∙ (ap (λ (ys : List ℕ). record c.word.new.self { known = c.word.new.self.known ++ push x ys ∷ [] }) list
     ∙ (ap (λ (q : Knowledge). record q { known = q.known ++ push x (kept old new x) ∷ [] }) c.word.ensures.kept

@@ -18,7 +18,8 @@ load-requires c =
     rw c.deref.ensures (
       i.table,
       omega (arith, i.words),
-      recalls_at t.key t.table_id.slots r.seat.id r.seat.me c.args.x (i.nodes ∙ sym i.key) i.kind (omega (arith, i.key)),
+      recalls_at t.key t.table_id.slots r.seat.id r.seat.me c.args.x (i.nodes
+          ∙ sym i.key) i.kind (omega (arith, i.key)),
     )
 
 pub returns-clause-held : goal.returns-clause-held
