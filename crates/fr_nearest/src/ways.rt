@@ -25,6 +25,7 @@ fn rank_ways(net: &Net, x: u32, distances: &[u16], ranks: &mut [u32]) -> usize
     requires one_each { length distances.now ≡ net.now.nodes }
     requires room { length (row net.now.nodes net.now.links x) ≤ length ranks.old }
     ensures ranked { AreRanked net.now.links distances.now x (take result ranks.new) }
+    ensures few { result ≤ length ranks.new }
     ensures same { length ranks.new ≡ length ranks.old }
 {
     net.network_law();
@@ -69,6 +70,26 @@ impl Distances {
         list.sort_unstable();
         take_numbers(list);
         Ok(())
+    }
+
+    /// Does the same in a caller's slice, for callers that cannot allocate. It writes the ways to the front of the
+    /// slice, and returns how many they are. The rest of the slice is space for the work: its values then mean nothing.
+    ///
+    /// The slice must have one place for each node of the network. O(d log d).
+    pub fn ways_in(&self, net: &Net, x: u32, space: &mut [u32]) -> usize
+        requires measured { IsMeasureOf net.now self.now }
+        requires node { x < net.now.nodes }
+        requires space { net.now.nodes ≤ length space.old }
+        ensures ways { AreWays net.now.links self.now.dest x (take result space.new) }
+        ensures few { result ≤ length space.new }
+        ensures same { length space.new ≡ length space.old }
+    {
+        net.network_law();
+        let count = rank_ways(net, x, self.numbers(), space);
+        let ways = &mut space[..count];
+        ways.sort_unstable();
+        take_numbers(ways);
+        count
     }
 
     /// The nearest way of node `x` of the network that these are the distances of. `None` if the node has no way. O(d).

@@ -20,10 +20,12 @@ use Rattle.fr_route.specs.declared.fault.RouteFault.{RouteFault}
 use Rattle.fr_route.specs.declared.fault.RouteFault.TheVariants.{Start as RouteStart}
 use Rattle.fr_route.proofs.Changing.{made_nodes}
 use Rattle.fr_shared.specs.Knowledge.{Knowledge}
+use Rattle.fr_shared_ways.specs.Knowledge.{Knowledge as WayKnowledge}
 use Rattle.fr_published.specs.Answers.{AnswersLine, MakesChange}
-use Rattle.fr_published.specs.Published.{HasHopsOf, published}
-use Rattle.fr_published.specs.Publishing.{IsSettled, IsSettledSession, PublishesIn}
+use Rattle.fr_published.specs.Published.{HasHopsOf, HasWaysOf, published}
+use Rattle.fr_published.specs.Publishing.{IsSettled, IsSettledSession, PublishesIn, PublishesWaysIn}
 use Rattle.fr_published.proofs.Bringing.{left_in}
+use Rattle.fr_published.proofs.FirstWays.{ways_left_in}
 use Rattle.fr_published.proofs.Leading.{Leads, changed_nodes, replaced_leads, rerouted_leads}
 
 -- an accepted request that is not a question leads from the session to the new state
@@ -92,54 +94,61 @@ change_leads s next settled change (Err why) before after changed fault told = i
 
 -- The answers of a session and its router, with publishing
 
-module _ (s s' : Option State) (nodes nodes' : List ℕ) (t t' : Option Knowledge) where
+module _ (s s' : Option State) (nodes nodes' : List ℕ) (t t' : Option Knowledge) (w w' : Option WayKnowledge) where
   -- what leaves the session and the list unchanged leaves the table unchanged
-  all_left : IfSome t (HasHopsOf s) → PublishesIn t s' nodes' t' → s' ≡ s → nodes' ≡ nodes → published s' nodes' t' ≡ published s nodes t
-  all_left has p same list =
+  all_left : IfSome t (HasHopsOf s) → PublishesIn t s' nodes' t' → IfSome w (HasWaysOf s) → PublishesWaysIn w s' w'
+      → s' ≡ s → nodes' ≡ nodes → published s' nodes' t' w' ≡ published s nodes t w
+  all_left has p had q same list =
       let kept : t' ≡ t = left_in t s' nodes' t' (subst (λ (u : Option State). IfSome t (HasHopsOf u)) (sym same) has) p in
-      λ i. record { session = same i; rerouted = list i; table = kept i }
+      let kept_ways : w' ≡ w = ways_left_in w s' w' (subst (λ (u : Option State). IfSome w (HasWaysOf u)) (sym same) had) q in
+      λ i. record { session = same i; rerouted = list i; table = kept i; ways = kept_ways i }
 
-  pub line_answered : IfSome t (HasHopsOf s) → PublishesIn t s' nodes' t' → (line : List ℕ) (answer : Result (Option (String Global)) AnswerFault)
+  pub line_answered : IfSome t (HasHopsOf s) → PublishesIn t s' nodes' t' → IfSome w (HasWaysOf s) → PublishesWaysIn w s' w'
+      → (line : List ℕ) (answer : Result (Option (String Global)) AnswerFault)
       → IfOk answer (λ a. IfNone a ((is_blank line ≡ true) × (s' ≡ s)))
       → IfOk answer (λ a. IfSome a (λ text. (is_blank line ≡ false) × IsLineAnswer s (reading line) (string_bytes text) s'))
       → TellsOfLine s (reading line) answer s' nodes nodes' → OnErr answer ((is_blank line ≡ false) × (s' ≡ s))
       → IfOk answer (λ a. IfSome a (λ text. ((s' ≡ s) × (nodes' ≡ nodes)) ⊎ (length (string_bytes text) ≤ longest_report)))
-      → IfErr answer (λ fault. fault ≢ Start) → AnswersLine (published s nodes t) line answer (published s' nodes' t')
-  line_answered has p line (Ok None) blank text told fault short no_start = record {
-    blank = (blank.0, all_left has p blank.1 told.blank);
+      → IfErr answer (λ fault. fault ≢ Start) → AnswersLine (published s nodes t w) line answer (published s' nodes' t' w')
+  line_answered has p had q line (Ok None) blank text told fault short no_start = record {
+    blank = (blank.0, all_left has p had q blank.1 told.blank);
     text = tt;
     told = told;
     published = p;
+    ways = q;
     short = tt;
     unchanged = tt;
     no_start = tt;
   }
-  line_answered has p line (Ok (Some answer)) blank text told fault short no_start = record {
+  line_answered has p had q line (Ok (Some answer)) blank text told fault short no_start = record {
     blank = tt;
     text = text;
     told = told;
     published = p;
-    short = ⊎_elim (λ same. inl (all_left has p same.0 same.1)) (λ few. inr few) short;
+    ways = q;
+    short = ⊎_elim (λ same. inl (all_left has p had q same.0 same.1)) (λ few. inr few) short;
     unchanged = tt;
     no_start = tt;
   }
-  line_answered has p line (Err why) blank text told fault short no_start = record {
+  line_answered has p had q line (Err why) blank text told fault short no_start = record {
     blank = tt;
     text = tt;
     told = told;
     published = p;
+    ways = q;
     short = tt;
-    unchanged = (fault.0, all_left has p fault.1 told.fault);
+    unchanged = (fault.0, all_left has p had q fault.1 told.fault);
     no_start = no_start;
   }
 
-module _ (s s' : State) (nodes nodes' : List ℕ) (t t' : Option Knowledge) where
-  pub change_made : IfSome t (HasHopsOf (Some s)) → PublishesIn t (Some s') nodes' t' → (change : Change) (answer : Result Report RouteFault)
+module _ (s s' : State) (nodes nodes' : List ℕ) (t t' : Option Knowledge) (w w' : Option WayKnowledge) where
+  pub change_made : IfSome t (HasHopsOf (Some s)) → PublishesIn t (Some s') nodes' t' → IfSome w (HasWaysOf (Some s))
+      → PublishesWaysIn w (Some s') w' → (change : Change) (answer : Result Report RouteFault)
       → IfOk answer (λ _. IsChanged s change s') → IfOk answer (λ report. IsReport s' report.turned report.cut)
       → TellsRerouted s answer s' nodes nodes' → IfErr answer (IsRouteFault s change) → OnErr answer (s' ≡ s)
       → IfErr answer (λ fault. fault ≢ RouteStart)
-      → MakesChange (published (Some s) nodes t) change (Some answer) (published (Some s') nodes' t')
-  change_made has p change (Ok report) changed is_report told fault unchanged no_start = record {
+      → MakesChange (published (Some s) nodes t w) change (Some answer) (published (Some s') nodes' t' w')
+  change_made has p had q change (Ok report) changed is_report told fault unchanged no_start = record {
     none = tt;
     made = record {
       before = s;
@@ -153,11 +162,13 @@ module _ (s s' : State) (nodes nodes' : List ℕ) (t t' : Option Knowledge) wher
     fault = tt;
     unchanged = tt;
     published = p;
+    ways = q;
   }
-  change_made has p change (Err why) changed is_report told fault unchanged no_start = record {
+  change_made has p had q change (Err why) changed is_report told fault unchanged no_start = record {
     none = tt;
     made = tt;
     fault = record { before = s; was = refl; refused = fault; no_start = no_start };
-    unchanged = all_left (Some s) (Some s') nodes nodes' t t' has p (ap Some unchanged) told.untold;
+    unchanged = all_left (Some s) (Some s') nodes nodes' t t' w w' has p had q (ap Some unchanged) told.untold;
     published = p;
+    ways = q;
   }

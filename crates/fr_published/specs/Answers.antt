@@ -18,9 +18,9 @@ use Rattle.fr_route.specs.declared.fault.AnswerFault.TheVariants.{Start}
 use Rattle.fr_route.specs.declared.fault.RouteFault.{RouteFault}
 use Rattle.fr_route.specs.declared.fault.RouteFault.TheVariants.{Start as RouteStart}
 use Rattle.fr_published.specs.Published.{Published}
-use Rattle.fr_published.specs.Publishing.{PublishesTo}
+use Rattle.fr_published.specs.Publishing.{PublishesTo, PublishesWaysTo}
 
--- a line is answered, and the nodes that it reroutes are published; a blank line has no answer
+-- a line is answered, and the nodes that it reroutes and the ways are published; a blank line has no answer
 pub record AnswersLine
     (old : Published) (line : List ℕ) (answer : Result (Option (String Global)) AnswerFault)
     (new : Published) : Type 0 where
@@ -29,6 +29,7 @@ pub record AnswersLine
       × IsLineAnswer old.session (reading line) (string_bytes text) new.session))
   pub told : TellsOfLine old.session (reading line) answer new.session old.rerouted new.rerouted
   pub published : PublishesTo old.table new
+  pub ways : PublishesWaysTo old.ways new
   -- if the answer is longer than any report, nothing has changed
   pub short : IfOk answer (λ a. IfSome a (λ text. (new ≡ old) ⊎ (length (string_bytes text) ≤ longest_report)))
   pub unchanged : OnErr answer ((is_blank line ≡ false) × (new ≡ old))
@@ -51,7 +52,8 @@ pub record IsNotMade (old : Published) (change : Change) (fault : RouteFault) : 
   pub refused : IsRouteFault before change fault
   pub no_start : fault ≢ RouteStart
 
--- a change is made, and the nodes that it reroutes are published; there is no answer exactly if there is no network
+-- a change is made, and the nodes that it reroutes and the ways are published; there is no answer exactly if there is
+-- no network
 pub record MakesChange
     (old : Published) (change : Change) (answer : Option (Result Report RouteFault)) (new : Published) : Type 0 where
   pub none : IfNone answer ((old.session ≡ None) × (new ≡ old))
@@ -59,11 +61,13 @@ pub record MakesChange
   pub fault : IfSome answer (λ a. IfErr a (IsNotMade old change))
   pub unchanged : IfSome answer (λ a. OnErr a (new ≡ old))
   pub published : PublishesTo old.table new
+  pub ways : PublishesWaysTo old.ways new
 
--- a router replaces the one before it, if there was one, and the nodes that it reroutes are published
+-- a router replaces the one before it, if there was one, and the nodes that it reroutes and the ways are published
 pub record PutsRouter (old : Published) (router : State) (answer : Result (Unit {0}) AllocError)
     (new : Published) : Type 0 where
   pub put : OnOk answer (new.session ≡ Some router)
   pub rerouted : OnOk answer (AreReplaced old.session router new.rerouted)
   pub published : PublishesTo old.table new
+  pub ways : PublishesWaysTo old.ways new
   pub unchanged : OnErr answer (new ≡ old)

@@ -1,10 +1,24 @@
--- The value of a `PublishedSession` in contracts. For proofs only.
-use Rattle.std.specs.Prelude.{IfSome}
-use Rattle.fr_published.specs.Published.{HasHopsOf, Published, published}
+-- The values of a `PublishedSession` and of its table of ways in contracts. For proofs only.
+use Rattle.std.specs.Prelude.{◌≡◌, IfSome, length}
+use Rattle.fr_graph.specs.Limits.{most_nodes}
+use Rattle.fr_shared_ways.specs.Knowledge.{Knowledge as WayKnowledge}
+use Rattle.fr_published.specs.declared.ways.WayTables.TheInside.{Inside as InTables}
+use Rattle.fr_published.specs.Published.{HasHopsOf, HasWaysOf, Published, published}
 use Rattle.fr_published.specs.declared.session.PublishedSession.TheInside.{Inside}
 
 abbrev pub published_in : Inside → Published
-published_in p = published p.session p.rerouted.items p.publisher
+published_in p = published p.session p.rerouted.items p.publisher p.ways
 
-abbrev pub IsInStep : Inside → Type 0
-IsInStep p = IfSome p.publisher (HasHopsOf p.session)
+-- the tables have what the session has
+pub record IsInStep (p : Inside) : Type 0 where
+  pub hops : IfSome p.publisher (HasHopsOf p.session)
+  pub ways : IfSome p.ways (HasWaysOf p.session)
+
+abbrev pub ways_known : InTables → WayKnowledge
+ways_known w = w.publisher
+
+-- the table, the new table and the space are for the largest network
+pub record AreLargest (w : InTables) : Type 0 where
+  pub table : w.publisher.nodes ≡ most_nodes
+  pub wanted : length w.wanted ≡ most_nodes
+  pub space : length w.space.items ≡ most_nodes

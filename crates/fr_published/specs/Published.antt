@@ -1,22 +1,42 @@
 -- The value of a published session in contracts. This project's own.
-use Rattle.std.specs.Prelude.{◌≡◌, ℕ, List, Option}
+use Rattle.std.specs.Prelude.{◌≡◌, ℕ, ◌<◌, ◌≤◌, List, [], Option, Some, None, length, take}
 use Rattle.fr_graph.specs.Limits.{most_nodes}
 use Rattle.fr_route.specs.Reroutes.{AreHopsIn}
 use Rattle.fr_route.specs.States.{State}
+use Rattle.fr_route.specs.NodeWays.{AreNodeWays}
 use Rattle.fr_shared.specs.Knowledge.{Knowledge, last_table}
+use Rattle.fr_ways.specs.Ways.{ways}
+use Rattle.fr_shared_ways.specs.Histories.{blank}
+use Rattle.fr_shared_ways.specs.Knowledge.{Knowledge as WayKnowledge, last_table as last_ways}
 
--- the session, the nodes that its last accepted round rerouted, and, once there are readers, the table with all its
--- pushes
+-- the session, the nodes that its last accepted round rerouted, and, once there are readers of hops or of ways, their
+-- tables with all pushes
 pub record Published : Type 0 where
   pub session : Option State
   pub rerouted : List ℕ
   pub table : Option Knowledge
+  pub ways : Option WayKnowledge
 
-abbrev pub published : Option State → List ℕ → Option Knowledge → Published
-published s nodes t = record { session = s; rerouted = nodes; table = t }
+abbrev pub published : Option State → List ℕ → Option Knowledge → Option WayKnowledge → Published
+published s nodes t w = record { session = s; rerouted = nodes; table = t; ways = w }
 
 -- the table has as many nodes as the largest network, and the hops of the session. A number that is not a node is cut
 -- off
 pub record HasHopsOf (s : Option State) (k : Knowledge) : Type 0 where
   pub largest : k.nodes ≡ most_nodes
   pub are : AreHopsIn s most_nodes (last_table k)
+
+-- the first five ways of each node of a state, or all if there are fewer. A number that is not a node has none
+pub record HasFirstWays (s : State) (table : List (List ℕ)) : Type 0 where
+  pub one_each : length table ≡ most_nodes
+  pub each : (x : ℕ) → x < s.nodes → (list : List ℕ) × AreNodeWays s x list × (ways table x ≡ take 5 list)
+  pub others : (x : ℕ) → s.nodes ≤ x → ways table x ≡ []
+
+abbrev pub AreFirstWays : Option State → List (List ℕ) → Type 0
+AreFirstWays None table = table ≡ blank most_nodes
+AreFirstWays (Some s) table = HasFirstWays s table
+
+-- the table of ways has as many nodes as the largest network, and the first ways of the session
+pub record HasWaysOf (s : Option State) (k : WayKnowledge) : Type 0 where
+  pub largest : k.nodes ≡ most_nodes
+  pub are : AreFirstWays s (last_ways k)

@@ -8,7 +8,9 @@ use Rattle.fr_tables.specs.Pushes.{IsPushOrder}
 use Rattle.fr_tables.specs.declared.hop.Hop.{Hop}
 use Rattle.fr_shared.specs.Histories.{pushes_of}
 use Rattle.fr_shared.specs.Knowledge.{Knowledge, last_table}
-use Rattle.fr_published.specs.Published.{HasHopsOf, Published}
+use Rattle.fr_shared_ways.specs.Histories.{pushes_of as way_pushes}
+use Rattle.fr_shared_ways.specs.Knowledge.{Knowledge as WayKnowledge, last_table as last_ways}
+use Rattle.fr_published.specs.Published.{HasHopsOf, HasWaysOf, Published}
 
 -- the network of a session is the result of a round and within the limit
 pub record IsSettled (s : State) : Type 0 where
@@ -57,3 +59,17 @@ PublishesIn (Some k) s nodes table = (k' : Knowledge) × (table ≡ Some k') × 
 
 abbrev pub PublishesTo : Option Knowledge → Published → Type 0
 PublishesTo table new = PublishesIn table new.session new.rerouted new.table
+
+-- the table of ways has those of the session: it already had them and nothing was pushed, or exactly the pushes that
+-- lead to them were made, shrinks before grows
+pub record PublishesWays (k : WayKnowledge) (s : Option State) (k' : WayKnowledge) : Type 0 where
+  pub has : HasWaysOf s k'
+  pub by : (k' ≡ k) ⊎ (k' ≡ record k { known = k.known ++ way_pushes (last_ways k) (last_ways k') })
+
+-- the same if there is such a table
+abbrev pub PublishesWaysIn : Option WayKnowledge → Option State → Option WayKnowledge → Type 0
+PublishesWaysIn None s ways = ways ≡ None
+PublishesWaysIn (Some k) s ways = (k' : WayKnowledge) × (ways ≡ Some k') × PublishesWays k s k'
+
+abbrev pub PublishesWaysTo : Option WayKnowledge → Published → Type 0
+PublishesWaysTo ways new = PublishesWaysIn ways new.session new.ways

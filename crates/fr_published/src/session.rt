@@ -1,26 +1,30 @@
-//! A session whose next hops other threads read.
+//! A session whose next hops and ways other threads read.
 
 ghost use Rattle.std.specs.Prelude.{◌≡◌, ◌↔◌, ◌<◌, [], None, Some, IfErr, IfOk, IfSome, OnErr, OnOk};
 ghost use Rattle.fr_published.specs.Answers.{AnswersLine, MakesChange, PutsRouter};
-ghost use Rattle.fr_published.specs.Published.{HasHopsOf, published};
+ghost use Rattle.fr_published.specs.Published.{HasHopsOf, HasWaysOf, published};
 ghost use Rattle.std.specs.Option.{option_map};
 ghost use Rattle.fr_shared.specs.Knowledge.{past_of};
+ghost use Rattle.fr_shared_ways.specs.Knowledge.{past_of as ways_past_of};
 ghost use Rattle.fr_route.specs.NodeWays.{AreNodeWays, HasDistance, IsNearest};
 ghost use Rattle.fr_route.specs.declared.fault.RouteFault.TheVariants.{Memory};
 
 use crate::publishing::{opened, publish, replaced, session_law};
+use crate::ways::{WayTables, publish_ways};
 use fr_route::{AnswerFault, Change, Report, RouteFault, Router, Session, Walked};
 use fr_shared::{Past, Publisher, Reader};
+use fr_shared_ways as shared_ways;
 use std::alloc::{AllocError, Global};
 use std::marker::Model;
 
-/// A session whose next hops other threads read. The value in contracts is the state of the session, the nodes that its
-/// last accepted round rerouted, and, once there are readers, the table with all its pushes.
+/// A session whose next hops and ways other threads read. The value in contracts is the state of the session, the nodes
+/// that its last accepted round rerouted, and, once there are readers of hops or of ways, their tables with all pushes.
 #[derive(Drop)]
 pub struct PublishedSession {
     session: Session,
     rerouted: Vec<u32>,
     publisher: Option<Publisher>,
+    ways: Option<WayTables>,
 }
 
 impl Model for PublishedSession {
@@ -38,12 +42,13 @@ impl Model for PublishedSession {
 impl PublishedSession {
     /// A session without a network and without readers. It does not allocate. O(1).
     pub fn new(alloc: Global) -> PublishedSession
-        ensures { result ≡ published None [] None }
+        ensures { result ≡ published None [] None None }
     {
         PublishedSession {
             session: Session::new(),
             rerouted: Vec::new(alloc),
             publisher: None,
+            ways: None,
         }
     }
 
@@ -61,9 +66,11 @@ impl PublishedSession {
         &self.rerouted
     }
 
-    /// Between two calls, the table of the readers has the hops of the session. The function does nothing.
+    /// Between two calls, the tables of the readers have the hops and the ways of the session. The function does
+    /// nothing.
     pub fn table_law(&self)
-        ensures { IfSome self.now.table (HasHopsOf self.now.session) }
+        ensures hops { IfSome self.now.table (HasHopsOf self.now.session) }
+        ensures ways { IfSome self.now.ways (HasWaysOf self.now.session) }
     {
         // A field has to be read, because only then the proof can use the invariant.
         let _rerouted = self.rerouted.len();
@@ -77,7 +84,8 @@ impl PublishedSession {
     /// changed. The first reader takes 32 KiB and O(4,096 + n) time. Each later one takes O(1) time and does not
     /// allocate.
     pub fn reader(&mut self, alloc: Global) -> Result<Reader, AllocError>
-        ensures session { (self.new.session ≡ self.old.session) × (self.new.rerouted ≡ self.old.rerouted) }
+        ensures session { (self.new.session ≡ self.old.session) × (self.new.rerouted ≡ self.old.rerouted)
+            × (self.new.ways ≡ self.old.ways) }
         ensures kept { IfSome self.old.table (λ k. self.new.table ≡ Some k) }
         ensures reader { IfOk result (λ reader. self.new.table ≡ Some reader) }
         ensures unchanged { OnErr result (self.new ≡ self.old) }
@@ -89,6 +97,45 @@ impl PublishedSession {
         let reader = publisher.reader()?;
         self.publisher = Some(publisher);
         Ok(reader)
+    }
+
+    /// Makes a reader of the ways, which knows all pushes made so far. It reads the first five ways of each node, or
+    /// all if there are fewer. The first call opens the table, for as many nodes as the largest network has, so that
+    /// the table can be used for every later network. A number that is not a node has no way in the table.
+    ///
+    /// Fails with `AllocError` if an allocation is refused, or if the table already has 2^63 readers. Then nothing has
+    /// changed. The first reader takes 80 KiB: the table, the ways that are to be pushed, and space to list those of
+    /// one node. It takes the time that publishing takes in [`answer_line`](PublishedSession::answer_line). Each later
+    /// one takes O(1) time and does not allocate.
+    pub fn way_reader(&mut self, alloc: Global) -> Result<shared_ways::Reader, AllocError>
+        ensures session { (self.new.session ≡ self.old.session) × (self.new.rerouted ≡ self.old.rerouted)
+            × (self.new.table ≡ self.old.table) }
+        ensures kept { IfSome self.old.ways (λ k. self.new.ways ≡ Some k) }
+        ensures reader { IfOk result (λ reader. self.new.ways ≡ Some reader) }
+        ensures unchanged { OnErr result (self.new ≡ self.old) }
+    {
+        if let Some(ways) = &mut self.ways {
+            return ways.reader();
+        }
+        session_law(&self.session);
+        let mut ways = WayTables::open(alloc)?;
+        ways.bring(&mut self.session);
+        let reader = ways.reader()?;
+        self.ways = Some(ways);
+        Ok(reader)
+    }
+
+    /// What readers of ways can learn: all pushes so far, with those of the last change. `None` if there is no such
+    /// reader yet. It is for [`Reader::learn`](fr_shared_ways::Reader::learn) what [`past`](PublishedSession::past) is
+    /// for readers of hops.
+    ///
+    /// It makes one load, and does not allocate or wait. O(1).
+    pub fn ways_past(&mut self) -> Option<shared_ways::Past>
+        ensures kept { self.new ≡ self.old }
+        ensures past { result ≡ option_map ways_past_of self.old.ways }
+    {
+        let ways = self.ways.as_mut()?;
+        Some(ways.past())
     }
 
     /// What readers can learn: all pushes so far, with those of the last change. `None` if there is no reader yet.
@@ -147,6 +194,10 @@ impl PublishedSession {
     /// Answers a line, and lists and publishes the nodes that it reroutes. The answer, the faults and the cost are
     /// those of [`answer_line_telling_alone`](fr_route::Session::answer_line_telling_alone). Once there is a reader,
     /// each line also costs one load, and each rerouted node one store.
+    ///
+    /// It also publishes the ways, once there is a reader of them: all shrinks before all grows. Each line, also a
+    /// question, then costs O(4,096 + m log d) more for m links and at most d links of a node, because the ways of all
+    /// nodes are listed again.
     pub fn answer_line(&mut self, alloc: Global, line: &[u8]) -> Result<Option<String>, AnswerFault>
         ensures { AnswersLine self.old line.now result self.new }
     {
@@ -156,12 +207,13 @@ impl PublishedSession {
             .answer_line_telling_alone(alloc, line, &mut self.rerouted);
         session_law(&self.session);
         publish(&mut self.publisher, &self.session, &self.rerouted);
+        publish_ways(&mut self.ways, &mut self.session);
         answer
     }
 
     /// Changes the network, and lists and publishes the nodes that this reroutes. The report, the faults and the cost
     /// are those of [`change_telling_alone`](fr_route::Router::change_telling_alone). Returns `None` if there is no
-    /// network yet.
+    /// network yet. It publishes the ways as [`answer_line`](PublishedSession::answer_line) does, at the same cost.
     pub fn change(&mut self, alloc: Global, change: Change) -> Option<Result<Report, RouteFault>>
         ensures { MakesChange self.old change result self.new }
     {
@@ -170,6 +222,7 @@ impl PublishedSession {
         let answer = router.change_telling_alone(alloc, change, &mut self.rerouted);
         session_law(&self.session);
         publish(&mut self.publisher, &self.session, &self.rerouted);
+        publish_ways(&mut self.ways, &mut self.session);
         Some(answer)
     }
 
@@ -177,7 +230,7 @@ impl PublishedSession {
     /// as [`changed_since`](fr_route::Router::changed_since) lists them.
     ///
     /// Fails with `AllocError` if an allocation is refused. Then nothing has changed. O(n) for the n nodes of the
-    /// larger network.
+    /// larger network. It publishes the ways as [`answer_line`](PublishedSession::answer_line) does, at the same cost.
     pub fn put_router(&mut self, alloc: Global, router: Router) -> Result<(), AllocError>
         ensures { PutsRouter self.old router result self.new }
     {
@@ -187,6 +240,7 @@ impl PublishedSession {
         self.session.put_router(router);
         session_law(&self.session);
         publish(&mut self.publisher, &self.session, &self.rerouted);
+        publish_ways(&mut self.ways, &mut self.session);
         Ok(())
     }
 }

@@ -1,6 +1,6 @@
 //! A router: a settled network with its next hops and routes, and the changes after which it settles again.
 
-ghost use Rattle.std.specs.Prelude.{◌≡◌, ◌≢◌, ◌<◌, ◌≤◌, [], ◌∷◌, length, replicate};
+ghost use Rattle.std.specs.Prelude.{◌≡◌, ◌≢◌, ◌<◌, ◌≤◌, [], ◌∷◌, length, replicate, take};
 ghost use Rattle.std.specs.Prelude.{Ok, Some, IfOk, IfErr, IfSome, MatchOption, OnErr, OnOk};
 ghost use Rattle.std.specs.Option.{option_copied};
 ghost use Rattle.fr_graph.specs.Limits.{most_edits};
@@ -561,6 +561,24 @@ impl Router {
     {
         self.distances.keep(&self.net, self.dest);
         self.distances.table.ways(&self.net, x, list)
+    }
+
+    /// Lists the ways of node `x`, which must be in the network, as [`ways`](Router::ways) does, but in a caller's
+    /// slice. It writes them to the front of the slice, and returns how many they are. The rest of the slice is space
+    /// for the work: its values then mean nothing. So a caller who cannot allocate can ask for ways.
+    ///
+    /// The slice must have one place for each node of the network. It does not allocate. The cost is that of
+    /// [`ways`](Router::ways).
+    pub fn ways_in(&mut self, x: u32, space: &mut [u32]) -> usize
+        requires node { x < self.old.nodes }
+        requires space { self.old.nodes ≤ length space.old }
+        ensures same { self.new ≡ self.old }
+        ensures ways { AreNodeWays self.old x (take result space.new) }
+        ensures few { result ≤ length space.new }
+        ensures length { length space.new ≡ length space.old }
+    {
+        self.distances.keep(&self.net, self.dest);
+        self.distances.table.ways_in(&self.net, x, space)
     }
 
     /// The distance of node `x`, which must be in the network: the fewest links that lead from it down to the

@@ -19,6 +19,6 @@ no_engine = record { session = None; rerouted = []; table = None; begun = [] }
 abbrev pub held : Option State → List ℕ → Option Knowledge → List ℕ → Held
 held s nodes t line = record { session = s; rerouted = nodes; table = t; begun = line }
 
--- the published session
+-- the published session. It has no readers of ways
 abbrev pub published_of : Held → Published
-published_of e = published e.session e.rerouted e.table
+published_of e = published e.session e.rerouted e.table None

@@ -14,7 +14,7 @@ publish-requires-clause-can c =
     let by = answer_leads p.session a.new.self c.session_law.ensures c.session_law-2.ensures c.args.line.now a.result p.rerouted.items
     a.new.rerouted.items a.ensures.blank a.ensures.unchanged a.ensures.told in
     subst (λ (nodes : List ℕ). IfSome p.publisher (λ k. CanPublish k a.new.self nodes)) (sym c.deref.ensures.value)
-    (IfSome_then p.publisher c.self.invariant
+    (IfSome_then p.publisher c.self.invariant.hops
     (can_publish p.session a.new.self c.session_law.ensures c.session_law-2.ensures a.new.rerouted.items by))
 
 pub returns : goal.returns
@@ -22,7 +22,10 @@ returns c =
     let p = c.self.inside in
     let a = c.answer_line_telling_alone-answer in
     let t = c.publish.new.publisher in
+    let w = c.publish_ways.new.tables in
     let table = subst (λ (nodes : List ℕ). PublishesIn p.publisher a.new.self nodes t) c.deref.ensures.value c.publish.ensures in
-    subst (λ (old : Published). AnswersLine old c.args.line.now a.result (published a.new.self a.new.rerouted.items t)) c.self.view_is
-    (line_answered p.session a.new.self p.rerouted.items a.new.rerouted.items p.publisher t c.self.invariant table c.args.line.now a.result
-    a.ensures.blank a.ensures.text a.ensures.told a.ensures.unchanged a.ensures.short a.ensures.no_start)
+    rw c.publish_ways.ensures.same (subst (λ (old : Published). AnswersLine old c.args.line.now a.result
+    (published a.new.self a.new.rerouted.items t w)) c.self.view_is
+    (line_answered p.session a.new.self p.rerouted.items a.new.rerouted.items p.publisher t p.ways w c.self.invariant.hops table
+    c.self.invariant.ways c.publish_ways.ensures.published c.args.line.now a.result
+    a.ensures.blank a.ensures.text a.ensures.told a.ensures.unchanged a.ensures.short a.ensures.no_start))

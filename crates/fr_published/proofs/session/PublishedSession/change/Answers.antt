@@ -2,7 +2,7 @@ use Rattle.std.proofs.Common.{IfSome, List, Option, Some, subst, sym, ℕ}
 use Rattle.std.proofs.lemmas.Option.{IfSome_then}
 use Rattle.fr_route.specs.States.{State}
 use Rattle.fr_published.specs.Answers.{MakesChange}
-use Rattle.fr_published.specs.Published.{HasHopsOf, Published, published}
+use Rattle.fr_published.specs.Published.{HasHopsOf, HasWaysOf, Published, published}
 use Rattle.fr_published.specs.Publishing.{CanPublish, IsSettledSession, PublishesIn}
 use Rattle.fr_published.proofs.Leading.{can_publish}
 use Rattle.fr_published.proofs.Telling.{change_leads, change_made}
@@ -17,8 +17,9 @@ publish-requires-clause-can c =
     let settled = subst IsSettledSession is c.session_law.ensures in
     let by = change_leads r a.new.self settled c.args.change a.result p.rerouted.items a.new.rerouted.items
     a.ensures.changed a.ensures.unchanged a.ensures.told in
-    let has = subst (λ (s : Option State). IfSome p.publisher (HasHopsOf s)) is c.self.invariant in
-    subst (λ (nodes : List ℕ). IfSome p.publisher (λ k. CanPublish k (Some a.new.self) nodes)) (sym c.deref.ensures.value)
+    let has = subst (λ (s : Option State). IfSome p.publisher (HasHopsOf s)) is c.self.invariant.hops in
+    subst (λ (nodes : List ℕ). IfSome p.publisher (λ k. CanPublish k (Some a.new.self) nodes))
+    (sym c.deref.ensures.value)
     (IfSome_then p.publisher has
     (can_publish (Some r) (Some a.new.self) settled c.session_law-2.ensures a.new.rerouted.items by))
 
@@ -29,10 +30,16 @@ returns c =
     let a = c.change_telling_alone-answer in
     let t = c.publish.new.publisher in
     let is = c.in_ok-router.ensures.value in
-    let has = subst (λ (s : Option State). IfSome p.publisher (HasHopsOf s)) is c.self.invariant in
-    let table = subst (λ (nodes : List ℕ). PublishesIn p.publisher (Some a.new.self) nodes t) c.deref.ensures.value c.publish.ensures in
-    let new : Published = published (Some a.new.self) a.new.rerouted.items t in
-    subst (λ (old : Published). MakesChange old c.args.change (Some a.result) new) c.self.view_is
-    (subst (λ (s : Option State). MakesChange (published s p.rerouted.items p.publisher) c.args.change (Some a.result) new) (sym is)
-    (change_made r a.new.self p.rerouted.items a.new.rerouted.items p.publisher t has table c.args.change a.result
-    a.ensures.changed a.ensures.report a.ensures.told a.ensures.fault a.ensures.unchanged a.ensures.no_start))
+    let has = subst (λ (s : Option State). IfSome p.publisher (HasHopsOf s)) is c.self.invariant.hops in
+    let table = subst (λ (nodes : List ℕ). PublishesIn p.publisher
+    (Some a.new.self) nodes t) c.deref.ensures.value c.publish.ensures in
+    let w = c.publish_ways.new.tables in
+    let had = subst (λ (s : Option State). IfSome p.ways (HasWaysOf s)) is c.self.invariant.ways in
+    let new : Published = published (Some a.new.self) a.new.rerouted.items t w in
+    rw c.publish_ways.ensures.same (subst (λ (old : Published). MakesChange old c.args.change
+    (Some a.result) new) c.self.view_is
+    (subst (λ (s : Option State). MakesChange (published s p.rerouted.items p.publisher p.ways) c.args.change
+    (Some a.result) new) (sym is)
+    (change_made r a.new.self p.rerouted.items a.new.rerouted.items p.publisher t p.ways w has table had
+    c.publish_ways.ensures.published c.args.change a.result
+    a.ensures.changed a.ensures.report a.ensures.told a.ensures.fault a.ensures.unchanged a.ensures.no_start)))

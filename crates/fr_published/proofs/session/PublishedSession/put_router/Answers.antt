@@ -16,5 +16,5 @@ publish-requires-clause-can c =
     (subst (λ (s : Option State). AreReplaced s r nodes) c.router.ensures c.in_ok-rerouted.ensures) in
     subst (λ (s : Option State). IfSome p.publisher (λ k. CanPublish k s c.deref.result.now)) (sym c.put_router.ensures)
     (subst (λ (list : List ℕ). IfSome p.publisher (λ k. CanPublish k (Some r) list)) (sym c.deref.ensures.value)
-    (IfSome_then p.publisher c.self.invariant
+    (IfSome_then p.publisher c.self.invariant.hops
     (can_publish p.session (Some r) c.session_law.ensures settled nodes (inr leads))))

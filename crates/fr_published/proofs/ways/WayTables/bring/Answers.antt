@@ -1,0 +1,25 @@
+use Rattle.std.proofs.Common.{List, ap, inr, subst, sym, ℕ, ◌++◌, ◌∙◌, ◌≡◌}
+use Rattle.fr_shared_ways.specs.Histories.{pushes_of}
+use Rattle.fr_shared_ways.specs.Knowledge.{Knowledge, last_table}
+use Rattle.fr_published.specs.Published.{AreFirstWays}
+use Rattle.fr_published.specs.Publishing.{PublishesWays}
+use Rattle.fr_published.proofs.FirstWays.{first_table}
+use Rattle.fr_published.proofs.ways.WayTables.bring.Goals as goal
+
+pub push_all-requires : goal.push_all-requires
+push_all-requires c =
+    rw c.self.invariant.table (first_table c.args.session.now c.requires c.want.new.wanted c.want.ensures.ways)
+
+pub returns-clause-published : goal.returns-clause-published
+returns-clause-published c =
+    let s = c.args.session.now in
+    let k = c.self.inside.publisher in
+    let made = c.push_all.ensures in
+    subst (λ (old : Knowledge). PublishesWays old s c.push_all.new.self) c.self.view_is (record {
+      has = record {
+        largest = ap (λ (q : Knowledge). q.nodes) made.history ∙ c.self.invariant.table;
+        are = subst (AreFirstWays s) (sym made.table) c.want.ensures.ways;
+      };
+      by = inr (made.history
+          ∙ ap (λ (t : List (List ℕ)). record k { known = k.known ++ pushes_of (last_table k) t }) (sym made.table));
+    })

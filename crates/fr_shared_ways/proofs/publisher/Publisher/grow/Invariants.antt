@@ -1,0 +1,12 @@
+use Rattle.std.proofs.Common.{◌≤◌}
+use Rattle.fr_ways.specs.Ways.{ways}
+use Rattle.fr_shared_ways.specs.Knowledge.{last_table}
+use Rattle.fr_shared_ways.specs.Parts.{changes}
+use Rattle.fr_shared_ways.proofs.Pushing.{IsPushedBelow}
+use Rattle.fr_shared_ways.proofs.publisher.Publisher.grow.Given as goal
+
+abbrev pub invariant-loop-x : goal.invariant-loop-x
+invariant-loop-x l = record {
+  low : l.x ≤ l.fn.self.nodes;
+  pushed : IsPushedBelow l.fn.self l.self (changes (last_table l.fn.self) l.new) (ways l.new) l.x;
+}

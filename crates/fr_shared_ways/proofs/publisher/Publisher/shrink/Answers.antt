@@ -1,0 +1,19 @@
+use Rattle.std.proofs.Common.{ap, arith, ◌≡◌}
+use Rattle.fr_shared_ways.specs.Knowledge.{Knowledge}
+use Rattle.fr_shared_ways.proofs.Pushing.{all_shrunk, shrink_more}
+use Rattle.fr_shared_ways.proofs.publisher.Publisher.shrink.Goals as goal
+
+pub loop-x-preserved : goal.loop-x-preserved
+loop-x-preserved c = record {
+  low = omega (arith, c.loop-x-test.true, ap (λ (k : Knowledge). k.nodes) c.self.view_is);
+  pushed = shrink_more c.args.self.now c.loop-x.self c.shrink_node.new.self c.args.new.now c.loop-x.x
+      (omega (arith, c.loop-x-test.true, ap (λ (k : Knowledge). k.nodes) c.self.view_is))
+      c.args.emptied c.loop-x.invariant.pushed c.shrink_node.ensures;
+}
+
+pub returns-clause-ways : goal.returns-clause-ways
+returns-clause-ways c =
+    let all : c.loop-x.x ≡ c.args.self.now.nodes =
+    omega (arith, c.loop-x.invariant.low, c.loop-x-test.false, ap (λ (k : Knowledge). k.nodes) c.self.view_is) in
+    all_shrunk c.args.self.now c.loop-x.self c.args.new.now c.args.emptied c.requires
+    (rw all at c.loop-x.invariant.pushed)

@@ -1,0 +1,10 @@
+pub mod Words
+pub mod Histories
+pub mod Rule
+pub mod Steps
+pub mod Laws
+pub mod Knowledge
+pub mod Reading
+pub mod Inside
+pub mod PastInside
+pub mod Parts
