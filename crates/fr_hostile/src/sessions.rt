@@ -11,7 +11,7 @@ use std::thread::Threads;
 
 /// A settled chain is parted, and closed again from its other end. A batch moves a link, and then the destination
 /// moves. Then two nodes are joined by a link that cannot point from the first to the second, so one node has two ways.
-const LINES: [&str; 20] = [
+const LINES: [&str; 21] = [
     r#"["net",4,0,[[1,0],[2,1],[3,2]]]"#,
     r#"["links"]"#,
     r#"["cut",1,0]"#,
