@@ -165,35 +165,35 @@ def are_kept(names):
 
 
 def longest_lines(names):
-    """For each library the number of functions on the longest line of libraries that begins with it, in which each one
-    uses the one before."""
+    """For each library the bytes of the files on the longest line of libraries that begins with it, in which each one uses
+    the one before. Bytes tell better than functions how long a proof takes."""
     lengths = {}
     for it in sorted(names, key=lambda it: -len(crates.below(it))):
         above = [lengths[other] for other in lengths if it in crates.below(other)]
-        lengths[it] = crates.functions(it) + max(above, default=0)
+        lengths[it] = sum(file.stat().st_size for file in crates.sources(it)) + max(above, default=0)
     return lengths
 
 
 def prove_each(progress, names, jobs):
-    """Proves libraries, each after those below it. Of the libraries that are left, the one with the longest line above
-    it gets all jobs that it can use. Each other one that is ready gets one job with a low priority, as long as there
-    is memory, so that no processor is idle while the first one uses fewer."""
+    """Proves libraries, each after those below it. One at a time gets all jobs that it can use: of those that are ready,
+    the one with the longest line above it. Each other one that is ready gets one job with a low priority, as long as
+    there is memory, so that no processor is idle while the first one uses fewer."""
     most = min(jobs + JOBS_BESIDE, crates.jobs_in_memory())
     lengths = longest_lines(names)
-    left, running = sorted(names, key=lambda it: -lengths[it]), {}
+    left, running, first = sorted(names, key=lambda it: -lengths[it]), {}, None
     with ThreadPoolExecutor(most) as pool:
         while left or running:
             waiting = {*left, *(it for it, _ in running.values())}
-            first = max(waiting, key=lengths.get)
             for it in [it for it in left if not waiting.intersection(crates.below(it))]:
                 free = most - sum(given for _, given in running.values())
                 if free > 0:
-                    given = min(useful_jobs(it), jobs, free) if it == first else 1
+                    first = first or it
+                    given, niceness = (min(useful_jobs(it), jobs, free), 0) if it == first else (1, NICENESS_BESIDE)
                     left.remove(it)
-                    niceness = 0 if it == first else NICENESS_BESIDE
                     running[pool.submit(prove_library, progress, it, given, niceness)] = it, given
             for it in wait(running, return_when=FIRST_COMPLETED).done:
-                del running[it]
+                name, _ = running.pop(it)
+                first = None if name == first else first
                 try:
                     it.result()
                 except NotProved as why:
