@@ -24,7 +24,7 @@ ROOM = tempfile.TemporaryDirectory(prefix="revroute-proved-")
 # first answer took three minutes longer.
 MOST_JOBS = 4
 FUNCTIONS_OF_A_JOB = 20
-# Libraries beside the one that all others wait for: the number of their jobs, and how they give way to it.
+# Libraries beside the one that others wait for: how many jobs they have together, and how they give way to it.
 JOBS_BESIDE = 2
 NICENESS_BESIDE = 10
 # In seconds: longer than rt ci takes for all crates on one processor.
@@ -176,8 +176,8 @@ def longest_lines(names):
 
 def prove_each(progress, names, jobs):
     """Proves libraries, each after those below it. One at a time gets all jobs that it can use: of those that are ready,
-    the one with the longest line above it. Each other one that is ready gets one job with a low priority, as long as
-    there is memory, so that no processor is idle while the first one uses fewer."""
+    the one with the longest line above it. The others that are ready share JOBS_BESIDE jobs of a low priority, if there is
+    memory for them, so that no processor is idle while the first one uses fewer."""
     most = min(jobs + JOBS_BESIDE, crates.jobs_in_memory())
     lengths = longest_lines(names)
     left, running, first = sorted(names, key=lambda it: -lengths[it]), {}, None
@@ -188,7 +188,8 @@ def prove_each(progress, names, jobs):
                 free = most - sum(given for _, given in running.values())
                 if free > 0:
                     first = first or it
-                    given, niceness = (min(useful_jobs(it), jobs, free), 0) if it == first else (1, NICENESS_BESIDE)
+                    most_of_it, niceness = (jobs, 0) if it == first else (JOBS_BESIDE, NICENESS_BESIDE)
+                    given = min(useful_jobs(it), most_of_it, free)
                     left.remove(it)
                     running[pool.submit(prove_library, progress, it, given, niceness)] = it, given
             for it in wait(running, return_when=FIRST_COMPLETED).done:
