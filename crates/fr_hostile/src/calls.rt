@@ -14,7 +14,7 @@ use fr_crew::{
 };
 use fr_net::{Edit, LineFault, Net, NetFault, NotEdited, Question, Request, Turns, read_line};
 use fr_round::Round;
-use fr_route::{Change, Report, Router, Session, counts_line, fault_number, links_line};
+use fr_route::{Change, Report, Reroutes, Router, Session, counts_line, fault_number, links_line};
 use fr_shared::open;
 use fr_tables::{Hop, find_loop, push_order};
 use std::alloc::{AllocError, Global};
@@ -77,6 +77,7 @@ pub enum Call {
     Counted,
     CountedAlone,
     Rerouted,
+    ReroutedWays,
     Pushed,
     Shared,
     Logged,
@@ -90,7 +91,7 @@ pub enum Call {
 }
 
 /// The calls in the order in which they are made.
-pub const CALLS: [Call; 33] = [
+pub const CALLS: [Call; 34] = [
     Call::Network,
     Call::CutNetwork,
     Call::LinkedNetwork,
@@ -114,6 +115,7 @@ pub const CALLS: [Call; 33] = [
     Call::Counted,
     Call::CountedAlone,
     Call::Rerouted,
+    Call::ReroutedWays,
     Call::Pushed,
     Call::Shared,
     Call::Logged,
@@ -169,6 +171,7 @@ fn make_on<R: Threads + Wait + Sync + Alloc<A = Global> + Print + Eprint>(
         Call::RoutedAlone => routed_alone(rt, answer, net),
         Call::EditedInPlace => edited_in_place(rt, answer, net),
         Call::Rerouted => rerouted(rt, answer, net),
+        Call::ReroutedWays => rerouted_ways(rt, answer, net),
         Call::Logged => logged(rt, answer, net),
         Call::Recorded => recorded(rt, answer, net),
         Call::PushedTo => pushed_to(rt, answer, net),
@@ -581,6 +584,35 @@ fn reroute<R: Alloc<A = Global> + Print + Eprint>(
     let changed = router.change_telling_alone(rt.alloc(), cut, nodes);
     if answer.told(rt, changed).is_some() {
         answer.put(nodes);
+    } else {
+        look_for_change(rt, answer, router);
+    }
+}
+
+/// What the move of the destination reroutes, with the pushes to routers that hold all their ways. If it fails for want of
+/// memory, the router must be unchanged.
+fn rerouted_ways<R: Alloc<A = Global> + Print + Eprint>(rt: &R, answer: &mut Answer, net: Net) {
+    if let Some(mut router) = answer.told(rt, Router::open_alone(rt.alloc(), net, 0)) {
+        if let Some(mut reroutes) = answer.told(rt, Reroutes::none(rt.alloc())) {
+            reroute_ways(rt, answer, &mut router, &mut reroutes);
+        }
+    }
+}
+
+fn reroute_ways<R: Alloc<A = Global> + Print + Eprint>(
+    rt: &R,
+    answer: &mut Answer,
+    router: &mut Router,
+    reroutes: &mut Reroutes,
+) {
+    let to = Change::Destination { dest: 3 };
+    let changed = router.change_telling_ways_alone(rt.alloc(), to, reroutes);
+    if answer.told(rt, changed).is_some() {
+        answer.put(&reroutes.nodes());
+        answer.put(&reroutes.shrink().nodes);
+        answer.put(&reroutes.shrink().list);
+        answer.put(&reroutes.grow().nodes);
+        answer.put(&reroutes.grow().list);
     } else {
         look_for_change(rt, answer, router);
     }

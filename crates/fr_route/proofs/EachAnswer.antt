@@ -40,7 +40,7 @@ use Rattle.fr_route.specs.Routes.{IsHop, AreHops, is_cut_off}
 use Rattle.fr_route.specs.Answers.{fault_number, IsReportLine, IsHopsLine, IsWalkLine, IsAnswer, IsLineAnswer, IsText}
 use Rattle.fr_route.specs.Texts.{counts_text, links_text, hops_text, walk_text, no_walk_text, pushes_text, report_text, refusal_text}
 use Rattle.fr_route.specs.Texts.{nearest_text, no_nearest_text, node_ways_text, phases_text, ways_text}
-use Rattle.fr_route.specs.WayPushes.{growths, shrinks}
+use Rattle.fr_ways.specs.Phases.{growths, shrinks}
 use Rattle.fr_tables.specs.declared.hop.Hop.{Hop}
 use Rattle.fr_tables.specs.declared.hop.Hop.TheVariants.{Here, To, CutOff}
 use Rattle.std.specs.List.{count_by}

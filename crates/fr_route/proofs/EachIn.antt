@@ -31,7 +31,7 @@ use Rattle.fr_route.proofs.EachAnswer.{IsReached, IsSettledState, each_line, hop
 use Rattle.fr_route.proofs.NamedFaults.{batch_named, edit_named, faultless_or_named}
 use Rattle.fr_route.proofs.RoundEnds.{round_within}
 use Rattle.fr_route.proofs.SettledHops.{resized_table, settled_in_range, settled_loop_free}
-use Rattle.fr_route.specs.WayPushes.{growths, shrinks}
+use Rattle.fr_ways.specs.Phases.{growths, shrinks}
 
 after_round : (s : State) → IsSettledState s → IsAfterRound s
 after_round s good = record { first = good.first; is_net = good.net; dest = good.dest; round = good.round }

@@ -11,6 +11,7 @@ pub mod ShortestPaths  -- that a node with a path has a distance
 pub mod WaysExist  -- that a node has a list of ways, and a walk by first ways
 pub mod NodeWays  -- the same for the nodes of a state
 pub mod WayPushes  -- all ways as a table
+pub mod WayNoting  -- how the ways that a change alters are noted
 pub mod Determined
 pub mod OneTelling
 pub mod Asking
@@ -22,6 +23,7 @@ pub mod Moving
 pub mod Written
 pub mod Renewing
 pub mod Noting
+pub mod WaysTold  -- notes of what a change does to ways
 pub mod SettledHops
 pub mod KeptRoutes
 pub mod PushLengths

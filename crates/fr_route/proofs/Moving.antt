@@ -1,30 +1,35 @@
 -- Which nodes can be sinks after edits are made or the destination moves, and where the others send on to. The others
 -- are not touched, and the last round left each of them that has links with a way home.
-use Rattle.std.proofs.Common.{List, arith, inl, inr, refl, slice_index, subst, sym, ℕ, ⊎_elim, ◌<◌, ◌∙◌, ◌∷◌, ◌≡◌, ◌⊎◌, Contains}
+use Rattle.std.proofs.Common.{List, arith, inl, inr, length, refl, ◌≢◌, slice_index, subst, sym, ℕ, ⊎_elim, ◌<◌, ◌∙◌, ◌∷◌, ◌≡◌, ◌⊎◌, Contains}
 use Rattle.std.specs.List.{All}
 use Rattle.std.proofs.lemmas.Bool.{cases_eq}
-use Rattle.std.proofs.lemmas.List.Elements.{All-append, All-cons, Contains-append_left, Contains-append_right}
+use Rattle.std.proofs.lemmas.List.Elements.{All-append, All-cons, All-contains, Contains-append_left, Contains-append_right}
 use Rattle.fr_graph.specs.Batches.{AreMade}
 use Rattle.fr_graph.specs.Links.{IsNet, Joins, Points}
 use Rattle.fr_graph.specs.Network.{Network, net_of}
 use Rattle.fr_graph.specs.Turn.{IsSink}
 use Rattle.fr_graph.specs.declared.edit.Edit.{Edit}
-use Rattle.fr_graph.proofs.Giving.{Points-links_at_from, Points-links_at_same}
+use Rattle.fr_graph.proofs.Giving.{Points-links_at_from, Points-links_at_same, Points-links_at_turned}
+use Rattle.fr_graph.proofs.TurnedLinks.{length-links_at}
+use Rattle.std.proofs.lemmas.List.Sorted.{length_permutation}
 use Rattle.fr_graph.proofs.Members.{Contains-head, Contains-tail, cases_some}
-use Rattle.fr_graph.specs.Counts.{links_at}
-use Rattle.fr_graph.proofs.Ordering.{into_order, out_of_order}
+use Rattle.fr_graph.specs.Counts.{IsKept, links_at}
+use Rattle.fr_graph.proofs.Ordering.{in_order_permutes, into_order, out_of_order}
 use Rattle.fr_crew.specs.Settlements.{HoldsSinks, IsCounted}
-use Rattle.fr_nearest.specs.Distances.{AreDistances, Measured}
-use Rattle.fr_nearest.specs.Touched.{HasEndsBelow, IsAdded, IsCut}
+use Rattle.fr_nearest.specs.Distances.{AreDistances, IsRenewed, Measured}
+use Rattle.fr_nearest.specs.Touched.{HadLinks, HasEndsBelow, IsAdded, IsCut}
 use Rattle.fr_route.specs.NodeWays.{AreOldDistances, HasDistances, HasTurnedEnd}
-use Rattle.fr_route.specs.Outcomes.{HoldsMoved, IsStale, cut_off_nodes, ends_of, movable, settled_state, touched}
+use Rattle.fr_route.specs.Ends.{ends_of}
+use Rattle.fr_route.specs.Outcomes.{HoldsMoved, IsStale, cut_off_nodes, movable, settled_state, touched}
 use Rattle.fr_route.specs.Routes.{AreHops, IsHop}
 use Rattle.fr_route.specs.States.{IsAfterRound, IsRound, State, net_at}
+use Rattle.fr_route.specs.WayNotes.{IsBegun, LeadsOn}
+use Rattle.fr_route.specs.declared.way_notes.WayNotes.{WayNotes}
 use Rattle.fr_tables.specs.declared.hop.Hop.{Hop}
 use Rattle.fr_tables.specs.declared.hop.Hop.TheVariants.{CutOff, Here, To}
 use Rattle.fr_route.proofs.Changing.{made_nodes}
 use Rattle.fr_route.proofs.CutNodes.{capped_cut, cut_below, ended}
-use Rattle.fr_route.proofs.RoundEnds.{hop_leads_on, linked_joined, linked_out, round_joined, round_joins, round_net, still_cut_off}
+use Rattle.fr_route.proofs.RoundEnds.{hop_leads_on, lawful, linked_joined, linked_out, round_joined, round_joins, round_net, still_cut_off}
 use Rattle.fr_route.proofs.Touched.{AreAt, HaveSameAt, edits_at, edits_keep, ends_below}
 
 here : (s : State) → IsAfterRound s → IsNet s.nodes s.links
@@ -174,6 +179,69 @@ module _ (s : State) (after : IsAfterRound s) where
         ends = subst (λ (n : ℕ). All (HasEndsBelow n) edits) (sym same_nodes) left.below;
         kept = link_kept;
         new = link_new;
+      }
+
+      abbrev after_links : List (ℕ × ℕ)
+      after_links = (settled_state net d counts).links
+
+      kept_counts : (x w : ℕ) → Points net.links x w → IsKept counts (x, w)
+      kept_counts x w h =
+          All-contains (IsKept counts) net.links (x, w)
+          (lawful net.nodes d net.links (settled_state net d counts) left.is_net counted.destination round).kept h
+
+      -- a node that is no end of an edit had the links that its turns, and those of its neighbours, have reversed
+      had_links : (x : ℕ) → ¬ Contains (ends_of edits) x → HadLinks after_links counts s.links x
+      had_links x none w = (into, back)
+        where
+          same : HaveSameAt s.links net.links x
+          same = edits_keep (net_at s) edits net x left none
+
+          into : Points s.links x w
+              → (Points after_links x w × (slice_index counts x ≡ slice_index counts w))
+              ⊎ (Points after_links w x × (slice_index counts x ≢ slice_index counts w))
+          into h =
+              let link : Points net.links x w = (same.out w).0 h in
+              ⊎_elim
+              (λ equal. inl (into_order (links_at net.links counts) (x, w) (Points-links_at_same net.links counts x w link equal), sym equal))
+              (λ more. inr (
+                into_order (links_at net.links counts) (w, x) (Points-links_at_turned net.links counts w x link more),
+                λ e. omega (arith, e, more),
+              ))
+              (kept_counts x w link)
+
+          back : (Points after_links x w × (slice_index counts x ≡ slice_index counts w))
+              ⊎ (Points after_links w x × (slice_index counts x ≢ slice_index counts w)) → Points s.links x w
+          back (inl (h, e)) = ⊎_elim (λ p. (same.out w).1 p.0) (λ p. absurd (omega (arith, e, p.1)))
+              (Points-links_at_from net.links counts x w (out_of_order (links_at net.links counts) (x, w) h))
+          back (inr (h, e)) = ⊎_elim (λ p. absurd (e p.1)) (λ p. (same.out w).1 p.0)
+              (Points-links_at_from net.links counts w x (out_of_order (links_at net.links counts) (w, x) h))
+
+      -- so what a router notes before the edits and after the turns leads from one state to the other
+      pub leads_on : (old new : Measured) (notes : WayNotes) → HasDistances s old
+          → IsRenewed (net_of net.nodes (links_at net.links counts)) d old new
+          → IsBegun s.nodes s.links s.dest edits notes → LeadsOn s (settled_state net d counts) edits new notes
+      leads_on old new notes has renewed begun = record {
+        begun = rw same_nodes begun;
+        same_nodes = sym same_nodes;
+        was_net = rw same_nodes (here s after);
+        is_net = round_net net.nodes d net.links (settled_state net d counts) left.is_net counted.destination round;
+        was_below = rw same_nodes after.dest;
+        is_below = counted.destination;
+        were = rw (same_nodes, renewed.before) has.table;
+        are = renewed.table;
+        changed = renewed.changed;
+        counted = counted.settled.one_each;
+        ends = rw same_nodes left.below;
+        kept = link_kept;
+        new = link_new;
+        had = had_links;
+        few = omega (
+          arith,
+          length_permutation (links_at net.links counts) after_links (in_order_permutes (links_at net.links counts)),
+          length-links_at net.links counts
+          (lawful net.nodes d net.links (settled_state net d counts) left.is_net counted.destination round).kept,
+          left.few,
+        );
       }
 
       -- the hop of each node that cannot move stays right, unless it is stale

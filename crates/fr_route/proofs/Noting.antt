@@ -22,12 +22,12 @@ use Rattle.fr_route.proofs.Determined.{one_hop}
 
 -- no hop is updated
 pub notes_none : (s : State) (hops : List Hop) (told : Told) → NotesMore s hops told hops told
-notes_none s hops told = record { keeps = record { places = λ n has. has; listing = λ is. is }; noted = λ room before noted. noted }
+notes_none s hops told = record { keeps = record { places = λ n has. has; listing = λ is. is; notes = refl }; noted = λ room before noted. noted }
 
 -- one after the other
 pub notes_then : (s : State) (a b c : List Hop) (l m n : Told) → length b ≡ length a → NotesMore s a l b m → NotesMore s b m c n → NotesMore s a l c n
 notes_then s a b c l m n same h g = record {
-  keeps = record { places = λ k has. g.keeps.places k (h.keeps.places k has); listing = λ is. h.keeps.listing (g.keeps.listing is) };
+  keeps = record { places = λ k has. g.keeps.places k (h.keeps.places k has); listing = λ is. h.keeps.listing (g.keeps.listing is); notes = g.keeps.notes ∙ h.keeps.notes };
   noted = λ room before noted. g.noted (subst (λ (k : ℕ). HasPlaces k m) (sym same) (h.keeps.places (length a) room)) before (h.noted room before noted);
 }
 
@@ -119,4 +119,4 @@ others_noted s before hops nodes noted = record {
 -- if there is room, there is a list
 pub listing_has : (n : ℕ) (told : Told) → HasPlaces n told → IsListing told
 listing_has n Nobody has = has
-listing_has n (Nodes list) has = tt
+listing_has n (Nodes list notes) has = tt

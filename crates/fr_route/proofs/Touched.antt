@@ -1,10 +1,12 @@
 -- What edits and a new destination touch: the links of every other node are unchanged, and so is its hop.
-use Rattle.std.proofs.Common.{Contains, List, [], ap, append_assoc, get_or, inl, inr, length, refl, subst, sym, take}
+use Rattle.std.proofs.Common.{Contains, List, [], ap, append_assoc, arith, ◌≤◌, get_or, inl, inr, length, refl, subst, sym, take}
 use Rattle.std.proofs.Common.{ℕ, ⊎_elim, ◌+◌, ◌++◌, ◌<◌, ◌↔◌, ◌∙◌, ◌∷◌, ◌≡◌, ◌⊎◌}
 use Rattle.std.specs.Prelude.{not}
 use Rattle.std.specs.List.{All}
 use Rattle.std.proofs.lemmas.Bool.{cases_Bool}
-use Rattle.std.proofs.lemmas.List.{take_more}
+use Rattle.std.proofs.lemmas.List.{length_push, take_more}
+use Rattle.std.proofs.lemmas.List.Sorted.{length_permutation}
+use Rattle.std.proofs.lemmas.List.Sums.{count_by-le-length, length-filter}
 use Rattle.std.proofs.lemmas.List.Elements.{All-cons, All-contains, All-nil, All-tail, Contains-append_left}
 use Rattle.std.proofs.lemmas.List.Elements.{Contains-push, Contains-push_cases}
 use Rattle.fr_graph.specs.Batches.{AreMade, IsMade}
@@ -23,7 +25,7 @@ use Rattle.fr_graph.proofs.Members.{Contains-cases, Contains-head, Contains-none
 use Rattle.fr_graph.proofs.Ordering.{in_order_order}
 use Rattle.fr_core.proofs.SameLinks.{same_from_permutation}
 use Rattle.fr_nearest.specs.Touched.{Adds, AreEnds, Cuts, HasEndsBelow, IsAdded, IsCut}
-use Rattle.fr_route.specs.Outcomes.{ends_of}
+use Rattle.fr_route.specs.Ends.{ends_of}
 
 -- the same links join x with others in both lists, in the same direction
 pub record HaveSameAt (some other : List (ℕ × ℕ)) (x : ℕ) : Type 0 where
@@ -52,6 +54,7 @@ record IsAt (net : Network) (e : Edit) (after : Network) : Type 0 where
   order : AreInOrder after.links
   nodes : after.nodes ≡ net.nodes
   below : HasEndsBelow net.nodes e
+  few : length after.links ≤ length net.links + 1
 
 network_net : (n : ℕ) (listed : List (ℕ × ℕ)) (after : Network) → IsNetworkOf n listed after → IsNet after.nodes after.links
 network_net n listed after made =
@@ -73,6 +76,12 @@ cut_at net u v after is made =
       order = network_order net.nodes rest after made.1;
       nodes = ap (λ (m : Network). m.nodes) made.1.is;
       below = joined_below net.nodes net.links u v is made.0;
+      few = omega (
+        arith,
+        length_permutation rest after.links made.1.same_links,
+        length-filter (λ l. not (is_between u v l)) net.links,
+        count_by-le-length (λ l. not (is_between u v l)) net.links,
+      );
     }
 
 -- a link from u to v is added
@@ -83,6 +92,7 @@ record IsAddedAt (net : Network) (u v : ℕ) (after : Network) : Type 0 where
   order : AreInOrder after.links
   nodes : after.nodes ≡ net.nodes
   below : (u < net.nodes) × (v < net.nodes)
+  few : length after.links ≤ length net.links + 1
 
 added_at : (net : Network) (u v : ℕ) (after : Network) → IsNetworkOf net.nodes (net.links ++ (u, v) ∷ []) after
     → IsAddedAt net u v after
@@ -96,6 +106,7 @@ added_at net u v after made =
       order = network_order net.nodes more after made;
       nodes = ap (λ (m : Network). m.nodes) made.is;
       below = link_below net.nodes more u v made.faultless.is_net (Contains-push net.links (u, v));
+      few = omega (arith, length_permutation more after.links made.same_links, length_push net.links (u, v));
     }
 
 -- an edit that adds a link from u to v is made
@@ -108,6 +119,7 @@ by_added net e u v after at adds below = record {
   order = at.order;
   nodes = at.nodes;
   below = below;
+  few = at.few;
 }
 
 add_at : (net : Network) (u v : ℕ) (after : Network) → IsMade net (Add u v) after → IsAt net (Add u v) after
@@ -136,6 +148,7 @@ pub record AreAt (net : Network) (edits : List Edit) (after : Network) : Type 0 
   pub below : All (HasEndsBelow net.nodes) edits
   pub is_net : IsNet after.nodes after.links
   pub order : AreInOrder net.links → AreInOrder after.links
+  pub few : length after.links ≤ length net.links + length edits
 
 at_first : (net : Network) (e : Edit) (next : Network) (rest : List Edit) (after : Network) → IsAt net e next
     → AreAt next rest after → AreAt net (e ∷ rest) after
@@ -158,6 +171,7 @@ at_first net e next rest after first then = record {
       (subst (λ (n : ℕ). All (HasEndsBelow n) rest) first.nodes then.below);
   is_net = then.is_net;
   order = λ sorted. then.order first.order;
+  few = omega (arith, first.few, then.few);
 }
 
 pub edits_at : (net : Network) (edits : List Edit) (after : Network) → IsNet net.nodes net.links
@@ -168,6 +182,7 @@ edits_at net [] after is made = record {
   below = All-nil (HasEndsBelow net.nodes);
   is_net = subst (λ (m : Network). IsNet m.nodes m.links) (sym made) is;
   order = λ sorted. subst (λ (m : Network). AreInOrder m.links) (sym made) sorted;
+  few = omega (arith, ap (λ (m : Network). length m.links) made);
 }
 edits_at net (e ∷ es) after is (next, (made, rest)) =
     let first : IsAt net e next = edit_at net e next is made in
@@ -237,11 +252,21 @@ ends_push (Add u v ∷ es) e = ap (λ (xs : List ℕ). u ∷ (v ∷ xs)) (ends_p
 ends_push (Join u v ∷ es) e = ap (λ (xs : List ℕ). u ∷ (v ∷ xs)) (ends_push es e)
 
 -- the ends of one more edit
-pub ends_more : (es : List Edit) (k : ℕ) (e : Edit) (nodes : List ℕ) (x y u v : ℕ) → k < length es
-    → ends_of (get_or es k e ∷ []) ≡ u ∷ (v ∷ []) → nodes ≡ x ∷ (y ∷ ends_of (take k es)) → (nodes ++ u ∷ []) ++ v ∷ [] ≡ x ∷ (y ∷ ends_of (take (k + 1) es))
-ends_more es k e nodes x y u v low is so_far =
+pub ends_more : (es : List Edit) (k : ℕ) (e : Edit) (first nodes : List ℕ) (u v : ℕ) → k < length es
+    → ends_of (get_or es k e ∷ []) ≡ u ∷ (v ∷ []) → nodes ≡ first ++ ends_of (take k es)
+    → (nodes ++ u ∷ []) ++ v ∷ [] ≡ first ++ ends_of (take (k + 1) es)
+ends_more es k e first nodes u v low is so_far =
     let before : List ℕ = ends_of (take k es) in
     let longer : ends_of (take (k + 1) es) ≡ (before ++ u ∷ []) ++ v ∷ [] =
     ap ends_of (take_more es k e low)
     ∙ (ends_push (take k es) (get_or es k e) ∙ (ap (λ (ends : List ℕ). before ++ ends) is ∙ sym (append_assoc before (u ∷ []) (v ∷ [])))) in
-    ap (λ (ends : List ℕ). (ends ++ u ∷ []) ++ v ∷ []) so_far ∙ ap (λ (ends : List ℕ). x ∷ (y ∷ ends)) (sym longer)
+    ap (λ (ends : List ℕ). (ends ++ u ∷ []) ++ v ∷ []) so_far
+    ∙ (ap (λ (ends : List ℕ). ends ++ v ∷ []) (append_assoc first before (u ∷ []))
+    ∙ (append_assoc first (before ++ u ∷ []) (v ∷ []) ∙ ap (λ (ends : List ℕ). first ++ ends) (sym longer)))
+
+-- each edit has two ends
+pub ends_length : (es : List Edit) → length (ends_of es) ≡ length es + length es
+ends_length [] = refl
+ends_length (Cut u v ∷ es) = omega (arith, ends_length es)
+ends_length (Add u v ∷ es) = omega (arith, ends_length es)
+ends_length (Join u v ∷ es) = omega (arith, ends_length es)

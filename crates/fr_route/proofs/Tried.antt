@@ -16,18 +16,24 @@ tried_as never trial other Tells s told (Ok it) next more made undone is = recor
   made = made next is.made;
   told_of = is.told_of;
   rerouted = is.rerouted;
+  ways = is.ways;
+  asks = is.asks;
   fault = tt;
   unchanged = tt;
   untold = tt;
+  untold_ways = tt;
   no_start = λ h. tt;
 }
 tried_as never trial other Tells s told (Err fault) next more made undone is = record {
   made = tt;
   told_of = tt;
   rerouted = tt;
+  ways = tt;
+  asks = is.asks;
   fault = undone fault is.fault;
   unchanged = is.unchanged;
   untold = is.untold;
+  untold_ways = is.untold_ways;
   no_start = is.no_start;
 }
 

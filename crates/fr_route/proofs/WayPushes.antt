@@ -16,14 +16,14 @@ use Rattle.fr_nearest.specs.Ways.{AreWays, IsNearer}
 use Rattle.fr_nearest.proofs.Walking.{one_distance}
 use Rattle.fr_tables.proofs.Members.{Contains-none}
 use Rattle.fr_ways.specs.Faults.{ArePhases, ArePushes}
-use Rattle.fr_ways.specs.Phases.{empties, growing_nodes, grows, kept, nodes_of, sheds, shrinking_nodes}
+use Rattle.fr_ways.specs.Phases.{empties, growing_nodes, grows, growths, kept, nodes_of, sheds, shrinking_nodes, shrinks}
 use Rattle.fr_ways.specs.Ways.{IsInRange, Sends, ways}
 use Rattle.fr_ways.specs.declared.plan.Pushes.{Pushes}
 use Rattle.fr_ways.specs.declared.plan.TwoPhases.{TwoPhases}
 use Rattle.fr_route.specs.NodeWays.{AreAllWays, AreNodeWays}
 use Rattle.fr_route.specs.States.{State}
 use Rattle.fr_route.specs.WayLists.{AreListed, paired, pairs}
-use Rattle.fr_route.specs.WayPushes.{AreWayPushesRefused, IsPhasesText, growths, shrinks}
+use Rattle.fr_route.specs.WayPushes.{AreWayPushesRefused, IsPhasesText}
 use Rattle.fr_route.proofs.NodeWays.{all_ways_unique}
 
 module _ (s : State) (net : IsNet s.nodes s.links) where

@@ -5,6 +5,7 @@ pub mod Faults
 pub mod Changes
 pub mod Listing
 pub mod Ways
+pub mod Ends
 pub mod Outcomes
 pub mod RouterInside
 pub mod Blank
@@ -12,11 +13,13 @@ pub mod NodeWays
 pub mod KeptDistances
 pub mod WayPushes
 pub mod WayLists
+pub mod WayNotes
 pub mod Separated
 pub mod Texts
 pub mod Pushing
 pub mod Answers
 pub mod Told
+pub mod Rerouting
 pub mod Json
 pub mod Rooms
 pub mod Forms

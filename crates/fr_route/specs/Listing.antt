@@ -1,24 +1,63 @@
--- The list of rerouted nodes, if the caller asks for it. For proofs only.
-use Rattle.std.specs.Prelude.{ℕ, ◌≤◌, List, [], vec_capacity}
+-- What a caller is told of a change, if he asks: the rerouted nodes, and what it does to the ways of nodes. For proofs
+-- only.
+use Rattle.std.specs.Prelude.{◌≡◌, ℕ, ◌≤◌, ◌↔◌, List, [], Option, Some, None, vec_capacity}
+use Rattle.fr_graph.specs.declared.edit.Edit.{Edit}
+use Rattle.fr_nearest.specs.Distances.{Measured}
+use Rattle.fr_ways.specs.Changes.{Noted}
+use Rattle.fr_route.specs.States.{State}
+use Rattle.fr_route.specs.WayNotes.{IsBegun, LeadsOn}
 use Rattle.fr_route.specs.declared.told.Told.{Told}
 use Rattle.fr_route.specs.declared.told.Told.TheVariants.{Nobody, Nodes}
+use Rattle.fr_route.specs.declared.way_notes.WayNotes.{WayNotes}
 
 -- the caller asks for the list
 abbrev pub IsListing : Told → Type 0
 IsListing Nobody = ⊥
-IsListing (Nodes list) = Unit {0}
+IsListing (Nodes list notes) = Unit {0}
 
 -- the nodes in the list
 abbrev pub nodes_told : Told → List ℕ
 nodes_told Nobody = []
-nodes_told (Nodes list) = list.items
+nodes_told (Nodes list notes) = list.items
 
 -- there is a list, with room for so many nodes
 abbrev pub HasPlaces : ℕ → Told → Type 0
 HasPlaces n Nobody = ⊥
-HasPlaces n (Nodes list) = n ≤ vec_capacity list
+HasPlaces n (Nodes list notes) = n ≤ vec_capacity list
+
+-- the notes of what changes do to the ways of nodes, if the caller asks for that
+abbrev pub notes_told : Told → Option WayNotes
+notes_told Nobody = None
+notes_told (Nodes list notes) = notes
+
+abbrev pub AsksWays : Told → Type 0
+AsksWays told = (notes : WayNotes) × (notes_told told ≡ Some notes)
+
+-- the pushes in these notes
+abbrev pub ways_in : Option WayNotes → Noted
+ways_in None = record { shrink = []; emptied = []; grow = []; nodes = 0; ways = 0 }
+ways_in (Some notes) = notes.changes
+
+abbrev pub ways_told : Told → Noted
+ways_told told = ways_in (notes_told told)
 
 -- there is a list after exactly if there was one before, and it has no less room
 pub record KeepsPlaces (before after : Told) : Type 0 where
   pub places : (n : ℕ) → HasPlaces n before → HasPlaces n after
   pub listing : IsListing after → IsListing before
+  pub notes : notes_told after ≡ notes_told before
+
+-- the list is the same
+pub record HasSameList (before after : Told) : Type 0 where
+  pub nodes : nodes_told after ≡ nodes_told before
+  pub places : (n : ℕ) → HasPlaces n before → HasPlaces n after
+  pub listing : IsListing after → IsListing before
+  pub ways : AsksWays before ↔ AsksWays after
+
+-- the notes are begun for a change of this network by these edits
+abbrev pub HaveBegun : ℕ → List (ℕ × ℕ) → ℕ → List Edit → Told → Type 0
+HaveBegun n links d edits told = (notes : WayNotes) → notes_told told ≡ Some notes → IsBegun n links d edits notes
+
+-- these edits have led from one state to the next
+abbrev pub HasLedOn : State → State → List Edit → Measured → Told → Type 0
+HasLedOn s next edits m told = (notes : WayNotes) → notes_told told ≡ Some notes → LeadsOn s next edits m notes

@@ -9,9 +9,9 @@ use Rattle.fr_graph.specs.Network.{Network, net_of}
 use Rattle.fr_graph.specs.Links.{Joins}
 use Rattle.fr_graph.specs.Rows.{has_no_neighbour}
 use Rattle.fr_graph.specs.declared.edit.Edit.{Edit}
-use Rattle.fr_graph.specs.declared.edit.Edit.TheVariants.{Cut, Add, Join}
 use Rattle.fr_crew.specs.Settlements.{IsCounted}
 use Rattle.fr_route.specs.Routes.{AreHops, IsHop}
+use Rattle.fr_route.specs.Ends.{ends_of}
 use Rattle.fr_route.specs.Changes.{AreRefused, CanTurnAfter, IsOpenFault, IsStill}
 use Rattle.fr_route.specs.Listing.{HasPlaces, KeepsPlaces, nodes_told}
 use Rattle.fr_route.specs.States.{State, IsReport, IsRound, net_at, state_with}
@@ -49,13 +49,6 @@ state_after round = state_with round.net.now round.dest round.turns.now
 -- how many of n nodes, other than d, have no neighbour
 abbrev pub lone_count : ℕ → List (ℕ × ℕ) → ℕ → ℕ
 lone_count n links d = count_by (λ x. not (x == d) && has_no_neighbour n links x) (range_with_len 0 n)
-
--- the ends of the links that the edits remove or add
-abbrev pub ends_of : List Edit → List ℕ
-ends_of [] = []
-ends_of (Cut u v ∷ rest) = u ∷ (v ∷ ends_of rest)
-ends_of (Add u v ∷ rest) = u ∷ (v ∷ ends_of rest)
-ends_of (Join u v ∷ rest) = u ∷ (v ∷ ends_of rest)
 
 -- the nodes that edits and a new destination touch: the old and the new destination, and the ends of the edited links
 abbrev pub touched : State → ℕ → List Edit → List ℕ

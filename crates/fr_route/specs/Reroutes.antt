@@ -3,6 +3,7 @@
 use Rattle.std.specs.Prelude.{◌≡◌, ◌≢◌, ℕ, max, List, Option, Some, None, Result, IfOk, OnErr, length, replicate}
 use Rattle.fr_route.specs.Routes.{AreHops, IsHop}
 use Rattle.fr_route.specs.States.{State}
+use Rattle.fr_route.specs.WayPushes.{AreWayChanges}
 use Rattle.fr_tables.specs.Faults.{IsOrdered}
 use Rattle.fr_tables.specs.Pushes.{IsPushOrder}
 use Rattle.fr_tables.specs.Tables.{IsFirstOutside, IsInRange}
@@ -32,6 +33,20 @@ module _ {T E : Type 0} where
   pub record TellsRerouted (old : State) (answer : Result T E) (new : State) (before after : List ℕ) : Type 0 where
     pub rerouted : IfOk answer (λ _. AreRerouted old new after)
     pub untold : OnErr answer (after ≡ before)
+
+-- the value of a `Reroutes` in contracts: the rerouted nodes in push order, and what is pushed in both phases to nodes
+-- that hold all their ways
+pub record Rerouted : Type 0 where
+  pub nodes : List ℕ
+  pub shrink : List (ℕ × List ℕ)
+  pub grow : List (ℕ × List ℕ)
+
+module _ {T E : Type 0} where
+  -- the same for a caller that also asks for the pushes of both phases
+  pub record TellsReroutes (old : State) (answer : Result T E) (new : State) (before after : Rerouted) : Type 0 where
+    pub rerouted : TellsRerouted old answer new before.nodes after.nodes
+    pub ways : IfOk answer (λ _. AreWayChanges old new after.shrink after.grow)
+    pub untold : OnErr answer ((after.shrink ≡ before.shrink) × (after.grow ≡ before.grow))
 
 -- how many nodes the network of a session has, 0 without a network
 abbrev pub nodes_in : Option State → ℕ

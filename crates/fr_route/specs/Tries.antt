@@ -1,11 +1,13 @@
 -- What a router does with edits or a change, by any way to settle networks. For proofs only.
 use Rattle.std.specs.Prelude.{◌≡◌, ◌≢◌, ℕ, List, [], ◌∷◌, Result, Ok, Err, IfOk, IfErr, OnErr}
 use Rattle.fr_graph.specs.declared.edit.Edit.{Edit}
+use Rattle.fr_ways.specs.Changes.{KeepsPushes}
 use Rattle.fr_route.specs.Changes.{IsChanged, IsRouteFault}
-use Rattle.fr_route.specs.Listing.{IsListing, nodes_told}
+use Rattle.fr_route.specs.Listing.{AsksWays, IsListing, nodes_told, ways_told}
 use Rattle.fr_route.specs.Outcomes.{IsEdited, IsEditingFault, IsPlacedFault}
 use Rattle.fr_route.specs.Reroutes.{AreRerouted}
 use Rattle.fr_route.specs.States.{State, IsReport}
+use Rattle.fr_route.specs.WayPushes.{AreWayChanges}
 use Rattle.fr_route.specs.declared.change.Change.{Change}
 use Rattle.fr_route.specs.declared.change.Report.{Report}
 use Rattle.fr_route.specs.declared.fault.RouteFault.{RouteFault}
@@ -49,13 +51,17 @@ without_place (Err undone) = Err undone.fault
 
 module _ {T : Type 0} where
   -- The attempt succeeded, and the answer is what `tell` made of the report; or it failed with a fault, and nothing has
-  -- changed. With `never`, the way to settle starts no thread. If there is a list, it has the rerouted nodes.
+  -- changed. With `never`, the way to settle starts no thread. If there is a list, it has the rerouted nodes,
+  -- and if there are notes, they have the pushes of both phases.
   pub record IsTried (never : Type 0) (trial : Trial) (Tells : Report → T
       → Type 0) (s : State) (told : Told) (answer : Result T RouteFault) (next : State) (more : Told) : Type 0 where
     pub made : IfOk answer (λ _. trial.Made next)
     pub told_of : IfOk answer (λ told. (report : Report) × IsReport next report.turned report.cut × Tells report told)
     pub rerouted : IfOk answer (λ _. IsListing told → AreRerouted s next (nodes_told more))
+    pub ways : IfOk answer (λ _. AsksWays told → AreWayChanges s next (ways_told more).shrink (ways_told more).grow)
+    pub asks : AsksWays told → AsksWays more
     pub fault : IfErr answer trial.Undone
     pub unchanged : OnErr answer (next ≡ s)
     pub untold : OnErr answer (nodes_told more ≡ nodes_told told)
+    pub untold_ways : OnErr answer (KeepsPushes (ways_told told) (ways_told more))
     pub no_start : never → IfErr answer (λ fault. fault ≢ Start)

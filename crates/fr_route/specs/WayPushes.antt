@@ -1,9 +1,8 @@
 -- The pushes of two phases that lead from a table of the caller to the ways of a settled network. This project's own.
-use Rattle.std.specs.Prelude.{◌≡◌, ◌≢◌, ℕ, ◌<◌, ◌≤◌, ◌⊎◌, List, [], ◌∷◌, length, map}
+use Rattle.std.specs.Prelude.{◌≡◌, ◌≢◌, ℕ, ◌<◌, ◌≤◌, ◌⊎◌, List, [], ◌∷◌, length}
 use Rattle.fr_graph.specs.Limits.{most_nodes}
 use Rattle.fr_ways.specs.Faults.{ArePhases}
-use Rattle.fr_ways.specs.Phases.{growing_nodes, kept, shrinking_nodes}
-use Rattle.fr_ways.specs.Ways.{ways}
+use Rattle.fr_ways.specs.Phases.{growths, shrinks}
 use Rattle.fr_ways.specs.declared.fault.WaysFault.{WaysFault}
 use Rattle.fr_ways.specs.declared.fault.WaysFault.TheVariants.{Length, Range, Cycle, Memory}
 use Rattle.fr_ways.specs.declared.plan.TwoPhases.{TwoPhases}
@@ -21,13 +20,14 @@ IsPhasesFault s table (Range y) = ⊥
 IsPhasesFault s table (Cycle nodes) = ⊥
 IsPhasesFault s table Memory = length table ≡ s.nodes
 
--- the pushes of the first phase from one table to another: nodes, each with the list that it gets
-abbrev pub shrinks : List (List ℕ) → List (List ℕ) → List (ℕ × List ℕ)
-shrinks old new = map (λ x. (x, kept old new x)) (shrinking_nodes old new)
-
--- the pushes of the second phase
-abbrev pub growths : List (List ℕ) → List (List ℕ) → List (ℕ × List ℕ)
-growths old new = map (λ x. (x, ways new x)) (growing_nodes old new)
+-- the pushes of both phases that lead from the ways of all nodes in one state to those in another
+pub record AreWayChanges (old new : State) (shrink grow : List (ℕ × List ℕ)) : Type 0 where
+  pub before : List (List ℕ)
+  pub after : List (List ℕ)
+  pub were : AreAllWays old before
+  pub are : AreAllWays new after
+  pub shrinks : shrink ≡ shrinks before after
+  pub grows : grow ≡ growths before after
 
 -- the text for the pushes of both phases, from the table to the ways of the state. A node that is missing at the end of
 -- the table has no ways

@@ -1,7 +1,7 @@
 //! The distances of a router, which are kept once somebody has asked for them.
 
 ghost use Rattle.std.specs.Prelude.{◌≡◌, ℕ, ◌<◌, List, IfOk, IsTrue, length};
-ghost use Rattle.fr_nearest.specs.Distances.{IsMeasureOf};
+ghost use Rattle.fr_nearest.specs.Distances.{IsMeasureOf, IsRenewed};
 ghost use Rattle.fr_route.specs.KeptDistances.{KeepsDistances};
 ghost use Rattle.fr_route.specs.NodeWays.{AreAllWays, AreOldDistances};
 ghost use Rattle.fr_route.specs.States.{state_with};
@@ -47,13 +47,28 @@ impl KeptDistances {
         }
     }
 
+    /// Does the same, if this is asked for.
+    pub(crate) fn keep_if(&mut self, is_asked: bool, net: &Net, dest: u32)
+        requires node { dest < net.now.nodes }
+        requires one_each { length self.old.table.table ≡ net.now.nodes }
+        requires old { IsTrue self.old.are_kept → IsMeasureOf net.now self.old.table × (self.old.table.dest ≡ dest) }
+        ensures kept { IsTrue is_asked → IsTrue self.new.are_kept }
+        ensures measured { IsTrue self.new.are_kept → IsMeasureOf net.now self.new.table × (self.new.table.dest ≡ dest) }
+        ensures one_each { length self.new.table.table ≡ net.now.nodes }
+    {
+        if is_asked {
+            self.keep(net, dest);
+        }
+    }
+
     /// Updates the distances, if they are kept, after the round on a network with these edits is put in place.
     pub(crate) fn renew(&mut self, net: &Net, outcome: &Outcome, edits: &[Edit])
         requires node { outcome.now.dest < net.now.nodes }
         requires one_each { length self.old.table.table ≡ net.now.nodes }
         requires old { IsTrue self.old.are_kept
             → AreOldDistances net.now outcome.now.turns edits.now self.old.table }
-        ensures { KeepsDistances (state_with net.now outcome.now.dest outcome.now.turns) self.new }
+        ensures keeps { KeepsDistances (state_with net.now outcome.now.dest outcome.now.turns) self.new }
+        ensures renewed { IsTrue self.old.are_kept → IsRenewed net.now outcome.now.dest self.old.table self.new.table }
     {
         if self.are_kept {
             let touched = Touched {

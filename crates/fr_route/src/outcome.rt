@@ -8,7 +8,8 @@ ghost use Rattle.fr_core.specs.Legal.{CanTurn};
 ghost use Rattle.fr_crew.specs.Settlements.{IsCounted};
 ghost use Rattle.fr_graph.specs.Counts.{AreLawful, links_at};
 ghost use Rattle.fr_graph.specs.Network.{net_of};
-ghost use Rattle.fr_route.specs.Outcomes.{HoldsMoved, ListsOthers, ends_of, lone_count, settled_state};
+ghost use Rattle.fr_route.specs.Ends.{ends_of};
+ghost use Rattle.fr_route.specs.Outcomes.{HoldsMoved, ListsOthers, lone_count, settled_state};
 ghost use Rattle.fr_route.specs.Routes.{AreHops};
 ghost use Rattle.fr_route.specs.States.{IsReport};
 
@@ -126,12 +127,20 @@ pub(crate) fn touched_nodes(
     let mut nodes = Vec::with_capacity(alloc, room)?;
     nodes.push(dest)?;
     nodes.push(next_dest)?;
+    push_ends(&mut nodes, edits)?;
+    Ok(nodes)
+}
+
+/// Appends the ends of the links that edits remove or add.
+pub(crate) fn push_ends(nodes: &mut Vec<u32>, edits: &[Edit]) -> Result<(), AllocError>
+    ensures { OnOk result (nodes.new.items ≡ nodes.old.items ++ ends_of edits.now) }
+{
     for edit in edits {
         let (u, v) = ends(*edit);
         nodes.push(u)?;
         nodes.push(v)?;
     }
-    Ok(nodes)
+    Ok(())
 }
 
 /// Appends the nodes that have turned as often as there are nodes, in increasing order.

@@ -12,7 +12,7 @@ ghost use Rattle.fr_route.specs.NodeWays.{AreAllWays, AreNodeWays, HasDistance, 
 ghost use Rattle.fr_route.specs.States.{IsAfterRound, IsCutOff, IsRound, IsReport};
 ghost use Rattle.fr_route.specs.Routes.{IsHop, AreHops, IsWalked};
 ghost use Rattle.fr_route.specs.Changes.{IsOpenFault, IsChanged, IsRouteFault, IsStill};
-ghost use Rattle.fr_route.specs.Reroutes.{ArePushes, AreReplaced, IsPushesFault, TellsRerouted};
+ghost use Rattle.fr_route.specs.Reroutes.{ArePushes, AreReplaced, IsPushesFault, TellsRerouted, TellsReroutes};
 ghost use Rattle.fr_route.specs.WayPushes.{IsPhasesFault, LeadToWays};
 ghost use Rattle.fr_route.specs.Tries.{IsPlaced, IsTried, change_of, edit_of, revision_of, without_place};
 ghost use Rattle.fr_route.specs.Outcomes.{IsOutcome, IsRoundFault};
@@ -23,6 +23,7 @@ use crate::fault::{NotMade, RouteFault, placeless};
 use crate::hops::{AfterRound, Walked, hop_table, resized};
 use crate::kept_distances::{KeptDistances, table_of_ways};
 use crate::outcome::{alone_nodes, push_capped, put_in_place, report_of, touched_nodes};
+use crate::reroutes::Reroutes;
 use crate::revision::Revision;
 use crate::settling::Asking;
 use crate::spare::Spare;
@@ -182,6 +183,14 @@ impl<'a, F: Fn(&Net, u32, Option<&[u32]>, Turns) -> Result<Turns, CrewFault>> As
     {
         let movable = router.movable(self.alloc, revision)?;
         told.make_room(router.net.nodes())?;
+        let distances = &mut router.distances;
+        distances.keep_if(told.asks_ways(), &router.net, router.dest);
+        told.begin_ways(
+            self.alloc,
+            &router.net,
+            &distances.table,
+            revision.edits,
+        )?;
         let from = movable.as_slice();
         let dest = revision.dest;
         let spare = &mut router.spare;
@@ -205,10 +214,15 @@ impl<'a, F: Fn(&Net, u32, Option<&[u32]>, Turns) -> Result<Turns, CrewFault>> As
             },
         )?;
         put_in_place(&mut router.net, &mut router.hops, &outcome, from, told);
-        router
-            .distances
-            .renew(&router.net, &outcome, revision.edits);
+        let distances = &mut router.distances;
+        distances.renew(&router.net, &outcome, revision.edits);
         told.put_in_order(&mut router.room, &router.hops);
+        told.note_ways(
+            &router.net,
+            &outcome.turns,
+            &distances.table,
+            revision.edits,
+        );
         keep_turns(&mut router.turns, &mut router.spare, outcome.turns);
         router.dest = dest;
         router.report = outcome.report;
@@ -394,6 +408,35 @@ impl Router {
         .change(self, &change, &|report| Ok(report), &mut told);
         *rerouted = told.into_list(alloc);
         report
+    }
+
+    /// Changes the network as `change_telling_alone` does, and also lists what has to be pushed to routers that hold all
+    /// their ways. First each node that loses ways gets those that it keeps. Once all of them have confirmed that, each node
+    /// whose list still differs gets its new list. Each phase can be made in any order
+    /// ([`phase_law`](fr_ways::laws::phase_law)). These are the pushes that [`phases`](Router::phases) lists from the ways
+    /// before the change. If the call fails, the reroutes and the router are unchanged.
+    ///
+    /// The first call measures the distances, as [`ways`](Router::ways) does, and takes the memory for all nodes and links.
+    /// A caller that passes the same reroutes each time pays for this once. The cost is that of `change_telling_alone`, and
+    /// O(d log d) for each node whose list may have changed, which has d links.
+    pub fn change_telling_ways_alone(
+        &mut self,
+        alloc: Global,
+        change: Change,
+        reroutes: &mut Reroutes,
+    ) -> Result<Report, RouteFault>
+        ensures changed { IfOk result (λ _. IsChanged self.old change self.new) }
+        ensures report { IfOk result (λ report. IsReport self.new report.turned report.cut) }
+        ensures told { TellsReroutes self.old result self.new reroutes.old reroutes.new }
+        ensures fault { IfErr result (IsRouteFault self.old change) }
+        ensures unchanged { OnErr result (self.new ≡ self.old) }
+        ensures no_start { IfErr result (λ fault. fault ≢ Start) }
+    {
+        Asking::new(
+            alloc,
+            &|net, dest, from, turns| settled_counts_alone(net, dest, from, turns),
+        )
+        .change(self, &change, &|report| Ok(report), &mut reroutes.told)
     }
 
     /// The nodes that can be sinks after these edits and the move of the destination, and whose hops can be wrong even

@@ -361,11 +361,10 @@ impl Session {
         ensures memory { IfErr result (λ fault. fault ≡ Memory) }
     {
         router.state_law();
-        let replaced = told_replaced(alloc, self.router.as_ref(), &router, told)?;
-        let changed = replaced.nodes();
+        let replaced = replaced_nodes(alloc, self.router.as_ref(), &router, told)?;
         let mut text = report_begun(alloc, form, router.net().nodes())?;
-        push_report_in(&mut text, form, router.report(), changed, router.hops())?;
-        *told = replaced;
+        push_report_in(&mut text, form, router.report(), &replaced, router.hops())?;
+        told.put_list(replaced);
         self.put_router(router);
         Ok(text)
     }
@@ -498,20 +497,20 @@ struct Parts<'a> {
 
 /// The nodes that a new router reroutes when it replaces the one before it, if there was one, and if the caller asks for
 /// them.
-fn told_replaced(
+fn replaced_nodes(
     alloc: Global,
     before: Option<&Router>,
     router: &Router,
     told: &Told,
-) -> Result<Told, AnswerFault>
+) -> Result<Vec<u32>, AnswerFault>
     ensures told { IsListing told.now
-        → IfOk result (λ replaced. AreReplaced (option_copied before.entry) router.now (nodes_told replaced)) }
+        → IfOk result (λ nodes. AreReplaced (option_copied before.entry) router.now nodes.items) }
     ensures memory { IfErr result (λ fault. fault ≡ Memory) }
 {
     match told {
-        Told::Nobody => Ok(Told::Nobody),
-        Told::Nodes(_) => match router.changed_since(alloc, before) {
-            Ok(nodes) => Ok(Told::Nodes(nodes)),
+        Told::Nobody => Ok(Vec::new(alloc)),
+        Told::Nodes(_, _) => match router.changed_since(alloc, before) {
+            Ok(nodes) => Ok(nodes),
             Err(_) => Err(AnswerFault::Memory),
         },
     }

@@ -1,12 +1,22 @@
 //! The list of rerouted nodes, if the caller asks for it.
 
-ghost use Rattle.std.specs.Prelude.{◌≡◌, ℕ, ◌<◌, List, [], ◌∷◌, ◌++◌, OnOk, length};
-ghost use Rattle.fr_route.specs.Listing.{HasPlaces, IsListing, KeepsPlaces, nodes_told};
+ghost use Rattle.std.specs.Prelude.{◌≡◌, ℕ, ◌<◌, ◌≤◌, ◌↔◌, IsTrue, List, [], ◌∷◌, ◌++◌, OnOk, length};
+ghost use Rattle.fr_graph.specs.Limits.{most_edits};
+ghost use Rattle.fr_nearest.specs.Distances.{IsMeasureOf};
+ghost use Rattle.fr_ways.specs.Changes.{KeepsPushes};
+ghost use Rattle.fr_route.specs.Listing.{AsksWays, HasLedOn, HasPlaces, HasSameList, HaveBegun, IsListing, KeepsPlaces};
+ghost use Rattle.fr_route.specs.Listing.{nodes_told, notes_told, ways_told};
+ghost use Rattle.fr_route.specs.States.{State, state_with};
+ghost use Rattle.fr_route.specs.WayPushes.{AreWayChanges};
 ghost use Rattle.fr_route.specs.Outcomes.{AreOthers};
 ghost use Rattle.fr_tables.specs.Pushes.{IsPushOrder};
 ghost use Rattle.fr_tables.specs.Tables.{IsInRange, IsLoopFree};
 
+use crate::way_notes::WayNotes;
+use fr_graph::{Edit, Net, Turns};
+use fr_nearest::Distances;
 use fr_tables::{Hop, PushRoom};
+use fr_ways::WayChanges;
 use std::alloc::{AllocError, Global};
 use std::mem;
 
@@ -15,8 +25,8 @@ use std::mem;
 pub(crate) enum Told {
     /// The caller does not ask for them.
     Nobody,
-    /// The caller's list.
-    Nodes(Vec<u32>),
+    /// The caller's list. If he also asks what changes do to the ways of nodes, there are notes of that.
+    Nodes(Vec<u32>, Option<WayNotes>),
 }
 
 impl Told {
@@ -25,7 +35,7 @@ impl Told {
         ensures listing { IsListing result }
         ensures same { nodes_told result ≡ list.old.items }
     {
-        Told::Nodes(mem::replace(list, Vec::new(alloc)))
+        Told::Nodes(mem::replace(list, Vec::new(alloc)), None)
     }
 
     /// Returns the list for the caller.
@@ -34,7 +44,7 @@ impl Told {
     {
         match self {
             Told::Nobody => Vec::new(alloc),
-            Told::Nodes(list) => list,
+            Told::Nodes(list, _notes) => list,
         }
     }
 
@@ -44,7 +54,17 @@ impl Told {
     {
         match self {
             Told::Nobody => &[],
-            Told::Nodes(list) => list,
+            Told::Nodes(list, _) => list,
+        }
+    }
+
+    /// Replaces the list, if there is one.
+    pub fn put_list(&mut self, nodes: Vec<u32>)
+        ensures { IsListing self.old → nodes_told self.new ≡ nodes.items }
+    {
+        match self {
+            Told::Nobody => {}
+            Told::Nodes(list, _) => *list = nodes,
         }
     }
 
@@ -56,7 +76,7 @@ impl Told {
     {
         match self {
             Told::Nobody => Ok(()),
-            Told::Nodes(list) => list.reserve((nodes as usize).saturating_sub(list.len())),
+            Told::Nodes(list, _) => list.reserve((nodes as usize).saturating_sub(list.len())),
         }
     }
 
@@ -67,7 +87,7 @@ impl Told {
     {
         match self {
             Told::Nobody => {}
-            Told::Nodes(list) => list.clear(),
+            Told::Nodes(list, _) => list.clear(),
         }
     }
 
@@ -79,7 +99,7 @@ impl Told {
     {
         match self {
             Told::Nobody => {}
-            Told::Nodes(list) => {
+            Told::Nodes(list, _) => {
                 if list.len() < list.capacity() {
                     list.push_reserved(x);
                 }
@@ -95,10 +115,67 @@ impl Told {
         ensures order { (old : List Hop) → length old ≡ length hops.now → IsListing self.old
             → AreOthers old hops.now (nodes_told self.old) → IsPushOrder old hops.now (nodes_told self.new) }
         ensures kept { room.new ≡ room.old }
+        ensures notes { notes_told self.new ≡ notes_told self.old }
     {
         match self {
             Told::Nobody => {}
-            Told::Nodes(list) => room.order(hops, list),
+            Told::Nodes(list, _) => room.order(hops, list),
+        }
+    }
+
+    /// Whether the caller asks what changes do to the ways of nodes.
+    pub fn asks_ways(&self) -> bool
+        ensures { IsTrue result ↔ AsksWays self.now }
+    {
+        match self {
+            Told::Nobody => false,
+            Told::Nodes(_, notes) => notes.is_some(),
+        }
+    }
+
+    /// What the last change has done to the ways of nodes.
+    pub fn way_changes(&self) -> &WayChanges
+        requires { AsksWays self.now }
+        ensures { result.now ≡ ways_told self.now }
+    {
+        match self {
+            Told::Nodes(_, Some(notes)) => &notes.changes,
+            _ => unreachable!(),
+        }
+    }
+
+    /// Takes the memory to note what edits do to the ways of nodes, if the caller asks for that.
+    pub fn begin_ways(
+        &mut self,
+        alloc: Global,
+        net: &Net,
+        distances: &Distances,
+        edits: &[Edit],
+    ) -> Result<(), AllocError>
+        requires measured { AsksWays self.old → IsMeasureOf net.now distances.now }
+        requires few { length edits.now ≤ most_edits }
+        ensures begun { OnOk result (HaveBegun net.now.nodes net.now.links distances.now.dest edits.now self.new) }
+        ensures same { KeepsPushes (ways_told self.old) (ways_told self.new) }
+        ensures list { HasSameList self.old self.new }
+    {
+        match self {
+            Told::Nodes(_, Some(notes)) => notes.begin(alloc, net, distances, edits),
+            _ => Ok(()),
+        }
+    }
+
+    /// Notes what a change by these edits has done to the ways of nodes, if the caller asks for that.
+    pub fn note_ways(&mut self, net: &Net, turns: &Turns, distances: &Distances, edits: &[Edit])
+        requires { (s : State)
+            × HasLedOn s (state_with net.now distances.now.dest turns.now) edits.now distances.now self.old }
+        ensures ways { (s : State)
+            → HasLedOn s (state_with net.now distances.now.dest turns.now) edits.now distances.now self.old
+            → AsksWays self.old → AreWayChanges s (state_with net.now distances.now.dest turns.now) (ways_told self.new).shrink
+            (ways_told self.new).grow }
+        ensures list { HasSameList self.old self.new }
+    {
+        if let Told::Nodes(_, Some(notes)) = self {
+            notes.note(net, turns, distances, edits);
         }
     }
 }

@@ -51,7 +51,7 @@ pub returns-clause-told : goal.returns-clause-told
 returns-clause-told c =
     let renewed = c.renew_hops.ensures.noted in
     let cleared = c.clear.ensures.keeps in record {
-      keeps = record { places = λ n has. renewed.keeps.places n (cleared.places n has); listing = λ is. cleared.listing (renewed.keeps.listing is) };
+      keeps = record { places = λ n has. renewed.keeps.places n (cleared.places n has); listing = λ is. cleared.listing (renewed.keeps.listing is); notes = renewed.keeps.notes ∙ cleared.notes };
       others = λ room.
           let s : State = state_with c.turn.new.self c.args.outcome.now.dest c.args.outcome.now.turns in
           let hops = c.args.hops.now in

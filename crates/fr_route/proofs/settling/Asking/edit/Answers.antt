@@ -1,17 +1,25 @@
-use Rattle.std.proofs.Common.{◌≡◌, ◌≢◌, ◌∙◌, ◌<◌, ◌≤◌, List, ap, arith, length, refl, rules, subst, sym, vec_len, ℕ}
+use Rattle.std.proofs.Common.{Option, Some, ◌≡◌, ◌≢◌, ◌∙◌, ◌<◌, ◌≤◌, List, ap, arith, length, refl, rules, subst, sym, vec_len, ℕ}
 use Rattle.std.proofs.lemmas.List.{with_items_is}
 use Rattle.std.proofs.lemmas.Result.{err_from_is_err_and}
 use Rattle.std.specs.Vec.{with_items}
 use Rattle.fr_graph.specs.Batches.{AreMade}
 use Rattle.fr_graph.specs.Limits.{most_edits}
-use Rattle.fr_graph.specs.Network.{Network}
-use Rattle.fr_nearest.specs.Distances.{Measured}
+use Rattle.fr_graph.specs.Network.{Network, net_of}
+use Rattle.fr_nearest.specs.Distances.{AreDistances, IsRenewed, Measured}
+use Rattle.fr_ways.specs.Changes.{KeepsPushes}
+use Rattle.std.specs.Prelude.{IsTrue}
+use Rattle.fr_graph.specs.Counts.{links_at}
+use Rattle.fr_route.specs.NodeWays.{HasDistances}
+use Rattle.fr_route.specs.WayNotes.{IsBegun, LeadsOn}
+use Rattle.fr_route.specs.WayPushes.{AreWayChanges}
+use Rattle.fr_route.specs.declared.way_notes.WayNotes.{WayNotes}
+use Rattle.fr_route.proofs.WaysTold.{pushes_same, same_asking, same_pushes}
 use Rattle.fr_crew.specs.Settlements.{HoldsSinks}
 use Rattle.fr_graph.specs.declared.fault.NotEdited.{NotEdited}
 use Rattle.fr_graph.specs.declared.fault.NotEdited.TheVariants.{Fault, Refused}
 use Rattle.fr_route.specs.Changes.{IsOpenFault, IsStill}
 use Rattle.fr_route.specs.Faults.{of_not_edited}
-use Rattle.fr_route.specs.Listing.{HasPlaces, IsListing, nodes_told}
+use Rattle.fr_route.specs.Listing.{AsksWays, HasLedOn, HasPlaces, IsListing, nodes_told, notes_told, ways_in, ways_told}
 use Rattle.fr_crew.specs.Settlements.{IsCounted}
 use Rattle.fr_route.specs.KeptDistances.{KeepsDistances}
 use Rattle.fr_route.specs.Outcomes.{AreOthers, HoldsMoved, IsOutcome, movable, settled_state}
@@ -29,12 +37,12 @@ use Rattle.fr_tables.specs.declared.hop.Hop.{Hop}
 use Rattle.fr_route.proofs.CutNodes.{after_outcome, ended}
 use Rattle.fr_route.proofs.Changing.{made_nodes, refused_fault, round_fault}
 use Rattle.fr_route.proofs.Inside.{sound_after}
-use Rattle.fr_route.proofs.Moving.{made_net, movable_sinks, old_distances, unmoved_hops}
+use Rattle.fr_route.proofs.Moving.{leads_on, made_net, movable_sinks, old_distances, unmoved_hops}
 use Rattle.fr_route.proofs.Noting.{listing_has}
 use Rattle.fr_route.proofs.SettledHops.{settled_in_range, settled_loop_free}
 use Rattle.fr_route.proofs.settling.Asking.edit.Given.{Over}
 use Rattle.fr_route.proofs.settling.Asking.edit.Goals as goal
-use Rattle.fr_route.proofs.settling.Asking.edit.Goals.{After-as_slice-from, After-put_in_place, After-router, In_err-outcome, In_ok-outcome}
+use Rattle.fr_route.proofs.settling.Asking.edit.Goals.{After-as_slice-from, After-begin_ways, After-put_in_order, After-put_in_place, After-router, In_err-outcome, In_ok-outcome}
 
 items_put : (v : Vec Hop Global) (hops : List Hop) → length hops ≡ length v.items → (with_items v hops).items ≡ hops
 items_put v hops as_many = with_items_is v hops (omega (arith, as_many, v.ok.0))
@@ -87,9 +95,12 @@ returns-in_err-movable-clause-tried g c =
       made = tt;
       told_of = tt;
       rerouted = tt;
+      ways = tt;
+      asks = λ asks. asks;
       fault = (c.in_err-movable.field-0.0.at, c.in_err-movable.ensures.fault);
       unchanged = refl;
       untold = refl;
+      untold_ways = pushes_same (ways_told c.args.told.now);
       no_start = λ _. c.in_err-movable.ensures.no_start;
     })
 
@@ -100,9 +111,60 @@ returns-in_err-make_room-clause-tried g c =
       made = tt;
       told_of = tt;
       rerouted = tt;
+      ways = tt;
+      asks = same_asking c.args.told.now c.make_room.new.self c.make_room.ensures.keeps.notes;
       fault = (0, c.in_ok-movable.ensures.few);
       unchanged = refl;
       untold = c.make_room.ensures.same;
+      untold_ways = same_pushes c.args.told.now c.make_room.new.self c.make_room.ensures.keeps.notes;
+      no_start = λ _ e. absurd cc;
+    })
+
+-- the distances, once they are kept
+has_distances : (s : State) (m : Measured) → AreDistances s.nodes s.links m.dest m.table → m.dest ≡ s.dest → HasDistances s m
+has_distances s m table is = record {
+  dest = is;
+  table = subst (λ (d : ℕ). AreDistances s.nodes s.links d m.table) is table;
+}
+
+-- the notes are begun, and the caller still asks for the same
+asks_still : (g : Over) (c : After-begin_ways g) → AsksWays c.args.told.now → AsksWays c.begin_ways.new.self
+asks_still g c asks =
+    (c.begin_ways.ensures.list.ways).0
+    (same_asking c.args.told.now c.make_room.new.self c.make_room.ensures.keeps.notes asks)
+
+same_ways : (g : Over) (c : After-begin_ways g) → KeepsPushes (ways_told c.args.told.now) (ways_told c.begin_ways.new.self)
+same_ways g c =
+    subst (λ (notes : Option WayNotes). KeepsPushes (ways_in notes) (ways_told c.begin_ways.new.self))
+    c.make_room.ensures.keeps.notes c.begin_ways.ensures.same
+
+pub keep_if-requires-clause-old : goal.keep_if-requires-clause-old
+keep_if-requires-clause-old g c = λ kept.
+    let s : State = state_of c.router.inside in
+    let m : Measured = c.router.inside.distances.table in
+    let has : HasDistances s m = c.router.invariant.distances.distances kept in (
+      subst (λ (d : ℕ). AreDistances s.nodes s.links d m.table) (sym has.dest) has.table,
+      has.dest,
+    )
+
+pub begin_ways-requires-clause-measured : goal.begin_ways-requires-clause-measured
+begin_ways-requires-clause-measured g c = λ asks.
+    (c.keep_if.ensures.measured (c.keep_if.ensures.kept ((c.asks_ways.ensures).1 asks))).0
+
+pub returns-in_err-begin_ways-clause-tried : goal.returns-in_err-begin_ways-clause-tried
+returns-in_err-begin_ways-clause-tried g c =
+    let at = goal.at.returns-in_err-begin_ways-clause-tried g c in
+    let p = err_from_is_err_and c.from_residual-in_err-begin_ways.result c.from_residual-in_err-begin_ways.ensures.1 in
+    rw (p.1, p.2) (record {
+      made = tt;
+      told_of = tt;
+      rerouted = tt;
+      ways = tt;
+      asks = asks_still g at.After-begin_ways;
+      fault = (0, c.in_ok-movable.ensures.few);
+      unchanged = search rules;
+      untold = c.begin_ways.ensures.list.nodes ∙ c.make_room.ensures.same;
+      untold_ways = same_ways g at.After-begin_ways;
       no_start = λ _ e. absurd cc;
     })
 
@@ -139,9 +201,12 @@ returns-in_err-outcome-clause-tried g c =
       made = tt;
       told_of = tt;
       rerouted = tt;
+      ways = tt;
+      asks = asks_still g at.After-begin_ways;
       fault = ((of_not_edited reason).at, not_made g at.In_err-outcome (in_range g at.After-router) c.in_ok-movable.ensures.few (now_is g at.After-router));
       unchanged = search rules;
-      untold = c.make_room.ensures.same;
+      untold = c.begin_ways.ensures.list.nodes ∙ c.make_room.ensures.same;
+      untold_ways = same_ways g at.After-begin_ways;
       no_start = search rules;
     })
 
@@ -196,7 +261,7 @@ renew-requires-clause-one_each g c =
     let at = goal.at.renew-requires-clause-one_each g c in
     let nodes : c.edit_if.new.self.nodes ≡ c.router.inside.net.nodes =
     made_nodes c.router.inside.net c.args.revision.now.edits.now c.edit_if.new.self (edits_made g at.In_ok-outcome) in
-    rw c.put_in_place.ensures.net (c.router.invariant.distances.one_each ∙ sym nodes)
+    rw c.put_in_place.ensures.net (c.keep_if.ensures.one_each ∙ sym nodes)
 
 pub renew-requires-clause-old : goal.renew-requires-clause-old
 renew-requires-clause-old g c = λ kept.
@@ -205,10 +270,11 @@ renew-requires-clause-old g c = λ kept.
     let net : Network = c.edit_if.new.self in
     let edits = c.args.revision.now.edits.now in
     let counts : List ℕ = c.in_ok-outcome.outcome.turns in
-    let m : Measured = c.router.inside.distances.table in
+    let m : Measured = c.keep_if.new.self.table in
     rw c.put_in_place.ensures.net
     (old_distances s c.router.invariant.round edits net c.args.revision.now.dest (in_range g at.After-router)
-    (edits_made g at.In_ok-outcome) counts (outcome_is g at.In_ok-outcome).counts m (c.router.invariant.distances.distances kept))
+    (edits_made g at.In_ok-outcome) counts (outcome_is g at.In_ok-outcome).counts m
+    (has_distances s m (c.keep_if.ensures.measured kept).0 (c.keep_if.ensures.measured kept).1))
 
 pub put_in_order-requires-clause-table : goal.put_in_order-requires-clause-table
 put_in_order-requires-clause-table g c =
@@ -234,8 +300,8 @@ others_told : (g : Over) (c : After-put_in_place g) → IsListing c.args.told.no
 others_told g c listing =
     let before : AreHops (state_of c.router.inside) (state_of c.router.inside).nodes c.deref_mut.result.now =
     rw c.deref_mut.ensures.value c.router.invariant.hops in
-    let places = c.in_ok-make_room.ensures.room listing in
-    c.put_in_place.ensures.told.others (subst (λ (n : ℕ). HasPlaces n c.make_room.new.self) (omega (arith, before.one_each, c.nodes.ensures.value)) places)
+    let places = c.begin_ways.ensures.list.places c.nodes.result (c.in_ok-make_room.ensures.room listing) in
+    c.put_in_place.ensures.told.others (subst (λ (n : ℕ). HasPlaces n c.begin_ways.new.self) (omega (arith, before.one_each, c.nodes.ensures.value)) places)
 
 pub put_in_order-requires-clause-others : goal.put_in_order-requires-clause-others
 put_in_order-requires-clause-others g c =
@@ -248,7 +314,8 @@ put_in_order-requires-clause-others g c =
     let put : c.deref.result.now ≡ c.put_in_place.new.hops = c.deref.ensures.value ∙ items_put c.router.inside.hops c.put_in_place.new.hops as_many in (
       c.deref_mut.result.now,
       λ listing.
-          let was = c.make_room.ensures.keeps.listing (c.put_in_place.ensures.told.keeps.listing listing) in
+          let was = c.make_room.ensures.keeps.listing
+              (c.begin_ways.ensures.list.listing (c.put_in_place.ensures.told.keeps.listing listing)) in
           subst (λ (hops : List Hop). AreOthers c.deref_mut.result.now hops (nodes_told c.put_in_place.new.told)) (sym put)
           (others_told g at.After-put_in_place was),
     )
@@ -277,8 +344,51 @@ invariant_of-router-2 g c =
     (subst (λ (m : Network). KeepsDistances (state_with m c.args.revision.now.dest counts) c.renew.new.self)
     c.put_in_place.ensures.net
     (subst (λ (d : ℕ). KeepsDistances (state_with c.put_in_place.new.net d counts) c.renew.new.self)
-    (same_dest g at.In_ok-outcome) c.renew.ensures))
+    (same_dest g at.In_ok-outcome) c.renew.ensures.keeps))
     (c.put_in_order.ensures.kept ∙ (c.router.invariant.room ∙ sym nodes)))
+
+-- the notes that are begun lead to the state after the round
+led_on : (g : Over) (c : After-put_in_order g)
+    → HasLedOn (state_of c.router.inside)
+    (state_with c.put_in_place.new.net c.renew.new.self.table.dest c.in_ok-outcome.outcome.turns)
+    c.args.revision.now.edits.now c.renew.new.self.table c.put_in_order.new.self
+led_on g c = λ notes is.
+    let s : State = state_of c.router.inside in
+    let d = c.args.revision.now.dest in
+    let edits = c.args.revision.now.edits.now in
+    let net : Network = c.edit_if.new.self in
+    let outcome = c.in_ok-outcome.outcome in
+    let ok = c.in_ok-outcome.ensures.ok in
+    let old : Measured = c.keep_if.new.self.table in
+    let new : Measured = c.renew.new.self.table in
+    let made : AreMade c.router.inside.net edits net = ok.0 in
+    let ended : IsOutcome net d outcome = subst (λ (m : Network). IsOutcome m d outcome) {y = net} ok.1.2 ok.1.1.0 in
+    let below : d < s.nodes = subst (λ (now : State). d < now.nodes) (sym c.router.view_is) c.requires.node in
+    let begun_is : notes_told c.begin_ways.new.self ≡ Some notes =
+    sym c.put_in_place.ensures.told.keeps.notes ∙ (sym c.put_in_order.ensures.notes ∙ is) in
+    let asks : AsksWays c.make_room.new.self = (c.begin_ways.ensures.list.ways).1 (notes, begun_is) in
+    let kept = c.keep_if.ensures.kept ((c.asks_ways.ensures).1 asks) in
+    let measured = c.keep_if.ensures.measured kept in
+    let has : HasDistances s old = has_distances s old measured.0 measured.1 in
+    let begun : IsBegun s.nodes s.links s.dest edits notes =
+    subst (λ (e : ℕ). IsBegun s.nodes s.links e edits notes) measured.1 (c.in_ok-begin_ways.ensures.begun notes begun_is) in
+    let renewed : IsRenewed (net_of net.nodes (links_at net.links outcome.turns)) d old new =
+    subst (λ (m : Network). IsRenewed m d old new) c.put_in_place.ensures.net
+    (subst (λ (e : ℕ). IsRenewed c.put_in_place.new.net e old new) ended.dest (c.renew.ensures.renewed kept)) in
+    let leads : LeadsOn s (settled_state net d outcome.turns) edits new notes =
+    leads_on s c.router.invariant.round edits net d below made outcome.turns ended.counts old new notes has renewed begun in
+    subst (λ (m : Network). LeadsOn s (state_with m new.dest outcome.turns) edits new notes) (sym c.put_in_place.ensures.net)
+    (subst (λ (e : ℕ). LeadsOn s (state_with (net_of net.nodes (links_at net.links outcome.turns)) e outcome.turns) edits new notes)
+    (sym renewed.dest) leads)
+
+asks_at_last : (g : Over) (c : After-put_in_order g) → AsksWays c.begin_ways.new.self → AsksWays c.put_in_order.new.self
+asks_at_last g c asks =
+    same_asking c.put_in_place.new.told c.put_in_order.new.self c.put_in_order.ensures.notes
+    (same_asking c.begin_ways.new.self c.put_in_place.new.told c.put_in_place.ensures.told.keeps.notes asks)
+
+pub note_ways-requires : goal.note_ways-requires
+note_ways-requires g c =
+    (state_of c.router.inside, led_on g (goal.at.note_ways-requires g c).After-put_in_order)
 
 pub returns-clause-tried : goal.returns-clause-tried
 returns-clause-tried g c =
@@ -305,21 +415,38 @@ returns-clause-tried g c =
       told_of = (c.in_ok-outcome.outcome.report, outcome.report, search rules);
       rerouted = λ listing.
           let others = others_told g at.After-put_in_place listing in
-          let places = c.put_in_place.ensures.told.keeps.places c.nodes.result (c.in_ok-make_room.ensures.room listing) in
+          let places = c.put_in_place.ensures.told.keeps.places c.nodes.result
+              (c.begin_ways.ensures.list.places c.nodes.result (c.in_ok-make_room.ensures.room listing)) in
           let put : c.deref.result.now ≡ c.put_in_place.new.hops = c.deref.ensures.value
           ∙ items_put c.router.inside.hops c.put_in_place.new.hops (omega (arith, hops.one_each, c.router.invariant.hops.one_each)) in
           let one_length : length c.deref_mut.result.now ≡ length c.put_in_place.new.hops = omega (arith, before.one_each, hops.one_each) in
           let order : IsPushOrder c.deref_mut.result.now c.put_in_place.new.hops (nodes_told c.put_in_order.new.self) =
           (rw put at c.put_in_order.ensures.order) c.deref_mut.result.now one_length (listing_has c.nodes.result c.put_in_place.new.told places) others in
-          subst (λ (now : State). AreRerouted now after (nodes_told c.put_in_order.new.self)) (now_is g at.After-router) (record {
+          subst (λ (nodes : List ℕ). AreRerouted c.args.router.now after nodes) (sym c.note_ways.ensures.list.nodes)
+          (subst (λ (now : State). AreRerouted now after (nodes_told c.put_in_order.new.self)) (now_is g at.After-router) (record {
             before = c.deref_mut.result.now;
             after = c.put_in_place.new.hops;
             were = before;
             are = with_dest g at.In_ok-outcome c.put_in_place.new.hops c.put_in_place.ensures.hops;
             order = order;
-          });
+          }));
+      ways = λ asks.
+          let counts : List ℕ = c.in_ok-outcome.outcome.turns in
+          let noted = ways_told c.note_ways.new.self in
+          let kept = c.keep_if.ensures.kept ((c.asks_ways.ensures).1
+          (same_asking c.args.told.now c.make_room.new.self c.make_room.ensures.keeps.notes asks)) in
+          let dest : c.renew.new.self.table.dest ≡ d = (c.renew.ensures.renewed kept).dest ∙ same in
+          let changes : AreWayChanges s (state_with c.put_in_place.new.net c.renew.new.self.table.dest counts) noted.shrink noted.grow =
+          c.note_ways.ensures.ways s (led_on g at.After-put_in_order) (asks_at_last g at.After-put_in_order (asks_still g at.After-begin_ways asks)) in
+          subst (λ (now : State). AreWayChanges now after noted.shrink noted.grow) (now_is g at.After-router)
+          (subst (λ (m : Network). AreWayChanges s (state_with m d counts) noted.shrink noted.grow) c.put_in_place.ensures.net
+          (subst (λ (e : ℕ). AreWayChanges s (state_with c.put_in_place.new.net e counts) noted.shrink noted.grow) dest changes));
+      asks = λ asks.
+          (c.note_ways.ensures.list.ways).0
+          (asks_at_last g at.After-put_in_order (asks_still g at.After-begin_ways asks));
       fault = tt;
       unchanged = tt;
       untold = tt;
+      untold_ways = tt;
       no_start = λ h. tt;
     })

@@ -1,0 +1,168 @@
+//! What a change does to the ways of nodes. It is noted once the change is made.
+
+ghost use Rattle.std.specs.Prelude.{◌≡◌, ℕ, ◌<◌, ◌≤◌, ◌+◌, List, IfOk, OnOk, length};
+ghost use Rattle.fr_graph.specs.Limits.{most_edits};
+ghost use Rattle.fr_graph.specs.declared.edit.Edit.{Edit};
+ghost use Rattle.fr_nearest.specs.Distances.{IsMeasureOf};
+ghost use Rattle.fr_ways.specs.Changes.{HasNoPushes, IsNotedTo, KeepsPushes};
+ghost use Rattle.fr_route.specs.States.{State, state_with};
+ghost use Rattle.fr_route.specs.WayNotes.{AreEnds, AreWaysOf, HasSameMemory, IsBegun, IsNext, LeadsOn};
+ghost use Rattle.fr_route.specs.WayPushes.{AreWayChanges};
+
+use crate::outcome::push_ends;
+use fr_graph::{Edit, Net, Turns};
+use fr_nearest::{Affected, Distances, Touched};
+use fr_ways::{WayChanges, WayTable};
+use std::alloc::{AllocError, Global};
+
+/// Memory to note what a change does to the ways of nodes. It is kept from one change to the next, and all of it is taken
+/// before a change is made, because a change that is made cannot fail.
+#[derive(Debug, Drop)]
+pub(crate) struct WayNotes {
+    // The ends of the edits, by number. Of all other nodes the earlier ways can be told from the links after the change, but
+    // of these they are listed before it.
+    pub(crate) ends: Vec<u32>,
+    pub(crate) end_ways: WayTable,
+    // The nodes whose ways may have changed.
+    pub(crate) affected: Affected,
+    // Space for the ways of a node before and after the change.
+    pub(crate) before: Vec<u32>,
+    pub(crate) after: Vec<u32>,
+    // What has to be pushed.
+    pub(crate) changes: WayChanges,
+}
+
+/// The ends of these edits, by number. A node that is an end of several edits is there several times.
+fn sorted_ends(alloc: Global, edits: &[Edit]) -> Result<Vec<u32>, AllocError>
+    ensures { IfOk result (λ list. AreEnds edits.now list.items) }
+{
+    let mut list = Vec::with_capacity(alloc, edits.len().saturating_mul(2))?;
+    push_ends(&mut list, edits)?;
+    list.sort_unstable();
+    Ok(list)
+}
+
+/// The ways of these nodes, one list for each. A number that is not a node has none.
+fn ways_of(
+    alloc: Global,
+    net: &Net,
+    distances: &Distances,
+    nodes: &[u32],
+) -> Result<WayTable, AllocError>
+    requires { IsMeasureOf net.now distances.now }
+    ensures { IfOk result (AreWaysOf net.now.nodes net.now.links distances.now.dest nodes.now) }
+{
+    let mut table = WayTable::with_capacity(alloc, nodes.len(), 0)?;
+    let mut list = Vec::new(alloc);
+    for x in nodes {
+        list.clear();
+        if *x < net.nodes() {
+            distances.ways(net, *x, &mut list)?;
+        }
+        table.push_row(&list)?;
+    }
+    Ok(table)
+}
+
+/// Makes a list as long as there are nodes, or leaves it if it is longer.
+fn lengthen(list: &mut Vec<u32>, nodes: usize) -> Result<(), AllocError>
+    ensures { OnOk result (nodes ≤ length list.new.items) }
+{
+    if list.len() < nodes {
+        list.resize(nodes, 0)?;
+    }
+    Ok(())
+}
+
+impl WayNotes {
+    /// No notes, and no memory for any.
+    pub(crate) fn new(alloc: Global) -> Result<WayNotes, AllocError>
+        ensures { IfOk result (λ notes. HasNoPushes notes.changes) }
+    {
+        Ok(WayNotes {
+            ends: Vec::new(alloc),
+            end_ways: WayTable::with_capacity(alloc, 0, 0)?,
+            affected: Affected::new(alloc),
+            before: Vec::new(alloc),
+            after: Vec::new(alloc),
+            changes: WayChanges::new(alloc)?,
+        })
+    }
+
+    /// Takes the memory for a change of this network by these edits, and lists the ways of their ends before it.
+    pub(crate) fn begin(
+        &mut self,
+        alloc: Global,
+        net: &Net,
+        distances: &Distances,
+        edits: &[Edit],
+    ) -> Result<(), AllocError>
+        requires measured { IsMeasureOf net.now distances.now }
+        requires few { length edits.now ≤ most_edits }
+        ensures begun { OnOk result (IsBegun net.now.nodes net.now.links distances.now.dest edits.now self.new) }
+        ensures same { KeepsPushes self.old.changes self.new.changes }
+    {
+        net.network_law();
+        let nodes = net.nodes() as usize;
+        lengthen(&mut self.before, nodes)?;
+        lengthen(&mut self.after, nodes)?;
+        self.affected.make_room(nodes)?;
+        self.changes
+            .make_room(nodes, net.link_count() + edits.len())?;
+        self.ends = sorted_ends(alloc, edits)?;
+        self.end_ways = ways_of(alloc, net, distances, &self.ends)?;
+        Ok(())
+    }
+
+    /// Notes what has to be pushed after a change by these edits: the network has turned as a round says, and the distances
+    /// are updated.
+    pub(crate) fn note(
+        &mut self,
+        net: &Net,
+        turns: &Turns,
+        distances: &Distances,
+        edits: &[Edit],
+    )
+        requires { (s : State) × LeadsOn s (state_with net.now distances.now.dest turns.now) edits.now distances.now
+            self.old }
+        ensures { (s : State) → LeadsOn s (state_with net.now distances.now.dest turns.now) edits.now distances.now
+            self.old → AreWayChanges s (state_with net.now distances.now.dest turns.now) self.new.changes.shrink
+            self.new.changes.grow }
+    {
+        net.network_law();
+        let touched = Touched {
+            edits,
+            turned: turns.nodes(),
+        };
+        self.affected.list(net, &touched, distances);
+        self.changes.clear();
+        let mut read = 0;
+        while read < self.affected.nodes().len() {
+            let x = self.affected.nodes()[read];
+            self.note_one(net, turns.counts(), distances, x);
+            read += 1;
+        }
+        self.changes.finish();
+    }
+
+    /// Notes what has to be pushed to node `x`, which has a higher number than those before.
+    fn note_one(&mut self, net: &Net, counts: &[u64], distances: &Distances, x: u32)
+        requires { (s : State) × (edits : List Edit) × (before : List (List ℕ)) × (after : List (List ℕ))
+            × IsNext s (state_with net.now distances.now.dest counts.now) edits distances.now before after x self.old }
+        ensures noted { (s : State) (edits : List Edit) (before after : List (List ℕ))
+            → IsNext s (state_with net.now distances.now.dest counts.now) edits distances.now before after x self.old
+            → IsNotedTo before after (x + 1) self.new.changes }
+        ensures same { HasSameMemory self.old self.new }
+        ensures affected { self.new.affected ≡ self.old.affected }
+    {
+        let count = distances.ways_in(net, x, &mut self.after);
+        let now = &self.after[..count];
+        match self.ends.binary_search(&x) {
+            Ok(place) => self.changes.note(x, self.end_ways.row(place as u32), now),
+            Err(_) => {
+                let had = distances.ways_before_in(net, counts, x, &mut self.before);
+                self.changes.note(x, &self.before[..had], now);
+            }
+        }
+    }
+}
