@@ -266,16 +266,16 @@ rank_back table list rank low (k, l, is) =
 
 module _ {n : ℕ} {links : List (ℕ × ℕ)} {d x : ℕ} {table : List ℕ} (below : (w : ℕ) → Points links x w → w < n) (are : AreDistances n links d table) where
   -- the nodes with a distance to which links point are the ways
-  way_of : (w : ℕ) → Points links x w → slice_index table w ≢ no_distance → IsWay links d x w
+  pub way_of : (w : ℕ) → Points links x w → slice_index table w ≢ no_distance → IsWay links d x w
   way_of w link some = record {
     link = link;
     leads = has_path ((are.each w (below w link)).some some);
   }
 
-  some_of : (w : ℕ) → IsWay links d x w → slice_index table w ≢ no_distance
+  pub some_of : (w : ℕ) → IsWay links d x w → slice_index table w ≢ no_distance
   some_of w way none = (are.each w (below w way.link)).none none way.leads
 
-  nearer_of : (w u : ℕ) → IsWay links d x w → IsWay links d x u
+  pub nearer_of : (w u : ℕ) → IsWay links d x w → IsWay links d x u
       → (slice_index table w < slice_index table u) ⊎ ((slice_index table w ≡ slice_index table u) × (w < u)) → IsNearer links d w u
   nearer_of w u way other before = record {
     near = slice_index table w;

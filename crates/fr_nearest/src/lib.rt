@@ -11,6 +11,7 @@
 //! Costs are for n nodes, m links, and d links at a node. They are read off the code, not proved.
 #![tactic(auto)]
 
+mod affected;
 mod changes;
 mod distances;
 pub mod laws;
@@ -18,5 +19,6 @@ mod search;
 mod update;
 mod ways;
 
+pub use affected::Affected;
 pub use distances::Distances;
 pub use update::Touched;

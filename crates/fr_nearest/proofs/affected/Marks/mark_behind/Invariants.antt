@@ -1,0 +1,6 @@
+use Rattle.std.proofs.Common.{take}
+use Rattle.fr_nearest.specs.Marks.{HasMarked, HasOne, IsInward}
+use Rattle.fr_nearest.proofs.affected.Marks.mark_behind.Given as goal
+
+abbrev pub invariant-loop-y : goal.invariant-loop-y
+invariant-loop-y l = HasMarked (HasOne IsInward (take l.y-index l.row)) (HasOne IsInward (take l.y-index l.row)) l.fn.self l.self
