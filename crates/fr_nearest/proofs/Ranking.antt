@@ -1,6 +1,6 @@
 -- The ways of a node are listed from its row, and sorted; the nearest is found in the row.
 use Rattle.std.proofs.Common.{◌↔◌, Bool, Contains, IsTrue, IsPermutation, List, MatchOption, None, Option, Some, [], ap, arith}
-use Rattle.std.proofs.Common.{eq-eqb, eqb, get_or, inl, inr, length, map, ne_eqb, refl, set, slice_index, subst, sym, take, ℕ}
+use Rattle.std.proofs.Common.{eq-eqb, eqb, get_or, inl, inr, length, map, refl, set, slice_index, subst, sym, take, ℕ}
 use Rattle.std.proofs.Common.{⊎_elim, ◌++◌, ◌+◌, ◌<◌, ◌^◌, ◌∙◌, ◌∷◌, ◌≡◌, ◌≢◌, ◌≤◌, ◌⊎◌}
 use Rattle.std.specs.Cmp.{nat_eq_equiv}
 use Rattle.std.specs.List.Sorted.{IsNonDecreasingBy}
@@ -11,7 +11,7 @@ use Rattle.std.proofs.lemmas.List.{take-set, take_all, take_more, take_more_set}
 use Rattle.std.proofs.lemmas.Nat.{mod-mul-add}
 use Rattle.std.proofs.lemmas.List.Elements.{Contains-append_left, Contains-get_or, Contains-push, Contains-push_cases}
 use Rattle.std.proofs.lemmas.List.Sorted.{Contains-permutation, IsPermutation-map, IsPermutation-sym}
-use Rattle.std.proofs.lemmas.Map.Keys.{IsDistinct-IsPermutation, IsDistinct-from_apart, apart_from_distinct}
+use Rattle.std.proofs.lemmas.Map.Keys.{IsDistinct-IsPermutation, apart_from_distinct}
 use Rattle.fr_graph.proofs.Lists.{once_more}
 use Rattle.fr_graph.proofs.Linking.{link_below}
 use Rattle.fr_graph.proofs.Neighbours.{entry_is, in_of_row, out_of_row, row_of_in, row_of_out, row_rises}
@@ -26,7 +26,7 @@ use Rattle.fr_nearest.specs.Ranks.{AreListed, AreListedTo, AreOut, AreRanked, Ar
 use Rattle.fr_nearest.specs.Ranks.{number_of, rank_of}
 use Rattle.fr_nearest.specs.Touched.{HadLinks}
 use Rattle.fr_nearest.specs.Ways.{AreWays, IsFirstWay, IsNearer, IsWay}
-use Rattle.fr_nearest.proofs.Walking.{has_path}
+use Rattle.fr_nearest.proofs.Walking.{distinct_of, has_path}
 
 -- The row up to a place
 
@@ -204,8 +204,7 @@ listed_all {Out} {entries} {links} {x} {table} {list} place out end l =
         λ h. let was = (l.just w).0 h in ((out w).1 (was.0.0, rw whole at was.0.1, was.0.2), was.1),
         λ (h, has). let at = (out w).0 h in (l.just w).1 ((at.0, rw whole at.1, at.2), has),
       );
-      once = IsDistinct-from_apart eqb list (λ i j d lt inside. ne_eqb _ _ (λ same. l.once i j lt inside
-          (sym (get_or_default list i d 0 (omega (arith, lt, inside))) ∙ same ∙ get_or_default list j d 0 inside)));
+      once = distinct_of list l.once;
     }
 
 -- the links now, and those before a round
