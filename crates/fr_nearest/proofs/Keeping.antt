@@ -1,9 +1,9 @@
 -- A node that is not listed has kept its ways.
 use Rattle.std.proofs.Common.{All, Contains, IsPermutation, List, [], arith, eq-eqb, eqb, get_or, inl, inr, length, refl, slice_index}
-use Rattle.std.proofs.Common.{sym, ℕ, ⊎_elim, ◌+◌, ◌<◌, ◌∙◌, ◌≡◌, ◌≢◌, ◌⊎◌}
+use Rattle.std.proofs.Common.{sym, ℕ, ⊎_elim, ◌+◌, ◌<◌, ◌∙◌, ◌≡◌, ◌≢◌, ◌⊎◌, ◌↔◌}
 use Rattle.std.specs.Cmp.{nat_eq_equiv}
 use Rattle.std.specs.List.Sorted.{IsNonDecreasing}
-use Rattle.std.proofs.lemmas.Bool.{cases_eq, false≢true}
+use Rattle.std.proofs.lemmas.Bool.{cases_eq, cases_lt, false≢true}
 use Rattle.std.proofs.lemmas.List.Elements.{All-contains, Contains-get_or}
 use Rattle.std.proofs.lemmas.List.Sorted.{Contains-permutation, IsPermutation-sym}
 use Rattle.std.proofs.lemmas.Map.Keys.{IsDistinct-IsPermutation, apart_from_distinct}
@@ -11,15 +11,18 @@ use Rattle.fr_graph.proofs.Linking.{joined_below, link_below}
 use Rattle.fr_graph.proofs.Members.{Contains-none}
 use Rattle.fr_graph.specs.Links.{IsNet, Joins, Points}
 use Rattle.fr_graph.specs.Network.{Network}
+use Rattle.fr_graph.specs.Rows.{row}
 use Rattle.fr_graph.specs.declared.edit.Edit.{Edit}
 use Rattle.fr_graph.specs.declared.edit.Edit.TheVariants.{Add, Cut, Join}
 use Rattle.fr_nearest.specs.Affected.{AreAffected, HasEnds, KeepsWays}
 use Rattle.fr_nearest.specs.Distances.{AreChanged, AreDistances, no_distance}
-use Rattle.fr_nearest.specs.Marks.{ComesFirst, HasMarked, HasOne, IsBehind, IsEnd, IsNextTo, IsOrderedAlike}
+use Rattle.fr_nearest.specs.Marks.{ComesFirst, HasMarked, HasOne, IsAlikeAt, IsBehind, IsEnd, IsNextTo, IsOrderedAlike, IsReordered, StaysInOrder}
 use Rattle.fr_nearest.specs.Touched.{Adds, AreKept, AreNew, Cuts, HasEndsBelow, HasTurned, IsAdded, IsCut}
+use Rattle.fr_nearest.specs.Update.{HoldTo}
 use Rattle.fr_nearest.specs.Ways.{AreWays, IsNearer, IsWay}
 use Rattle.fr_nearest.specs.declared.affected.Marks.{Marks}
 use Rattle.fr_nearest.specs.declared.update.Touched.{Touched}
+use Rattle.fr_nearest.proofs.Entries.{hold_out}
 use Rattle.fr_nearest.proofs.Ranking.{inside_net, nearer_of, some_of, way_of}
 use Rattle.fr_nearest.proofs.Walking.{one_distance}
 
@@ -73,13 +76,88 @@ keeps_ways x were are below from to alike list = (
       ((alike.some w (from w link)).1 some) ((alike.some u (from u other)).1 too)).1) list,
 )
 
--- tables that do not differ at the nodes to which links of x point
-pub alike_same : (links : List (ℕ × ℕ)) (before table : List ℕ) (x : ℕ)
-    → ((w : ℕ) → Points links x w → slice_index table w ≡ slice_index before w) → IsOrderedAlike links before table x
-alike_same links before table x same = record {
-  some = λ w link. rw (same w link) (λ h. h, λ h. h);
-  order = λ w u link other _ _. rw (same w link, same u other) (λ h. h, λ h. h);
+-- The order of two nodes
+
+first_or_not : (table : List ℕ) (w u : ℕ) → ComesFirst table w u ⊎ ¬ ComesFirst table w u
+first_or_not table w u = elim (cases_lt (slice_index table w) (slice_index table u)) [
+  | inl less ↦ inl (inl less)
+  | inr past ↦ elim (cases_eq (slice_index table w) (slice_index table u)) [
+    | inl same ↦ elim (cases_lt w u) [
+      | inl low ↦ inl (inr (same, low))
+      | inr high ↦ inr (⊎_elim (λ l. omega (arith, l, past)) (λ e. omega (arith, e.1, high)))
+    ]
+    | inr apart ↦ inr (⊎_elim (λ l. omega (arith, l, past)) (λ e. apart e.0))
+  ]
+]
+
+first_either : (table : List ℕ) (w u : ℕ) → w ≢ u → ¬ ComesFirst table w u → ComesFirst table u w
+first_either table w u apart not = elim (cases_lt (slice_index table u) (slice_index table w)) [
+  | inl less ↦ inl less
+  | inr past ↦ elim (cases_eq (slice_index table u) (slice_index table w)) [
+    | inl same ↦ elim (cases_lt u w) [
+      | inl low ↦ inr (same, low)
+      | inr high ↦ absurd (not (inr (sym same, omega (arith, apart, high))))
+    ]
+    | inr other ↦ absurd (not (inl (omega (arith, past, other))))
+  ]
+]
+
+not_both : (table : List ℕ) (w u : ℕ) → ComesFirst table w u → ¬ ComesFirst table u w
+not_both table w u (inl less) (inl more) = omega (arith, less, more)
+not_both table w u (inl less) (inr same) = omega (arith, less, same.0)
+not_both table w u (inr same) (inl more) = omega (arith, more, same.0)
+not_both table w u (inr same) (inr back) = omega (arith, same.1, back.1)
+
+-- if one order is the same in both tables, so is the other
+other_order : (before table : List ℕ) (w u : ℕ) → w ≢ u → (ComesFirst table u w → ComesFirst before u w)
+    → ComesFirst before w u → ComesFirst table w u
+other_order before table w u apart back first = elim (first_or_not table w u) [
+  | inl is ↦ is
+  | inr not ↦ absurd (not_both before w u first (back (first_either table w u apart not)))
+]
+
+-- what cannot be otherwise
+stays : {links : List (ℕ × ℕ)} {before table : List ℕ} {x w : ℕ} → ¬ ¬ StaysInOrder links before table x w → StaysInOrder links before table x w
+stays {links} {before} {table} {x} {w} not = record {
+  some = (λ h e. not (λ s. s.some.0 h e), λ h e. not (λ s. s.some.1 h e));
+  order = λ u link. (
+    λ h. ⊎_elim (λ is. is) (λ out. absurd (not (λ s. out ((s.order u link).0 h)))) (first_or_not table w u),
+    λ h. ⊎_elim (λ is. is) (λ out. absurd (not (λ s. out ((s.order u link).1 h)))) (first_or_not before w u),
+  );
 }
+
+-- what the row of x shows
+pub stays_by : {n : ℕ} {links : List (ℕ × ℕ)} (before table : List ℕ) (x w : ℕ) → IsNet n links → slice_index before w ≢ no_distance
+    → slice_index table w ≢ no_distance → HoldTo (row n links x) (length (row n links x)) (IsAlikeAt before table w)
+    → StaysInOrder links before table x w
+stays_by {n} {links} before table x w is_net old new all = record {
+  some = (λ _. new, λ _. old);
+  order = λ u link. hold_out (IsAlikeAt before table w) n links x u is_net all link refl;
+}
+
+-- each neighbour has the same number as before, or stays in its order
+module _ (links : List (ℕ × ℕ)) (before table : List ℕ) (x : ℕ)
+    (each : (w : ℕ) → Points links x w → (slice_index table w ≡ slice_index before w) ⊎ StaysInOrder links before table x w) where
+  some_alike : (w : ℕ) → Points links x w → (slice_index before w ≢ no_distance) ↔ (slice_index table w ≢ no_distance)
+  some_alike w link = elim (each w link) [
+    | inl e ↦ rw e (λ h. h, λ h. h)
+    | inr s ↦ s.some
+  ]
+
+  order_alike : (w u : ℕ) → Points links x w → Points links x u → ComesFirst before w u ↔ ComesFirst table w u
+  order_alike w u link other = elim (each w link) [
+    | inr s ↦ s.order u other
+    | inl e ↦ elim (each u other) [
+      | inl f ↦ rw (e, f) (λ h. h, λ h. h)
+      | inr s ↦ elim (cases_eq w u) [
+        | inl same ↦ let f : slice_index table u ≡ slice_index before u = rw same at e in rw (e, f) (λ h. h, λ h. h)
+        | inr apart ↦ (other_order before table w u apart (s.order w link).1, other_order table before w u apart (s.order w link).0)
+      ]
+    ]
+  ]
+
+  pub ordered_alike : IsOrderedAlike links before table x
+  ordered_alike = record { some = some_alike; order = λ w u link other _ _. order_alike w u link other }
 
 -- The nodes that are listed
 
@@ -183,13 +261,13 @@ affected net touched before table Must May {first} {last} {list} is_net edits tu
         (⊎_elim (touched_below net touched is_net edits turned y) (low y))
         (marked.just y (Contains-permutation list last.nodes.items y (IsPermutation-sym last.nodes.items list same) h))
 
--- a node with no link to a changed node has the same numbers before it
+-- a node that no change has reordered
 pub alike_apart : (links : List (ℕ × ℕ)) (n : ℕ) (before table changed : List ℕ) → IsNet n links → length table ≡ n → AreChanged before table changed → (x : ℕ)
-    → ¬ HasOne (IsBehind links) changed x → IsOrderedAlike links before table x
-alike_apart links n before table changed is_net one_each are x apart = alike_same links before table x (λ w link.
+    → ¬ HasOne (IsReordered links before table) changed x → IsOrderedAlike links before table x
+alike_apart links n before table changed is_net one_each are x apart = ordered_alike links before table x (λ w link.
     elim (cases_eq (slice_index table w) (slice_index before w)) [
-      | inl e ↦ e
-      | inr other ↦ absurd (apart (w, (are.just w).1 (rw one_each (inside_net n links x is_net w link), other), link))
+      | inl e ↦ inl e
+      | inr other ↦ inr (stays (λ out. apart (w, (are.just w).1 (rw one_each (inside_net n links x is_net w link), other), (link, out))))
     ])
 
 pub behind_below : (links : List (ℕ × ℕ)) (n : ℕ) (changed : List ℕ) → IsNet n links → (y : ℕ) → HasOne (IsBehind links) changed y → y < n

@@ -16,7 +16,7 @@ use Rattle.fr_graph.proofs.Neighbours.{in_of_row, out_of_row, row_of_in, row_of_
 use Rattle.fr_graph.specs.Links.{IsNet}
 use Rattle.fr_graph.specs.Rows.{row}
 use Rattle.fr_graph.specs.declared.first.First.TheVariants.{Inward, Outward}
-use Rattle.fr_nearest.specs.Marks.{AreMarks, HasMarked, HasOne, IsBehind, IsInward, IsMarked, IsNeighbour, IsNextTo, IsUnmarked}
+use Rattle.fr_nearest.specs.Marks.{AreMarks, HasMarked, HasOne, IsBehind, IsInward, IsMarked, IsNeighbour, IsNextTo, IsReordered, IsReorderedAt, IsUnmarked}
 use Rattle.fr_nearest.specs.declared.affected.Marks.{Marks}
 use Rattle.fr_nearest.proofs.Noting.{in_or_out}
 
@@ -185,8 +185,9 @@ next_from_row n links x y (inl e) = inl e
 next_from_row n links x y (inr ((w, Outward), h, e)) = inr (inl (rw e (out_of_row n links x w h)))
 next_from_row n links x y (inr ((w, Inward), h, e)) = inr (inr (rw e (in_of_row n links x w h)))
 
-pub behind_in_row : (n : ℕ) (links : List (ℕ × ℕ)) (w : ℕ) → IsNet n links → (y : ℕ) → IsBehind links w y → HasOne IsInward (row n links w) y
-behind_in_row n links w is_net y link = ((y, Inward), row_of_in n links w y is_net link, (refl, refl))
+pub reordered_in_row : (n : ℕ) (links : List (ℕ × ℕ)) (before table : List ℕ) (w : ℕ) → IsNet n links → (y : ℕ) → IsReordered links before table w y
+    → HasOne (IsReorderedAt links before table w) (row n links w) y
+reordered_in_row n links before table w is_net y (link, out) = ((y, Inward), row_of_in n links w y is_net link, (refl, (refl, out)))
 
 pub behind_from_row : (n : ℕ) (links : List (ℕ × ℕ)) (w y : ℕ) → HasOne IsInward (row n links w) y → IsBehind links w y
 behind_from_row n links w y ((v, f), h, (back, e)) = rw e (in_of_row n links w v (rw back at h))

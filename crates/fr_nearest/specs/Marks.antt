@@ -6,7 +6,7 @@ use Rattle.fr_graph.specs.Links.{Joins, Points}
 use Rattle.fr_graph.specs.declared.edit.Edit.{Edit}
 use Rattle.fr_graph.specs.declared.edit.Edit.TheVariants.{Add, Cut, Join}
 use Rattle.fr_graph.specs.declared.first.First.{First}
-use Rattle.fr_graph.specs.declared.first.First.TheVariants.{Inward}
+use Rattle.fr_graph.specs.declared.first.First.TheVariants.{Inward, Outward}
 use Rattle.fr_nearest.specs.Affected.{Affecting}
 use Rattle.fr_nearest.specs.Distances.{no_distance}
 use Rattle.fr_nearest.specs.declared.affected.Affected.TheInside.{Inside}
@@ -82,3 +82,24 @@ IsNeighbour entry y = y ≡ entry.0
 -- the same, and its link points to the node of the row
 abbrev pub IsInward : ℕ × First → ℕ → Type 0
 IsInward entry y = (entry.1 ≡ Inward) × (y ≡ entry.0)
+
+-- w has a distance in both tables or in neither, and is in the same order with each node to which a link of x points
+pub record StaysInOrder (links : List (ℕ × ℕ)) (before table : List ℕ) (x w : ℕ) : Type 0 where
+  pub some : (slice_index before w ≢ no_distance) ↔ (slice_index table w ≢ no_distance)
+  pub order : (u : ℕ) → Points links x u → ComesFirst before w u ↔ ComesFirst table w u
+
+-- a link of y points to w, and w does not stay in its order
+abbrev pub IsReordered : List (ℕ × ℕ) → List ℕ → List ℕ → ℕ → ℕ → Type 0
+IsReordered links before table w y = Points links y w × ¬ StaysInOrder links before table y w
+
+-- y is x, and w does not stay in its order there
+abbrev pub IsMoved : List (ℕ × ℕ) → List ℕ → List ℕ → ℕ → ℕ → ℕ → Type 0
+IsMoved links before table x w y = (y ≡ x) × ¬ StaysInOrder links before table y w
+
+-- the same for the neighbour of this entry of the row of w, if its link points to w
+abbrev pub IsReorderedAt : List (ℕ × ℕ) → List ℕ → List ℕ → ℕ → ℕ × First → ℕ → Type 0
+IsReorderedAt links before table w entry y = (entry.1 ≡ Inward) × IsMoved links before table entry.0 w y
+
+-- w is in the same order with the neighbour of this entry, if the link points to it
+abbrev pub IsAlikeAt : List ℕ → List ℕ → ℕ → ℕ × First → Type 0
+IsAlikeAt before table w entry = entry.1 ≡ Outward → ComesFirst before w entry.0 ↔ ComesFirst table w entry.0

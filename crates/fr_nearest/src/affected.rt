@@ -1,12 +1,14 @@
 //! The nodes whose ways a change may have altered.
 
-ghost use Rattle.std.specs.Prelude.{◌≡◌, ℕ, ◌<◌, ◌≤◌, [], All, IsTrue, OnOk, length};
+ghost use Rattle.std.specs.Prelude.{◌≡◌, ℕ, ◌<◌, ◌≤◌, ◌↔◌, [], All, IsTrue, OnOk, length};
 ghost use Rattle.fr_nearest.specs.Affected.{AreAffected};
-ghost use Rattle.fr_nearest.specs.Marks.{AreMarks, HasMarked, HasOne, IsBehind, IsEnd, IsNextTo, IsUnmarked};
+ghost use Rattle.fr_nearest.specs.Marks.{AreMarks, ComesFirst, HasMarked, HasOne, IsBehind, IsEnd, IsNextTo};
+ghost use Rattle.fr_nearest.specs.Marks.{IsMoved, IsReordered, IsUnmarked, StaysInOrder};
 ghost use Rattle.fr_nearest.specs.Touched.{HasEndsBelow};
 
-use crate::distances::Distances;
+use crate::distances::{Distances, NONE};
 use crate::update::Touched;
+use crate::ways::rank;
 use fr_graph::{Edit, First, Net};
 use std::alloc::{AllocError, Global};
 use std::marker::Model;
@@ -107,34 +109,95 @@ impl Marks {
         }
     }
 
-    /// Lists the nodes with a link to one of these nodes.
-    fn mark_changed(&mut self, net: &Net, changed: &[u16])
+    /// Lists the nodes with a link to one of these nodes, whose distances have changed, unless their ways are in the
+    /// same order as before.
+    fn mark_changed(&mut self, net: &Net, changed: &[u16], distances: &Distances)
         requires marks { AreMarks self.old }
         requires room { net.now.nodes ≤ length self.old.marked.items }
         requires below { All (λ (x : ℕ). x < net.now.nodes) changed.now }
-        ensures { HasMarked (HasOne (IsBehind net.now.links) changed.now) (HasOne (IsBehind net.now.links) changed.now)
-            self.old self.new }
+        requires one_each { (length distances.now.table ≡ net.now.nodes) × (length distances.now.before ≡ net.now.nodes) }
+        ensures { HasMarked (HasOne (IsReordered net.now.links distances.now.before distances.now.table) changed.now)
+            (HasOne (IsBehind net.now.links) changed.now) self.old self.new }
     {
         for w in changed {
-            self.mark_behind(net, *w);
+            self.mark_behind(net, *w, distances);
         }
     }
 
-    /// Lists the nodes with a link to node `w`.
-    fn mark_behind(&mut self, net: &Net, w: u16)
+    /// Does this for one node `w`.
+    fn mark_behind(&mut self, net: &Net, w: u16, distances: &Distances)
         requires marks { AreMarks self.old }
         requires room { net.now.nodes ≤ length self.old.marked.items }
         requires node { w < net.now.nodes }
-        ensures { HasMarked (IsBehind net.now.links w) (IsBehind net.now.links w) self.old self.new }
+        requires one_each { (length distances.now.table ≡ net.now.nodes) × (length distances.now.before ≡ net.now.nodes) }
+        ensures { HasMarked (IsReordered net.now.links distances.now.before distances.now.table w)
+            (IsBehind net.now.links w) self.old self.new }
     {
         net.network_law();
         let row = net.row(w as u32);
         for (y, first) in row {
             if *first == First::Inward {
-                self.mark(*y as u32);
+                self.mark_reordered(net, *y, w, distances);
             }
         }
     }
+
+    /// Lists node `y`, unless it is listed or stays as it is although the distance of its neighbour `w` has changed.
+    fn mark_reordered(&mut self, net: &Net, y: u16, w: u16, distances: &Distances)
+        requires marks { AreMarks self.old }
+        requires room { net.now.nodes ≤ length self.old.marked.items }
+        requires nodes { (y < net.now.nodes) × (w < net.now.nodes) }
+        requires one_each { (length distances.now.table ≡ net.now.nodes) × (length distances.now.before ≡ net.now.nodes) }
+        ensures { HasMarked (IsMoved net.now.links distances.now.before distances.now.table y w) (λ z. z ≡ y)
+            self.old self.new }
+    {
+        if !self.marked[y as usize] && !keeps_order(net, y, w, distances) {
+            self.mark(y as u32);
+        }
+    }
+}
+
+/// Whether node `w` comes before node `u` by these distances.
+fn comes_first(table: &[u16], w: u16, u: u16) -> bool
+    requires { (w < length table.now) × (u < length table.now) }
+    ensures { IsTrue result ↔ ComesFirst table.now w u }
+{
+    rank(table[w as usize], w) < rank(table[u as usize], u)
+}
+
+/// Whether node `w` comes before node `u` by both tables, or by neither.
+fn is_alike(before: &[u16], table: &[u16], w: u16, u: u16) -> bool
+    requires before { (w < length before.now) × (u < length before.now) }
+    requires table { (w < length table.now) × (u < length table.now) }
+    ensures { IsTrue result → ComesFirst before.now w u ↔ ComesFirst table.now w u }
+{
+    if comes_first(before, w, u) {
+        comes_first(table, w, u)
+    } else {
+        !comes_first(table, w, u)
+    }
+}
+
+/// Whether neighbour `w` of node `x` had a distance before and has one now, and is in the same order with each node to
+/// which a link of `x` points.
+fn keeps_order(net: &Net, x: u16, w: u16, distances: &Distances) -> bool
+    requires nodes { (x < net.now.nodes) × (w < net.now.nodes) }
+    requires one_each { (length distances.now.table ≡ net.now.nodes) × (length distances.now.before ≡ net.now.nodes) }
+    ensures { IsTrue result → StaysInOrder net.now.links distances.now.before distances.now.table x w }
+{
+    net.network_law();
+    let before = distances.numbers_before();
+    let table = distances.numbers();
+    if before[w as usize] == NONE || table[w as usize] == NONE {
+        return false;
+    }
+    let row = net.row(x as u32);
+    for (u, first) in row {
+        if *first == First::Outward && !is_alike(before, table, w, *u) {
+            return false;
+        }
+    }
+    true
 }
 
 /// Room to list the nodes whose ways a change may have altered. It keeps its memory from one change to the next. In
@@ -185,10 +248,11 @@ impl Affected {
     }
 
     /// Lists the nodes whose ways the last change may have altered, in increasing order: the ends of the edited links,
-    /// the nodes that have turned and their neighbours, and the nodes with a link to a node whose distance has changed.
-    /// The ways of each other node are the same as before. It cannot fail and does not allocate.
+    /// the nodes that have turned and their neighbours, and the nodes with a link to a node whose distance has changed,
+    /// if that has changed which ways they have, or their order. The ways of each other node are the same as before. It
+    /// cannot fail and does not allocate.
     ///
-    /// O(e + (t + c) d + k log k) for e edits, t nodes that have turned, c changes of distances, and k listed nodes.
+    /// O(e + (t + c d) d + k log k) for e edits, t nodes that have turned, c changes of distances, and k listed nodes.
     pub fn list(&mut self, net: &Net, touched: &Touched<'_>, distances: &Distances)
         requires room { net.now.nodes ≤ self.old.room }
         requires one_each { length distances.now.table ≡ net.now.nodes }
@@ -201,7 +265,7 @@ impl Affected {
         self.marks.clear();
         self.marks.mark_edits(touched.edits);
         self.marks.mark_turned(net, touched.turned);
-        self.marks.mark_changed(net, distances.changed());
+        self.marks.mark_changed(net, distances.changed(), distances);
         self.marks.nodes.sort_unstable();
     }
 

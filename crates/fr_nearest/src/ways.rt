@@ -15,7 +15,7 @@ use fr_graph::{First, Net};
 use std::alloc::{AllocError, Global};
 
 /// The key by which ways are sorted: nearer ways first, and ways of the same distance by number.
-fn rank(distance: u16, w: u16) -> u32
+pub(crate) fn rank(distance: u16, w: u16) -> u32
     ensures { result ≡ distance * 2 ^ 16 + w }
 {
     (distance as u32) * (1 << 16) + w as u32
