@@ -8,7 +8,7 @@ use Rattle.fr_graph.specs.declared.edit.Edit.TheVariants.{Add, Cut, Join}
 use Rattle.fr_graph.specs.declared.first.First.{First}
 use Rattle.fr_graph.specs.declared.first.First.TheVariants.{Inward, Outward}
 use Rattle.fr_nearest.specs.Affected.{Affecting}
-use Rattle.fr_nearest.specs.Distances.{no_distance}
+use Rattle.fr_nearest.specs.Distances.{Measured, no_distance}
 use Rattle.fr_nearest.specs.declared.affected.Affected.TheInside.{Inside}
 use Rattle.fr_nearest.specs.declared.affected.Marks.{Marks}
 
@@ -58,6 +58,10 @@ pub record IsUnmarked (nodes : List ℕ) (before after : List Bool) : Type 0 whe
   pub long : length after ≡ length before
   pub these : (x : ℕ) → Contains nodes x → slice_index_or after x false ≡ false
   pub others : (x : ℕ) → ¬ Contains nodes x → slice_index_or after x false ≡ slice_index_or before x false
+
+-- both tables have a number for each of n nodes
+abbrev pub HasOneEach : ℕ → Measured → Type 0
+HasOneEach n m = (length m.table ≡ n) × (length m.before ≡ n)
 
 -- w comes before u in the ways, by the numbers of the table
 abbrev pub ComesFirst : List ℕ → ℕ → ℕ → Type 0

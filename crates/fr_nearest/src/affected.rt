@@ -2,8 +2,8 @@
 
 ghost use Rattle.std.specs.Prelude.{◌≡◌, ℕ, ◌<◌, ◌≤◌, ◌↔◌, [], All, IsTrue, OnOk, length};
 ghost use Rattle.fr_nearest.specs.Affected.{AreAffected};
-ghost use Rattle.fr_nearest.specs.Marks.{AreMarks, ComesFirst, HasMarked, HasOne, IsBehind, IsEnd, IsNextTo};
-ghost use Rattle.fr_nearest.specs.Marks.{IsMoved, IsReordered, IsUnmarked, StaysInOrder};
+ghost use Rattle.fr_nearest.specs.Marks.{AreMarks, ComesFirst, HasMarked, HasOne, HasOneEach, IsBehind, IsEnd};
+ghost use Rattle.fr_nearest.specs.Marks.{IsMoved, IsNextTo, IsReordered, IsUnmarked, StaysInOrder};
 ghost use Rattle.fr_nearest.specs.Touched.{HasEndsBelow};
 
 use crate::distances::{Distances, NONE};
@@ -115,7 +115,7 @@ impl Marks {
         requires marks { AreMarks self.old }
         requires room { net.now.nodes ≤ length self.old.marked.items }
         requires below { All (λ (x : ℕ). x < net.now.nodes) changed.now }
-        requires one_each { (length distances.now.table ≡ net.now.nodes) × (length distances.now.before ≡ net.now.nodes) }
+        requires one_each { HasOneEach net.now.nodes distances.now }
         ensures { HasMarked (HasOne (IsReordered net.now.links distances.now.before distances.now.table) changed.now)
             (HasOne (IsBehind net.now.links) changed.now) self.old self.new }
     {
@@ -129,7 +129,7 @@ impl Marks {
         requires marks { AreMarks self.old }
         requires room { net.now.nodes ≤ length self.old.marked.items }
         requires node { w < net.now.nodes }
-        requires one_each { (length distances.now.table ≡ net.now.nodes) × (length distances.now.before ≡ net.now.nodes) }
+        requires one_each { HasOneEach net.now.nodes distances.now }
         ensures { HasMarked (IsReordered net.now.links distances.now.before distances.now.table w)
             (IsBehind net.now.links w) self.old self.new }
     {
@@ -147,7 +147,7 @@ impl Marks {
         requires marks { AreMarks self.old }
         requires room { net.now.nodes ≤ length self.old.marked.items }
         requires nodes { (y < net.now.nodes) × (w < net.now.nodes) }
-        requires one_each { (length distances.now.table ≡ net.now.nodes) × (length distances.now.before ≡ net.now.nodes) }
+        requires one_each { HasOneEach net.now.nodes distances.now }
         ensures { HasMarked (IsMoved net.now.links distances.now.before distances.now.table y w) (λ z. z ≡ y)
             self.old self.new }
     {
@@ -182,7 +182,7 @@ fn is_alike(before: &[u16], table: &[u16], w: u16, u: u16) -> bool
 /// which a link of `x` points.
 fn keeps_order(net: &Net, x: u16, w: u16, distances: &Distances) -> bool
     requires nodes { (x < net.now.nodes) × (w < net.now.nodes) }
-    requires one_each { (length distances.now.table ≡ net.now.nodes) × (length distances.now.before ≡ net.now.nodes) }
+    requires one_each { HasOneEach net.now.nodes distances.now }
     ensures { IsTrue result → StaysInOrder net.now.links distances.now.before distances.now.table x w }
 {
     net.network_law();

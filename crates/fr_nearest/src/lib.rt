@@ -6,7 +6,7 @@
 //! alternates.
 //!
 //! [`Distances::measure`] measures all distances, and [`Distances::renew`] updates them after a change of the links, at
-//! the cost of what changes. The laws of ways are in [`laws`].
+//! the cost of what changes. [`Affected`] lists the nodes whose ways may differ then. The laws of ways are in [`laws`].
 //!
 //! Costs are for n nodes, m links, and d links at a node. They are read off the code, not proved.
 #![tactic(auto)]

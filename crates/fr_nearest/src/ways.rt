@@ -81,7 +81,13 @@ fn pointed_away(first: First, own: u64, other: u64) -> bool
 
 /// Does the same for the ways that node `x` had before a round in which each node has turned so often. The distances
 /// are those before the round.
-fn rank_ways_before(net: &Net, x: u32, counts: &[u64], distances: &[u16], ranks: &mut [u32]) -> usize
+fn rank_ways_before(
+    net: &Net,
+    x: u32,
+    counts: &[u64],
+    distances: &[u16],
+    ranks: &mut [u32],
+) -> usize
     requires node { x < net.now.nodes }
     requires counted { length counts.now ≡ net.now.nodes }
     requires one_each { length distances.now ≡ net.now.nodes }

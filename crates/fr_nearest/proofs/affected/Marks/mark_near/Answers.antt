@@ -12,7 +12,7 @@ mark-requires-in-loop-w-clause-node c =
     omega (
       arith,
       entry_below net.nodes net.links c.args.x c.row-row.result.now c.loop-w.w-index (0, Outward) c.row-row.ensures
-      c.loop-w-test.true,
+          c.loop-w-test.true,
       c.requires.room,
       c.mark.ensures.long,
       c.loop-w.invariant.long,
