@@ -237,6 +237,7 @@ impl Affected {
     /// refused. O(n).
     pub fn make_room(&mut self, nodes: usize) -> Result<(), AllocError>
         ensures room { OnOk result (nodes ≤ self.new.room) }
+        ensures stays { self.old.room ≤ self.new.room }
         ensures none { self.new.nodes ≡ [] }
     {
         self.marks.clear();
