@@ -39,8 +39,7 @@ module _ {n : ℕ} {old now : List (ℕ × ℕ)} {d e x : ℕ} {before table : L
     (below : (w : ℕ) → Points now x w → w < n) (from : (w : ℕ) → Points old x w → Points now x w) (to : (w : ℕ) → Points now x w → Points old x w)
     (some : (w : ℕ) → Points now x w → slice_index before w ≢ no_distance → slice_index table w ≢ no_distance)
     (back : (w : ℕ) → Points now x w → slice_index table w ≢ no_distance → slice_index before w ≢ no_distance)
-    (order : (w u : ℕ) → Points now x w → Points now x u → slice_index before w ≢ no_distance → slice_index before u ≢ no_distance
-    → ComesFirst before w u → ComesFirst table w u) where
+    (order : (w u : ℕ) → Points now x w → Points now x u → ComesFirst before w u → ComesFirst table w u) where
   was_below : (w : ℕ) → Points old x w → w < n
   was_below w link = below w (from w link)
 
@@ -60,8 +59,7 @@ module _ {n : ℕ} {old now : List (ℕ × ℕ)} {d e x : ℕ} {before table : L
         let other = (h.just u).0 (Contains-get_or list j 0 inside) in
         let first = order_of w u were (was_below w way.link) (was_below u other.link) (some_of was_below were w way) (some_of was_below were u other)
         (h.order i j lt inside) in
-        nearer_of below are w u (goes_on w way) (goes_on u other)
-        (order w u (from w way.link) (from u other.link) (some_of was_below were w way) (some_of was_below were u other) first);
+        nearer_of below are w u (goes_on w way) (goes_on u other) (order w u (from w way.link) (from u other.link) first);
   }
 
 pub keeps_ways : {n : ℕ} {old now : List (ℕ × ℕ)} {d e : ℕ} (x : ℕ) {before table : List ℕ} → AreDistances n old d before → AreDistances n now e table
@@ -69,11 +67,10 @@ pub keeps_ways : {n : ℕ} {old now : List (ℕ × ℕ)} {d e : ℕ} (x : ℕ) {
     → IsOrderedAlike now before table x → KeepsWays old d now e x
 keeps_ways x were are below from to alike list = (
   ways_kept were are below from to (λ w link. (alike.some w link).0) (λ w link. (alike.some w link).1)
-      (λ w u link other some too. (alike.order w u link other some too).0) list,
+      (λ w u link other. (alike.order w u link other).0) list,
   ways_kept are were (λ w link. below w (from w link)) to from
       (λ w link. (alike.some w (from w link)).1) (λ w link. (alike.some w (from w link)).0)
-      (λ w u link other some too. (alike.order w u (from w link) (from u other)
-      ((alike.some w (from w link)).1 some) ((alike.some u (from u other)).1 too)).1) list,
+      (λ w u link other. (alike.order w u (from w link) (from u other)).1) list,
 )
 
 -- The order of two nodes
@@ -157,7 +154,7 @@ module _ (links : List (ℕ × ℕ)) (before table : List ℕ) (x : ℕ)
   ]
 
   pub ordered_alike : IsOrderedAlike links before table x
-  ordered_alike = record { some = some_alike; order = λ w u link other _ _. order_alike w u link other }
+  ordered_alike = record { some = some_alike; order = order_alike }
 
 -- The nodes that are listed
 

@@ -72,8 +72,7 @@ ComesFirst table w u =
 pub record IsOrderedAlike (links : List (ℕ × ℕ)) (before table : List ℕ) (x : ℕ) : Type 0 where
   pub some : (w : ℕ) → Points links x w
       → (slice_index before w ≢ no_distance) ↔ (slice_index table w ≢ no_distance)
-  pub order : (w u : ℕ) → Points links x w → Points links x u → slice_index before w ≢ no_distance
-      → slice_index before u ≢ no_distance → ComesFirst before w u ↔ ComesFirst table w u
+  pub order : (w u : ℕ) → Points links x w → Points links x u → ComesFirst before w u ↔ ComesFirst table w u
 
 -- a link of y points to w
 abbrev pub IsBehind : List (ℕ × ℕ) → ℕ → ℕ → Type 0
