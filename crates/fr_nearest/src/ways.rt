@@ -166,9 +166,9 @@ impl Distances {
         count
     }
 
-    /// Lists the ways that node `x` had before the last update, as `ways_in` lists those it has. The links may have been
-    /// reversed since by a round in which each node has turned as often as `counts` says, and no link of the node may
-    /// have been added or removed.
+    /// Lists the ways that node `x` had before the last update, as `ways_in` lists those that it has. Since then a round
+    /// may have reversed links, and `counts` says how often each node has turned in it. No link of the node may have
+    /// been added or removed.
     ///
     /// The slice must have one place for each node of the network. O(d log d).
     pub fn ways_before_in(&self, net: &Net, counts: &[u64], x: u32, space: &mut [u32]) -> usize
