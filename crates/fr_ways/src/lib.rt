@@ -8,17 +8,22 @@
 //! Costs are for tables of n nodes with m ways in total. They are read off the code, not proved.
 #![tactic(auto)]
 
+mod changes;
 mod fault;
 mod kept;
 pub mod laws;
 mod plan;
+mod push_list;
 mod range;
+mod reserved;
 mod search;
 mod table;
 #[cfg(test)]
 mod tests;
 
+pub use changes::WayChanges;
 pub use fault::WaysFault;
 pub use plan::{Pushes, TwoPhases, known_phases, phases};
+pub use push_list::PushList;
 pub use range::first_outside;
 pub use table::WayTable;
