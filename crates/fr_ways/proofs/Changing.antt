@@ -1,18 +1,20 @@
 -- The pushes for one more node of a change, and room for them.
-use Rattle.std.proofs.Common.{All, Bool, List, [], ap, append-nil, arith, cond, false, inl, inr, length, length-append, map, refl, suc, sym, take, true, zero, ℕ}
+use Rattle.std.proofs.Common.{All, Bool, List, [], ap, append-nil, arith, cond, false, inl, inr, length, length-append, map, refl, subst, suc, sym, take, true, zero, ℕ}
 use Rattle.std.proofs.Common.{◌++◌, ◌+◌, ◌-◌, ◌<◌, ◌∙◌, ◌∷◌, ◌≡◌, ◌≢◌, ◌≤◌}
 use Rattle.std.specs.List.{concat, filter, list_any, range_with_len}
-use Rattle.std.specs.Prelude.{bytes_eq, not, ◌&&◌}
-use Rattle.std.proofs.lemmas.Bool.{cases_Bool, false≢true}
+use Rattle.std.specs.Prelude.{nat_lt, not, ◌==◌, ◌&&◌}
+use Rattle.std.proofs.lemmas.Bool.{cases_Bool, cases_eq, cases_lt, false≢true, le-ltb, lt-ltb, neq-eqb}
 use Rattle.std.proofs.lemmas.List.{length-map, map-append}
 use Rattle.std.proofs.lemmas.List.Elements.{Contains-get_or}
 use Rattle.std.proofs.lemmas.List.Folds.{concat-append}
 use Rattle.std.proofs.lemmas.List.FromFn.{length-range_with_len}
 use Rattle.fr_ways.specs.Changes.{IsNotedTo, MayNote, Noted}
+use Rattle.fr_ways.specs.ChangesInside.{noted_in}
+use Rattle.fr_ways.specs.declared.changes.WayChanges.TheInside.{Inside}
 use Rattle.fr_ways.specs.Held.{all_ways}
 use Rattle.fr_ways.specs.Phases.{differs, empties, grows, growths, is_empty, is_way, kept, loses, sheds, shrinks, shrunk}
 use Rattle.fr_ways.specs.Ways.{ways}
-use Rattle.fr_ways.proofs.Holding.{list_seconds}
+use Rattle.fr_ways.proofs.Holding.{list_seconds, with_list}
 use Rattle.fr_ways.proofs.Planning.{differs_no, differs_yes, empties_none, filter_range, map_cond, map_passed}
 use Rattle.fr_ways.proofs.Shrinking.{same_loses, shrunk_loser, shrunk_other}
 
@@ -54,14 +56,14 @@ filter_all p (x ∷ xs) long = elim (cases_Bool (p x)) [
 
 -- the ways of the first nodes of a table
 take_ways : (table : List (List ℕ)) (x : ℕ)
-    → length (concat (take (x + 1) table)) ≡ length (concat (take x table)) + length (ways table x)
+    → length (concat (take (suc x) table)) ≡ length (concat (take x table)) + length (ways table x)
 take_ways [] zero = refl
 take_ways [] (suc x) = refl
 take_ways (row ∷ rows) zero = omega (arith, length-append row [])
 take_ways (row ∷ rows) (suc x) = omega (
   arith,
   take_ways rows x,
-  length-append row (concat (take (x + 1) rows)),
+  length-append row (concat (take (suc x) rows)),
   length-append row (concat (take x rows)),
 )
 
@@ -91,7 +93,7 @@ module _ (table : List (List ℕ)) (p : ℕ → Bool) (f : ℕ → List ℕ)
       let more : concat (map f (filter p (range_with_len 0 (x + 1)))) ≡ concat (map f before) ++ concat (map f here) =
       ap (λ (xs : List ℕ). concat (map f xs)) (filter_range p x)
       ∙ (ap concat (map-append f before here) ∙ concat-append (map f before) (map f here)) in
-      let both : length (concat (map f (filter p (range_with_len 0 (x + 1))))) ≤ length (concat (take (x + 1) table)) =
+      let both : length (concat (map f (filter p (range_with_len 0 (x + 1))))) ≤ length (concat (take (suc x) table)) =
       omega (
         arith,
         ap length more,
@@ -101,10 +103,11 @@ module _ (table : List (List ℕ)) (p : ℕ → Bool) (f : ℕ → List ℕ)
         fits x,
         take_ways table x,
       ) in
-      rw (← next) both
+      subst (λ (k : ℕ). length (concat (map f (filter p (range_with_len 0 k)))) ≤ length (concat (take (suc x) table)))
+          next both
 
   pairs_fit : (x : ℕ)
-      → length (all_ways (map (λ (y : ℕ). (y, f y)) (filter p (range_with_len 0 x)))) ≤ length (concat (take x table))
+      → length (all_ways (map (with_list f) (filter p (range_with_len 0 x)))) ≤ length (concat (take x table))
   pairs_fit x = rw (list_seconds f (filter p (range_with_len 0 x))) (lists_fit x)
 
 -- there is room for one more push in each phase
@@ -120,31 +123,35 @@ one_part true true t = absurd (false≢true t)
 one_part true false t = refl
 one_part false b t = refl
 
-pub has_places : (before after : List (List ℕ)) (x : ℕ) (old new : List ℕ) (noted : Noted)
+pub few_noted : (before after : List (List ℕ)) (x : ℕ) (noted : Noted) → IsNotedTo before after x noted
+    → length noted.shrink + length noted.emptied ≤ x
+few_noted before after x noted is =
+    let range = range_with_len 0 x in
+    omega (
+      arith,
+      parts_fit (sheds before after) (empties before after)
+          (λ y t. one_part (loses before after y) (is_empty (kept before after y)) t) range,
+      length-range_with_len 0 x,
+      ap length is.shrink,
+      length-map (filter (sheds before after) range) (with_list (kept before after)),
+      ap length is.emptied,
+    )
+
+has_places : (before after : List (List ℕ)) (x : ℕ) (old new : List ℕ) (noted : Noted)
     → MayNote before after x old new noted → HasPlaces new noted
 has_places before after x old new noted may =
     let range = range_with_len 0 x in
     let long = length-range_with_len 0 x in
     let total : length (concat (take x after)) + length new ≤ length (concat after) =
-    omega (arith, take_ways after x, take_fits after (x + 1), ap length may.ways_after) in
+    omega (arith, take_ways after x, take_fits after (suc x), ap length may.ways_after) in
     record {
-      shrink = omega (
-        arith,
-        parts_fit (sheds before after) (empties before after)
-            (λ y t. one_part (loses before after y) (is_empty (kept before after y)) t) range,
-        long,
-        ap length may.below.shrink,
-        length-map (filter (sheds before after) range) (λ (y : ℕ). (y, kept before after y)),
-        ap length may.below.emptied,
-        may.inside,
-        may.room.nodes,
-      );
+      shrink = omega (arith, few_noted before after x noted may.below, may.inside, may.room.nodes);
       grow = omega (
         arith,
         filter_fits (grows before after) range,
         long,
         ap length may.below.grow,
-        length-map (filter (grows before after) range) (λ (y : ℕ). (y, ways after y)),
+        length-map (filter (grows before after) range) (with_list (ways after)),
         may.inside,
         may.room.nodes,
       );
@@ -167,13 +174,18 @@ has_places before after x old new noted may =
           omega (arith, may.range x _ (Contains-get_or (ways after x) k d low), may.room.nodes));
     }
 
+pub inside_places : (s : Inside) (value : Noted) (x : ℕ) (old new : List ℕ) → noted_in s ≡ value
+    → (before after : List (List ℕ)) × MayNote before after x old new value → HasPlaces new (noted_in s)
+inside_places s value x old new view (before, after, may) =
+    subst (HasPlaces new) (sym view) (has_places before after x old new value may)
+
 -- the pushes for one more node
 
 pairs_more : (p : ℕ → Bool) (f : ℕ → List ℕ) (x : ℕ)
-    → map (λ (y : ℕ). (y, f y)) (filter p (range_with_len 0 (x + 1)))
-    ≡ map (λ (y : ℕ). (y, f y)) (filter p (range_with_len 0 x)) ++ cond {A = List (ℕ × List ℕ)} (p x) ((x, f x) ∷ []) []
+    → map (with_list f) (filter p (range_with_len 0 (x + 1)))
+    ≡ map (with_list f) (filter p (range_with_len 0 x)) ++ cond {A = List (ℕ × List ℕ)} (p x) ((x, f x) ∷ []) []
 pairs_more p f x =
-    let pair = λ (y : ℕ). (y, f y) in
+    let pair = with_list f in
     let before = filter p (range_with_len 0 x) in
     ap (map pair) (filter_range p x)
     ∙ (map-append pair before (cond (p x) (x ∷ []) [])
@@ -197,3 +209,78 @@ module _ (before after : List (List ℕ)) (x : ℕ) (was now : Noted) (is : IsNo
         ++ cond {A = List (ℕ × List ℕ)} (grows before after x) ((x, ways after x) ∷ []) []) is.grow
         ∙ sym (pairs_more (grows before after) (ways after) x));
   }
+
+  -- a node that loses ways
+  pub noted_loser : loses before after x ≡ true
+      → now.shrink ≡ was.shrink ++ cond {A = List (ℕ × List ℕ)} (not (is_empty (kept before after x)))
+      ((x, kept before after x) ∷ []) []
+      → now.emptied ≡ was.emptied ++ cond (is_empty (kept before after x)) (x ∷ []) []
+      → now.grow ≡ was.grow ++ cond {A = List (ℕ × List ℕ)} (differs (kept before after x) (ways after x))
+      ((x, ways after x) ∷ []) []
+      → IsNotedTo before after (x + 1) now
+  noted_loser t shrink emptied grow = noted_more
+      (rw t shrink)
+      (rw t emptied)
+      (rw (shrunk_loser before after x t) grow)
+
+  -- any other node
+  pub noted_other : loses before after x ≡ false → now.shrink ≡ was.shrink → now.emptied ≡ was.emptied
+      → now.grow ≡ was.grow ++ cond {A = List (ℕ × List ℕ)} (differs (ways before x) (ways after x))
+      ((x, ways after x) ∷ []) []
+      → IsNotedTo before after (x + 1) now
+  noted_other f shrink emptied grow = noted_more
+      (rw (f, append-nil was.shrink) shrink)
+      (rw (f, append-nil was.emptied) emptied)
+      (rw (shrunk_other before after x f) grow)
+
+-- a node that has the same ways
+pub noted_same : (before after : List (List ℕ)) (x : ℕ) (noted : Noted) → ways before x ≡ ways after x
+    → IsNotedTo before after x noted → IsNotedTo before after (x + 1) noted
+noted_same before after x noted same is = noted_other before after x noted noted is (same_loses before after x same)
+    refl refl (rw (differs_no (ways before x) (ways after x) same, append-nil noted.grow) refl)
+
+-- so only nodes whose lists have changed need be noted
+pub noted_on : (before after : List (List ℕ)) (x z : ℕ) (noted : Noted) → IsNotedTo before after x noted → x ≤ z
+    → ((y : ℕ) → x ≤ y → y < z → ways before y ≡ ways after y) → IsNotedTo before after z noted
+noted_on before after x zero noted is up same =
+    let here : x ≡ 0 = omega (arith, up) in
+    subst (λ (k : ℕ). IsNotedTo before after k noted) here is
+noted_on before after x (suc z) noted is up same = elim (cases_eq x (suc z)) [
+  | inl e ↦ subst (λ (k : ℕ). IsNotedTo before after k noted) e is
+  | inr apart ↦
+      let low : x ≤ z = omega (arith, up, apart) in
+      let next : z + 1 ≡ suc z = omega arith in
+      let below = noted_on before after x z noted is low (λ y from to. same y from (omega (arith, to))) in
+      subst (λ (k : ℕ). IsNotedTo before after k noted) next
+          (noted_same before after z noted (same z low (omega arith)) below)
+]
+
+-- the emptied nodes follow
+pub noted_whole : (before after : List (List ℕ)) (noted : Noted) (shrink : List (ℕ × List ℕ))
+    → IsNotedTo before after (length after) noted
+    → shrink ≡ noted.shrink ++ map (with_list (λ (x : ℕ). [])) noted.emptied → shrink ≡ shrinks before after
+noted_whole before after noted shrink is more =
+    let nodes = range_with_len 0 (length after) in
+    let pair = with_list (kept before after) in
+    let bare = with_list (λ (x : ℕ). []) in
+    let first = filter (sheds before after) nodes in
+    let last = filter (empties before after) nodes in
+    more
+    ∙ (ap (λ (ps : List (ℕ × List ℕ)). ps ++ map bare noted.emptied) is.shrink
+    ∙ (ap (λ (xs : List ℕ). map pair first ++ map bare xs) is.emptied
+    ∙ (ap (λ (ps : List (ℕ × List ℕ)). map pair first ++ ps)
+    (map_passed bare pair (empties before after)
+    (λ x t. ap (λ (list : List ℕ). with_list (λ (y : ℕ). list) x) (sym (empties_none before after x t))) nodes)
+    ∙ sym (map-append pair first last))))
+
+-- the tests of a kept list by its length
+pub empty_test : (list : List ℕ) → (length list == 0) ≡ is_empty list
+empty_test [] = refl
+empty_test (y ∷ ys) = neq-eqb (length (y ∷ ys)) 0 (omega arith)
+
+pub fewer_test : (p : ℕ → Bool) (xs : List ℕ) → nat_lt (length (filter p xs)) (length xs) ≡ differs (filter p xs) xs
+fewer_test p xs = elim (cases_lt (length (filter p xs)) (length xs)) [
+  | inl low ↦ lt-ltb (length (filter p xs)) (length xs) low ∙ sym (differs_yes (filter p xs) xs (λ e. omega (arith, low, ap length e)))
+  | inr high ↦ le-ltb (length (filter p xs)) (length xs) high
+      ∙ sym (differs_no (filter p xs) xs (filter_all p xs (omega (arith, high, filter_fits p xs))))
+]

@@ -111,12 +111,16 @@ pub none_pushed : {A : Type 0} (list : List ℕ) (pushes : List A) → length li
 none_pushed [] pushes none = refl
 none_pushed (y ∷ ys) pushes none = absurd (omega (arith, none))
 
--- each of these nodes with a list of its own
-pub list_firsts : (list_of : ℕ → List ℕ) (xs : List ℕ) → map (λ (p : ℕ × List ℕ). p.0) (map (λ (x : ℕ). (x, list_of x)) xs) ≡ xs
+-- a node with its list
+abbrev pub with_list : (ℕ → List ℕ) → ℕ → ℕ × List ℕ
+with_list list_of x = (x, list_of x)
+
+pub list_firsts : (list_of : ℕ → List ℕ) (xs : List ℕ)
+    → map (λ (p : ℕ × List ℕ). p.0) (map (with_list list_of) xs) ≡ xs
 list_firsts list_of [] = refl
 list_firsts list_of (x ∷ xs) = ap (λ (ys : List ℕ). x ∷ ys) (list_firsts list_of xs)
 
 pub list_seconds : (list_of : ℕ → List ℕ) (xs : List ℕ)
-    → map (λ (p : ℕ × List ℕ). p.1) (map (λ (x : ℕ). (x, list_of x)) xs) ≡ map list_of xs
+    → map (λ (p : ℕ × List ℕ). p.1) (map (with_list list_of) xs) ≡ map list_of xs
 list_seconds list_of [] = refl
 list_seconds list_of (x ∷ xs) = ap (λ (rest : List (List ℕ)). list_of x ∷ rest) (list_seconds list_of xs)

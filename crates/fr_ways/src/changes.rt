@@ -1,6 +1,6 @@
 //! The pushes of both phases for a change that alters the ways of few nodes.
 
-ghost use Rattle.std.specs.Prelude.{◌≡◌, ℕ, ◌<◌, ◌≤◌, ◌+◌, ◌++◌, [], ◌∷◌, Bool, IfOk, List, OnOk, cond, false, length};
+ghost use Rattle.std.specs.Prelude.{◌≡◌, ℕ, ◌<◌, ◌≤◌, ◌+◌, ◌++◌, [], ◌∷◌, Bool, IfOk, List, OnOk, cond, false, length, max};
 ghost use Rattle.std.specs.Prelude.{replicate, true, vec_capacity};
 ghost use Rattle.fr_ways.specs.Changes.{HasNoPushes, HasRoomFor, HasSameRoom, IsNotedTo, KeepsPushes, MayNote};
 ghost use Rattle.fr_ways.specs.Phases.{growths, shrinks};
@@ -145,6 +145,7 @@ fn add_marks(marks: &mut Vec<bool>, nodes: usize) -> Result<(), AllocError>
     ensures clear { marks.new.items ≡ replicate (length marks.new.items) false }
     ensures room { OnOk result (nodes ≤ length marks.new.items) }
     ensures more { length marks.old.items ≤ length marks.new.items }
+    ensures few { length marks.new.items ≤ max (length marks.old.items) nodes }
 {
     if marks.len() < nodes {
         marks.resize(nodes, false)?;

@@ -1,4 +1,4 @@
-use Rattle.std.proofs.Common.{Bool, Contains, ap, arith, false, get_or, length, ℕ, ◌<◌, ◌∙◌, ◌≡◌}
+use Rattle.std.proofs.Common.{Contains, ap, arith, false, get_or, length, ℕ, ◌<◌, ◌∙◌}
 use Rattle.std.specs.Prelude.{not}
 use Rattle.std.proofs.lemmas.List.Elements.{All-contains}
 use Rattle.fr_ways.specs.Phases.{is_way}

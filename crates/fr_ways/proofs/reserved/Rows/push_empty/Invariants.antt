@@ -1,4 +1,4 @@
-use Rattle.std.proofs.Common.{List, [], length, map, take, ℕ, ◌++◌, ◌+◌, ◌≡◌, ◌≤◌}
+use Rattle.std.proofs.Common.{[], length, map, take, ℕ, ◌++◌, ◌+◌, ◌≡◌, ◌≤◌}
 use Rattle.fr_ways.specs.Held.{HoldsAsMuch}
 use Rattle.fr_ways.proofs.reserved.Rows.push_empty.Given as goal
 

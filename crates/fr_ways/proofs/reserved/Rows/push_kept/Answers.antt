@@ -1,8 +1,7 @@
 use Rattle.std.proofs.Common.{ap, sym, arith, length, length-append, ℕ, List, ◌++◌, ◌+◌, ◌∷◌, ◌∙◌, ◌≡◌, append-nil, []}
 use Rattle.std.proofs.lemmas.List.{nil_from_length}
 use Rattle.fr_ways.specs.Held.{Held}
-use Rattle.fr_ways.proofs.Holding.{HasPushed, held_as, held_pushed, none_pushed, some_pushed}
-use Rattle.fr_ways.proofs.Rows.{still_rows}
+use Rattle.fr_ways.proofs.Holding.{held_as, held_pushed, none_pushed, some_pushed}
 use Rattle.fr_ways.proofs.reserved.Rows.push_kept.Goals as goal
 use Rattle.fr_ways.proofs.reserved.Rows.push_kept.Goals.{then-start-end, else-start-end}
 use Rattle.std.specs.List.{filter}
