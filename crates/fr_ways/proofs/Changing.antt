@@ -3,7 +3,7 @@ use Rattle.std.proofs.Common.{All, Bool, List, [], ap, append-nil, arith, cond, 
 use Rattle.std.proofs.Common.{◌++◌, ◌+◌, ◌-◌, ◌<◌, ◌∙◌, ◌∷◌, ◌≡◌, ◌≢◌, ◌≤◌}
 use Rattle.std.specs.List.{concat, filter, list_any, range_with_len}
 use Rattle.std.specs.Prelude.{nat_lt, not, ◌==◌, ◌&&◌}
-use Rattle.std.proofs.lemmas.Bool.{cases_Bool, cases_eq, cases_lt, false≢true, le-ltb, lt-ltb, neq-eqb}
+use Rattle.std.proofs.lemmas.Bool.{cases_Bool, cases_eq, cases_lt, false≢true, le-ltb, lt-ltb, ne_eqb}
 use Rattle.std.proofs.lemmas.List.{length-map, map-append}
 use Rattle.std.proofs.lemmas.List.Elements.{Contains-get_or}
 use Rattle.std.proofs.lemmas.List.Folds.{concat-append}
@@ -16,6 +16,7 @@ use Rattle.fr_ways.specs.Phases.{differs, empties, grows, growths, is_empty, is_
 use Rattle.fr_ways.specs.Ways.{ways}
 use Rattle.fr_ways.proofs.Holding.{list_seconds, with_list}
 use Rattle.fr_ways.proofs.Planning.{differs_no, differs_yes, empties_none, filter_range, map_cond, map_passed}
+use Rattle.fr_ways.proofs.Rows.{take_fits}
 use Rattle.fr_ways.proofs.Shrinking.{same_loses, shrunk_loser, shrunk_other}
 
 -- how many there are
@@ -65,16 +66,6 @@ take_ways (row ∷ rows) (suc x) = omega (
   take_ways rows x,
   length-append row (concat (take (suc x) rows)),
   length-append row (concat (take x rows)),
-)
-
-take_fits : (table : List (List ℕ)) (x : ℕ) → length (concat (take x table)) ≤ length (concat table)
-take_fits table zero = omega arith
-take_fits [] (suc x) = omega arith
-take_fits (row ∷ rows) (suc x) = omega (
-  arith,
-  take_fits rows x,
-  length-append row (concat (take x rows)),
-  length-append row (concat rows),
 )
 
 one_fits : (f : ℕ → List ℕ) (x : ℕ) (b : Bool) → length (concat (map f (cond b (x ∷ []) []))) ≤ length (f x)
@@ -210,34 +201,62 @@ module _ (before after : List (List ℕ)) (x : ℕ) (was now : Noted) (is : IsNo
         ∙ sym (pairs_more (grows before after) (ways after) x));
   }
 
-  -- a node that loses ways
-  pub noted_loser : loses before after x ≡ true
-      → now.shrink ≡ was.shrink ++ cond {A = List (ℕ × List ℕ)} (not (is_empty (kept before after x)))
-      ((x, kept before after x) ∷ []) []
-      → now.emptied ≡ was.emptied ++ cond (is_empty (kept before after x)) (x ∷ []) []
-      → now.grow ≡ was.grow ++ cond {A = List (ℕ × List ℕ)} (differs (kept before after x) (ways after x))
-      ((x, ways after x) ∷ []) []
-      → IsNotedTo before after (x + 1) now
-  noted_loser t shrink emptied grow = noted_more
-      (rw t shrink)
-      (rw t emptied)
-      (rw (shrunk_loser before after x t) grow)
+-- the tests of a kept list by its length
+empty_test : (list : List ℕ) → (length list == 0) ≡ is_empty list
+empty_test [] = refl
+empty_test (y ∷ ys) = ne_eqb (length (y ∷ ys)) 0 (λ e. absurd (omega (arith, e)))
 
-  -- any other node
-  pub noted_other : loses before after x ≡ false → now.shrink ≡ was.shrink → now.emptied ≡ was.emptied
-      → now.grow ≡ was.grow ++ cond {A = List (ℕ × List ℕ)} (differs (ways before x) (ways after x))
-      ((x, ways after x) ∷ []) []
+fewer_test : (p : ℕ → Bool) (xs : List ℕ) → nat_lt (length (filter p xs)) (length xs) ≡ differs (filter p xs) xs
+fewer_test p xs = elim (cases_lt (length (filter p xs)) (length xs)) [
+  | inl low ↦ lt-ltb (length (filter p xs)) (length xs) low ∙ sym (differs_yes (filter p xs) xs (λ e. omega (arith, low, ap length e)))
+  | inr high ↦ le-ltb (length (filter p xs)) (length xs) high
+      ∙ sym (differs_no (filter p xs) xs (filter_all p xs (omega (arith, high, filter_fits p xs))))
+]
+
+-- what the next node adds
+module _ (before after : List (List ℕ)) (x : ℕ) (old new : List ℕ) (was now : Noted)
+    (may : MayNote before after x old new was) where
+  -- a node that loses ways, and keeps so many
+  pub noted_loser : (count : ℕ) → list_any (λ y. not (is_way new y)) old ≡ true
+      → count ≡ length (filter (is_way old) new)
+      → now.shrink ≡ was.shrink ++ cond {A = List (ℕ × List ℕ)} (not (is_empty (filter (is_way old) new)))
+      ((x, filter (is_way old) new) ∷ []) []
+      → now.emptied ≡ was.emptied ++ cond (count == 0) (x ∷ []) []
+      → now.grow ≡ was.grow ++ cond {A = List (ℕ × List ℕ)} (nat_lt count (length new)) ((x, new) ∷ []) []
       → IsNotedTo before after (x + 1) now
-  noted_other f shrink emptied grow = noted_more
-      (rw (f, append-nil was.shrink) shrink)
-      (rw (f, append-nil was.emptied) emptied)
-      (rw (shrunk_other before after x f) grow)
+  noted_loser count lost is shrink emptied grow =
+      let some : loses before after x ≡ true = rw (may.ways_before, may.ways_after) lost in
+      let keeps : kept before after x ≡ filter (is_way old) new = rw (may.ways_before, may.ways_after) refl in
+      let none : (count == 0) ≡ is_empty (filter (is_way old) new) =
+      ap (λ (n : ℕ). n == 0) is ∙ empty_test (filter (is_way old) new) in
+      let fewer : nat_lt count (length new) ≡ differs (filter (is_way old) new) new =
+      ap (λ (n : ℕ). nat_lt n (length new)) is ∙ fewer_test (is_way old) new in
+      noted_more before after x was now may.below
+          (rw (some, keeps) shrink)
+          (rw (some, keeps, ← none) emptied)
+          (rw (shrunk_loser before after x some, keeps, may.ways_after, ← fewer) grow)
+
+  -- any other node whose list has changed
+  pub noted_other : list_any (λ y. not (is_way new y)) old ≡ false → old ≢ new → now.shrink ≡ was.shrink
+      → now.emptied ≡ was.emptied → now.grow ≡ was.grow ++ (x, new) ∷ [] → IsNotedTo before after (x + 1) now
+  noted_other lost apart shrink emptied grow =
+      let none : loses before after x ≡ false = rw (may.ways_before, may.ways_after) lost in
+      noted_more before after x was now may.below
+          (rw (none, append-nil was.shrink) shrink)
+          (rw (none, append-nil was.emptied) emptied)
+          (rw (shrunk_other before after x none, may.ways_before, may.ways_after, differs_yes old new apart) grow)
 
 -- a node that has the same ways
 pub noted_same : (before after : List (List ℕ)) (x : ℕ) (noted : Noted) → ways before x ≡ ways after x
     → IsNotedTo before after x noted → IsNotedTo before after (x + 1) noted
-noted_same before after x noted same is = noted_other before after x noted noted is (same_loses before after x same)
-    refl refl (rw (differs_no (ways before x) (ways after x) same, append-nil noted.grow) refl)
+noted_same before after x noted same is =
+    let none : loses before after x ≡ false = same_loses before after x same in
+    let stays : grows before after x ≡ false =
+    differs_no (shrunk before after x) (ways after x) (shrunk_other before after x none ∙ same) in
+    noted_more before after x noted noted is
+    (rw (none, append-nil noted.shrink) refl)
+    (rw (none, append-nil noted.emptied) refl)
+    (rw (stays, append-nil noted.grow) refl)
 
 -- so only nodes whose lists have changed need be noted
 pub noted_on : (before after : List (List ℕ)) (x z : ℕ) (noted : Noted) → IsNotedTo before after x noted → x ≤ z
@@ -272,15 +291,3 @@ noted_whole before after noted shrink is more =
     (map_passed bare pair (empties before after)
     (λ x t. ap (λ (list : List ℕ). with_list (λ (y : ℕ). list) x) (sym (empties_none before after x t))) nodes)
     ∙ sym (map-append pair first last))))
-
--- the tests of a kept list by its length
-pub empty_test : (list : List ℕ) → (length list == 0) ≡ is_empty list
-empty_test [] = refl
-empty_test (y ∷ ys) = neq-eqb (length (y ∷ ys)) 0 (omega arith)
-
-pub fewer_test : (p : ℕ → Bool) (xs : List ℕ) → nat_lt (length (filter p xs)) (length xs) ≡ differs (filter p xs) xs
-fewer_test p xs = elim (cases_lt (length (filter p xs)) (length xs)) [
-  | inl low ↦ lt-ltb (length (filter p xs)) (length xs) low ∙ sym (differs_yes (filter p xs) xs (λ e. omega (arith, low, ap length e)))
-  | inr high ↦ le-ltb (length (filter p xs)) (length xs) high
-      ∙ sym (differs_no (filter p xs) xs (filter_all p xs (omega (arith, high, filter_fits p xs))))
-]
