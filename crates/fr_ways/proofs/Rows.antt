@@ -1,6 +1,6 @@
 -- A table of ways in two lists: where each row lies, and what one more row adds.
 use Rattle.std.proofs.Common.{Contains, List, [], ap, arith, drop, get_or, length, length-append, length-drop, refl}
-use Rattle.std.proofs.Common.{subst, suc, sym, take, zero, ℕ}
+use Rattle.std.proofs.Common.{suc, sym, take, zero, ℕ}
 use Rattle.std.proofs.Common.{◌++◌, ◌+◌, ◌-◌, ◌<◌, ◌∙◌, ◌∷◌, ◌≡◌, ◌≤◌}
 use Rattle.std.specs.List.{concat}
 use Rattle.std.proofs.lemmas.List.{drop-append-le, drop-drop, drop_all, drop_at, length-take-le, take-append-drop}
