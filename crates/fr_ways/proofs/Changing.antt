@@ -95,7 +95,7 @@ module _ (table : List (List ℕ)) (p : ℕ → Bool) (f : ℕ → List ℕ)
         take_ways table x,
       ) in
       subst (λ (k : ℕ). length (concat (map f (filter p (range_with_len 0 k)))) ≤ length (concat (take (suc x) table)))
-          next both
+      next both
 
   pairs_fit : (x : ℕ)
       → length (all_ways (map (with_list f) (filter p (range_with_len 0 x)))) ≤ length (concat (take x table))
@@ -232,9 +232,9 @@ module _ (before after : List (List ℕ)) (x : ℕ) (old new : List ℕ) (was no
       let fewer : nat_lt count (length new) ≡ differs (filter (is_way old) new) new =
       ap (λ (n : ℕ). nat_lt n (length new)) is ∙ fewer_test (is_way old) new in
       noted_more before after x was now may.below
-          (rw (some, keeps) shrink)
-          (rw (some, keeps, ← none) emptied)
-          (rw (shrunk_loser before after x some, keeps, may.ways_after, ← fewer) grow)
+      (rw (some, keeps) shrink)
+      (rw (some, keeps, ← none) emptied)
+      (rw (shrunk_loser before after x some, keeps, may.ways_after, ← fewer) grow)
 
   -- any other node whose list has changed
   pub noted_other : list_any (λ y. not (is_way new y)) old ≡ false → old ≢ new → now.shrink ≡ was.shrink
@@ -242,9 +242,9 @@ module _ (before after : List (List ℕ)) (x : ℕ) (old new : List ℕ) (was no
   noted_other lost apart shrink emptied grow =
       let none : loses before after x ≡ false = rw (may.ways_before, may.ways_after) lost in
       noted_more before after x was now may.below
-          (rw (none, append-nil was.shrink) shrink)
-          (rw (none, append-nil was.emptied) emptied)
-          (rw (shrunk_other before after x none, may.ways_before, may.ways_after, differs_yes old new apart) grow)
+      (rw (none, append-nil was.shrink) shrink)
+      (rw (none, append-nil was.emptied) emptied)
+      (rw (shrunk_other before after x none, may.ways_before, may.ways_after, differs_yes old new apart) grow)
 
 -- a node that has the same ways
 pub noted_same : (before after : List (List ℕ)) (x : ℕ) (noted : Noted) → ways before x ≡ ways after x
@@ -271,7 +271,7 @@ noted_on before after x (suc z) noted is up same = elim (cases_eq x (suc z)) [
       let next : z + 1 ≡ suc z = omega arith in
       let below = noted_on before after x z noted is low (λ y from to. same y from (omega (arith, to))) in
       subst (λ (k : ℕ). IsNotedTo before after k noted) next
-          (noted_same before after z noted (same z low (omega arith)) below)
+      (noted_same before after z noted (same z low (omega arith)) below)
 ]
 
 -- the emptied nodes follow

@@ -103,10 +103,10 @@ invariant_of-self-2 c =
     let marks = c.self.inside.marks in
     let (before, after, may) = c.requires in
     let few = few_noted before after (c.args.x + 1) (pushes (goal.at.invariant_of-self-2 c).After-push_if-2)
-        (noted (goal.at.invariant_of-self-2 c).After-push_if-2 before after may) in
+    (noted (goal.at.invariant_of-self-2 c).After-push_if-2 before after may) in
     let first : (with_items marks c.loses.new.noted).items ≡ marks.items =
     with_items_is marks c.loses.new.noted
-        (omega (arith, ap length (c.loses.ensures.same ∙ c.deref_mut.ensures.value), marks.ok.0))
+    (omega (arith, ap length (c.loses.ensures.same ∙ c.deref_mut.ensures.value), marks.ok.0))
     ∙ (c.loses.ensures.same ∙ c.deref_mut.ensures.value) in
     let is : c.push_kept-kept.new.noted ≡ marks.items =
     c.push_kept-kept.ensures.same ∙ (c.deref_mut-2.ensures.value ∙ first) in

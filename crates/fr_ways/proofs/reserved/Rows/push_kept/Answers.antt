@@ -70,5 +70,5 @@ returns-clause-pairs c =
           ∙ (ap (λ (ys : List ℕ). c.self.inside.list.items ++ ys) (nil_from_length kept none)
           ∙ append-nil c.self.inside.list.items) in
           rw (w.self-is, same, none_pushed kept push none, append-nil value.pairs)
-              (ap (λ (held : Held). held.pairs) c.self.view_is)
+          (ap (λ (held : Held). held.pairs) c.self.view_is)
     ]
