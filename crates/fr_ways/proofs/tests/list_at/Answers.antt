@@ -1,4 +1,4 @@
-use Rattle.std.proofs.Common.{arith, ap, length, List, ℕ}
+use Rattle.std.proofs.Common.{List, ap, arith, length, ℕ}
 use Rattle.std.proofs.lemmas.List.{length-map}
 use Rattle.fr_ways.proofs.tests.list_at.Goals as goal
 
@@ -9,8 +9,7 @@ row-requires c =
       are,
       omega (
         arith,
-        c.if-i-len.true,
-        c.len.ensures,
+        c.if-i-pushes.true,
         ap length are.nodes,
         length-map listed (λ (p : ℕ × List ℕ). p.0),
       ),
