@@ -1,6 +1,6 @@
 -- The pushes for one more node of a change, and room for them.
 use Rattle.std.proofs.Common.{All, Bool, List, [], ap, append-nil, arith, cond, false, inl, inr, length, length-append, map, refl, subst, suc, sym, take, true, zero, ℕ}
-use Rattle.std.proofs.Common.{◌++◌, ◌+◌, ◌-◌, ◌<◌, ◌∙◌, ◌∷◌, ◌≡◌, ◌≢◌, ◌≤◌}
+use Rattle.std.proofs.Common.{◌++◌, ◌+◌, ◌<◌, ◌∙◌, ◌∷◌, ◌≡◌, ◌≢◌, ◌≤◌}
 use Rattle.std.specs.List.{concat, filter, list_any, range_with_len}
 use Rattle.std.specs.Prelude.{nat_lt, not, ◌==◌, ◌&&◌}
 use Rattle.std.proofs.lemmas.Bool.{cases_Bool, cases_eq, cases_lt, false≢true, le-ltb, lt-ltb, ne_eqb}
@@ -12,7 +12,7 @@ use Rattle.fr_ways.specs.Changes.{IsNotedTo, MayNote, Noted}
 use Rattle.fr_ways.specs.ChangesInside.{noted_in}
 use Rattle.fr_ways.specs.declared.changes.WayChanges.TheInside.{Inside}
 use Rattle.fr_ways.specs.Held.{all_ways}
-use Rattle.fr_ways.specs.Phases.{differs, empties, grows, growths, is_empty, is_way, kept, loses, sheds, shrinks, shrunk}
+use Rattle.fr_ways.specs.Phases.{differs, empties, grows, is_empty, is_way, kept, loses, sheds, shrinks, shrunk}
 use Rattle.fr_ways.specs.Ways.{ways}
 use Rattle.fr_ways.proofs.Holding.{list_seconds, with_list}
 use Rattle.fr_ways.proofs.Planning.{differs_no, differs_yes, empties_none, filter_range, map_cond, map_passed}

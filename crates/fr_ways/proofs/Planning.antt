@@ -9,7 +9,7 @@ use Rattle.std.proofs.lemmas.List.Elements.{filter-append}
 use Rattle.std.proofs.lemmas.List.FromFn.{map-range_with_len_more}
 use lib.Pointwise.{bytes_decides}
 use Rattle.fr_ways.specs.Faults.{ArePhases, ArePushes}
-use Rattle.fr_ways.specs.Phases.{differs, empties, grows, is_empty, kept, loses, sheds, shrunk}
+use Rattle.fr_ways.specs.Phases.{differs, empties, grows, is_empty, kept, loses, sheds}
 use Rattle.fr_ways.specs.Plans.{IsPlan, IsPushedIf}
 use Rattle.fr_ways.specs.Ways.{ways}
 use Rattle.fr_ways.specs.declared.plan.Plan.{Plan}

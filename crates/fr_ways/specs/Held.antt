@@ -1,5 +1,5 @@
 -- Lists for nodes, in memory that is reserved beforehand. For proofs only.
-use Rattle.std.specs.Prelude.{◌≡◌, ℕ, ◌≤◌, List, [], ◌∷◌, map}
+use Rattle.std.specs.Prelude.{◌≡◌, ℕ, ◌<◌, ◌≤◌, ◌-◌, List, [], ◌∷◌, length, map}
 use Rattle.std.specs.List.{concat}
 
 -- nodes, each with its list. There is room for so many nodes, with so many ways in total
@@ -17,6 +17,11 @@ abbrev pub paired : List ℕ → List (List ℕ) → List (ℕ × List ℕ)
 paired [] lists = []
 paired (x ∷ xs) [] = []
 paired (x ∷ xs) (list ∷ lists) = (x, list) ∷ paired xs lists
+
+-- there is room for one more node with this list
+pub record HasPlace (list : List ℕ) (held : Held) : Type 0 where
+  pub nodes : length held.pairs < held.nodes
+  pub ways : length list ≤ held.ways - length (all_ways held.pairs)
 
 -- there is as much room as before
 pub record HoldsAsMuch (before after : Held) : Type 0 where

@@ -1,5 +1,5 @@
 -- How lists for nodes lie in memory. For proofs only.
-use Rattle.std.specs.Prelude.{◌≡◌, ℕ, ◌+◌, ◌-◌, length, min, vec_capacity}
+use Rattle.std.specs.Prelude.{◌≡◌, ◌+◌, ◌-◌, length, min, vec_capacity}
 use Rattle.fr_ways.specs.Held.{Held, paired}
 use Rattle.fr_ways.specs.Rows.{AreRows, rows_of}
 use Rattle.fr_ways.specs.declared.reserved.Rows.TheInside.{Inside}

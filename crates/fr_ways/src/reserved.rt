@@ -2,7 +2,7 @@
 
 ghost use Rattle.std.specs.Prelude.{◌≡◌, ℕ, ◌<◌, ◌≤◌, ◌+◌, ◌-◌, ◌++◌, [], ◌∷◌, All, IfOk, OnOk, cond, false, filter};
 ghost use Rattle.std.specs.Prelude.{length, map, not, replicate, vec_capacity};
-ghost use Rattle.fr_ways.specs.Held.{HoldsAsMuch, KeepsLists, all_ways};
+ghost use Rattle.fr_ways.specs.Held.{HasPlace, HoldsAsMuch, KeepsLists};
 ghost use Rattle.fr_ways.specs.Phases.{is_empty, is_way};
 ghost use Rattle.fr_ways.specs.PushLists.{AreListed};
 
@@ -68,8 +68,7 @@ impl Rows {
 
     /// Adds a node with its list.
     pub(crate) fn push(&mut self, x: u32, row: &[u32])
-        requires nodes { length self.old.pairs < self.old.nodes }
-        requires ways { length row.now ≤ self.old.ways - length (all_ways self.old.pairs) }
+        requires { HasPlace row.now self.old }
         ensures pairs { self.new.pairs ≡ self.old.pairs ++ (x, row.now) ∷ [] }
         ensures room { HoldsAsMuch self.old self.new }
     {
@@ -80,8 +79,7 @@ impl Rows {
 
     /// Does the same, if the test holds.
     pub(crate) fn push_if(&mut self, test: bool, x: u32, row: &[u32])
-        requires nodes { length self.old.pairs < self.old.nodes }
-        requires ways { length row.now ≤ self.old.ways - length (all_ways self.old.pairs) }
+        requires { HasPlace row.now self.old }
         ensures pairs { self.new.pairs ≡ self.old.pairs ++ cond test ((x, row.now) ∷ []) [] }
         ensures room { HoldsAsMuch self.old self.new }
     {
@@ -110,13 +108,11 @@ impl Rows {
         new: &[u32],
         noted: &mut [bool],
     ) -> usize
-        requires nodes { length self.old.pairs < self.old.nodes }
-        requires ways { length new.now ≤ self.old.ways - length (all_ways self.old.pairs) }
+        requires place { HasPlace new.now self.old }
         requires clear { noted.old ≡ replicate (length noted.old) false }
         requires range { All (λ (y : ℕ). y < length noted.old) new.now }
-        ensures count { result ≡ length (filter (is_way old.now) new.now) }
-        ensures pairs { self.new.pairs ≡ self.old.pairs
-            ++ cond (not (is_empty (filter (is_way old.now) new.now))) ((x, filter (is_way old.now) new.now) ∷ []) [] }
+        ensures kept { (result ≡ length (filter (is_way old.now) new.now)) × (self.new.pairs ≡ self.old.pairs
+            ++ cond (not (is_empty (filter (is_way old.now) new.now))) ((x, filter (is_way old.now) new.now) ∷ []) []) }
         ensures room { HoldsAsMuch self.old self.new }
         ensures same { noted.new ≡ noted.old }
     {

@@ -20,15 +20,10 @@ pub loses-requires-clause-range : goal.loses-requires-clause-range
 loses-requires-clause-range c = rw c.deref_mut.ensures.value
     (inside_places c.self.inside c.args.self.now c.args.x c.args.old.now c.args.new.now c.self.view_is c.requires).range
 
-pub push-requires-clause-nodes : goal.push-requires-clause-nodes
-push-requires-clause-nodes c =
+pub push-requires : goal.push-requires
+push-requires c =
     let p = inside_places c.self.inside c.args.self.now c.args.x c.args.old.now c.args.new.now c.self.view_is c.requires in
-    omega (arith, p.grow, c.self.invariant.grow)
-
-pub push-requires-clause-ways : goal.push-requires-clause-ways
-push-requires-clause-ways c =
-    let p = inside_places c.self.inside c.args.self.now c.args.x c.args.old.now c.args.new.now c.self.view_is c.requires in
-    omega (arith, p.grow_ways)
+    record { nodes = omega (arith, p.grow, c.self.invariant.grow); ways = omega (arith, p.grow_ways) }
 
 pub returns-then-not-loses-clause-noted : goal.returns-then-not-loses-clause-noted
 returns-then-not-loses-clause-noted c before after may =
@@ -40,15 +35,10 @@ returns-then-not-loses-clause-noted c before after may =
     (ap (λ (noted : Noted). noted.emptied) view)
     (c.push.ensures.pairs ∙ ap (λ (noted : Noted). noted.grow ++ (c.args.x, c.args.new.now) ∷ []) view)
 
-pub push_kept-kept-requires-clause-nodes : goal.push_kept-kept-requires-clause-nodes
-push_kept-kept-requires-clause-nodes c =
+pub push_kept-kept-requires-clause-place : goal.push_kept-kept-requires-clause-place
+push_kept-kept-requires-clause-place c =
     let p = inside_places c.self.inside c.args.self.now c.args.x c.args.old.now c.args.new.now c.self.view_is c.requires in
-    omega (arith, p.shrink, c.self.invariant.shrink)
-
-pub push_kept-kept-requires-clause-ways : goal.push_kept-kept-requires-clause-ways
-push_kept-kept-requires-clause-ways c =
-    let p = inside_places c.self.inside c.args.self.now c.args.x c.args.old.now c.args.new.now c.self.view_is c.requires in
-    omega (arith, p.shrink_ways)
+    record { nodes = omega (arith, p.shrink, c.self.invariant.shrink); ways = omega (arith, p.shrink_ways) }
 
 pub push_kept-kept-requires-clause-range : goal.push_kept-kept-requires-clause-range
 push_kept-kept-requires-clause-range c k d low =
@@ -60,15 +50,10 @@ push_if-requires c =
     let p = inside_places c.self.inside c.args.self.now c.args.x c.args.old.now c.args.new.now c.self.view_is c.requires in
     omega (arith, p.shrink, c.self.invariant.emptied)
 
-pub push_if-requires-2-clause-nodes : goal.push_if-requires-2-clause-nodes
-push_if-requires-2-clause-nodes c =
+pub push_if-requires-2 : goal.push_if-requires-2
+push_if-requires-2 c =
     let p = inside_places c.self.inside c.args.self.now c.args.x c.args.old.now c.args.new.now c.self.view_is c.requires in
-    omega (arith, p.grow, c.self.invariant.grow)
-
-pub push_if-requires-2-clause-ways : goal.push_if-requires-2-clause-ways
-push_if-requires-2-clause-ways c =
-    let p = inside_places c.self.inside c.args.self.now c.args.x c.args.old.now c.args.new.now c.self.view_is c.requires in
-    omega (arith, p.grow_ways)
+    record { nodes = omega (arith, p.grow, c.self.invariant.grow); ways = omega (arith, p.grow_ways) }
 
 -- the pushes once a node that loses ways is noted
 abbrev pushes : After-push_if-2 → Noted
@@ -91,8 +76,8 @@ noted c before after may =
     let kept = filter (is_way c.args.old.now) new in
     noted_loser before after x c.args.old.now new c.args.self.now (pushes c) may count
     (sym c.loses.ensures.loses ∙ c.if-not-loses.false)
-    c.push_kept-kept.ensures.count
-    (c.push_kept-kept.ensures.pairs ∙ ap (λ (noted : Noted). noted.shrink
+    c.push_kept-kept.ensures.kept.0
+    (c.push_kept-kept.ensures.kept.1 ∙ ap (λ (noted : Noted). noted.shrink
     ++ cond {A = List (ℕ × List ℕ)} (not (is_empty kept)) ((x, kept) ∷ []) []) view)
     (c.push_if.ensures.items ∙ ap (λ (noted : Noted). noted.emptied ++ cond (count == 0) (x ∷ []) []) view)
     (c.push_if-2.ensures.pairs ∙ ap (λ (noted : Noted). noted.grow
