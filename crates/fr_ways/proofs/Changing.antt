@@ -1,5 +1,6 @@
 -- The pushes for one more node of a change, and room for them.
-use Rattle.std.proofs.Common.{All, Bool, List, [], ap, append-nil, arith, cond, false, inl, inr, length, length-append, map, refl, subst, suc, sym, take, true, zero, ℕ}
+use Rattle.std.proofs.Common.{All, Bool, List, [], ap, append-nil, arith, cond, false, inl, inr, length, length-append}
+use Rattle.std.proofs.Common.{map, refl, subst, suc, sym, take, true, zero, ℕ}
 use Rattle.std.proofs.Common.{◌++◌, ◌+◌, ◌<◌, ◌∙◌, ◌∷◌, ◌≡◌, ◌≢◌, ◌≤◌}
 use Rattle.std.specs.List.{concat, filter, list_any, range_with_len}
 use Rattle.std.specs.Prelude.{nat_lt, not, ◌==◌, ◌&&◌}
@@ -8,12 +9,13 @@ use Rattle.std.proofs.lemmas.List.{length-map, map-append}
 use Rattle.std.proofs.lemmas.List.Elements.{Contains-get_or}
 use Rattle.std.proofs.lemmas.List.Folds.{concat-append}
 use Rattle.std.proofs.lemmas.List.FromFn.{length-range_with_len}
+use Rattle.std.proofs.lemmas.List.Sums.{count_by-le-length, length-filter}
 use Rattle.fr_ways.specs.Changes.{IsNotedTo, MayNote, Noted}
 use Rattle.fr_ways.specs.ChangesInside.{noted_in}
-use Rattle.fr_ways.specs.declared.changes.WayChanges.TheInside.{Inside}
 use Rattle.fr_ways.specs.Held.{all_ways}
 use Rattle.fr_ways.specs.Phases.{differs, empties, grows, is_empty, is_way, kept, loses, sheds, shrinks, shrunk}
 use Rattle.fr_ways.specs.Ways.{ways}
+use Rattle.fr_ways.specs.declared.changes.WayChanges.TheInside.{Inside}
 use Rattle.fr_ways.proofs.Holding.{list_seconds, with_list}
 use Rattle.fr_ways.proofs.Planning.{differs_no, differs_yes, empties_none, filter_range, map_cond, map_passed}
 use Rattle.fr_ways.proofs.Rows.{take_fits}
@@ -37,11 +39,7 @@ parts_fit p q apart (x ∷ xs) =
 
 -- a filter keeps no more than there is
 filter_fits : (p : ℕ → Bool) (xs : List ℕ) → length (filter p xs) ≤ length xs
-filter_fits p [] = omega arith
-filter_fits p (x ∷ xs) = elim (cases_Bool (p x)) [
-  | inl t ↦ rw t (omega (arith, filter_fits p xs))
-  | inr f ↦ rw f (omega (arith, filter_fits p xs))
-]
+filter_fits p xs = omega (arith, length-filter p xs, count_by-le-length p xs)
 
 -- and all of it, if it keeps as many
 filter_all : (p : ℕ → Bool) (xs : List ℕ) → length (filter p xs) ≡ length xs → filter p xs ≡ xs
@@ -208,7 +206,8 @@ empty_test (y ∷ ys) = ne_eqb (length (y ∷ ys)) 0 (λ e. absurd (omega (arith
 
 fewer_test : (p : ℕ → Bool) (xs : List ℕ) → nat_lt (length (filter p xs)) (length xs) ≡ differs (filter p xs) xs
 fewer_test p xs = elim (cases_lt (length (filter p xs)) (length xs)) [
-  | inl low ↦ lt-ltb (length (filter p xs)) (length xs) low ∙ sym (differs_yes (filter p xs) xs (λ e. omega (arith, low, ap length e)))
+  | inl low ↦ lt-ltb (length (filter p xs)) (length xs) low
+      ∙ sym (differs_yes (filter p xs) xs (λ e. omega (arith, low, ap length e)))
   | inr high ↦ le-ltb (length (filter p xs)) (length xs) high
       ∙ sym (differs_no (filter p xs) xs (filter_all p xs (omega (arith, high, filter_fits p xs))))
 ]

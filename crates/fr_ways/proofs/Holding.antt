@@ -2,14 +2,14 @@
 use Rattle.std.proofs.Common.{List, [], ap, arith, length, map, min, refl, subst, sym, vec_capacity, ℕ}
 use Rattle.std.proofs.Common.{cond, ◌++◌, ◌+◌, ◌-◌, ◌<◌, ◌∙◌, ◌∷◌, ◌≡◌}
 use Rattle.std.specs.List.{concat}
+use Rattle.std.specs.Prelude.{not}
 use Rattle.std.proofs.lemmas.List.{length-map, length_push}
 use Rattle.fr_ways.specs.Held.{Held, all_ways, paired}
 use Rattle.fr_ways.specs.HeldInside.{IsHeld, held_in}
 use Rattle.fr_ways.specs.Rows.{AreRows, rows_of}
+use Rattle.fr_ways.specs.Phases.{is_empty}
 use Rattle.fr_ways.specs.declared.reserved.Rows.TheInside.{Inside}
 use Rattle.fr_ways.proofs.Rows.{concat_rows, length_rows, row_pushed, still_rows}
-use Rattle.fr_ways.specs.Phases.{is_empty}
-use Rattle.std.specs.Prelude.{not}
 
 firsts : (xs : List ℕ) (rows : List (List ℕ)) → length xs ≡ length rows
     → map (λ (p : ℕ × List ℕ). p.0) (paired xs rows) ≡ xs

@@ -5,8 +5,8 @@ use Rattle.std.specs.List.{concat, range_with_len}
 use Rattle.fr_ways.specs.Phases.{empties, grows, kept, sheds}
 use Rattle.fr_ways.specs.Ways.{IsInRange, ways}
 
--- the value of `WayChanges` in contracts: the pushes of the first phase, the nodes that lose all their ways and follow at
--- its end, and the pushes of the second phase. There is room for tables of so many nodes, with so many ways in total
+-- the value of `WayChanges` in contracts: the pushes of the first phase, the nodes that lose all their ways and follow
+-- at its end, and the pushes of the second phase. There is room for tables of so many nodes, with so many ways in total
 pub record Noted : Type 0 where
   pub shrink : List (ℕ × List ℕ)
   pub emptied : List ℕ

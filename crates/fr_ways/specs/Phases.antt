@@ -1,7 +1,7 @@
 -- New ways in two phases. In the first, routers lose the ways that are none of the new table (they shrink); in the
 -- second they get their new lists (they grow). This project's own.
-use Rattle.std.specs.Prelude.{◌≡◌, ℕ, ◌⊎◌, ◌&&◌, ◌++◌, Bool, true, false, not, bytes_eq, cond, List, [], ◌∷◌, filter, length}
-use Rattle.std.specs.Prelude.{map, nat_eq}
+use Rattle.std.specs.Prelude.{◌≡◌, ℕ, ◌⊎◌, ◌&&◌, ◌++◌, Bool, true, false, not, bytes_eq, cond, List, [], ◌∷◌}
+use Rattle.std.specs.Prelude.{filter, length, map, nat_eq}
 use Rattle.std.specs.List.{list_any, range_with_len}
 use Rattle.fr_ways.specs.Ways.{ways}
 

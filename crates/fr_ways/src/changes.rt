@@ -1,8 +1,8 @@
 //! The pushes of both phases for a change that alters the ways of few nodes.
 
-ghost use Rattle.std.specs.Prelude.{◌≡◌, ℕ, ◌<◌, ◌≤◌, ◌+◌, ◌++◌, [], ◌∷◌, Bool, IfOk, List, OnOk, cond, false, length, max};
-ghost use Rattle.std.specs.Prelude.{replicate, true, vec_capacity};
-ghost use Rattle.fr_ways.specs.Changes.{HasNoPushes, HasRoomFor, HasSameRoom, IsNotedTo, KeepsPushes, MayNote};
+ghost use Rattle.std.specs.Prelude.{◌≡◌, ℕ, ◌<◌, ◌≤◌, ◌+◌, ◌++◌, [], ◌∷◌, IfOk, List, OnOk, cond, false, length};
+ghost use Rattle.std.specs.Prelude.{max, replicate, vec_capacity};
+ghost use Rattle.fr_ways.specs.Changes.{HasNoPushes, HasSameRoom, IsNotedTo, KeepsPushes, MayNote};
 ghost use Rattle.fr_ways.specs.Phases.{growths, shrinks};
 ghost use Rattle.fr_ways.specs.PushLists.{AreListed};
 
@@ -15,8 +15,8 @@ use std::marker::Model;
 /// The pushes of both phases for a change that alters the ways of few nodes: those that
 /// [`known_phases`](crate::known_phases) lists for the whole tables.
 ///
-/// Call [`WayChanges::clear`], then [`WayChanges::note`] for each node whose list can have changed, in rising order, and
-/// then [`WayChanges::finish`]. Other nodes are not looked at.
+/// Call [`WayChanges::clear`], then [`WayChanges::note`] for each node whose list can have changed, in rising order,
+/// and then [`WayChanges::finish`]. Other nodes are not looked at.
 ///
 /// None of these calls allocates, and none can fail: [`WayChanges::make_room`] allocates the memory beforehand, and one
 /// change after another uses it. When the pushes are listed the change has been made, so it would be too late to fail.
@@ -24,10 +24,11 @@ use std::marker::Model;
 /// The value in contracts is the pushes so far, and the size of the tables for which there is room.
 #[derive(Debug, Drop)]
 pub struct WayChanges {
-    // The first phase. Until the call of `finish` without the emptied nodes.
+    // The first phase. The emptied nodes come to it at the call of `finish`.
     shrink: Rows,
-    // The nodes that keep no way.
+    // The nodes that keep no way, until the call of `finish`.
     emptied: Vec<u32>,
+    // The second phase.
     grow: Rows,
     // For the comparison of lists, a place for each node. Between calls all are `false`.
     marks: Vec<bool>,
@@ -58,9 +59,9 @@ impl WayChanges {
         })
     }
 
-    /// Makes room for changes to tables of so many nodes, with so many ways in total. The pushes so far stay, whatever the
-    /// result, and the room never gets less. Fails with `AllocError` if an allocation is refused. O(nodes + ways), or O(1)
-    /// if there is room already.
+    /// Makes room for changes to tables of so many nodes, with so many ways in total. The pushes so far stay, whatever
+    /// the result, and the room never gets less. Fails with `AllocError` if an allocation is refused.
+    /// O(nodes + ways), or O(1) if there is room already.
     pub fn make_room(&mut self, nodes: usize, ways: usize) -> Result<(), AllocError>
         ensures room { OnOk result ((nodes ≤ self.new.nodes) × (ways ≤ self.new.ways)) }
         ensures kept { KeepsPushes self.old self.new }
@@ -81,9 +82,9 @@ impl WayChanges {
         self.grow.clear();
     }
 
-    /// Notes the ways of node `x` before and after the change. Each node below `x` whose list has changed must be noted,
-    /// and there must be room for the table after the change. `old` can have any ways; all ways of `new` must name nodes
-    /// of that table. O(ways in both lists).
+    /// Notes the ways of node `x` before and after the change. Each node below `x` whose list has changed must be
+    /// noted, and there must be room for the table after the change. `old` can have any ways; all ways of `new` must
+    /// name nodes of that table. O(ways in both lists).
     pub fn note(&mut self, x: u32, old: &[u32], new: &[u32])
         requires { (before after : List (List ℕ)) × MayNote before after x old.now new.now self.old }
         ensures noted { (before after : List (List ℕ)) → MayNote before after x old.now new.now self.old
@@ -102,8 +103,8 @@ impl WayChanges {
         self.grow.push_if(kept < new.len(), x, new);
     }
 
-    /// Adds the nodes that keep no way to the first phase, each with an empty list: they come last. Each node whose list
-    /// has changed must be noted. O(these nodes).
+    /// Adds the nodes that keep no way to the first phase, each with an empty list: they come last. Each node whose
+    /// list has changed must be noted. O(these nodes).
     pub fn finish(&mut self)
         ensures phases { (before after : List (List ℕ)) → IsNotedTo before after (length after) self.old
             → (self.new.shrink ≡ shrinks before after) × (self.new.grow ≡ growths before after) }

@@ -1,7 +1,7 @@
 //! Which ways a node keeps and which it loses, without looking for each way in a list.
 
-ghost use Rattle.std.specs.Prelude.{◌≡◌, ℕ, ◌<◌, ◌≤◌, ◌+◌, ◌++◌, All, IfOk, OnOk, false, filter, length, not, replicate};
-ghost use Rattle.std.specs.Prelude.{slice_index_or, vec_capacity};
+ghost use Rattle.std.specs.Prelude.{◌≡◌, ℕ, ◌<◌, ◌≤◌, ◌+◌, ◌++◌, All, IfOk, OnOk, false, filter, length, not};
+ghost use Rattle.std.specs.Prelude.{replicate, slice_index_or, vec_capacity};
 ghost use Rattle.std.specs.List.{list_any};
 ghost use Rattle.fr_ways.specs.Phases.{is_way};
 ghost use Rattle.fr_ways.specs.Plans.{AreNoted, IsClear};
@@ -50,8 +50,8 @@ impl Spare {
     }
 }
 
-/// Whether an old way is not among the new ways. `noted` has a place for each node. All are `false`, before the call and
-/// after it.
+/// Whether an old way is not among the new ways. `noted` has a place for each node. All are `false`, before the call
+/// and after it.
 pub(crate) fn loses(noted: &mut [bool], old: &[u32], new: &[u32]) -> bool
     requires clear { noted.old ≡ replicate (length noted.old) false }
     requires range { All (λ (y : ℕ). y < length noted.old) new.now }

@@ -1,8 +1,8 @@
 //! Forwarding tables in which a node may have several next hops, its ways.
 //!
 //! A [`WayTable`] has the ways of each node. [`phases`] lists what a controller has to push to get from one table to
-//! another, so that no packet can go round a cycle meanwhile. [`WayChanges`] lists the same for a change whose nodes are
-//! known, without looking at other nodes and without allocating. The laws of such tables are in [`laws`].
+//! another, so that no packet can go round a cycle meanwhile. [`WayChanges`] lists the same for a change whose nodes
+//! are known, without looking at other nodes and without allocating. The laws of such tables are in [`laws`].
 //!
 //! RFC 6976 also updates downstream routers first. Waves, push orders, phases and their laws are this project's own.
 //!

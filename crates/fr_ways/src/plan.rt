@@ -1,6 +1,7 @@
 //! The two phases from one table to another.
 
-ghost use Rattle.std.specs.Prelude.{◌≡◌, ℕ, ◌<◌, ◌+◌, ◌++◌, ◌^◌, [], ◌∷◌, IfErr, IfOk, List, OnOk, cond, length, map, not};
+ghost use Rattle.std.specs.Prelude.{◌≡◌, ℕ, ◌<◌, ◌+◌, ◌++◌, ◌^◌, [], ◌∷◌, IfErr, IfOk, List, OnOk, cond, length, map};
+ghost use Rattle.std.specs.Prelude.{not};
 ghost use Rattle.fr_ways.specs.Faults.{ArePhases, ArePushes, IsFaultOf, IsPlanned};
 ghost use Rattle.fr_ways.specs.Phases.{differs, is_empty};
 ghost use Rattle.fr_ways.specs.Plans.{IsClear, IsPlan, IsPushedIf};

@@ -1,6 +1,6 @@
 //! Lists for nodes, in memory that is reserved beforehand.
 
-ghost use Rattle.std.specs.Prelude.{◌≡◌, ℕ, ◌<◌, ◌≤◌, ◌+◌, ◌-◌, ◌++◌, [], ◌∷◌, All, IfOk, OnOk, cond, false, filter};
+ghost use Rattle.std.specs.Prelude.{◌≡◌, ℕ, ◌<◌, ◌≤◌, ◌+◌, ◌++◌, [], ◌∷◌, All, IfOk, OnOk, cond, false, filter};
 ghost use Rattle.std.specs.Prelude.{length, map, not, replicate, vec_capacity};
 ghost use Rattle.fr_ways.specs.Held.{HasPlace, HoldsAsMuch, KeepsLists};
 ghost use Rattle.fr_ways.specs.Phases.{is_empty, is_way};

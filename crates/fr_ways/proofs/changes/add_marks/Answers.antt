@@ -1,4 +1,5 @@
-use Rattle.std.proofs.Common.{Bool, List, ap, arith, false, length, replicate, sym, vec_len, ℕ, ◌++◌, ◌+◌, ◌-◌, ◌∙◌, ◌≡◌}
+use Rattle.std.proofs.Common.{Bool, List, ap, arith, false, length, replicate, sym, vec_len, ℕ}
+use Rattle.std.proofs.Common.{◌++◌, ◌+◌, ◌-◌, ◌∙◌, ◌≡◌}
 use Rattle.std.proofs.lemmas.List.{length-replicate, replicate-append-replicate, take_all}
 use Rattle.fr_ways.proofs.changes.add_marks.Goals as goal
 

@@ -12,7 +12,11 @@ returns-clause-loses c =
     let noted = c.note.new.noted in
     let nodes : ℕ = length c.args.noted.now in
     let below : (z : ℕ) → Contains new z → z < length noted =
-    λ z found. omega (arith, c.note.ensures.one_each, All-contains (λ (y : ℕ). y < nodes) new z c.requires.range found) in
+    λ z found. omega (
+      arith,
+      c.note.ensures.one_each,
+      All-contains (λ (y : ℕ). y < nodes) new z c.requires.range found,
+    ) in
     c.has_other-loses.ensures
     ∙ any_same (λ y. not (get_or noted y false)) (λ y. not (is_way new y)) old
     (λ y. ap not (noted_any new noted y c.note.ensures.noted below))

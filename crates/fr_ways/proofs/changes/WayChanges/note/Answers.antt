@@ -1,9 +1,9 @@
 use Rattle.std.proofs.Common.{List, [], ap, arith, cond, length, ltb, sym, ℕ, ◌++◌, ◌+◌, ◌∙◌, ◌∷◌, ◌≡◌}
 use Rattle.std.specs.List.{filter}
 use Rattle.std.specs.Prelude.{not, ◌==◌}
+use Rattle.std.specs.Vec.{with_items}
 use Rattle.std.proofs.lemmas.Bool.{false≢true}
 use Rattle.std.proofs.lemmas.List.{with_items_is}
-use Rattle.std.specs.Vec.{with_items}
 use lib.Pointwise.{bytes_decides}
 use Rattle.fr_ways.specs.Changes.{IsNotedTo, MayNote, Noted}
 use Rattle.fr_ways.specs.Phases.{is_empty, is_way}
@@ -22,7 +22,8 @@ loses-requires-clause-range c = rw c.deref_mut.ensures.value
 
 pub push-requires : goal.push-requires
 push-requires c =
-    let p = inside_places c.self.inside c.args.self.now c.args.x c.args.old.now c.args.new.now c.self.view_is c.requires in
+    let p = inside_places c.self.inside c.args.self.now c.args.x c.args.old.now c.args.new.now c.self.view_is
+    c.requires in
     record { nodes = omega (arith, p.grow, c.self.invariant.grow); ways = omega (arith, p.grow_ways) }
 
 pub returns-then-not-loses-clause-noted : goal.returns-then-not-loses-clause-noted
@@ -37,22 +38,26 @@ returns-then-not-loses-clause-noted c before after may =
 
 pub push_kept-kept-requires-clause-place : goal.push_kept-kept-requires-clause-place
 push_kept-kept-requires-clause-place c =
-    let p = inside_places c.self.inside c.args.self.now c.args.x c.args.old.now c.args.new.now c.self.view_is c.requires in
+    let p = inside_places c.self.inside c.args.self.now c.args.x c.args.old.now c.args.new.now c.self.view_is
+    c.requires in
     record { nodes = omega (arith, p.shrink, c.self.invariant.shrink); ways = omega (arith, p.shrink_ways) }
 
 pub push_kept-kept-requires-clause-range : goal.push_kept-kept-requires-clause-range
 push_kept-kept-requires-clause-range c k d low =
-    let p = inside_places c.self.inside c.args.self.now c.args.x c.args.old.now c.args.new.now c.self.view_is c.requires in
+    let p = inside_places c.self.inside c.args.self.now c.args.x c.args.old.now c.args.new.now c.self.view_is
+    c.requires in
     omega (arith, p.range k d low, c.deref_mut-2.ensures.len, c.self.inside.marks.ok.0)
 
 pub push_if-requires : goal.push_if-requires
 push_if-requires c =
-    let p = inside_places c.self.inside c.args.self.now c.args.x c.args.old.now c.args.new.now c.self.view_is c.requires in
+    let p = inside_places c.self.inside c.args.self.now c.args.x c.args.old.now c.args.new.now c.self.view_is
+    c.requires in
     omega (arith, p.shrink, c.self.invariant.emptied)
 
 pub push_if-requires-2 : goal.push_if-requires-2
 push_if-requires-2 c =
-    let p = inside_places c.self.inside c.args.self.now c.args.x c.args.old.now c.args.new.now c.self.view_is c.requires in
+    let p = inside_places c.self.inside c.args.self.now c.args.x c.args.old.now c.args.new.now c.self.view_is
+    c.requires in
     record { nodes = omega (arith, p.grow, c.self.invariant.grow); ways = omega (arith, p.grow_ways) }
 
 -- the pushes once a node that loses ways is noted
@@ -96,7 +101,8 @@ invariant_of-self-2 c =
     let is : c.push_kept-kept.new.noted ≡ marks.items =
     c.push_kept-kept.ensures.same ∙ (c.deref_mut-2.ensures.value ∙ first) in
     let second : (with_items (with_items marks c.loses.new.noted) c.push_kept-kept.new.noted).items ≡ marks.items =
-    with_items_is (with_items marks c.loses.new.noted) c.push_kept-kept.new.noted (omega (arith, ap length is, marks.ok.0))
+    with_items_is (with_items marks c.loses.new.noted) c.push_kept-kept.new.noted
+    (omega (arith, ap length is, marks.ok.0))
     ∙ is in
     record {
       clear = rw second c.self.invariant.clear;

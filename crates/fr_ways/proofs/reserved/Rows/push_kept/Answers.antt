@@ -1,11 +1,11 @@
 use Rattle.std.proofs.Common.{ap, sym, arith, length, length-append, ℕ, List, ◌++◌, ◌+◌, ◌∷◌, ◌∙◌, ◌≡◌, append-nil, []}
+use Rattle.std.specs.List.{filter}
 use Rattle.std.proofs.lemmas.List.{nil_from_length}
 use Rattle.fr_ways.specs.Held.{Held}
+use Rattle.fr_ways.specs.Phases.{is_way}
 use Rattle.fr_ways.proofs.Holding.{held_as, held_pushed, none_pushed, some_pushed}
 use Rattle.fr_ways.proofs.reserved.Rows.push_kept.Goals as goal
 use Rattle.fr_ways.proofs.reserved.Rows.push_kept.Goals.{then-start-end, else-start-end}
-use Rattle.std.specs.List.{filter}
-use Rattle.fr_ways.specs.Phases.{is_way}
 
 pub copy_kept-requires-clause-room : goal.copy_kept-requires-clause-room
 copy_kept-requires-clause-room c =
