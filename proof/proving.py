@@ -187,7 +187,9 @@ def prove_each(progress, names, jobs):
             for it in [it for it in left if not waiting.intersection(crates.below(it))]:
                 free = most - sum(given for _, given in running.values())
                 if free > 0:
-                    first = first or it
+                    # A library that already runs beside keeps its priority, so one with a shorter line must not overtake it.
+                    if not first and all(lengths[it] >= lengths[other] for other, _ in running.values()):
+                        first = it
                     most_of_it, niceness = (jobs, 0) if it == first else (JOBS_BESIDE, NICENESS_BESIDE)
                     given = min(useful_jobs(it), most_of_it, free)
                     left.remove(it)

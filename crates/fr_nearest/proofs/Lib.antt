@@ -7,3 +7,6 @@ pub mod Noting  -- nodes that are noted, one by one
 pub mod Renewing  -- what an update leaves
 pub mod Walking  -- what the definitions of distances and ways imply
 pub mod Ranking  -- the ways of a node, from its row
+pub mod Marking  -- nodes that are marked, one by one
+pub mod Keeping  -- why a node that is not listed has kept its ways
+pub mod Counting  -- a table of ways has no more ways than there are links

@@ -1,8 +1,9 @@
 -- What the definitions of distances and ways imply.
-use Rattle.std.proofs.Common.{Contains, List, None, Some, [], arith, eq-eqb, eqb, eqb-true, inl, inr, length, refl, slice_index, subst, suc, sym, ℕ, ⊎_elim, ◌+◌, ◌<◌, ◌∙◌, ◌∷◌, ◌≡◌, ◌≢◌, ◌≤◌, ◌++◌}
+use Rattle.std.proofs.Common.{Contains, List, None, Some, [], arith, eq-eqb, eqb, eqb-true, ne_eqb, inl, inr, length, refl, slice_index, subst, suc, sym, ℕ, ⊎_elim, ◌+◌, ◌<◌, ◌∙◌, ◌∷◌, ◌≡◌, ◌≢◌, ◌≤◌, ◌++◌}
 use Rattle.std.specs.List.{IsDistinct}
 use Rattle.std.proofs.lemmas.Bool.{cases_Bool, cases_eq, false≢true}
 use Rattle.std.proofs.lemmas.List.{append-nil, append_assoc, ext_get_or, get_or_default}
+use Rattle.std.proofs.lemmas.Map.Keys.{IsDistinct-from_apart}
 use Rattle.fr_core.proofs.Following.{path_distinct}
 use Rattle.fr_graph.proofs.Members.{Contains-cases, Contains-head, Contains-tail}
 use Rattle.fr_graph.proofs.Linking.{link_below}
@@ -78,6 +79,17 @@ rising_same links d (x ∷ xs) (y ∷ ys) r s to from =
     (λ e h. ⊎_elim (λ q. absurd (apart e h q)) (λ g. g) (Contains-cases e y ys (to e (Contains-tail e x xs h))))
     (λ e h. ⊎_elim (λ q. absurd (other e h q)) (λ g. g) (Contains-cases e x xs (from e (Contains-tail e y ys h)))) in
     cc
+
+-- no two elements of the list are equal
+pub distinct_of : (list : List ℕ) → ((i j : ℕ) → i < j → j < length list → slice_index list i ≢ slice_index list j) → IsDistinct eqb list
+distinct_of list apart = IsDistinct-from_apart eqb list (λ i j d lt inside. ne_eqb _ _ (λ same. apart i j lt inside
+    (sym (get_or_default list i d 0 (omega (arith, lt, inside))) ∙ same ∙ get_or_default list j d 0 inside)))
+
+pub ways_once : {links : List (ℕ × ℕ)} {d x : ℕ} {list : List ℕ} → AreWays links d x list → IsDistinct eqb list
+ways_once {links} {d} {x} {list} h = distinct_of list (λ i j lt inside same.
+    let near : IsNearer links d (slice_index list j) (slice_index list j) =
+    subst (λ (z : ℕ). IsNearer links d z (slice_index list j)) same (h.order i j lt inside) in
+    one_nearer near near)
 
 pub one_list : (links : List (ℕ × ℕ)) (d x : ℕ) (some other : List ℕ) → AreWays links d x some → AreWays links d x other → some ≡ other
 one_list links d x some other h g =

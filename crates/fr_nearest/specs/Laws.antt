@@ -1,6 +1,6 @@
 -- The laws of ways. Each one is a clause of a function of src/laws.rt. This project's own.
-use Rattle.std.specs.Prelude.{◌≡◌, ℕ, ◌+◌, List, [], ◌∷◌, length, nat_eq}
-use Rattle.std.specs.List.{IsDistinct}
+use Rattle.std.specs.Prelude.{◌≡◌, ℕ, ◌<◌, ◌≤◌, ◌+◌, List, [], ◌∷◌, length, nat_eq, slice_index_or}
+use Rattle.std.specs.List.{IsDistinct, concat}
 use Rattle.fr_graph.specs.Links.{IsAcyclic, IsPath, end_of}
 use Rattle.fr_nearest.specs.Distances.{AreDistances, IsDistance}
 use Rattle.fr_nearest.specs.Ways.{AreWays, IsFirstWay, IsNearestWalk, IsWay}
@@ -22,6 +22,11 @@ TableIsUnique = (n : ℕ) (links : List (ℕ × ℕ)) (d : ℕ) (some other : Li
 abbrev pub WaysAreUnique : Type 0
 WaysAreUnique = (links : List (ℕ × ℕ)) (d x : ℕ) (some other : List ℕ) → AreWays links d x some
     → AreWays links d x other → some ≡ other
+
+-- a table with the ways of each node has at most as many ways as there are links
+abbrev pub WaysAreFew : Type 0
+WaysAreFew = (links : List (ℕ × ℕ)) (d : ℕ) (table : List (List ℕ))
+    → ((x : ℕ) → x < length table → AreWays links d x (slice_index_or table x [])) → length (concat table) ≤ length links
 
 -- the first way of a node is one link nearer to the destination
 abbrev pub FirstWayIsNearer : Type 0

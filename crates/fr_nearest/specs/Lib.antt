@@ -8,3 +8,5 @@ pub mod Changes
 pub mod Ranks
 pub mod Laws
 pub mod Inside
+pub mod Affected
+pub mod Marks

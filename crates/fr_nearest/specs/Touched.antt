@@ -1,5 +1,5 @@
 -- How links change between two updates, and when a table is out of date only for that. This project's own.
-use Rattle.std.specs.Prelude.{◌≡◌, ℕ, ◌<◌, ◌⊎◌, List}
+use Rattle.std.specs.Prelude.{◌≡◌, ◌≢◌, ℕ, ◌<◌, ◌⊎◌, ◌↔◌, List, slice_index}
 use Rattle.std.specs.List.{All, Contains}
 use Rattle.fr_graph.specs.Links.{Points}
 use Rattle.fr_graph.specs.Network.{Network}
@@ -42,15 +42,29 @@ HasEndsBelow n (Join u v) = (u < n) × (v < n)
 abbrev pub HasTurned : Touched → ℕ → ℕ → Type 0
 HasTurned touched x w = Contains touched.turned.now x ⊎ Contains touched.turned.now w
 
--- The table has the distances in earlier links to d. Each of those links has been cut, or it is there now, or it has
--- been reversed at an end that has turned. Each link now has been added, or it was there, or an end of it has turned.
+-- These are the links of x before a round in which each node turned so often. A link between nodes that turned equally
+-- often points now as it did then, and each other link has been reversed.
+abbrev pub HadLinks : List (ℕ × ℕ) → List ℕ → List (ℕ × ℕ) → ℕ → Type 0
+HadLinks now counts before x = (w : ℕ) → Points before x w
+    ↔ ((Points now x w × (slice_index counts x ≡ slice_index counts w))
+    ⊎ (Points now w x × (slice_index counts x ≢ slice_index counts w)))
+
+-- each of the earlier links has been cut, or it is there now, or it has been reversed at an end that has turned
+abbrev pub AreKept : List (ℕ × ℕ) → Touched → List (ℕ × ℕ) → Type 0
+AreKept now touched links = (x w : ℕ) → Points links x w
+    → IsCut touched.edits.now x w ⊎ (Points now x w ⊎ (Points now w x × HasTurned touched x w))
+
+-- each link now has been added, or it was there, or an end of it has turned
+abbrev pub AreNew : List (ℕ × ℕ) → Touched → List (ℕ × ℕ) → Type 0
+AreNew now touched links = (x w : ℕ) → Points now x w
+    → IsAdded touched.edits.now x w ⊎ (Points links x w ⊎ HasTurned touched x w)
+
+-- the table has the distances in earlier links to d, which differ from those now only by what the changes touched
 pub record IsOutOfDate (net : Network) (touched : Touched) (d : ℕ) (table : List ℕ) : Type 0 where
   pub links : List (ℕ × ℕ)
   pub node : d < net.nodes
   pub were : AreDistances net.nodes links d table
   pub edits : All (HasEndsBelow net.nodes) touched.edits.now
   pub turned : All (λ (x : ℕ). x < net.nodes) touched.turned.now
-  pub kept : (x w : ℕ) → Points links x w
-      → IsCut touched.edits.now x w ⊎ (Points net.links x w ⊎ (Points net.links w x × HasTurned touched x w))
-  pub new : (x w : ℕ) → Points net.links x w
-      → IsAdded touched.edits.now x w ⊎ (Points links x w ⊎ HasTurned touched x w)
+  pub kept : AreKept net.links touched links
+  pub new : AreNew net.links touched links

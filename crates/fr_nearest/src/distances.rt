@@ -185,4 +185,11 @@ impl Distances {
     {
         &self.of
     }
+
+    /// The distances before the last update, as numbers.
+    pub(crate) fn numbers_before(&self) -> &[u16]
+        ensures { result.now ≡ self.now.before }
+    {
+        &self.changes.before
+    }
 }

@@ -6,11 +6,12 @@
 //! alternates.
 //!
 //! [`Distances::measure`] measures all distances, and [`Distances::renew`] updates them after a change of the links, at
-//! the cost of what changes. The laws of ways are in [`laws`].
+//! the cost of what changes. [`Affected`] lists the nodes whose ways may differ then. The laws of ways are in [`laws`].
 //!
 //! Costs are for n nodes, m links, and d links at a node. They are read off the code, not proved.
 #![tactic(auto)]
 
+mod affected;
 mod changes;
 mod distances;
 pub mod laws;
@@ -18,5 +19,6 @@ mod search;
 mod update;
 mod ways;
 
+pub use affected::Affected;
 pub use distances::Distances;
 pub use update::Touched;

@@ -1,22 +1,52 @@
 //! The ways of a node, nearest first, and the walk by first ways.
 
-ghost use Rattle.std.specs.Prelude.{◌≡◌, ℕ, ◌<◌, ◌≤◌, ◌+◌, ◌*◌, ◌^◌, List, [], ◌∷◌, length, map, take};
-ghost use Rattle.std.specs.Prelude.{IfOk, MatchOption, OnErr, OnOk};
+ghost use Rattle.std.specs.Prelude.{◌≡◌, ◌≢◌, ℕ, ◌<◌, ◌≤◌, ◌+◌, ◌*◌, ◌^◌, ◌↔◌, List, [], ◌∷◌, length, map, take};
+ghost use Rattle.std.specs.Prelude.{IfOk, IsTrue, MatchOption, OnErr, OnOk, slice_set};
 ghost use Rattle.fr_graph.specs.Links.{HasPath};
 ghost use Rattle.fr_graph.specs.Rows.{row};
-ghost use Rattle.fr_nearest.specs.Distances.{IsMeasureOf};
+ghost use Rattle.fr_graph.specs.declared.first.First.TheVariants.{Outward};
+ghost use Rattle.fr_nearest.specs.Distances.{AreDistances, IsMeasureOf, no_distance};
+ghost use Rattle.fr_nearest.specs.Touched.{HadLinks};
 ghost use Rattle.fr_nearest.specs.Ways.{AreWays, IsFirstWay, IsNearestWalk, IsWay};
-ghost use Rattle.fr_nearest.specs.Ranks.{AreRanked, number_of};
+ghost use Rattle.fr_nearest.specs.Ranks.{AreRanked, AreSortedTo, PointedAway, number_of};
 
 use crate::distances::{Distances, NONE};
 use fr_graph::{First, Net};
 use std::alloc::{AllocError, Global};
 
 /// The key by which ways are sorted: nearer ways first, and ways of the same distance by number.
-fn rank(distance: u16, w: u16) -> u32
+pub(crate) fn rank(distance: u16, w: u16) -> u32
     ensures { result ≡ distance * 2 ^ 16 + w }
 {
     (distance as u32) * (1 << 16) + w as u32
+}
+
+/// Whether a link that a node sees so points away from it.
+fn points_away(first: First) -> bool
+    ensures { IsTrue result ↔ (first ≡ Outward) }
+{
+    match first {
+        First::Outward => true,
+        First::Inward => false,
+    }
+}
+
+/// Writes the rank of a neighbour `w` at the place `count`. Returns how many ranks are kept then: one more if the link
+/// points to `w` and `w` has a distance.
+fn put_rank(ranks: &mut [u32], count: usize, distance: u16, w: u16, is_out: bool) -> usize
+    requires { count < length ranks.old }
+    ensures written { ranks.new ≡ slice_set ranks.old count (distance * 2 ^ 16 + w) }
+    ensures way { IsTrue is_out → distance ≢ no_distance → result ≡ count + 1 }
+    ensures other { ¬ (IsTrue is_out × (distance ≢ no_distance)) → result ≡ count }
+    ensures few { result ≤ count + 1 }
+{
+    // Whether this is a way is hard to predict, and a store costs less than a branch that was predicted wrongly.
+    ranks[count] = rank(distance, w);
+    if is_out && distance != NONE {
+        count + 1
+    } else {
+        count
+    }
 }
 
 /// Writes the ranks of the ways of node `x` over the first elements of a slice, by number. Returns how many there are.
@@ -32,12 +62,48 @@ fn rank_ways(net: &Net, x: u32, distances: &[u16], ranks: &mut [u32]) -> usize
     let mut count = 0;
     let row = net.row(x);
     for (w, first) in row {
-        let distance = distances[*w as usize];
-        // Whether this is a way is hard to predict, and a store costs less than a branch that was predicted wrongly.
-        ranks[count] = rank(distance, *w);
-        if *first == First::Outward && distance != NONE {
-            count += 1;
-        }
+        let is_out = points_away(*first);
+        count = put_rank(ranks, count, distances[*w as usize], *w, is_out);
+    }
+    count
+}
+
+/// Whether a link that a node sees so now pointed away from it before a round in which the node has turned `own` times
+/// and its neighbour `other` times.
+fn pointed_away(first: First, own: u64, other: u64) -> bool
+    ensures { IsTrue result ↔ PointedAway first own other }
+{
+    match first {
+        First::Outward => own == other,
+        First::Inward => own != other,
+    }
+}
+
+/// Does the same for the ways that node `x` had before a round in which each node has turned so often. The distances
+/// are those before the round.
+fn rank_ways_before(
+    net: &Net,
+    x: u32,
+    counts: &[u64],
+    distances: &[u16],
+    ranks: &mut [u32],
+) -> usize
+    requires node { x < net.now.nodes }
+    requires counted { length counts.now ≡ net.now.nodes }
+    requires one_each { length distances.now ≡ net.now.nodes }
+    requires room { length (row net.now.nodes net.now.links x) ≤ length ranks.old }
+    ensures ranked { (links : List (ℕ × ℕ)) → HadLinks net.now.links counts.now links x
+        → AreRanked links distances.now x (take result ranks.new) }
+    ensures few { result ≤ length ranks.new }
+    ensures same { length ranks.new ≡ length ranks.old }
+{
+    net.network_law();
+    let own = counts[x as usize];
+    let mut count = 0;
+    let row = net.row(x);
+    for (w, first) in row {
+        let is_out = pointed_away(*first, own, counts[*w as usize]);
+        count = put_rank(ranks, count, distances[*w as usize], *w, is_out);
     }
     count
 }
@@ -49,6 +115,16 @@ fn take_numbers(ranks: &mut [u32])
     for rank in ranks.iter_mut() {
         *rank %= 1 << 16;
     }
+}
+
+/// Sorts the first `count` ranks of a slice, and replaces each of them by the number of its node.
+fn sort_first(ranks: &mut [u32], count: usize)
+    requires { count ≤ length ranks.old }
+    ensures { AreSortedTo count ranks.old ranks.new }
+{
+    let first = &mut ranks[..count];
+    first.sort_unstable();
+    take_numbers(first);
 }
 
 impl Distances {
@@ -86,9 +162,28 @@ impl Distances {
     {
         net.network_law();
         let count = rank_ways(net, x, self.numbers(), space);
-        let ways = &mut space[..count];
-        ways.sort_unstable();
-        take_numbers(ways);
+        sort_first(space, count);
+        count
+    }
+
+    /// Lists the ways that node `x` had before the last update, as `ways_in` lists those that it has. Since then a round
+    /// may have reversed links, and `counts` says how often each node has turned in it. No link of the node may have
+    /// been added or removed.
+    ///
+    /// The slice must have one place for each node of the network. O(d log d).
+    pub fn ways_before_in(&self, net: &Net, counts: &[u64], x: u32, space: &mut [u32]) -> usize
+        requires counted { length counts.now ≡ net.now.nodes }
+        requires before { length self.now.before ≡ net.now.nodes }
+        requires node { x < net.now.nodes }
+        requires space { net.now.nodes ≤ length space.old }
+        ensures ways { (links : List (ℕ × ℕ)) (d : ℕ) → AreDistances net.now.nodes links d self.now.before
+            → HadLinks net.now.links counts.now links x → AreWays links d x (take result space.new) }
+        ensures few { result ≤ length space.new }
+        ensures same { length space.new ≡ length space.old }
+    {
+        net.network_law();
+        let count = rank_ways_before(net, x, counts, self.numbers_before(), space);
+        sort_first(space, count);
         count
     }
 

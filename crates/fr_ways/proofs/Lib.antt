@@ -9,3 +9,5 @@ pub mod Shrinking  -- what nodes have after each phase
 pub mod Searching  -- what the search for a cycle knows
 pub mod Noting  -- ways that are noted by their numbers
 pub mod Planning  -- the pushes for one more node
+pub mod Holding  -- pairs of a node and its list, and how they lie in memory
+pub mod Changing  -- the pushes for one more node of a change, and room for them

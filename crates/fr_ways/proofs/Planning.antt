@@ -9,7 +9,7 @@ use Rattle.std.proofs.lemmas.List.Elements.{filter-append}
 use Rattle.std.proofs.lemmas.List.FromFn.{map-range_with_len_more}
 use lib.Pointwise.{bytes_decides}
 use Rattle.fr_ways.specs.Faults.{ArePhases, ArePushes}
-use Rattle.fr_ways.specs.Phases.{differs, empties, grows, is_empty, kept, loses, sheds, shrunk}
+use Rattle.fr_ways.specs.Phases.{differs, empties, grows, is_empty, kept, loses, sheds}
 use Rattle.fr_ways.specs.Plans.{IsPlan, IsPushedIf}
 use Rattle.fr_ways.specs.Ways.{ways}
 use Rattle.fr_ways.specs.declared.plan.Plan.{Plan}
@@ -66,11 +66,11 @@ range_more x = sym (map_id (range_with_len 0 (x + 1)))
     ∙ (map-range_with_len_more (λ (k : ℕ). k) 0 x x (omega arith)
     ∙ ap (λ (ys : List ℕ). ys ++ x ∷ []) (map_id (range_with_len 0 x)))
 
-filter_range : (p : ℕ → Bool) (x : ℕ)
+pub filter_range : (p : ℕ → Bool) (x : ℕ)
     → filter p (range_with_len 0 (x + 1)) ≡ filter p (range_with_len 0 x) ++ cond (p x) (x ∷ []) []
 filter_range p x = ap (filter p) (range_more x) ∙ filter-append p (range_with_len 0 x) (x ∷ [])
 
-map_cond : (f : ℕ → List ℕ) (x : ℕ) (b : Bool) → map f (cond b (x ∷ []) []) ≡ cond b (f x ∷ []) []
+pub map_cond : {A : Type 0} (f : ℕ → A) (x : ℕ) (b : Bool) → map f (cond b (x ∷ []) []) ≡ cond b (f x ∷ []) []
 map_cond f x true = refl
 map_cond f x false = refl
 
@@ -131,24 +131,23 @@ plan_same old new x plan is same = plan_other old new x plan plan is (same_loses
     (pushed_no x (ways new x) (differs (ways old x) (ways new x)) plan.phases.grow plan.phases.grow
     (differs_no (ways old x) (ways new x) same) refl)
 
--- nodes that keep no way have empty lists
-emptied_lists : (old new : List (List ℕ)) (xs : List ℕ)
-    → map (λ (x : ℕ). []) (filter (empties old new) xs) ≡ map (kept old new) (filter (empties old new) xs)
-emptied_lists old new [] = refl
-emptied_lists old new (x ∷ xs) = elim (cases_Bool (empties old new x)) [
+-- a node that keeps no way has an empty list
+pub empties_none : (old new : List (List ℕ)) (x : ℕ) → empties old new x ≡ true → kept old new x ≡ []
+empties_none old new x t = empty_is (kept old new x) (and_right (loses old new x) (is_empty (kept old new x)) t)
+
+-- functions that agree where a filter passes
+pub map_passed : {A : Type 0} (f g : ℕ → A) (p : ℕ → Bool) → ((x : ℕ) → p x ≡ true → f x ≡ g x) → (xs : List ℕ)
+    → map f (filter p xs) ≡ map g (filter p xs)
+map_passed f g p same [] = refl
+map_passed {A} f g p same (x ∷ xs) = elim (cases_Bool (p x)) [
   | inl t ↦
-      let is : filter (empties old new) (x ∷ xs) ≡ x ∷ filter (empties old new) xs =
-      ap (λ (b : Bool). cond b (x ∷ filter (empties old new) xs) (filter (empties old new) xs)) t in
-      let none : kept old new x ≡ [] =
-      empty_is (kept old new x) (and_right (loses old new x) (is_empty (kept old new x)) t) in
-      ap (map (λ (y : ℕ). [])) is
-      ∙ (ap (λ (t : List (List ℕ)). [] ∷ t) (emptied_lists old new xs)
-      ∙ (ap (λ (ys : List ℕ). ys ∷ map (kept old new) (filter (empties old new) xs)) (sym none)
-      ∙ sym (ap (map (kept old new)) is)))
-  | inr f ↦
-      let is : filter (empties old new) (x ∷ xs) ≡ filter (empties old new) xs =
-      ap (λ (b : Bool). cond b (x ∷ filter (empties old new) xs) (filter (empties old new) xs)) f in
-      ap (map (λ (y : ℕ). [])) is ∙ (emptied_lists old new xs ∙ sym (ap (map (kept old new)) is))
+      let is : filter p (x ∷ xs) ≡ x ∷ filter p xs = ap (λ (b : Bool). cond b (x ∷ filter p xs) (filter p xs)) t in
+      ap (map f) is
+      ∙ (ap (λ (y : A). y ∷ map f (filter p xs)) (same x t)
+      ∙ (ap (λ (ys : List A). g x ∷ ys) (map_passed f g p same xs) ∙ sym (ap (map g) is)))
+  | inr t ↦
+      let is : filter p (x ∷ xs) ≡ filter p xs = ap (λ (b : Bool). cond b (x ∷ filter p xs) (filter p xs)) t in
+      ap (map f) is ∙ (map_passed f g p same xs ∙ sym (ap (map g) is))
 ]
 
 pub phases_from : (old new : List (List ℕ)) (below : ℕ) (plan : Plan) (phases : TwoPhases)
@@ -167,7 +166,8 @@ phases_from old new below plan phases is all nodes lists grow =
         lists = lists ∙ (ap (λ (t : List (List ℕ)). t ++ map (λ (x : ℕ). []) plan.emptied.items) whole.shrink.lists
             ∙ (ap (λ (ys : List ℕ). map (kept old new) first ++ map (λ (x : ℕ). []) ys) whole.emptied
             ∙ (ap (λ (t : List (List ℕ)). map (kept old new) first ++ t)
-            (emptied_lists old new (range_with_len 0 (length new)))
+            (map_passed (λ (x : ℕ). []) (kept old new) (empties old new) (λ x t. sym (empties_none old new x t))
+            (range_with_len 0 (length new)))
             ∙ sym (map-append (kept old new) first last))));
       };
       grow = subst (ArePushes (filter (grows old new) (range_with_len 0 (length new))) (ways new))

@@ -1,10 +1,10 @@
 -- A table of ways in two lists: where each row lies, and what one more row adds.
 use Rattle.std.proofs.Common.{Contains, List, [], ap, arith, drop, get_or, length, length-append, length-drop, refl}
-use Rattle.std.proofs.Common.{subst, suc, sym, take, zero, ℕ}
+use Rattle.std.proofs.Common.{suc, sym, take, zero, ℕ}
 use Rattle.std.proofs.Common.{◌++◌, ◌+◌, ◌-◌, ◌<◌, ◌∙◌, ◌∷◌, ◌≡◌, ◌≤◌}
 use Rattle.std.specs.List.{concat}
 use Rattle.std.proofs.lemmas.List.{drop-append-le, drop-drop, drop_all, drop_at, length-take-le, take-append-drop}
-use Rattle.std.proofs.lemmas.List.{take-append-le, take_all}
+use Rattle.std.proofs.lemmas.List.{take-append-le, take_all, take_at}
 use Rattle.std.proofs.lemmas.List.Elements.{Contains-append_left, Contains-append_right}
 use Rattle.fr_tables.proofs.Members.{Contains-none}
 use Rattle.fr_ways.specs.Rows.{AreBounds, AreRows, AreStarts, DoNotFall, IsLaidOut, rows_from, rows_of}
@@ -41,14 +41,14 @@ row_from list start [] x low = absurd (omega (arith, low))
 row_from list start (end ∷ ends) zero low = refl
 row_from list start (end ∷ ends) (suc x) low = row_from list end ends x (omega (arith, low))
 
--- the row of node x: between its place and the next one
-pub record IsRow (list starts : List ℕ) (x : ℕ) : Type 0 where
+-- the row of node x of a table: between its place and the next one
+pub record IsRow (list starts : List ℕ) (table : List (List ℕ)) (x : ℕ) : Type 0 where
   pub rise : get_or starts x 0 ≤ get_or starts (x + 1) 0
   pub high : get_or starts (x + 1) 0 ≤ length list
-  pub is : take (get_or starts (x + 1) 0 - get_or starts x 0) (drop (get_or starts x 0) list) ≡ ways
-      (rows_of list starts) x
+  pub is : take (get_or starts (x + 1) 0 - get_or starts x 0) (drop (get_or starts x 0) list) ≡ ways table x
 
-pub row_at : (list starts : List ℕ) (x : ℕ) → AreRows list starts → x + 1 < length starts → IsRow list starts x
+pub row_at : (list starts : List ℕ) (x : ℕ) → AreRows list starts → x + 1 < length starts
+    → IsRow list starts (rows_of list starts) x
 row_at list [] x are low = absurd are
 row_at list (start ∷ ends) x are low =
     let next : x + 1 ≡ suc x = omega arith in
@@ -152,6 +152,50 @@ laid_bounds starts list table laid =
           rw end (at (length table) (omega arith)
           ∙ ap (λ (rows : List (List ℕ)). length (concat rows)) (take_all (length table) table (omega arith))
           ∙ ap (λ (ys : List ℕ). length ys) laid.all);
+    }
+
+pub take_fits : (table : List (List ℕ)) (x : ℕ) → length (concat (take x table)) ≤ length (concat table)
+take_fits table zero = omega arith
+take_fits [] (suc x) = omega arith
+take_fits (row ∷ rows) (suc x) = omega (
+  arith,
+  take_fits rows x,
+  length-append row (concat (take x rows)),
+  length-append row (concat rows),
+)
+
+-- the row of node x in any two lists in which the table lies
+row_part : (table : List (List ℕ)) (x : ℕ) → x < length table
+    → take (length (concat (take (suc x) table)) - length (concat (take x table)))
+    (drop (length (concat (take x table))) (concat table)) ≡ get_or table x []
+row_part [] x low = absurd (omega (arith, low))
+row_part (row ∷ rows) zero low =
+    let all : length (row ++ []) - 0 ≡ length row = omega (arith, length-append row []) in
+    rw all (take_at row (concat rows) (length row) refl)
+row_part (row ∷ rows) (suc x) low =
+    let before = concat (take x rows) in
+    let up_to = concat (take (suc x) rows) in
+    let long : length (row ++ up_to) - length (row ++ before) ≡ length up_to - length before =
+    omega (arith, length-append row up_to, length-append row before) in
+    let there : drop (length (row ++ before)) (row ++ concat rows) ≡ drop (length before) (concat rows) =
+    ap (λ (k : ℕ). drop k (row ++ concat rows)) (length-append row before)
+    ∙ (sym (drop-drop (length before) (length row) (row ++ concat rows))
+    ∙ ap (drop (length before)) (drop_at row (concat rows) (length row) refl)) in
+    rw (long, there) (row_part rows x (omega (arith, low)))
+
+pub laid_row : (starts list : List ℕ) (table : List (List ℕ)) (x : ℕ) → IsLaidOut starts list table
+    → x < length table → IsRow list starts table x
+laid_row starts list table x laid low =
+    let next : x + 1 ≡ suc x = omega arith in
+    let start : get_or starts x 0 ≡ length (concat (take x table)) = laid.begins.each x (omega (arith, low)) in
+    let end : get_or starts (x + 1) 0 ≡ length (concat (take (suc x) table)) =
+    laid.begins.each (x + 1) (omega (arith, low)) ∙ ap (λ (k : ℕ). length (concat (take k table))) next in
+    let high : length (concat (take (suc x) table)) ≤ length list =
+    omega (arith, take_fits table (suc x), ap length laid.all) in
+    record {
+      rise = omega (arith, start, end, concat_grows table x);
+      high = omega (arith, end, high);
+      is = rw (start, end, ← laid.all) (row_part table x low);
     }
 
 -- one more row

@@ -6,3 +6,8 @@ pub mod Faults
 pub mod Laws
 pub mod Searches
 pub mod Plans
+pub mod Changes
+pub mod PushLists
+pub mod Held
+pub mod HeldInside
+pub mod ChangesInside

@@ -1,6 +1,7 @@
 -- New ways in two phases. In the first, routers lose the ways that are none of the new table (they shrink); in the
 -- second they get their new lists (they grow). This project's own.
-use Rattle.std.specs.Prelude.{◌≡◌, ℕ, ◌⊎◌, ◌&&◌, ◌++◌, Bool, true, false, not, bytes_eq, cond, List, [], ◌∷◌, filter, length, nat_eq}
+use Rattle.std.specs.Prelude.{◌≡◌, ℕ, ◌⊎◌, ◌&&◌, ◌++◌, Bool, true, false, not, bytes_eq, cond, List, [], ◌∷◌}
+use Rattle.std.specs.Prelude.{filter, length, map, nat_eq}
 use Rattle.std.specs.List.{list_any, range_with_len}
 use Rattle.fr_ways.specs.Ways.{ways}
 
@@ -63,3 +64,11 @@ shrinking_nodes old new = filter (sheds old new) (nodes_of new) ++ filter (empti
 -- the nodes that grow, by number
 abbrev pub growing_nodes : List (List ℕ) → List (List ℕ) → List ℕ
 growing_nodes old new = filter (grows old new) (nodes_of new)
+
+-- the pushes of the first phase: nodes, each with the list that it gets
+abbrev pub shrinks : List (List ℕ) → List (List ℕ) → List (ℕ × List ℕ)
+shrinks old new = map (λ x. (x, kept old new x)) (shrinking_nodes old new)
+
+-- the pushes of the second phase
+abbrev pub growths : List (List ℕ) → List (List ℕ) → List (ℕ × List ℕ)
+growths old new = map (λ x. (x, ways new x)) (growing_nodes old new)

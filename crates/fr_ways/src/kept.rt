@@ -1,6 +1,7 @@
 //! Which ways a node keeps and which it loses, without looking for each way in a list.
 
-ghost use Rattle.std.specs.Prelude.{◌≡◌, ℕ, ◌<◌, All, IfOk, OnOk, false, filter, length, not, replicate, slice_index_or};
+ghost use Rattle.std.specs.Prelude.{◌≡◌, ℕ, ◌<◌, ◌≤◌, ◌+◌, ◌++◌, All, IfOk, OnOk, false, filter, length, not};
+ghost use Rattle.std.specs.Prelude.{replicate, slice_index_or, vec_capacity};
 ghost use Rattle.std.specs.List.{list_any};
 ghost use Rattle.fr_ways.specs.Phases.{is_way};
 ghost use Rattle.fr_ways.specs.Plans.{AreNoted, IsClear};
@@ -33,10 +34,7 @@ impl Spare {
         ensures loses { result ≡ list_any (λ y. not (is_way new.now y)) old.now }
         ensures clear { (nodes : ℕ) → IsClear nodes self.old → IsClear nodes self.new }
     {
-        note(&mut self.noted, new);
-        let loses = has_other(&self.noted, old);
-        forget(&mut self.noted, new);
-        loses
+        loses(&mut self.noted, old, new)
     }
 
     /// Keeps those of the new ways that are old ones too.
@@ -45,11 +43,40 @@ impl Spare {
         ensures kept { OnOk result (self.new.kept.items ≡ filter (is_way old.now) new.now) }
         ensures clear { (nodes : ℕ) → IsClear nodes self.old → IsClear nodes self.new }
     {
-        note(&mut self.noted, old);
-        let result = keep_noted(&self.noted, new, &mut self.kept);
-        forget(&mut self.noted, old);
-        result
+        self.kept.clear();
+        self.kept.reserve(new.len())?;
+        copy_kept(&mut self.noted, old, new, &mut self.kept);
+        Ok(())
     }
+}
+
+/// Whether an old way is not among the new ways. `noted` has a place for each node. All are `false`, before the call
+/// and after it.
+pub(crate) fn loses(noted: &mut [bool], old: &[u32], new: &[u32]) -> bool
+    requires clear { noted.old ≡ replicate (length noted.old) false }
+    requires range { All (λ (y : ℕ). y < length noted.old) new.now }
+    ensures loses { result ≡ list_any (λ y. not (is_way new.now y)) old.now }
+    ensures same { noted.new ≡ noted.old }
+{
+    note(noted, new);
+    let loses = has_other(noted, old);
+    forget(noted, new);
+    loses
+}
+
+/// Appends to the list those of the new ways that are old ones too. There must be room for all the new ways. `noted` is
+/// as for [`loses`].
+pub(crate) fn copy_kept(noted: &mut [bool], old: &[u32], new: &[u32], list: &mut Vec<u32>)
+    requires clear { noted.old ≡ replicate (length noted.old) false }
+    requires range { All (λ (y : ℕ). y < length noted.old) new.now }
+    requires room { length list.old.items + length new.now ≤ vec_capacity list.old }
+    ensures kept { list.new.items ≡ list.old.items ++ filter (is_way old.now) new.now }
+    ensures same_room { vec_capacity list.new ≡ vec_capacity list.old }
+    ensures same { noted.new ≡ noted.old }
+{
+    note(noted, old);
+    copy_noted(noted, new, list);
+    forget(noted, old);
 }
 
 /// Whether this node is noted.
@@ -91,16 +118,15 @@ fn has_other(noted: &[bool], ways: &[u32]) -> bool
     ways.iter().any(|y| !is_noted(noted, *y))
 }
 
-/// Replaces the content of `kept` by those of these ways that are noted.
-fn keep_noted(noted: &[bool], ways: &[u32], kept: &mut Vec<u32>) -> Result<(), AllocError>
-    ensures { OnOk result (kept.new.items ≡ filter (λ y. slice_index_or noted.now y false) ways.now) }
+/// Appends to the list those of these ways that are noted.
+fn copy_noted(noted: &[bool], ways: &[u32], list: &mut Vec<u32>)
+    requires { length list.old.items + length ways.now ≤ vec_capacity list.old }
+    ensures noted { list.new.items ≡ list.old.items ++ filter (λ y. slice_index_or noted.now y false) ways.now }
+    ensures same_room { vec_capacity list.new ≡ vec_capacity list.old }
 {
-    kept.clear();
-    kept.reserve(ways.len())?;
     for y in ways {
         if is_noted(noted, *y) {
-            kept.push(*y)?;
+            list.push_reserved(*y);
         }
     }
-    Ok(())
 }

@@ -1,13 +1,16 @@
 //! The two phases from one table to another.
 
-ghost use Rattle.std.specs.Prelude.{◌≡◌, ℕ, ◌<◌, ◌+◌, ◌++◌, ◌^◌, [], ◌∷◌, IfErr, IfOk, OnOk, cond, length, map, not};
-ghost use Rattle.fr_ways.specs.Faults.{ArePhases, IsFaultOf, IsPlanned};
+ghost use Rattle.std.specs.Prelude.{◌≡◌, ℕ, ◌<◌, ◌+◌, ◌++◌, ◌^◌, [], ◌∷◌, IfErr, IfOk, List, OnOk, cond, length, map};
+ghost use Rattle.std.specs.Prelude.{not};
+ghost use Rattle.fr_ways.specs.Faults.{ArePhases, ArePushes, IsFaultOf, IsPlanned};
 ghost use Rattle.fr_ways.specs.Phases.{differs, is_empty};
 ghost use Rattle.fr_ways.specs.Plans.{IsClear, IsPlan, IsPushedIf};
+ghost use Rattle.fr_ways.specs.PushLists.{AreListed};
 ghost use Rattle.fr_ways.specs.Ways.{IsInRange};
 
 use crate::fault::WaysFault;
 use crate::kept::Spare;
+use crate::push_list::PushList;
 use crate::range::first_outside;
 use crate::search::find_cycle;
 use crate::table::WayTable;
@@ -41,6 +44,18 @@ impl Pushes {
     {
         self.nodes.push(x)?;
         self.lists.push_row(list)
+    }
+
+    /// The same pushes in plain lists. O(1).
+    pub fn as_list(&self) -> PushList<'_>
+        ensures { (nodes : List ℕ) (list_of : ℕ → List ℕ) → ArePushes nodes list_of self.now
+            → AreListed (map (λ x. (x, list_of x)) nodes) result }
+    {
+        PushList {
+            nodes: self.nodes.as_slice(),
+            starts: self.lists.starts(),
+            list: self.lists.list(),
+        }
     }
 }
 

@@ -1,13 +1,10 @@
-use Rattle.std.proofs.Common.{ap, arith, get_or, length, rules, take, ◌∙◌, ◌<◌, ◌≡◌, ◌≤◌}
+use Rattle.std.proofs.Common.{ap, arith, length, take, ◌∙◌, ◌<◌, ◌≤◌}
 use Rattle.std.proofs.lemmas.List.{length-set}
 use Rattle.fr_graph.specs.Rows.{row}
-use Rattle.fr_graph.specs.declared.first.First.TheVariants.{Outward}
-use Rattle.fr_nearest.specs.Ranks.{AreRankedTo}
+use Rattle.fr_nearest.specs.Ranks.{AreRankedTo, IsOut}
 use Rattle.fr_nearest.proofs.Entries.{entry_inside}
-use Rattle.fr_nearest.proofs.Ranking.{listed_all, ranked_other, ranked_way}
+use Rattle.fr_nearest.proofs.Ranking.{listed_all, out_now, ranked_more}
 use Rattle.fr_nearest.proofs.ways.rank_ways.Goals as goal
-use Rattle.fr_nearest.proofs.ways.rank_ways.Goals.{then-eq+then-distance, else-eq}
-use Rattle.fr_nearest.proofs.ways.rank_ways.Goals.{else-eq-via-then-eq+else-distance, else-eq-via-else-eq}
 
 pub bounds-distances-w : goal.bounds-distances-w
 bounds-distances-w c = entry_inside c.args.net.now c.args.x c.row-row.result.now c.loop-w.w-index c.args.distances.now
@@ -16,40 +13,26 @@ bounds-distances-w c = entry_inside c.args.net.now c.args.x c.row-row.result.now
 pub loop-w-preserved : goal.loop-w-preserved
 loop-w-preserved c =
     let net = c.args.net.now in
-    let entries = c.row-row.result.now in
     let place = c.loop-w.w-index in
-    let entry = get_or entries place (0, Outward) in
     let inv = c.loop-w.invariant in
     let inside = c.loop-w-test.true in
+    let put = c.put_rank-count.ensures in
     let room : c.loop-w.count < length c.loop-w.ranks =
     omega (arith, inv.few, inside, ap length c.row-row.ensures, c.requires.room, inv.same) in
-    let same = length-set c.loop-w.ranks c.loop-w.count c.rank.result ∙ inv.same in
-    elim c.if-eq.branch [
-      | then-eq+then-distance w ↦
-          let outward : entry.1 ≡ Outward = search rules in
-          rw w.count-is record {
-            ranked = rw c.rank.ensures (ranked_way net.nodes net.links c.args.x entries place c.row-row.ensures inside
-                c.loop-w.ranks c.loop-w.count room inv.ranked outward w.if-distance.true);
-            few = omega (arith, inv.few);
-            same = same;
-          }
-      | else-eq w ↦ rw w.count-is record {
-        ranked = ranked_other net.nodes net.links c.args.x entries place c.row-row.ensures inside
-            c.loop-w.ranks c.loop-w.count c.rank.result inv.ranked (elim w.else-eq.branch [
-              | else-eq-via-then-eq+else-distance v ↦ λ _. v.if-distance.false
-              | else-eq-via-else-eq v ↦ λ out. let inward : ¬ (entry.1 ≡ Outward) = search rules in absurd (inward out)
-            ]);
-        few = omega (arith, inv.few);
-        same = same;
-      }
-    ]
+    record {
+      ranked = ranked_more net.nodes net.links c.args.x c.row-row.result.now place c.row-row.ensures inside
+          c.points_away-is_out.result c.loop-w.ranks c.loop-w.count c.points_away-is_out.ensures room put.written put.way put.other inv.ranked;
+      few = omega (arith, inv.few, put.few);
+      same = ap length put.written ∙ length-set _ _ _ ∙ inv.same;
+    }
 
 pub returns-clause-ranked : goal.returns-clause-ranked
 returns-clause-ranked c =
     let net = c.args.net.now in
     let entries = row net.nodes net.links c.args.x in
     let place = c.loop-w.w-index in
-    let ranked : AreRankedTo c.args.distances.now entries place (take c.loop-w.count c.loop-w.ranks) =
+    let ranked : AreRankedTo IsOut c.args.distances.now entries place (take c.loop-w.count c.loop-w.ranks) =
     rw c.row-row.ensures at c.loop-w.invariant.ranked in
     let end : length entries ≤ place = omega (arith, c.loop-w-test.false, ap length c.row-row.ensures) in
-    (ranked.0, listed_all place c.network_law.ensures.is_net end ranked.1, ranked.2)
+    let out = out_now net.nodes net.links c.args.x c.network_law.ensures.is_net in
+    (ranked.0, listed_all place out end ranked.1, ranked.2)

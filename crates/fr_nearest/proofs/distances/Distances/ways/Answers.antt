@@ -4,7 +4,7 @@ use Rattle.std.proofs.lemmas.List.{length-map, with_items_is}
 use Rattle.std.proofs.lemmas.List.Sorted.{IsNonDecreasingBy-from_sort}
 use Rattle.fr_nearest.specs.Ranks.{AreRanked, number_of}
 use Rattle.fr_nearest.specs.Ways.{AreWays}
-use Rattle.fr_nearest.proofs.Ranking.{ways_of_ranks}
+use Rattle.fr_nearest.proofs.Ranking.{inside_net, ways_of_ranks}
 use Rattle.fr_nearest.proofs.distances.Distances.ways.Goals as goal
 
 pub returns-clause-ways : goal.returns-clause-ways
@@ -26,6 +26,6 @@ returns-clause-ways c =
     let items : (with_items sorted numbers).items ≡ map number_of sorted.items =
     with_items_is sorted numbers (omega (arith, ap length is, length-map sorted.items number_of, sorted.ok.0)) ∙ is in
     subst (λ (xs : List ℕ). AreWays net.links m.dest c.args.x xs) (sym items)
-    (ways_of_ranks c.network_law.ensures.is_net c.requires.measured c.network_law.ensures.limits.nodes_few ranked
+    (ways_of_ranks (inside_net net.nodes net.links c.args.x c.network_law.ensures.is_net) c.requires.measured c.network_law.ensures.limits.nodes_few ranked
     c.sort_unstable.ensures.permutation
     (IsNonDecreasingBy-from_sort (λ (r : ℕ). r) sorted.items c.sort_unstable.ensures.sorted))
