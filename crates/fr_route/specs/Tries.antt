@@ -22,15 +22,15 @@ pub record Trial : Type 1 where
   pub Undone : RouteFault → Type 0
 
 -- edits, and a destination after them
+abbrev pub edits_of : State → List Edit → ℕ → Trial
+edits_of s edits d = record { Made = IsEdited s edits d; Undone = IsEditingFault s edits d }
+
 abbrev pub revision_of : State → Revision → Trial
-revision_of s revision = record {
-  Made = IsEdited s revision.edits.now revision.dest;
-  Undone = IsEditingFault s revision.edits.now revision.dest;
-}
+revision_of s revision = edits_of s revision.edits.now revision.dest
 
 -- one edit, and a destination after it
 abbrev pub edit_of : State → Edit → ℕ → Trial
-edit_of s edit d = record { Made = IsEdited s (edit ∷ []) d; Undone = IsEditingFault s (edit ∷ []) d }
+edit_of s edit d = edits_of s (edit ∷ []) d
 
 -- a change
 abbrev pub change_of : State → Change → Trial

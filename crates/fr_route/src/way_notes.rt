@@ -17,7 +17,7 @@ use std::alloc::{AllocError, Global};
 
 /// Memory to note what a change does to the ways of nodes. It is kept from one change to the next, and all of it is taken
 /// before a change is made, because a change that is made cannot fail.
-#[derive(Debug, Drop)]
+#[derive(Debug)]
 pub(crate) struct WayNotes {
     // The ends of the edits, by number. Of all other nodes the earlier ways can be told from the links after the change, but
     // of these they are listed before it.
@@ -30,6 +30,26 @@ pub(crate) struct WayNotes {
     pub(crate) after: Vec<u32>,
     // What has to be pushed.
     pub(crate) changes: WayChanges,
+}
+
+// Written by hand: code that drops notes proves this one call. With a derived Drop it proves how each part is dropped.
+impl Drop for WayNotes {
+    fn drop(self) {
+        let WayNotes {
+            ends,
+            end_ways,
+            affected,
+            before,
+            after,
+            changes,
+        } = self;
+        drop(ends);
+        drop(end_ways);
+        drop(affected);
+        drop(before);
+        drop(after);
+        drop(changes);
+    }
 }
 
 /// The ends of these edits, by number. A node that is an end of several edits is there several times.

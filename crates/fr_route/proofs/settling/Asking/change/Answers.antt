@@ -3,7 +3,7 @@ use Rattle.fr_route.specs.Tries.{change_of}
 use Rattle.fr_graph.specs.declared.edit.Edit.TheVariants as edit
 use Rattle.fr_route.specs.declared.change.Change.TheVariants.{Add, Cut, Join}
 use Rattle.fr_route.proofs.Changing.{add_by, cut_by, join_by}
-use Rattle.fr_route.proofs.Tried.{edit_as}
+use Rattle.fr_route.proofs.Tried.{batch_as, edit_as}
 use Rattle.fr_route.proofs.settling.Asking.change.Goals as goal
 
 pub returns-in-Cut : goal.returns-in-Cut
@@ -35,3 +35,9 @@ returns-in-Join g c =
     rw c.in-Join.is
     (edit_as _ (edit.Join u v) s.dest (change_of s (Join u v)) _ s c.args.told.now c.edit_one-in-Join.result c.edit_one-in-Join.new.router
     c.edit_one-in-Join.new.told by.done by.undone refl c.edit_one-in-Join.ensures)
+
+pub returns-in-Batch : goal.returns-in-Batch
+returns-in-Batch g c =
+    rw (c.in-Batch.is, c.placeless.ensures)
+    (batch_as _ c.in-Batch.edits c.deref.result.now c.dest-dest.result _ c.args.router.now c.args.told.now _ c.edit.new.router
+    c.edit.new.told c.deref.ensures.value c.dest-dest.ensures.value c.edit.ensures.tried)
