@@ -68,7 +68,8 @@ class Routes:
         if length != HOST or table != MAIN or parts.get(RTA_DST) != self.target:
             return None
         metric = struct.unpack("=I", parts[RTA_PRIORITY])[0] if RTA_PRIORITY in parts else 0
-        hops = several(parts[RTA_MULTIPATH]) if RTA_MULTIPATH in parts else [(flags, *struct.unpack("=I", parts[RTA_OIF]))]
+        # a route that drops packets has no hop
+        hops = several(parts.get(RTA_MULTIPATH, b"")) or [(flags, *struct.unpack("=I", parts[RTA_OIF])) for it in parts if it == RTA_OIF]
         return metric, [device for flags, device in hops if not flags & (DEAD | LINKDOWN)]
 
     def do(self, *words):
@@ -164,11 +165,12 @@ def attributes(said, at, end):
 
 def several(hops):
     """The flags and the device of each hop of a route with several."""
-    at = 0
+    at, found = 0, []
     while at + 8 <= len(hops):
         size, flags, _, device = struct.unpack_from("=HBBI", hops, at)
-        yield flags, device
+        found.append((flags, device))
         at += size + 3 & ~3
+    return found
 
 
 def attribute(kind, value):

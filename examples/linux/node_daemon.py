@@ -19,7 +19,7 @@ import time
 from netlink import Carriers, Routes
 from revroute import Node, NotAMessage
 
-HELLO, DEAD, CAP, PORT = 0.1, 0.5, 64, 6464
+HELLO, DEAD, PORT = 0.1, 0.5, 6464
 OPEN, CLOSED = 10, 20
 
 
@@ -89,9 +89,11 @@ class Table:
 class Router:
     """A node with its kernel and its neighbours."""
 
+    policy = {"cap": 64}
+
     def __init__(self, me, target, neighbours):
         boot = self.boot()
-        self.node = Node(me, boot, cap=CAP) if me else Node.gateway(me, boot)
+        self.node = Node(me, boot, **self.policy) if me else Node.gateway(me, boot)
         self.table = Table(target, neighbours)
         if not self.table.clear():
             sys.exit("the kernel keeps ways or gates of an earlier process")
