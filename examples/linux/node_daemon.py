@@ -8,18 +8,19 @@ each neighbour says that TARGET is unreachable for packets from it: a closed gat
 gate is to delete a rule, which needs no memory.
 
 The carrier says that a link is lost, and so does silence for DEAD seconds. An empty datagram only says that the link is there. The
-datagrams are broadcast, so they need no ARP, and each names the router that it is for.
+datagrams go to a multicast group of the link, so they need no ARP. Each names the router that it is for.
 """
 
 import select
 import socket
+import struct
 import sys
 import time
 
 from netlink import Carriers, Routes
 from revroute import Node, NotAMessage
 
-HELLO, DEAD, PORT = 0.1, 0.5, 6464
+HELLO, DEAD, GROUP, PORT = 0.1, 0.5, "224.0.0.254", 6464
 OPEN, CLOSED = 10, 20
 
 
@@ -199,7 +200,7 @@ class Router:
 
     def send(self, number, data):
         try:
-            self.sockets[number].sendto(data, ("255.255.255.255", PORT))
+            self.sockets[number].sendto(data, (GROUP, PORT))
         except OSError:
             # a message is lost
             pass
@@ -209,8 +210,10 @@ def opened(device):
     """A socket for one link."""
     it = socket.socket(socket.AF_INET, socket.SOCK_DGRAM)
     it.setsockopt(socket.SOL_SOCKET, socket.SO_BINDTODEVICE, device.encode())
-    it.setsockopt(socket.SOL_SOCKET, socket.SO_BROADCAST, 1)
-    it.bind(("", PORT))
+    where = struct.pack("=4s4si", socket.inet_aton(GROUP), bytes(4), socket.if_nametoindex(device))
+    for option, value in ((socket.IP_ADD_MEMBERSHIP, where), (socket.IP_MULTICAST_IF, where), (socket.IP_MULTICAST_LOOP, 0)):
+        it.setsockopt(socket.IPPROTO_IP, option, value)
+    it.bind((GROUP, PORT))
     it.setblocking(False)
     return it
 
