@@ -30,8 +30,10 @@ class Table:
     def __init__(self, target, neighbours):
         self.target, self.neighbours = target, neighbours
         self.routes = Routes(target, {device: socket.if_nametoindex(device) for device, _ in neighbours.values()})
-        # the ways that the kernel holds, or None if that is not known; the highest metric of a route; and the gates that may be open
-        self.ways, self.highest, self.gates = None, len(neighbours), {*neighbours}
+        # the ways that the kernel holds, or None if that is not known, and the highest metric that a route may have
+        self.ways, self.highest = None, len(neighbours)
+        # whether the gate of each neighbour is open, or None if that is not known
+        self.gates = dict.fromkeys(neighbours)
 
     def clear(self):
         """Closes all gates and removes all ways. An earlier process with the same neighbours may have left some."""
@@ -46,24 +48,21 @@ class Table:
     def write(self, ways, gates):
         """Closes gates, changes the ways, and then opens gates. Stops at what the kernel refuses, and returns whether all was done."""
         try:
-            return self.close(self.gates - gates) and self.change(ways) and self.open(gates - self.gates)
+            return self.set_gates(gates, False) and self.change(ways) and self.set_gates(gates, True)
         except OSError:
             return False
 
-    def close(self, gates):
-        return all(self.set_gate(it, False) for it in gates)
-
-    def open(self, gates):
-        return all(self.set_gate(it, True) for it in gates)
+    def set_gates(self, gates, is_open):
+        """Opens those that are to be open, or closes all others."""
+        some = [it for it, state in self.gates.items() if (it in gates) == is_open and state is not is_open]
+        return all(self.set_gate(it, is_open) for it in some)
 
     def set_gate(self, neighbour, is_open):
-        where = f"pref {OPEN} iif {self.neighbours[neighbour][0]} to {self.target}"
-        if is_open:
-            self.gates.add(neighbour)
-            return self.do(f"rule add {where} lookup main")
-        is_done = self.do(f"rule del {where}")
+        verb, action = ("add", "lookup main") if is_open else ("del", "")
+        self.gates[neighbour] = None
+        is_done = self.do(f"rule {verb} pref {OPEN} iif {self.neighbours[neighbour][0]} to {self.target} {action}")
         if is_done:
-            self.gates.discard(neighbour)
+            self.gates[neighbour] = is_open
         return is_done
 
     def change(self, ways):
