@@ -73,7 +73,8 @@ class Routes:
         return metric, [device for flags, device in hops if not flags & (DEAD | LINKDOWN)]
 
     def do(self, *words):
-        """Does what `ip` would do for these words, as the controllers of examples/linux use them. Returns whether it was done."""
+        """Does what `ip` would do for these words, as the controllers and the daemon beside this file use them. Returns whether it was
+        done."""
         match words:
             case "nexthop", "flush", "dev", device:
                 return self.ask(DELNEXTHOP, 0, nexthop(self.ids[device]), may=GONE) in (0, *GONE)
