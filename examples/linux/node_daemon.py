@@ -89,7 +89,8 @@ class Table:
 class Router:
     """A node with its kernel and its neighbours."""
 
-    policy = {"cap": 64}
+    # a router that starts high finds its nearest ways: it comes down to its distance
+    policy = {"height": 64, "cap": 64}
 
     def __init__(self, me, target, neighbours):
         boot = self.boot()
