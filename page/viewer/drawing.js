@@ -169,8 +169,8 @@ function drawNodes(view, round, {state, ways}, way, news) {
       ['stuck', acts.isStuck(node)]
     ];
     if (spot.count.textContent !== String(count)) spot.count.textContent = count;
-    const label = 'node ' + node + (isHome ? ', the destination' : '') + ', turned ' + count +
-        (count === 1 ? ' time' : ' times') + (node === state.sink ? ', turns next' : '') +
+    const label = 'node ' + node + (isHome ? ', the destination' : '') + ', turned ' + timesText(count) +
+        (node === state.sink ? ', turns next' : '') +
         (node === state.node ? ', gets its next hop now' : '') + (isCut ? ', cut off' : '') +
         (hop && !isSaid ? ', ' + (ways ? waysText(ways[node]) : hopText(hop)) : '') +
         (acts.isStuck(node) ? ', a packet is stuck here' : '');
