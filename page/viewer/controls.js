@@ -47,8 +47,8 @@ function showNothing() {
   for (const id of ['request', 'answer', 'more', 'changed', 'route', 'picked', 'at']) by(id).textContent = '';
   by('title').textContent = 'No network yet';
   by('say').textContent = isLab ? 'There are no requests.' : 'The input held no line.';
-  by('none').textContent = isLab ? 'Click here to add the first node, or take a sample.' :
-                                 'There is nothing to show: no line was read.';
+  by('none').textContent =
+      isLab ? 'Click here to add the first node, or take a sample.' : 'There is nothing to show: no line was read.';
   by('none').removeAttribute('hidden');
   acts.shown();
 }
@@ -194,8 +194,8 @@ function act(g, isShift) {
   else (isShift ? acts.fail : acts.link)(Number(g.dataset.tail), Number(g.dataset.head));
 }
 
-// A button or a choice that a pointer has used lets the focus go, so that the next key acts on the page. Who goes there by
-// Tab keeps the focus.
+// A button or a choice that a pointer has used lets the focus go, so that the next key acts on the page. Who goes there
+// by Tab keeps the focus.
 function listenToFocus() {
   let pointed = null;
   const letGo = kind => event => {

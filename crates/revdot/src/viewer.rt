@@ -889,9 +889,8 @@ function drawNodes(view, round, {state, ways}, way, news) {
     ];
     if (spot.count.textContent !== String(count)) spot.count.textContent = count;
     const label = 'node ' + node + (isHome ? ', the destination' : '') + ', turned ' + timesText(count) +
-        (node === state.sink ? ', turns next' : '') +
-        (node === state.node ? ', gets its next hop now' : '') + (isCut ? ', cut off' : '') +
-        (hop && !isSaid ? ', ' + (ways ? waysText(ways[node]) : hopText(hop)) : '') +
+        (node === state.sink ? ', turns next' : '') + (node === state.node ? ', gets its next hop now' : '') +
+        (isCut ? ', cut off' : '') + (hop && !isSaid ? ', ' + (ways ? waysText(ways[node]) : hopText(hop)) : '') +
         (acts.isStuck(node) ? ', a packet is stuck here' : '');
     mark(spot.g, {
       class: 'node' + kinds.filter(kind => kind[1]).map(kind => ' ' + kind[0]).join(''),
@@ -1336,8 +1335,8 @@ function showNothing() {
   for (const id of ['request', 'answer', 'more', 'changed', 'route', 'picked', 'at']) by(id).textContent = '';
   by('title').textContent = 'No network yet';
   by('say').textContent = isLab ? 'There are no requests.' : 'The input held no line.';
-  by('none').textContent = isLab ? 'Click here to add the first node, or take a sample.' :
-                                 'There is nothing to show: no line was read.';
+  by('none').textContent =
+      isLab ? 'Click here to add the first node, or take a sample.' : 'There is nothing to show: no line was read.';
   by('none').removeAttribute('hidden');
   acts.shown();
 }
@@ -1483,8 +1482,8 @@ function act(g, isShift) {
   else (isShift ? acts.fail : acts.link)(Number(g.dataset.tail), Number(g.dataset.head));
 }
 
-// A button or a choice that a pointer has used lets the focus go, so that the next key acts on the page. Who goes there by
-// Tab keeps the focus.
+// A button or a choice that a pointer has used lets the focus go, so that the next key acts on the page. Who goes there
+// by Tab keeps the focus.
 function listenToFocus() {
   let pointed = null;
   const letGo = kind => event => {
