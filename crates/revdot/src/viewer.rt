@@ -115,7 +115,7 @@ footer{padding:.15rem .8rem}}
 @media (max-width:760px) and (orientation:portrait){html{font-size:14px}
 body{grid-template:'head' auto 'net' minmax(0,1fr) 'bar' auto 'side' 36vh 'foot' auto/minmax(0,1fr)}
 header{display:block;padding:.4rem .8rem}h1{white-space:nowrap;overflow:hidden;text-overflow:ellipsis}
-#say{align-content:start}aside{border:0;border-top:1px solid var(--edge)}
+#say{align-content:start}aside{border:0;border-top:1px solid var(--edge)}#list{min-height:3.4rem}#request,#answer{max-height:2.9em}
 #bar{padding:.4rem .8rem;gap:.35rem}#bar button{min-width:2.3rem;padding:.25rem .4rem}#bar #play{min-width:3.6rem}
 #bar select{padding:.25rem .1rem}#slide,#bar label:nth-last-child(-n+2){order:1}#slide{flex-basis:15%}#at{flex:1}}
 </style>
