@@ -113,7 +113,8 @@ acts.fail = (tail, head) => {
 
 function switchFailing() {
   failing.isOn = !failing.isOn;
-  hint();
+  if (failing.isOn) failing.packet = null;
+  show(viewer.now, true);
 }
 
 // The engine is told of all failed links by one request.

@@ -37,7 +37,7 @@ function hint() {
   by('hint').textContent = fault ? fault :
       note                       ? note :
       failureHint()              ? failureHint() :
-      !viewer.blocks.length      ? 'Add a node, take a sample, or open a file of requests.' :
+      !viewer.blocks.length      ? 'Click empty space to add a node, take a sample, or open a file of requests.' :
       viewer.picked === null     ? 'Click a link to cut it, two nodes to join them, empty space to add a node.' :
                                    'Node ' + viewer.picked + ' is chosen. Click another node to join the two.';
   by('home').disabled = by('remove').disabled = viewer.picked === null;
@@ -152,8 +152,11 @@ acts.link = (tail, head) => {
   ask('cut', tail, head);
   later(() => focusOn(node));
 };
+// While a packet is shown, a click on another node chooses that one: the next packet may start there.
 acts.node = node => {
+  const wasSent = failing.packet !== null;
   failing.packet = null;
+  if (wasSent && viewer.picked !== node) viewer.picked = null;
   if (viewer.picked === null || viewer.picked === node) return pick(node);
   const first = viewer.picked;
   if (!isEarlier()) ask('join', first, node);
@@ -188,10 +191,18 @@ function addNode(at) {
   const round = lastRound();
   if (!round && viewer.blocks.length && viewer.blocks.at(-1).round)
     return tell('The lab draws at most ' + MOST_DRAWN + ' nodes.');
-  if (!round) return run([...lines, '["net",1,0,[]]'], lines.length);
+  if (!round) return addFirst(at);
   const {nodes, home, links, view} = round;
   if (nodes === MOST_DRAWN) return tell('The lab draws at most ' + MOST_DRAWN + ' nodes.');
   return remake({nodes: nodes + 1, home, links, spots: [...view.place, at ?? freePlace(view)]}, nodes);
+}
+
+// The first node is where the click was, or else in the middle. It leaves room for others.
+async function addFirst(at) {
+  const sides = room(), scale = Math.min(2, Math.min(...sides) / 250), corner = [camera.x, camera.y];
+  const [x, y] = sides.map((most, side) => at ? at[side] * camera.scale + corner[side] : most / 2);
+  const where = {...places, [lines.length]: [[0, 0]]};
+  if (await run([...lines, '["net",1,0,[]]'], lines.length, where)) lookAs({x, y, scale}, viewer.shown);
 }
 
 // Where a node is far from all others, of a few places in sight.
@@ -235,6 +246,14 @@ acts.empty = event => {
   const frame = pane.getBoundingClientRect();
   add([(event.clientX - frame.left - camera.x) / camera.scale, (event.clientY - frame.top - camera.y) / camera.scale]);
 };
+
+// Without a network the drawing takes no click, so its pane does.
+pane.addEventListener('click', event => {
+  if (by('net').hasAttribute('hidden') && !event.target.closest('button')) acts.empty(event);
+});
+
+// What was played to its end is played again from the last round on.
+acts.again = () => viewer.starts[Math.max(0, viewer.blocks.findLastIndex(block => stepsIn(block) > 1))];
 
 // Where nodes are is kept for the request from which on the network is laid out so.
 acts.places = view => places[view.first] && places[view.first].length === view.nodes ? places[view.first] : null;

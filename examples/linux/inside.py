@@ -44,6 +44,12 @@ def find_package(words):
     return next((HERE.parents[1] / "embed" / "out").glob("revroute-*.whl"), None)
 
 
+def environment():
+    """What Python has to be told in another process: where the package is, and where to keep what it compiles."""
+    package = Path(importlib.util.find_spec("revroute").origin).parents[1]
+    return {**os.environ, "PYTHONPATH": str(package), "PYTHONPYCACHEPREFIX": f"{RUN}/compiled"}
+
+
 def try_out():
     """Makes one of each thing that the lab consists of."""
     try:

@@ -117,10 +117,10 @@ class Router:
         flags = self.flags(device) & ~IFF_UP | (IFF_UP if is_up else 0)
         fcntl.ioctl(self.socket, SIOCSIFFLAGS, struct.pack("16sH14x", device.encode(), flags))
 
-    def probe(self):
+    def probe(self, data=b""):
         """Sends a probe, and returns whether the router had a route."""
         try:
-            self.socket.sendto(b"", (TARGET, PORT))
+            self.socket.sendto(data, (TARGET, PORT))
         except OSError as error:
             if error.errno != errno.ENETUNREACH:
                 raise

@@ -46,8 +46,9 @@ function showNothing() {
   for (const id of ['net', 'ring', 'chart']) by(id).setAttribute('hidden', '');
   for (const id of ['request', 'answer', 'more', 'changed', 'route', 'picked', 'at']) by(id).textContent = '';
   by('title').textContent = 'No network yet';
-  by('say').textContent = isLab ? 'Type a request, or open a file of requests.' : 'The input held no line.';
-  by('none').textContent = isLab ? '' : 'There is nothing to show: no line was read.';
+  by('say').textContent = isLab ? 'There are no requests.' : 'The input held no line.';
+  by('none').textContent =
+      isLab ? 'Click here to add the first node, or take a sample.' : 'There is nothing to show: no line was read.';
   by('none').removeAttribute('hidden');
   acts.shown();
 }
@@ -77,7 +78,7 @@ function play(on) {
   by('play').textContent = on ? 'Pause' : 'Play';
   by('say').setAttribute('aria-live', on ? 'off' : 'polite');
   if (!on) return;
-  if (now === steps - 1) show(0);
+  if (now === steps - 1) show(acts.again());
   const pace = () => acts.pace(Number(by('speed').value));
   const tick = () => {
     show(now + 1);
@@ -113,6 +114,7 @@ const keys = {
   n: () => pickNext(1),
   p: () => pickNext(-1),
   w: () => chooseLines(isOfWays() ? 'hops' : 'ways'),
+  r: () => chooseOrder(isRising() ? 'push' : 'rising'),
   Escape: () => {
     if (picked !== null) pick(picked);
   },
@@ -133,8 +135,8 @@ const shifted = {
 // Keys with Ctrl, which only the lab has.
 const controlled = {};
 
-// What a click on a node, on a link or beside them does, who says where nodes are, and what has failed without the
-// engine's knowing. The lab has its own.
+// What a click on a node, on a link or beside them does, who says where nodes are, where a page that was played to its
+// end begins again, and what has failed without the engine's knowing. The lab has its own.
 const acts = {
   node: pick,
   link: () => {},
@@ -144,6 +146,7 @@ const acts = {
   drop: () => {},
   places: () => null,
   shown: () => {},
+  again: () => 0,
   hasFailed: () => false,
   ways: () => null,
   packet: () => null,
@@ -189,6 +192,23 @@ const isLetter = key => key.length === 1 && key !== ' ', hasLetters = () => by('
 function act(g, isShift) {
   if (g.classList.contains('node')) acts.node(Number(g.dataset.node));
   else (isShift ? acts.fail : acts.link)(Number(g.dataset.tail), Number(g.dataset.head));
+}
+
+// A button or a choice that a pointer has used lets the focus go, so that the next key acts on the page. Who goes there
+// by Tab keeps the focus.
+function listenToFocus() {
+  let pointed = null;
+  const letGo = kind => event => {
+    if (pointed && pointed === event.target.closest(kind)) pointed.blur();
+  };
+  document.addEventListener('pointerdown', event => {
+    pointed = event.target.closest('button, select');
+  }, true);
+  document.addEventListener('keydown', event => {
+    if (event.key === 'Tab') pointed = null;
+  }, true);
+  document.addEventListener('click', letGo('button'), true);
+  document.addEventListener('change', letGo('select'), true);
 }
 
 // What a reader has chosen is kept in the browser. Where nothing can be kept, the page goes on without it.
@@ -247,6 +267,7 @@ function start() {
     if (it) go(starts[it.at]);
   });
   listenToKeys();
+  listenToFocus();
   listenToPointers();
   addEventListener('hashchange', goFragment);
   new ResizeObserver(() => {

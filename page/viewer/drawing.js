@@ -169,10 +169,9 @@ function drawNodes(view, round, {state, ways}, way, news) {
       ['stuck', acts.isStuck(node)]
     ];
     if (spot.count.textContent !== String(count)) spot.count.textContent = count;
-    const label = 'node ' + node + (isHome ? ', the destination' : '') + ', turned ' + count +
-        (count === 1 ? ' time' : ' times') + (node === state.sink ? ', turns next' : '') +
-        (node === state.node ? ', gets its next hop now' : '') + (isCut ? ', cut off' : '') +
-        (hop && !isSaid ? ', ' + (ways ? waysText(ways[node]) : hopText(hop)) : '') +
+    const label = 'node ' + node + (isHome ? ', the destination' : '') + ', turned ' + timesText(count) +
+        (node === state.sink ? ', turns next' : '') + (node === state.node ? ', gets its next hop now' : '') +
+        (isCut ? ', cut off' : '') + (hop && !isSaid ? ', ' + (ways ? waysText(ways[node]) : hopText(hop)) : '') +
         (acts.isStuck(node) ? ', a packet is stuck here' : '');
     mark(spot.g, {
       class: 'node' + kinds.filter(kind => kind[1]).map(kind => ' ' + kind[0]).join(''),

@@ -1,7 +1,7 @@
 // What all parts of the viewer use.
 
 const by = id => document.getElementById(id), SVG = 'http://www.w3.org/2000/svg', NL = String.fromCharCode(10),
-      ARROW = String.fromCharCode(160, 8594, 160);
+      BLANK = String.fromCharCode(160), ARROW = BLANK + String.fromCharCode(8594) + BLANK;
 const isLab = document.querySelector('meta[name=lab]') !== null;
 
 function make(parent, name, attributes) {

@@ -25,6 +25,11 @@ function load(kept, text) {
 const isRising = () => by('order').value === 'rising';
 const pushesOf = round => isRising() ? [...round.pushes].sort((a, b) => a - b) : round.pushes;
 
+function chooseOrder(name) {
+  by('order').value = name;
+  show(now);
+}
+
 // How many steps a line has: a round has one before each turn, one after them, and one for each push.
 function stepsIn(block) {
   const round = block.round;

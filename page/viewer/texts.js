@@ -1,9 +1,10 @@
 // What is said of a step, and of a chosen node.
 
 const hopText = hop => hop === 'here' ? 'is the destination' : hop === 'cut' ? 'has no next hop' : 'sends to ' + hop;
-const waysText = list => list.length ? 'ways ' + list.join(', ') : 'no way';
+const waysText = list => list.length ? (list.length === 1 ? 'way to ' : 'ways to ') + list.join(', ') : 'no way';
+const timesText = count => count + (count === 1 ? ' time' : ' times');
 const hopName = hop => hop === 'here' ? 'destination' : hop === 'cut' ? 'none' : hop;
-const changeText = (node, old, next) => node + ' (' + hopName(old) + ARROW + hopName(next) + ')';
+const changeText = (node, old, next) => node + BLANK + '(' + hopName(old) + ARROW + hopName(next) + ')';
 
 // A turn, the end of the turns, or a push, in words; and what is pushed next.
 function roundText(round, turn, state) {
@@ -117,21 +118,30 @@ function tellWays(round, state) {
   return ', distance ' + far + ', ' + waysText(named) + '.';
 }
 
-function routeText({hops}, route, ways) {
+// A route as the engine answers it, and in words. A line may end before an arrow.
+function routeAnswer({hops}, route, ways) {
   const isCut = hops[route.at(-1)] === 'cut';
   return (ways ? 'nearest ' : 'walk ') + route.join(' ') + (isCut ? ' cut' : '');
+}
+
+function routeText({hops}, route, ways) {
+  const isCut = hops[route.at(-1)] === 'cut';
+  if (isCut && route.length === 1) return 'It has no route.';
+  return (ways ? 'Route by first ways: ' : 'Route: ') + route.join(ARROW.replace(BLANK, ' ')) +
+      (isCut ? ', which has no next hop.' : '.');
 }
 
 function tellNode(round, state, ways) {
   const known = state && picked !== null && picked < round.nodes;
   by('picked').textContent = known ? 'Node ' + picked + (picked === round.home ? ', the destination' : '') +
-          ': turned ' + state.counts[picked] + ' in this round' + tellWays(round, state) :
+          ': turned ' + timesText(state.counts[picked]) + ' in this round' + tellWays(round, state) :
       isLab ? '' :
               'Choose a node to see its route and its count over time.';
   const route = !known || !state.hops ? null : ways ? walkOf(ways, picked) : routeOf(state.hops, picked);
-  const text = !known ? '' : !route ? 'It has a route once the round has ended.' : routeText(state, route, ways);
-  by('route').textContent = text;
-  mark(by('route'), {'data-route': route ? text : null});
+  by('route').textContent = !known ? '' :
+      route                        ? routeText(state, route, ways) :
+                                     'It has a route once the round has ended.';
+  mark(by('route'), {'data-route': route ? routeAnswer(state, route, ways) : null});
   if (known) drawChart(picked);
   else by('chart').setAttribute('hidden', '');
 }

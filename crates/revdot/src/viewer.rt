@@ -115,7 +115,7 @@ footer{padding:.15rem .8rem}}
 @media (max-width:760px) and (orientation:portrait){html{font-size:14px}
 body{grid-template:'head' auto 'net' minmax(0,1fr) 'bar' auto 'side' 36vh 'foot' auto/minmax(0,1fr)}
 header{display:block;padding:.4rem .8rem}h1{white-space:nowrap;overflow:hidden;text-overflow:ellipsis}
-#say{align-content:start}aside{border:0;border-top:1px solid var(--edge)}
+#say{align-content:start}aside{border:0;border-top:1px solid var(--edge)}#list{min-height:3.4rem}#request,#answer{max-height:2.9em}
 #bar{padding:.4rem .8rem;gap:.35rem}#bar button{min-width:2.3rem;padding:.25rem .4rem}#bar #play{min-width:3.6rem}
 #bar select{padding:.25rem .1rem}#slide,#bar label:nth-last-child(-n+2){order:1}#slide{flex-basis:15%}#at{flex:1}}
 </style>
@@ -169,7 +169,7 @@ header{display:block;padding:.4rem .8rem}h1{white-space:nowrap;overflow:hidden;t
 <b>Proved:</b> the data of this page: each request, answer, link, turn, count, next hop, push and way.
 <b>Not proved:</b> the drawing. A script in this page makes it, and is tested in a browser.
 <b>Keys:</b> left and right, a step; up and down, a line; space, play; n and p, a node;
-w, next hops or ways;
+w, next hops or ways; r, pushes by rising number;
 + and -, the size; 0 or f, fit; Shift and an arrow, move the drawing.
 <label><input id='letters' type='checkbox' checked>Keys that are letters, digits or signs; without them, Tab goes to each node</label>
 </div></details></footer>
@@ -185,7 +185,7 @@ const viewer = (() => {
 // What all parts of the viewer use.
 
 const by = id => document.getElementById(id), SVG = 'http://www.w3.org/2000/svg', NL = String.fromCharCode(10),
-      ARROW = String.fromCharCode(160, 8594, 160);
+      BLANK = String.fromCharCode(160), ARROW = BLANK + String.fromCharCode(8594) + BLANK;
 const isLab = document.querySelector('meta[name=lab]') !== null;
 
 function make(parent, name, attributes) {
@@ -383,6 +383,11 @@ function load(kept, text) {
 // The pushes of a round: in push order, or for teaching by rising number.
 const isRising = () => by('order').value === 'rising';
 const pushesOf = round => isRising() ? [...round.pushes].sort((a, b) => a - b) : round.pushes;
+
+function chooseOrder(name) {
+  by('order').value = name;
+  show(now);
+}
 
 // How many steps a line has: a round has one before each turn, one after them, and one for each push.
 function stepsIn(block) {
@@ -883,10 +888,9 @@ function drawNodes(view, round, {state, ways}, way, news) {
       ['stuck', acts.isStuck(node)]
     ];
     if (spot.count.textContent !== String(count)) spot.count.textContent = count;
-    const label = 'node ' + node + (isHome ? ', the destination' : '') + ', turned ' + count +
-        (count === 1 ? ' time' : ' times') + (node === state.sink ? ', turns next' : '') +
-        (node === state.node ? ', gets its next hop now' : '') + (isCut ? ', cut off' : '') +
-        (hop && !isSaid ? ', ' + (ways ? waysText(ways[node]) : hopText(hop)) : '') +
+    const label = 'node ' + node + (isHome ? ', the destination' : '') + ', turned ' + timesText(count) +
+        (node === state.sink ? ', turns next' : '') + (node === state.node ? ', gets its next hop now' : '') +
+        (isCut ? ', cut off' : '') + (hop && !isSaid ? ', ' + (ways ? waysText(ways[node]) : hopText(hop)) : '') +
         (acts.isStuck(node) ? ', a packet is stuck here' : '');
     mark(spot.g, {
       class: 'node' + kinds.filter(kind => kind[1]).map(kind => ' ' + kind[0]).join(''),
@@ -1032,9 +1036,10 @@ function keepInSight(view, node) {
 // What is said of a step, and of a chosen node.
 
 const hopText = hop => hop === 'here' ? 'is the destination' : hop === 'cut' ? 'has no next hop' : 'sends to ' + hop;
-const waysText = list => list.length ? 'ways ' + list.join(', ') : 'no way';
+const waysText = list => list.length ? (list.length === 1 ? 'way to ' : 'ways to ') + list.join(', ') : 'no way';
+const timesText = count => count + (count === 1 ? ' time' : ' times');
 const hopName = hop => hop === 'here' ? 'destination' : hop === 'cut' ? 'none' : hop;
-const changeText = (node, old, next) => node + ' (' + hopName(old) + ARROW + hopName(next) + ')';
+const changeText = (node, old, next) => node + BLANK + '(' + hopName(old) + ARROW + hopName(next) + ')';
 
 // A turn, the end of the turns, or a push, in words; and what is pushed next.
 function roundText(round, turn, state) {
@@ -1148,21 +1153,30 @@ function tellWays(round, state) {
   return ', distance ' + far + ', ' + waysText(named) + '.';
 }
 
-function routeText({hops}, route, ways) {
+// A route as the engine answers it, and in words. A line may end before an arrow.
+function routeAnswer({hops}, route, ways) {
   const isCut = hops[route.at(-1)] === 'cut';
   return (ways ? 'nearest ' : 'walk ') + route.join(' ') + (isCut ? ' cut' : '');
+}
+
+function routeText({hops}, route, ways) {
+  const isCut = hops[route.at(-1)] === 'cut';
+  if (isCut && route.length === 1) return 'It has no route.';
+  return (ways ? 'Route by first ways: ' : 'Route: ') + route.join(ARROW.replace(BLANK, ' ')) +
+      (isCut ? ', which has no next hop.' : '.');
 }
 
 function tellNode(round, state, ways) {
   const known = state && picked !== null && picked < round.nodes;
   by('picked').textContent = known ? 'Node ' + picked + (picked === round.home ? ', the destination' : '') +
-          ': turned ' + state.counts[picked] + ' in this round' + tellWays(round, state) :
+          ': turned ' + timesText(state.counts[picked]) + ' in this round' + tellWays(round, state) :
       isLab ? '' :
               'Choose a node to see its route and its count over time.';
   const route = !known || !state.hops ? null : ways ? walkOf(ways, picked) : routeOf(state.hops, picked);
-  const text = !known ? '' : !route ? 'It has a route once the round has ended.' : routeText(state, route, ways);
-  by('route').textContent = text;
-  mark(by('route'), {'data-route': route ? text : null});
+  by('route').textContent = !known ? '' :
+      route                        ? routeText(state, route, ways) :
+                                     'It has a route once the round has ended.';
+  mark(by('route'), {'data-route': route ? routeAnswer(state, route, ways) : null});
   if (known) drawChart(picked);
   else by('chart').setAttribute('hidden', '');
 }
@@ -1320,8 +1334,9 @@ function showNothing() {
   for (const id of ['net', 'ring', 'chart']) by(id).setAttribute('hidden', '');
   for (const id of ['request', 'answer', 'more', 'changed', 'route', 'picked', 'at']) by(id).textContent = '';
   by('title').textContent = 'No network yet';
-  by('say').textContent = isLab ? 'Type a request, or open a file of requests.' : 'The input held no line.';
-  by('none').textContent = isLab ? '' : 'There is nothing to show: no line was read.';
+  by('say').textContent = isLab ? 'There are no requests.' : 'The input held no line.';
+  by('none').textContent =
+      isLab ? 'Click here to add the first node, or take a sample.' : 'There is nothing to show: no line was read.';
   by('none').removeAttribute('hidden');
   acts.shown();
 }
@@ -1351,7 +1366,7 @@ function play(on) {
   by('play').textContent = on ? 'Pause' : 'Play';
   by('say').setAttribute('aria-live', on ? 'off' : 'polite');
   if (!on) return;
-  if (now === steps - 1) show(0);
+  if (now === steps - 1) show(acts.again());
   const pace = () => acts.pace(Number(by('speed').value));
   const tick = () => {
     show(now + 1);
@@ -1387,6 +1402,7 @@ const keys = {
   n: () => pickNext(1),
   p: () => pickNext(-1),
   w: () => chooseLines(isOfWays() ? 'hops' : 'ways'),
+  r: () => chooseOrder(isRising() ? 'push' : 'rising'),
   Escape: () => {
     if (picked !== null) pick(picked);
   },
@@ -1407,8 +1423,8 @@ const shifted = {
 // Keys with Ctrl, which only the lab has.
 const controlled = {};
 
-// What a click on a node, on a link or beside them does, who says where nodes are, and what has failed without the
-// engine's knowing. The lab has its own.
+// What a click on a node, on a link or beside them does, who says where nodes are, where a page that was played to its
+// end begins again, and what has failed without the engine's knowing. The lab has its own.
 const acts = {
   node: pick,
   link: () => {},
@@ -1418,6 +1434,7 @@ const acts = {
   drop: () => {},
   places: () => null,
   shown: () => {},
+  again: () => 0,
   hasFailed: () => false,
   ways: () => null,
   packet: () => null,
@@ -1463,6 +1480,23 @@ const isLetter = key => key.length === 1 && key !== ' ', hasLetters = () => by('
 function act(g, isShift) {
   if (g.classList.contains('node')) acts.node(Number(g.dataset.node));
   else (isShift ? acts.fail : acts.link)(Number(g.dataset.tail), Number(g.dataset.head));
+}
+
+// A button or a choice that a pointer has used lets the focus go, so that the next key acts on the page. Who goes there
+// by Tab keeps the focus.
+function listenToFocus() {
+  let pointed = null;
+  const letGo = kind => event => {
+    if (pointed && pointed === event.target.closest(kind)) pointed.blur();
+  };
+  document.addEventListener('pointerdown', event => {
+    pointed = event.target.closest('button, select');
+  }, true);
+  document.addEventListener('keydown', event => {
+    if (event.key === 'Tab') pointed = null;
+  }, true);
+  document.addEventListener('click', letGo('button'), true);
+  document.addEventListener('change', letGo('select'), true);
 }
 
 // What a reader has chosen is kept in the browser. Where nothing can be kept, the page goes on without it.
@@ -1521,6 +1555,7 @@ function start() {
     if (it) go(starts[it.at]);
   });
   listenToKeys();
+  listenToFocus();
   listenToPointers();
   addEventListener('hashchange', goFragment);
   new ResizeObserver(() => {

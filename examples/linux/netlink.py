@@ -1,20 +1,23 @@
-"""The routes of a network namespace to one target, by netlink: a read or a push takes some 50 microseconds, and no process is
-started."""
+"""The routes of a network namespace to one target, its rules for packets that come in, and the carriers of its devices, by netlink: a
+read or a push takes some 50 microseconds, and no process is started."""
 
 import errno
 import socket
 import struct
 
-REQUEST, ACK, REPLACE, CREATE, DUMP = 0x1, 0x4, 0x100, 0x400, 0x300
+REQUEST, ACK, REPLACE, EXCLUSIVE, CREATE, DUMP = 0x1, 0x4, 0x100, 0x200, 0x400, 0x300
 NEWROUTE, DELROUTE, GETROUTE, NEWNEXTHOP, DELNEXTHOP = 24, 25, 26, 104, 105
+NEWLINK, GETLINK, NEWRULE, DELRULE, GETRULE = 16, 18, 32, 33, 34
 ERROR, DONE = 2, 3
 RTA_DST, RTA_OIF, RTA_GATEWAY, RTA_PRIORITY, RTA_MULTIPATH, RTA_NH_ID = 1, 4, 5, 6, 9, 30
 NHA_ID, NHA_OIF, NHA_GATEWAY = 1, 5, 6
+FRA_DST, FRA_IIFNAME, FRA_PRIORITY, TO_TABLE, UNREACHABLE = 1, 3, 6, 1, 7
+RUNNING, LINK_GROUP = 0x40, 1
 DEAD, ONLINK, LINKDOWN = 0x1, 0x4, 0x10
 MAIN, UNICAST, STATIC, HOST = 254, 1, 4, 32
 NETLINK_ROUTE, SOL_NETLINK, STRICT = 0, 270, 12
-# What is refused in pushes without harm: what is to be deleted is gone, or a way has no carrier.
-GONE, NO_CARRIER = (errno.ESRCH, errno.ENOENT), (errno.ENETDOWN, errno.EINVAL)
+# What is refused in pushes without harm: what is to be deleted is gone, what is to be added is there, or a way has no carrier.
+GONE, THERE, NO_CARRIER = (errno.ESRCH, errno.ENOENT), (errno.EEXIST,), (errno.ENETDOWN, errno.EINVAL)
 
 
 class Routes:
@@ -33,15 +36,30 @@ class Routes:
     def read(self):
         """The devices of each route that the kernel would use, by rising metric. A device without carrier is left out."""
         body = struct.pack("=8BI", socket.AF_INET, 0, 0, 0, MAIN, 0, 0, 0, 0)
-        self.send(GETROUTE, REQUEST | DUMP, body)
-        found = []
+        routes = filter(None, (self.route_in(*it) for it in self.listed(GETROUTE, body)))
+        return [devices for _, devices in sorted(routes) if devices]
+
+    def open_gates(self):
+        """The names of the devices whose packets to the target are let in by a rule."""
+        return {*filter(None, (self.gate_in(*it) for it in self.listed(GETRULE, struct.pack("=8BI", socket.AF_INET, *[0] * 8))))}
+
+    def listed(self, kind, body):
+        """What the kernel lists: the messages, where each begins, and where it ends."""
+        self.send(kind, REQUEST | DUMP, body)
         while True:
             said = self.socket.recv(1 << 16)
             for kind, begin, end in messages(said):
                 if kind in (ERROR, DONE):
-                    return [devices for _, devices in sorted(found) if devices]
-                if route := self.route_in(said, begin, end):
-                    found.append(route)
+                    return
+                yield said, begin, end
+
+    def gate_in(self, said, begin, end):
+        """The device of the rule in a message, or None if it opens no gate to the target."""
+        if said[begin + 7] != TO_TABLE or said[begin + 1] != HOST:
+            return None
+        parts = {kind: said[at:to] for kind, at, to in attributes(said, begin + 12, end)}
+        is_gate = parts.get(FRA_DST) == self.target and FRA_IIFNAME in parts
+        return parts[FRA_IIFNAME].rstrip(b"\0").decode() if is_gate else None
 
     def route_in(self, said, begin, end):
         """The metric and the devices of the route in a message, or None if it is for another target."""
@@ -50,11 +68,13 @@ class Routes:
         if length != HOST or table != MAIN or parts.get(RTA_DST) != self.target:
             return None
         metric = struct.unpack("=I", parts[RTA_PRIORITY])[0] if RTA_PRIORITY in parts else 0
-        hops = several(parts[RTA_MULTIPATH]) if RTA_MULTIPATH in parts else [(flags, *struct.unpack("=I", parts[RTA_OIF]))]
+        # a route that drops packets has no hop
+        hops = several(parts.get(RTA_MULTIPATH, b"")) or [(flags, *struct.unpack("=I", parts[RTA_OIF])) for it in parts if it == RTA_OIF]
         return metric, [device for flags, device in hops if not flags & (DEAD | LINKDOWN)]
 
     def do(self, *words):
-        """Does what `ip` would do for these words, as the controllers of examples/linux use them. Returns whether it was done."""
+        """Does what `ip` would do for these words, as the controllers and the daemon beside this file use them. Returns whether it was
+        done."""
         match words:
             case "nexthop", "flush", "dev", device:
                 return self.ask(DELNEXTHOP, 0, nexthop(self.ids[device]), may=GONE) in (0, *GONE)
@@ -70,6 +90,11 @@ class Routes:
             case "route", "replace", _, "via", address, "dev", device, "onlink":
                 via = attribute(RTA_GATEWAY, socket.inet_aton(address)) + number(RTA_OIF, self.index[device])
                 return not self.ask(NEWROUTE, REPLACE | CREATE, self.route(UNICAST, ONLINK) + via)
+            case "rule", "add", "pref", at, "iif", device, "to", _, *action:
+                kind = UNREACHABLE if action == ["unreachable"] else TO_TABLE
+                return self.ask(NEWRULE, EXCLUSIVE | CREATE, self.rule(at, device, kind), may=THERE) in (0, *THERE)
+            case "rule", "del", "pref", at, "iif", device, "to", _:
+                return self.ask(DELRULE, 0, self.rule(at, device), may=GONE) in (0, *GONE)
             case "route", "flush", _:
                 return self.ask(DELROUTE, 0, self.route(), may=GONE) in (0, *GONE)
         raise ValueError(f"no message for {' '.join(words)}")
@@ -78,6 +103,12 @@ class Routes:
         """The beginning of a message about the route to the target: a kind of 0 fits any."""
         words = socket.AF_INET, HOST, 0, 0, MAIN, STATIC if kind else 0, 0, kind, flags
         return struct.pack("=8BI", *words) + attribute(RTA_DST, self.target)
+
+    def rule(self, at, device, action=0):
+        """A rule for packets to the target that come in by a device. An action of 0 fits any."""
+        header = struct.pack("=8BI", socket.AF_INET, HOST, 0, 0, MAIN if action == TO_TABLE else 0, 0, 0, action, 0)
+        parts = attribute(FRA_DST, self.target) + attribute(FRA_IIFNAME, device.encode() + b"\0")
+        return header + parts + number(FRA_PRIORITY, int(at))
 
     def ask(self, kind, flags, body, may=()):
         """Sends a message, and returns the kernel's error, which is 0 or one that may come."""
@@ -93,6 +124,27 @@ class Routes:
     def send(self, kind, flags, body):
         self.number += 1
         self.socket.send(struct.pack("=IHHII", 16 + len(body), kind, flags, self.number, 0) + body)
+
+
+class Carriers:
+    """Says which devices have their carrier, and each loss and return. Make it within the namespace."""
+
+    def __init__(self):
+        self.socket = socket.socket(socket.AF_NETLINK, socket.SOCK_RAW, NETLINK_ROUTE)
+        self.socket.setsockopt(socket.SOL_SOCKET, socket.SO_RCVBUF, 1 << 20)
+        self.socket.bind((0, LINK_GROUP))
+        self.ask()
+
+    def ask(self):
+        """Has the kernel list all devices. It answers to `read`."""
+        self.socket.send(struct.pack("=IHHIIBxHiII", 32, GETLINK, REQUEST | DUMP, 0, 0, socket.AF_UNSPEC, 0, 0, 0, 0))
+
+    def read(self):
+        """Reads what the kernel has said. Returns the number of each device that it names, and whether that has its carrier, in the order
+        in which it happened. Without news it waits."""
+        said = self.socket.recv(1 << 16)
+        found = [struct.unpack_from("=iI", said, begin + 4) for kind, begin, _ in messages(said) if kind == NEWLINK]
+        return [(device, bool(flags & RUNNING)) for device, flags in found]
 
 
 def messages(said):
@@ -114,11 +166,12 @@ def attributes(said, at, end):
 
 def several(hops):
     """The flags and the device of each hop of a route with several."""
-    at = 0
+    at, found = 0, []
     while at + 8 <= len(hops):
         size, flags, _, device = struct.unpack_from("=HBBI", hops, at)
-        yield flags, device
+        found.append((flags, device))
         at += size + 3 & ~3
+    return found
 
 
 def attribute(kind, value):
