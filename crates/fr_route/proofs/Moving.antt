@@ -1,6 +1,6 @@
 -- Which nodes can be sinks after edits are made or the destination moves, and where the others send on to. The others
 -- are not touched, and the last round left each of them that has links with a way home.
-use Rattle.std.proofs.Common.{List, arith, inl, inr, length, refl, ◌≢◌, slice_index, subst, sym, ℕ, ⊎_elim, ◌<◌, ◌∙◌, ◌∷◌, ◌≡◌, ◌⊎◌, Contains}
+use Rattle.std.proofs.Common.{List, arith, inl, inr, refl, ◌≢◌, slice_index, subst, sym, ℕ, ⊎_elim, ◌<◌, ◌∙◌, ◌∷◌, ◌≡◌, ◌⊎◌, Contains}
 use Rattle.std.specs.List.{All}
 use Rattle.std.proofs.lemmas.Bool.{cases_eq}
 use Rattle.std.proofs.lemmas.List.Elements.{All-append, All-cons, All-contains, Contains-append_left, Contains-append_right}
@@ -239,7 +239,7 @@ module _ (s : State) (after : IsAfterRound s) where
           arith,
           length_permutation (links_at net.links counts) after_links (in_order_permutes (links_at net.links counts)),
           length-links_at net.links counts
-          (lawful net.nodes d net.links (settled_state net d counts) left.is_net counted.destination round).kept,
+              (lawful net.nodes d net.links (settled_state net d counts) left.is_net counted.destination round).kept,
           left.few,
         );
       }

@@ -1,12 +1,10 @@
 -- How the ways that a change alters are noted, node by node.
-use Rattle.std.proofs.Common.{[], Contains, List, arith, get_or, inl, inr, length, refl, slice_index, subst, suc, sym, take, zero, ℕ, ⊎_elim, ◌+◌, ◌++◌, ◌<◌, ◌∙◌, ◌∷◌, ◌≡◌, ◌≤◌, ◌⊎◌}
-use Rattle.std.specs.List.{All, concat}
+use Rattle.std.proofs.Common.{[], Contains, List, arith, inl, inr, length, slice_index, subst, suc, take, zero, ℕ, ⊎_elim, ◌+◌, ◌++◌, ◌<◌, ◌∙◌, ◌∷◌, ◌≡◌, ◌≤◌, ◌⊎◌}
 use Rattle.std.specs.List.Sorted.{IsStrictlyIncreasing}
 use Rattle.std.proofs.lemmas.List.Elements.{All-contains, Contains-get_or}
 use Rattle.std.proofs.lemmas.Bool.{cases_eq, cases_lt}
 use Rattle.std.proofs.lemmas.List.{get_or-take, get_or_append_left, get_or_default, get_or_push, length-take-le, length_push}
 use Rattle.fr_graph.specs.Links.{HasPath, IsNet, IsPath, end_of}
-use Rattle.fr_graph.specs.Network.{Network}
 use Rattle.fr_graph.specs.declared.edit.Edit.{Edit}
 use Rattle.fr_graph.proofs.Linking.{link_below}
 use Rattle.fr_nearest.specs.Affected.{AreAffected, KeepsWays}
@@ -22,7 +20,7 @@ use Rattle.fr_ways.specs.Ways.{ways}
 use Rattle.fr_ways.proofs.Changing.{noted_on}
 use Rattle.fr_route.specs.NodeWays.{AreAllWays, HasTurnedEnd}
 use Rattle.fr_route.specs.States.{State, net_at}
-use Rattle.fr_route.specs.WayNotes.{AreWaysOf, HasSameMemory, IsBegun, IsNext, LeadsOn}
+use Rattle.fr_route.specs.WayNotes.{AreWaysOf, HasSameMemory, IsNext, LeadsOn}
 use Rattle.fr_route.specs.declared.way_notes.WayNotes.{WayNotes}
 use Rattle.fr_route.proofs.NodeWays.{all_ways_exist}
 use Rattle.fr_route.proofs.WayPushes.{all_in_range}

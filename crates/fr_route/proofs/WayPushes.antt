@@ -12,12 +12,12 @@ use Rattle.fr_core.proofs.Pigeons.{distinct_length}
 use Rattle.fr_graph.specs.Limits.{most_nodes}
 use Rattle.fr_graph.specs.Links.{IsNet}
 use Rattle.fr_graph.proofs.Linking.{link_below}
-use Rattle.fr_nearest.specs.Ways.{AreWays, IsNearer}
+use Rattle.fr_nearest.specs.Ways.{IsNearer}
 use Rattle.fr_nearest.proofs.Walking.{one_distance}
 use Rattle.fr_tables.proofs.Members.{Contains-none}
 use Rattle.fr_ways.specs.Faults.{ArePhases, ArePushes}
 use Rattle.fr_ways.specs.Phases.{empties, growing_nodes, grows, growths, kept, nodes_of, sheds, shrinking_nodes, shrinks}
-use Rattle.fr_ways.specs.Ways.{IsInRange, Sends, ways}
+use Rattle.fr_ways.specs.Ways.{IsInRange, ways}
 use Rattle.fr_ways.specs.declared.plan.Pushes.{Pushes}
 use Rattle.fr_ways.specs.declared.plan.TwoPhases.{TwoPhases}
 use Rattle.fr_route.specs.NodeWays.{AreAllWays, AreNodeWays}

@@ -1,5 +1,5 @@
 -- The outcome of a round on a network, and the nodes at which edits change links. For proofs only.
-use Rattle.std.specs.Prelude.{◌≡◌, ℕ, ◌<◌, ◌≤◌, ◌⊎◌, ◌↔◌, not, ◌==◌, ◌&&◌, List, [], ◌∷◌, ◌++◌}
+use Rattle.std.specs.Prelude.{◌≡◌, ℕ, ◌<◌, ◌≤◌, ◌⊎◌, ◌↔◌, not, ◌==◌, ◌&&◌, List, ◌∷◌, ◌++◌}
 use Rattle.std.specs.Prelude.{count_by, length, nat_eq, slice_get, slice_index, Some, ◌≢◌}
 use Rattle.std.specs.List.{All, Contains, IsDistinct, filter, range_with_len}
 use Rattle.fr_graph.specs.Batches.{AreMade}

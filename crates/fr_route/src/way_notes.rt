@@ -136,13 +136,7 @@ impl WayNotes {
 
     /// Notes what has to be pushed after a change by these edits: the network has turned as a round says, and the distances
     /// are updated.
-    pub(crate) fn note(
-        &mut self,
-        net: &Net,
-        turns: &Turns,
-        distances: &Distances,
-        edits: &[Edit],
-    )
+    pub(crate) fn note(&mut self, net: &Net, turns: &Turns, distances: &Distances, edits: &[Edit])
         requires { (s : State) × LeadsOn s (state_with net.now distances.now.dest turns.now) edits.now distances.now
             self.old }
         ensures { (s : State) → LeadsOn s (state_with net.now distances.now.dest turns.now) edits.now distances.now

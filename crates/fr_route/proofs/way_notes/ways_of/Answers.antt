@@ -1,6 +1,5 @@
-use Rattle.std.proofs.Common.{[], List, arith, get_or, length, slice_index, subst, sym, take, ℕ, ◌+◌, ◌++◌, ◌<◌, ◌∙◌, ◌∷◌, ◌≡◌}
+use Rattle.std.proofs.Common.{arith, slice_index, ◌<◌}
 use Rattle.fr_nearest.specs.Ways.{AreWays}
-use Rattle.fr_route.specs.WayNotes.{AreWaysOf}
 use Rattle.fr_route.proofs.WayNoting.{ways_of_more}
 use Rattle.fr_route.proofs.way_notes.ways_of.Goals as goal
 use Rattle.fr_route.proofs.way_notes.ways_of.Goals.{else-x-nodes, then-x-nodes+in_ok-ways}

@@ -7,7 +7,6 @@ use Rattle.fr_graph.specs.Limits.{most_edits}
 use Rattle.fr_graph.specs.Network.{Network, net_of}
 use Rattle.fr_nearest.specs.Distances.{AreDistances, IsRenewed, Measured}
 use Rattle.fr_ways.specs.Changes.{KeepsPushes}
-use Rattle.std.specs.Prelude.{IsTrue}
 use Rattle.fr_graph.specs.Counts.{links_at}
 use Rattle.fr_route.specs.NodeWays.{HasDistances}
 use Rattle.fr_route.specs.WayNotes.{IsBegun, LeadsOn}
@@ -315,7 +314,7 @@ put_in_order-requires-clause-others g c =
       c.deref_mut.result.now,
       λ listing.
           let was = c.make_room.ensures.keeps.listing
-              (c.begin_ways.ensures.list.listing (c.put_in_place.ensures.told.keeps.listing listing)) in
+          (c.begin_ways.ensures.list.listing (c.put_in_place.ensures.told.keeps.listing listing)) in
           subst (λ (hops : List Hop). AreOthers c.deref_mut.result.now hops (nodes_told c.put_in_place.new.told)) (sym put)
           (others_told g at.After-put_in_place was),
     )
@@ -416,7 +415,7 @@ returns-clause-tried g c =
       rerouted = λ listing.
           let others = others_told g at.After-put_in_place listing in
           let places = c.put_in_place.ensures.told.keeps.places c.nodes.result
-              (c.begin_ways.ensures.list.places c.nodes.result (c.in_ok-make_room.ensures.room listing)) in
+          (c.begin_ways.ensures.list.places c.nodes.result (c.in_ok-make_room.ensures.room listing)) in
           let put : c.deref.result.now ≡ c.put_in_place.new.hops = c.deref.ensures.value
           ∙ items_put c.router.inside.hops c.put_in_place.new.hops (omega (arith, hops.one_each, c.router.invariant.hops.one_each)) in
           let one_length : length c.deref_mut.result.now ≡ length c.put_in_place.new.hops = omega (arith, before.one_each, hops.one_each) in

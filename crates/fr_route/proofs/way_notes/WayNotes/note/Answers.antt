@@ -1,10 +1,9 @@
-use Rattle.std.proofs.Common.{List, arith, length, refl, slice_index, subst, ℕ, ◌+◌, ◌<◌, ◌≡◌, ◌≤◌}
+use Rattle.std.proofs.Common.{length, refl, slice_index, subst, ℕ, ◌+◌, ◌<◌, ◌≤◌}
 use Rattle.std.specs.List.{All}
 use Rattle.fr_graph.proofs.TurnedNodes.{turned_below}
 use Rattle.fr_ways.specs.Changes.{IsNotedTo}
-use Rattle.fr_route.specs.NodeWays.{AreAllWays}
 use Rattle.fr_route.specs.States.{State, state_with}
-use Rattle.fr_route.specs.WayNotes.{IsNext, LeadsOn}
+use Rattle.fr_route.specs.WayNotes.{IsNext}
 use Rattle.fr_route.proofs.WayNoting.{both_exist, leads_same, noting_first, noting_last, noting_more, noting_next}
 use Rattle.fr_route.proofs.way_notes.WayNotes.note.Goals as goal
 

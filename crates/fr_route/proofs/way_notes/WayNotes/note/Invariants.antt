@@ -1,4 +1,4 @@
-use Rattle.std.proofs.Common.{length, ◌-◌, ℕ}
+use Rattle.std.proofs.Common.{length, ◌-◌}
 use Rattle.fr_route.proofs.WayNoting.{IsNoting}
 use Rattle.fr_route.specs.States.{state_with}
 use Rattle.fr_route.proofs.way_notes.WayNotes.note.Given as goal

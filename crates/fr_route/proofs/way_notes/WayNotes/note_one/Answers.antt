@@ -1,4 +1,4 @@
-use Rattle.std.proofs.Common.{Contains, List, ap, arith, length, slice_index, sym, take, vec_len, ℕ, ◌<◌, ◌∙◌, ◌≡◌}
+use Rattle.std.proofs.Common.{List, ap, arith, length, take, vec_len, ℕ, ◌∙◌, ◌≡◌}
 use Rattle.std.proofs.lemmas.List.{with_items_is}
 use Rattle.std.proofs.lemmas.List.Sorted.{searched}
 use Rattle.fr_graph.specs.declared.edit.Edit.{Edit}
