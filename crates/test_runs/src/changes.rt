@@ -1,9 +1,11 @@
-//! Drawn changes of a router. After each one the router must be equal to one that is opened anew.
+//! Drawn changes of a router. After each one the router must be equal to one that is opened anew, and the pushes of ways
+//! that the change lists must be those that lead from the ways before it.
 
 use crate::routers::state_text;
 use crate::telling::{put, put_word, tell};
 use fr_net::{Edit, Net, Request, read_line};
-use fr_route::{Change, Router};
+use fr_route::{Change, Reroutes, Router};
+use fr_ways::{PushList, Pushes, WayTable};
 use rand_core::SeedableRng;
 use rand_core::utils::NextWord;
 use rand_pcg::Lcg64Xsh32;
@@ -14,14 +16,18 @@ use std::alloc::{AllocError, Global};
 pub fn tell_drawn<R: AllocGlobal + Print>(rt: &R, seed: u64, steps: u32, line: &str) -> Option<()> {
     let mut generator = Lcg64Xsh32::seed_from_u64(seed);
     let mut router = opened(rt.alloc(), line)?;
+    let mut reroutes = Reroutes::none(rt.alloc()).ok()?;
     for step in 0..steps {
         let change = drawn_change(rt.alloc(), &mut generator).ok()?;
-        if !changes_as_opened(rt.alloc(), &mut router, change) {
+        if !changes_as_opened(rt.alloc(), &mut router, change, &mut reroutes) {
             let _ = println!(rt; "  but step {step}");
             return Some(());
         }
     }
-    tell(rt, "each as opened anew, or refused by both");
+    tell(
+        rt,
+        "each as opened anew, with its pushes, or refused by both",
+    );
     Some(())
 }
 
@@ -58,15 +64,46 @@ fn drawn_change(alloc: Global, generator: &mut Lcg64Xsh32) -> Result<Change, All
 }
 
 /// Whether a change leaves the router in the state of one that is opened on the changed network; or, if the change is
-/// impossible, it is refused and leaves the state unchanged.
-fn changes_as_opened(alloc: Global, router: &mut Router, change: Change) -> bool {
+/// impossible, it is refused and leaves the state unchanged. And whether the change lists the pushes of ways that it must.
+fn changes_as_opened(
+    alloc: Global,
+    router: &mut Router,
+    change: Change,
+    reroutes: &mut Reroutes,
+) -> bool {
     let anew = opened_anew(alloc, router, &change);
     let wanted = match &anew {
         Some(anew) => state_text(alloc, anew),
         None => state_text(alloc, router),
     };
-    let end = router.change_alone(alloc, change);
-    end.is_ok() == anew.is_some() && state_text(alloc, router) == wanted
+    let Ok(before) = router.all_ways(alloc) else {
+        return false;
+    };
+    let end = router.change_telling_ways_alone(alloc, change, reroutes);
+    end.is_ok() == anew.is_some()
+        && state_text(alloc, router) == wanted
+        && (end.is_err() || lists_pushes_from(alloc, router, &before, reroutes))
+}
+
+/// Whether these are the pushes that lead from a table of ways to those of the router.
+fn lists_pushes_from(
+    alloc: Global,
+    router: &Router,
+    before: &WayTable,
+    reroutes: &Reroutes,
+) -> bool {
+    match router.phases(alloc, before) {
+        Ok(phases) => {
+            are_same(reroutes.shrink(), &phases.shrink) && are_same(reroutes.grow(), &phases.grow)
+        }
+        Err(_) => false,
+    }
+}
+
+/// Whether two lists have the same pushes.
+fn are_same(list: PushList<'_>, pushes: &Pushes) -> bool {
+    let other = pushes.as_list();
+    list.nodes == other.nodes && list.starts == other.starts && list.list == other.list
 }
 
 /// The router on the changed network of another router, if the change is possible.
