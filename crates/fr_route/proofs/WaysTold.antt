@@ -1,6 +1,7 @@
 -- Notes of what a change does to ways, when it is made or fails.
 use Rattle.std.proofs.Common.{Some, arith, refl, subst, sym, ◌∙◌, ◌≡◌}
 use Rattle.std.specs.declared.alloc.Global.{Global}
+use Rattle.std.specs.declared.boxed.Box.{Box}
 use Rattle.std.specs.declared.vec.Vec.{Vec}
 use Rattle.std.proofs.Common.{ℕ, Option}
 use Rattle.fr_ways.specs.Changes.{KeepsPushes, Noted}
@@ -21,10 +22,10 @@ pub same_asking : (a b : Told) → notes_told b ≡ notes_told a → AsksWays a 
 same_asking a b same (notes, is) = (notes, same ∙ is)
 
 -- other notes beside the same list
-pub same_list : (list : Vec ℕ Global) (a b : WayNotes) → HasSameList (Nodes list (Some a)) (Nodes list (Some b))
+pub same_list : (list : Vec ℕ Global) (a b : Box WayNotes Global) → HasSameList (Nodes list (Some a)) (Nodes list (Some b))
 same_list list a b = record {
   nodes = refl;
   places = λ n has. has;
   listing = λ is. tt;
-  ways = (λ _. (b, refl), λ _. (a, refl));
+  ways = (λ _. (b.value, refl), λ _. (a.value, refl));
 }

@@ -1,6 +1,8 @@
 -- What a caller is told of a change, if he asks: the rerouted nodes, and what it does to the ways of nodes. For proofs
 -- only.
-use Rattle.std.specs.Prelude.{◌≡◌, ℕ, ◌≤◌, ◌↔◌, List, [], Option, Some, None, vec_capacity}
+use Rattle.std.specs.Prelude.{◌≡◌, ℕ, ◌≤◌, ◌↔◌, List, [], Option, Some, None, option_map, vec_capacity}
+use Rattle.std.specs.declared.alloc.Global.{Global}
+use Rattle.std.specs.declared.boxed.Box.{Box}
 use Rattle.fr_graph.specs.declared.edit.Edit.{Edit}
 use Rattle.fr_nearest.specs.Distances.{Measured}
 use Rattle.fr_ways.specs.Changes.{Noted}
@@ -28,7 +30,7 @@ HasPlaces n (Nodes list notes) = n ≤ vec_capacity list
 -- the notes of what changes do to the ways of nodes, if the caller asks for that
 abbrev pub notes_told : Told → Option WayNotes
 notes_told Nobody = None
-notes_told (Nodes list notes) = notes
+notes_told (Nodes list notes) = option_map (λ (boxed : Box WayNotes Global). boxed.value) notes
 
 abbrev pub AsksWays : Told → Type 0
 AsksWays told = (notes : WayNotes) × (notes_told told ≡ Some notes)

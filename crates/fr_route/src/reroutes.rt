@@ -41,7 +41,7 @@ impl Reroutes {
     pub fn none(alloc: Global) -> Result<Reroutes, AllocError>
         ensures { IfOk result (λ made. (made.nodes ≡ []) × (made.shrink ≡ []) × (made.grow ≡ [])) }
     {
-        let notes = WayNotes::new(alloc)?;
+        let notes = Box::new(alloc, WayNotes::new(alloc)?)?;
         Ok(Reroutes {
             told: Told::Nodes(Vec::new(alloc), Some(notes)),
         })

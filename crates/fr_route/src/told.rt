@@ -26,7 +26,7 @@ pub(crate) enum Told {
     /// The caller does not ask for them.
     Nobody,
     /// The caller's list. If he also asks what changes do to the ways of nodes, there are notes of that.
-    Nodes(Vec<u32>, Option<WayNotes>),
+    Nodes(Vec<u32>, Option<Box<WayNotes>>),
 }
 
 impl Told {
