@@ -10,8 +10,11 @@ use Rattle.fr_route.proofs.told.Told.begin_ways.Goals as goal
 pub begin-requires-clause-measured : goal.begin-requires-clause-measured
 begin-requires-clause-measured c =
     let w = c.in-Nodes-default-Some in
-    c.requires.measured (w.notes.value, ap notes_told w.is
-    ∙ ap (λ (it : Option (Box WayNotes Global)). option_map (λ (boxed : Box WayNotes Global). boxed.value) it) w.field-1-is)
+    c.requires.measured (
+      w.notes.value,
+      ap notes_told w.is
+          ∙ ap (λ (it : Option (Box WayNotes Global)). option_map (λ (boxed : Box WayNotes Global). boxed.value) it) w.field-1-is,
+    )
 
 pub returns-in-Nodes-default-Some-clause-list : goal.returns-in-Nodes-default-Some-clause-list
 returns-in-Nodes-default-Some-clause-list c =
