@@ -14,9 +14,9 @@ use Rattle.fr_graph.specs.Network.{Network}
 use Rattle.fr_graph.specs.Rows.{row}
 use Rattle.fr_graph.specs.declared.edit.Edit.{Edit}
 use Rattle.fr_graph.specs.declared.edit.Edit.TheVariants.{Add, Cut, Join}
-use Rattle.fr_nearest.specs.Affected.{AreAffected, HasEnds, KeepsWays}
+use Rattle.fr_nearest.specs.Affected.{AreAffected, HasEnds, HasOne, IsBehindChange, IsEnd, IsNextTo, IsTouchedBy, KeepsWays}
 use Rattle.fr_nearest.specs.Distances.{AreChanged, AreDistances, no_distance}
-use Rattle.fr_nearest.specs.Marks.{ComesFirst, HasMarked, HasOne, IsAlikeAt, IsBehind, IsEnd, IsNextTo, IsOrderedAlike, IsReordered, StaysInOrder}
+use Rattle.fr_nearest.specs.Marks.{ComesFirst, HasMarked, IsAlikeAt, IsBehind, IsOrderedAlike, IsReordered, StaysInOrder}
 use Rattle.fr_nearest.specs.Touched.{Adds, AreKept, AreNew, Cuts, HasEndsBelow, HasTurned, IsAdded, IsCut}
 use Rattle.fr_nearest.specs.Update.{HoldTo}
 use Rattle.fr_nearest.specs.Ways.{AreWays, IsNearer, IsWay}
@@ -202,10 +202,6 @@ module _ (net : Network) (touched : Touched) (before table : List ℕ) (is_net :
         ]
       ]) alike
 
--- the ends of edits, and the nodes that have turned and their neighbours
-abbrev pub IsTouchedBy : Network → Touched → ℕ → Type 0
-IsTouchedBy net touched y = HasOne IsEnd touched.edits.now y ⊎ HasOne (IsNextTo net.links) touched.turned.now y
-
 touched_below : (net : Network) (touched : Touched) → IsNet net.nodes net.links → All (HasEndsBelow net.nodes) touched.edits.now
     → All (λ (x : ℕ). x < net.nodes) touched.turned.now → (y : ℕ) → IsTouchedBy net touched y → y < net.nodes
 touched_below net touched is_net edits turned y (inl (e, h, end)) = go e (All-contains (HasEndsBelow net.nodes) touched.edits.now e edits h) end
@@ -230,10 +226,10 @@ ends_listed net touched list has (Join u v) h = (has u (inl (Join u v, h, inl re
 -- the marked nodes in order
 pub affected : (net : Network) (touched : Touched) (before table : List ℕ) (Must May : ℕ → Type 0) {first last : Marks} {list : List ℕ}
     → IsNet net.nodes net.links → All (HasEndsBelow net.nodes) touched.edits.now → All (λ (x : ℕ). x < net.nodes) touched.turned.now
-    → ((y : ℕ) → May y → y < net.nodes) → ((x : ℕ) → ¬ Must x → IsOrderedAlike net.links before table x)
+    → ((y : ℕ) → May y → IsBehindChange net.links before table y) → ((x : ℕ) → ¬ Must x → IsOrderedAlike net.links before table x)
     → HasMarked (λ y. IsTouchedBy net touched y ⊎ Must y) (λ y. IsTouchedBy net touched y ⊎ May y) first last
     → first.nodes.items ≡ [] → IsPermutation last.nodes.items list → IsNonDecreasing list → AreAffected net touched before table list
-affected net touched before table Must May {first} {last} {list} is_net edits turned low alike marked empty same rises = record {
+affected net touched before table Must May {first} {last} {list} is_net edits turned behind alike marked empty same rises = record {
   order = λ k inside.
       let once = IsDistinct-IsPermutation eqb nat_eq_equiv.symm last.nodes.items list same marked.are.once in
       let apart : slice_index list k ≢ slice_index list (k + 1) =
@@ -242,6 +238,7 @@ affected net touched before table Must May {first} {last} {list} is_net edits tu
       omega (arith, apart, rises k (k + 1) 0 (omega arith) inside);
   below = λ k d inside. below (get_or list k d) (Contains-get_or list k d inside);
   ends = ends;
+  just = λ y h. ⊎_elim inl (λ may. inr (behind y may)) (may_be y h);
   others = λ links d e were are kept new x _ out. others_keep net touched before table is_net list ends (λ y h. has y (inl (inr h))) x out
       links d e were are kept new (alike x (λ must. out (has x (inr must))));
 }
@@ -252,11 +249,13 @@ affected net touched before table Must May {first} {last} {list} is_net edits tu
     ends : (e : Edit) → Contains touched.edits.now e → HasEnds list e
     ends = ends_listed net touched list (λ y h. has y (inl h))
 
-    below : (y : ℕ) → Contains list y → y < net.nodes
-    below y h = ⊎_elim
-        (λ old. absurd (Contains-none y (rw empty at old)))
-        (⊎_elim (touched_below net touched is_net edits turned y) (low y))
+    may_be : (y : ℕ) → Contains list y → IsTouchedBy net touched y ⊎ May y
+    may_be y h = ⊎_elim (λ old. absurd (Contains-none y (rw empty at old))) (λ is. is)
         (marked.just y (Contains-permutation list last.nodes.items y (IsPermutation-sym last.nodes.items list same) h))
+
+    below : (y : ℕ) → Contains list y → y < net.nodes
+    below y h = ⊎_elim (touched_below net touched is_net edits turned y)
+        (λ may. let (w, link, _) = behind y may in (link_below net.nodes net.links y w is_net link).0) (may_be y h)
 
 -- a node that no change has reordered
 pub alike_apart : (links : List (ℕ × ℕ)) (n : ℕ) (before table changed : List ℕ) → IsNet n links → length table ≡ n → AreChanged before table changed → (x : ℕ)
@@ -267,5 +266,7 @@ alike_apart links n before table changed is_net one_each are x apart = ordered_a
       | inr other ↦ inr (stays (λ out. apart (w, (are.just w).1 (rw one_each (inside_net n links x is_net w link), other), (link, out))))
     ])
 
-pub behind_below : (links : List (ℕ × ℕ)) (n : ℕ) (changed : List ℕ) → IsNet n links → (y : ℕ) → HasOne (IsBehind links) changed y → y < n
-behind_below links n changed is_net y (w, h, link) = (link_below n links y w is_net link).0
+-- a link to a listed node is a link to one whose distance has changed
+pub behind_change : (links : List (ℕ × ℕ)) (before table changed : List ℕ) → AreChanged before table changed → (y : ℕ)
+    → HasOne (IsBehind links) changed y → IsBehindChange links before table y
+behind_change links before table changed are y (w, h, link) = (w, link, ((are.just w).0 h).1)

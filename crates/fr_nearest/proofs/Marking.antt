@@ -16,7 +16,8 @@ use Rattle.fr_graph.proofs.Neighbours.{in_of_row, out_of_row, row_of_in, row_of_
 use Rattle.fr_graph.specs.Links.{IsNet}
 use Rattle.fr_graph.specs.Rows.{row}
 use Rattle.fr_graph.specs.declared.first.First.TheVariants.{Inward, Outward}
-use Rattle.fr_nearest.specs.Marks.{AreMarks, HasMarked, HasOne, IsBehind, IsInward, IsMarked, IsNeighbour, IsNextTo, IsReordered, IsReorderedAt, IsUnmarked}
+use Rattle.fr_nearest.specs.Affected.{HasOne, IsNextTo}
+use Rattle.fr_nearest.specs.Marks.{AreMarks, HasMarked, IsBehind, IsInward, IsMarked, IsNeighbour, IsReordered, IsReorderedAt, IsUnmarked}
 use Rattle.fr_nearest.specs.declared.affected.Marks.{Marks}
 use Rattle.fr_nearest.proofs.Noting.{in_or_out}
 

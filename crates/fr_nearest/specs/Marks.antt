@@ -2,9 +2,7 @@
 use Rattle.std.specs.Prelude.{◌≡◌, ◌≢◌, ℕ, ◌<◌, ◌≤◌, ◌⊎◌, ◌↔◌, Bool, List, false, length, nat_eq, slice_index}
 use Rattle.std.specs.Prelude.{slice_index_or, true, vec_capacity}
 use Rattle.std.specs.List.{Contains, IsDistinct}
-use Rattle.fr_graph.specs.Links.{Joins, Points}
-use Rattle.fr_graph.specs.declared.edit.Edit.{Edit}
-use Rattle.fr_graph.specs.declared.edit.Edit.TheVariants.{Add, Cut, Join}
+use Rattle.fr_graph.specs.Links.{Points}
 use Rattle.fr_graph.specs.declared.first.First.{First}
 use Rattle.fr_graph.specs.declared.first.First.TheVariants.{Inward, Outward}
 use Rattle.fr_nearest.specs.Affected.{Affecting}
@@ -30,20 +28,6 @@ pub record HasMarked (Must May : ℕ → Type 0) (before after : Marks) : Type 0
   pub stay : (y : ℕ) → Contains before.nodes.items y → Contains after.nodes.items y
   pub all : (y : ℕ) → Must y → Contains after.nodes.items y
   pub just : (y : ℕ) → Contains after.nodes.items y → Contains before.nodes.items y ⊎ May y
-
--- P holds of y and one of these
-abbrev pub HasOne : {A : Type 0} → (A → ℕ → Type 0) → List A → ℕ → Type 0
-HasOne {A} P xs y = (x : A) × Contains xs x × P x y
-
--- y is an end of the edited link
-abbrev pub IsEnd : Edit → ℕ → Type 0
-IsEnd (Cut u v) y = (y ≡ u) ⊎ (y ≡ v)
-IsEnd (Add u v) y = (y ≡ u) ⊎ (y ≡ v)
-IsEnd (Join u v) y = (y ≡ u) ⊎ (y ≡ v)
-
--- y is x or a neighbour of x
-abbrev pub IsNextTo : List (ℕ × ℕ) → ℕ → ℕ → Type 0
-IsNextTo links x y = (y ≡ x) ⊎ Joins links x y
 
 -- the value of an `Affected` in contracts
 abbrev pub affected_in : Inside → Affecting

@@ -2,8 +2,10 @@
 
 ghost use Rattle.std.specs.Prelude.{◌≡◌, ℕ, ◌<◌, ◌≤◌, ◌↔◌, [], All, IsTrue, OnOk, length};
 ghost use Rattle.fr_nearest.specs.Affected.{AreAffected};
-ghost use Rattle.fr_nearest.specs.Marks.{AreMarks, ComesFirst, HasMarked, HasOne, HasOneEach, IsBehind, IsEnd};
-ghost use Rattle.fr_nearest.specs.Marks.{IsMoved, IsNextTo, IsReordered, IsUnmarked, StaysInOrder};
+ghost use Rattle.fr_nearest.specs.Affected.{HasOne, IsEnd};
+ghost use Rattle.fr_nearest.specs.Marks.{AreMarks, ComesFirst, HasMarked, HasOneEach, IsBehind};
+ghost use Rattle.fr_nearest.specs.Affected.{IsNextTo};
+ghost use Rattle.fr_nearest.specs.Marks.{IsMoved, IsReordered, IsUnmarked, StaysInOrder};
 ghost use Rattle.fr_nearest.specs.Touched.{HasEndsBelow};
 
 use crate::distances::{Distances, NONE};

@@ -185,7 +185,7 @@ impl<'a, F: Fn(&Net, u32, Option<&[u32]>, Turns) -> Result<Turns, CrewFault>> As
         told.make_room(router.net.nodes())?;
         let distances = &mut router.distances;
         distances.keep_if(told.asks_ways(), &router.net, router.dest);
-        told.begin_ways(self.alloc, &router.net, &distances.table, revision.edits)?;
+        told.begin_ways(&router.net, &distances.table, revision.edits)?;
         let from = movable.as_slice();
         let dest = revision.dest;
         let spare = &mut router.spare;

@@ -147,7 +147,6 @@ impl Told {
     /// Takes the memory to note what edits do to the ways of nodes, if the caller asks for that.
     pub fn begin_ways(
         &mut self,
-        alloc: Global,
         net: &Net,
         distances: &Distances,
         edits: &[Edit],
@@ -159,7 +158,7 @@ impl Told {
         ensures list { HasSameList self.old self.new }
     {
         match self {
-            Told::Nodes(_, Some(notes)) => notes.begin(alloc, net, distances, edits),
+            Told::Nodes(_, Some(notes)) => notes.begin(net, distances, edits),
             _ => Ok(()),
         }
     }

@@ -19,8 +19,8 @@ use std::alloc::{AllocError, Global};
 /// before a change is made, because a change that is made cannot fail.
 #[derive(Debug)]
 pub(crate) struct WayNotes {
-    // The ends of the edits, by number. Of all other nodes the earlier ways can be told from the links after the change, but
-    // of these they are listed before it.
+    // The ends of the edits, by number, and the ways that they had before the change. The earlier ways of all other nodes
+    // can be told from the links after the change.
     pub(crate) ends: Vec<u32>,
     pub(crate) end_ways: WayTable,
     // The nodes whose ways may have changed.
@@ -52,36 +52,39 @@ impl Drop for WayNotes {
     }
 }
 
-/// The ends of these edits, by number. A node that is an end of several edits is there several times.
-fn sorted_ends(alloc: Global, edits: &[Edit]) -> Result<Vec<u32>, AllocError>
-    ensures { IfOk result (λ list. AreEnds edits.now list.items) }
+/// Lists the ends of these edits, by number. A node that is an end of several edits is listed several times.
+fn list_ends(ends: &mut Vec<u32>, edits: &[Edit]) -> Result<(), AllocError>
+    ensures { OnOk result (AreEnds edits.now ends.new.items) }
 {
-    let mut list = Vec::with_capacity(alloc, edits.len().saturating_mul(2))?;
-    push_ends(&mut list, edits)?;
-    list.sort_unstable();
-    Ok(list)
+    ends.clear();
+    push_ends(ends, edits)?;
+    ends.sort_unstable();
+    Ok(())
 }
 
-/// The ways of these nodes, one list for each. A number that is not a node has none.
-fn ways_of(
-    alloc: Global,
+/// Lists the ways of these nodes, one list for each. A number that is not a node has none. The slice is space for the
+/// work.
+fn list_ways(
+    table: &mut WayTable,
     net: &Net,
     distances: &Distances,
     nodes: &[u32],
-) -> Result<WayTable, AllocError>
-    requires { IsMeasureOf net.now distances.now }
-    ensures { IfOk result (AreWaysOf net.now.nodes net.now.links distances.now.dest nodes.now) }
+    space: &mut [u32],
+) -> Result<(), AllocError>
+    requires measured { IsMeasureOf net.now distances.now }
+    requires space { net.now.nodes ≤ length space.old }
+    ensures { OnOk result (AreWaysOf net.now.nodes net.now.links distances.now.dest nodes.now table.new) }
 {
-    let mut table = WayTable::with_capacity(alloc, nodes.len(), 0)?;
-    let mut list = Vec::new(alloc);
+    table.clear();
     for x in nodes {
-        list.clear();
-        if *x < net.nodes() {
-            distances.ways(net, *x, &mut list)?;
-        }
-        table.push_row(&list)?;
+        let count = if *x < net.nodes() {
+            distances.ways_in(net, *x, space)
+        } else {
+            0
+        };
+        table.push_row(&space[..count])?;
     }
-    Ok(table)
+    Ok(())
 }
 
 /// Makes a list as long as there are nodes, or leaves it if it is longer.
@@ -109,10 +112,11 @@ impl WayNotes {
         })
     }
 
-    /// Takes the memory for a change of this network by these edits, and lists the ways of their ends before it.
+    /// Takes the memory for a change of this network by these edits, and lists the ways of their ends before it. It is not
+    /// inlined, so that changes that nobody asks the ways of do not pay for its local variables.
+    #[inline(never)]
     pub(crate) fn begin(
         &mut self,
-        alloc: Global,
         net: &Net,
         distances: &Distances,
         edits: &[Edit],
@@ -129,13 +133,19 @@ impl WayNotes {
         self.affected.make_room(nodes)?;
         self.changes
             .make_room(nodes, net.link_count() + edits.len())?;
-        self.ends = sorted_ends(alloc, edits)?;
-        self.end_ways = ways_of(alloc, net, distances, &self.ends)?;
-        Ok(())
+        list_ends(&mut self.ends, edits)?;
+        list_ways(
+            &mut self.end_ways,
+            net,
+            distances,
+            &self.ends,
+            &mut self.before,
+        )
     }
 
     /// Notes what has to be pushed after a change by these edits: the network has turned as a round says, and the distances
-    /// are updated.
+    /// are updated. It is not inlined, for the same reason.
+    #[inline(never)]
     pub(crate) fn note(&mut self, net: &Net, turns: &Turns, distances: &Distances, edits: &[Edit])
         requires { (s : State) × LeadsOn s (state_with net.now distances.now.dest turns.now) edits.now distances.now
             self.old }

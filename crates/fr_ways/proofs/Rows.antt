@@ -18,6 +18,12 @@ pub length_rows : (list starts : List ℕ) → AreRows list starts → length st
 length_rows list [] are = absurd are
 length_rows list (start ∷ ends) are = omega (arith, length_from list start ends)
 
+-- the table without its rows
+pub no_rows : (list starts : List ℕ) → AreRows list starts
+    → AreRows [] (take 1 starts) × (rows_of [] (take 1 starts) ≡ [])
+no_rows list [] are = absurd are
+no_rows list (start ∷ ends) are = ((are.0, are.0), refl)
+
 module _ (last : ℕ) where
   begins_low : (start : ℕ) (ends : List ℕ) → DoNotFall start ends last → start ≤ last
   begins_low start [] rise = omega (arith, rise)

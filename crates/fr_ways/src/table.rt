@@ -79,6 +79,14 @@ impl WayTable {
         Ok(())
     }
 
+    /// Removes all nodes. The memory stays. O(1).
+    pub fn clear(&mut self)
+        ensures { self.new ≡ [] }
+    {
+        self.list.clear();
+        self.starts.truncate(1);
+    }
+
     /// How many nodes there are. O(1).
     pub fn len(&self) -> usize
         ensures { result ≡ length self.now }

@@ -2,8 +2,9 @@ use Rattle.std.proofs.Common.{arith, get_or, refl, ℕ}
 use Rattle.std.proofs.lemmas.List.Elements.{Contains-get_or}
 use Rattle.std.proofs.lemmas.List.Sorted.{IsNonDecreasingBy-from_sort}
 use Rattle.fr_nearest.specs.Distances.{AreChanged}
-use Rattle.fr_nearest.specs.Marks.{HasOne, IsBehind, IsReordered}
-use Rattle.fr_nearest.proofs.Keeping.{affected, alike_apart, behind_below}
+use Rattle.fr_nearest.specs.Affected.{HasOne}
+use Rattle.fr_nearest.specs.Marks.{IsBehind, IsReordered}
+use Rattle.fr_nearest.proofs.Keeping.{affected, alike_apart, behind_change}
 use Rattle.fr_nearest.proofs.Marking.{marked_then, marks_sorted}
 use Rattle.fr_nearest.proofs.affected.Affected.list.Goals as goal
 
@@ -27,7 +28,7 @@ returns-clause-affected c =
     let are : AreChanged before table changed = rw c.changed.ensures.value c.changed.ensures.changed in
     affected net c.args.touched.now before table (HasOne (IsReordered net.links before table) changed)
     (HasOne (IsBehind net.links) changed)
-    is_net c.requires.edits c.requires.turned (behind_below net.links net.nodes changed is_net)
+    is_net c.requires.edits c.requires.turned (behind_change net.links before table changed are)
     (alike_apart net.links net.nodes before table changed is_net c.requires.one_each are)
     (marked_then (marked_then c.mark_edits.ensures c.mark_turned.ensures) c.mark_changed.ensures)
     c.clear.ensures.none c.sort_unstable.ensures.permutation

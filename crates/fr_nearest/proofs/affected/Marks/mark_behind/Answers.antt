@@ -2,7 +2,8 @@ use Rattle.std.proofs.Common.{arith, get_or, rules, ◌≡◌}
 use Rattle.fr_graph.proofs.SideRows.{entry_below}
 use Rattle.fr_graph.specs.Rows.{row}
 use Rattle.fr_graph.specs.declared.first.First.TheVariants.{Inward, Outward}
-use Rattle.fr_nearest.specs.Marks.{HasMarked, HasOne, IsBehind, IsInward, IsReordered, IsReorderedAt}
+use Rattle.fr_nearest.specs.Affected.{HasOne}
+use Rattle.fr_nearest.specs.Marks.{HasMarked, IsBehind, IsInward, IsReordered, IsReorderedAt}
 use Rattle.fr_nearest.proofs.Marking.{behind_from_row, marked_all, marked_as, marked_first, marked_more, marked_none}
 use Rattle.fr_nearest.proofs.Marking.{reordered_in_row}
 use Rattle.fr_nearest.proofs.affected.Marks.mark_behind.Goals as goal

@@ -1,5 +1,6 @@
 use Rattle.std.proofs.Common.{take}
-use Rattle.fr_nearest.specs.Marks.{HasMarked, HasOne, IsInward, IsReorderedAt}
+use Rattle.fr_nearest.specs.Affected.{HasOne}
+use Rattle.fr_nearest.specs.Marks.{HasMarked, IsInward, IsReorderedAt}
 use Rattle.fr_nearest.proofs.affected.Marks.mark_behind.Given as goal
 
 abbrev pub invariant-loop-y : goal.invariant-loop-y

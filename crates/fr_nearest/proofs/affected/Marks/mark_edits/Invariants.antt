@@ -1,5 +1,6 @@
 use Rattle.std.proofs.Common.{take}
-use Rattle.fr_nearest.specs.Marks.{HasMarked, HasOne, IsEnd}
+use Rattle.fr_nearest.specs.Affected.{HasOne, IsEnd}
+use Rattle.fr_nearest.specs.Marks.{HasMarked}
 use Rattle.fr_nearest.proofs.affected.Marks.mark_edits.Given as goal
 
 abbrev pub invariant-loop-edit : goal.invariant-loop-edit

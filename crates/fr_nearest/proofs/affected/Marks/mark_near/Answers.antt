@@ -2,7 +2,8 @@ use Rattle.std.proofs.Common.{arith}
 use Rattle.fr_graph.proofs.SideRows.{entry_below}
 use Rattle.fr_graph.specs.Rows.{row}
 use Rattle.fr_graph.specs.declared.first.First.TheVariants.{Outward}
-use Rattle.fr_nearest.specs.Marks.{HasMarked, HasOne, IsNeighbour, IsNextTo}
+use Rattle.fr_nearest.specs.Affected.{HasOne, IsNextTo}
+use Rattle.fr_nearest.specs.Marks.{HasMarked, IsNeighbour}
 use Rattle.fr_nearest.proofs.Marking.{marked_all, marked_as, marked_first, marked_more, marked_then, next_from_row, next_in_row}
 use Rattle.fr_nearest.proofs.affected.Marks.mark_near.Goals as goal
 

@@ -1,5 +1,6 @@
 use Rattle.std.proofs.Common.{take}
-use Rattle.fr_nearest.specs.Marks.{HasMarked, HasOne, IsNeighbour}
+use Rattle.fr_nearest.specs.Affected.{HasOne}
+use Rattle.fr_nearest.specs.Marks.{HasMarked, IsNeighbour}
 use Rattle.fr_nearest.proofs.affected.Marks.mark_near.Given as goal
 
 abbrev pub invariant-loop-w : goal.invariant-loop-w

@@ -1,5 +1,5 @@
 use Rattle.std.proofs.Common.{arith}
-use Rattle.fr_nearest.specs.Marks.{IsNextTo}
+use Rattle.fr_nearest.specs.Affected.{IsNextTo}
 use Rattle.fr_nearest.proofs.Marking.{marked_all, marked_first, marked_more}
 use Rattle.fr_nearest.proofs.affected.Marks.mark_turned.Goals as goal
 

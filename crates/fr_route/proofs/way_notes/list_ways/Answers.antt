@@ -1,8 +1,8 @@
 use Rattle.std.proofs.Common.{arith, slice_index, ◌<◌}
 use Rattle.fr_nearest.specs.Ways.{AreWays}
 use Rattle.fr_route.proofs.WayNoting.{ways_of_more}
-use Rattle.fr_route.proofs.way_notes.ways_of.Goals as goal
-use Rattle.fr_route.proofs.way_notes.ways_of.Goals.{else-x-nodes, then-x-nodes+in_ok-ways}
+use Rattle.fr_route.proofs.way_notes.list_ways.Goals as goal
+use Rattle.fr_route.proofs.way_notes.list_ways.Goals.{else-x-nodes, then-x-nodes+in_ok-ways}
 
 pub loop-x-preserved : goal.loop-x-preserved
 loop-x-preserved c =
