@@ -1,10 +1,10 @@
 -- How many elements of a list pass a test.
-use Rattle.std.proofs.Common.{add-one, Bool, List, None, Option, Some, [], ap, arith, cond, count_by, false, get_or, inl, inr, length, map, refl, suc}
+use Rattle.std.proofs.Common.{add-one, Bool, List, None, Option, Some, [], ap, arith, cond, count_by, false, get_or, inl, inr, length, map, refl, set, suc}
 use Rattle.std.proofs.Common.{true, zero, zero-add, ℕ, ◌+◌, ◌<◌, ◌∷◌, ◌≡◌, ◌≤◌, ◌⊎◌}
 use Rattle.std.specs.List.{cons_option, filter_map, range_with_len}
 use Rattle.std.proofs.lemmas.Bool.{cases_Bool, cases_lt}
 use Rattle.std.proofs.lemmas.List.FromFn.{length-range_with_len}
-use Rattle.std.proofs.lemmas.List.Sums.{count_by-le-length, get_or-le-sum_by, sum_by-cons}
+use Rattle.std.proofs.lemmas.List.Sums.{count_by-le-length, get_or-le-sum_by, sum_by-cons, sum_by-set}
 
 -- a link counts once, whichever of its halves_of_link is at (u, v)
 abbrev pub weigh : Bool → ℕ
@@ -115,3 +115,10 @@ pub count_by-map : {X Y : Type 0} (p : Y → Bool) (f : X → Y) (xs : List X) �
 count_by-map p f [] = refl
 count_by-map {X} {Y} p f (x ∷ xs) =
     omega (arith, sum_by-cons (λ (y : Y). cond (p y) 1 0) (f x) (map f xs), sum_by-cons (λ (z : X). cond (p (f z)) 1 0) x xs, count_by-map p f xs)
+
+-- after an element is replaced
+pub count_by-set : {X : Type 0} (p : X → Bool) (xs : List X) (i : ℕ) (y d : X) → i < length xs
+    → count_by p (set xs i y) + count_by p (get_or xs i d ∷ []) ≡ count_by p xs + count_by p (y ∷ [])
+count_by-set {X} p xs i y d l =
+    let h = sum_by-set (λ (x : X). cond (p x) 1 0) xs i y d l in
+    omega (arith, h)

@@ -1,12 +1,11 @@
 -- The steps of the search for a cycle keep its state.
-use Rattle.std.proofs.Common.{Bool, List, [], add-one, add-zero, add_assoc, ap, arith, cond, drop, get_or, inl, inr, length, length-drop, refl, set}
+use Rattle.std.proofs.Common.{List, [], add-one, add-zero, add_assoc, ap, arith, drop, get_or, inl, inr, length, length-drop, refl, set}
 use Rattle.std.proofs.Common.{subst, sym, take, ℕ, ◌++◌, ◌+◌, ◌<◌, ◌∙◌, ◌∷◌, ◌≡◌, ◌≢◌, ◌≤◌, ◌⊎◌}
 use Rattle.std.proofs.lemmas.Bool.{cases_eq, cases_lt}
 use Rattle.std.proofs.lemmas.List.{get_or-drop, get_or-set_other, get_or-set_same, get_or-take, get_or_append_left, get_or_default, get_or_push}
 use Rattle.std.proofs.lemmas.List.{length-set, length-take-le, length_push}
 use Rattle.std.proofs.lemmas.List.Elements.{Contains-append_left, Contains-push}
-use Rattle.std.proofs.lemmas.List.Sums.{sum_by-set}
-use Rattle.std.specs.List.{count_by}
+use Rattle.fr_graph.proofs.Counting.{count_by-set}
 use Rattle.fr_graph.specs.CycleSearch.{IsCycleSearch, KeepsSeen, LeadsTo, LeadsToDone, fresh_count, is_fresh, mark_of}
 use Rattle.fr_graph.specs.Links.{IsClosedWalk, IsCycle, IsPath, Points, end_of}
 use Rattle.fr_graph.specs.Rows.{has_link}
@@ -148,20 +147,13 @@ left n links marks path x last s full top leads =
       ];
     }
 
--- how many marks pass a test after x gets another mark
-pub count_by-set : (p : Mark → Bool) (marks : List Mark) (x : ℕ) (m : Mark) → x < length marks
-    → count_by p (set marks x m) + count_by p (mark_of marks x ∷ []) ≡ count_by p marks + count_by p (m ∷ [])
-count_by-set p marks x m l =
-    let h = sum_by-set (λ (k : Mark). cond (p k) 1 0) marks x m Fresh l in
-    omega (arith, h)
-
 pub fewer_fresh : (marks : List Mark) (x : ℕ) → x < length marks → mark_of marks x ≡ Fresh → fresh_count (set marks x Open) + 1 ≡ fresh_count marks
 fewer_fresh marks x l f =
     let one : fresh_count (mark_of marks x ∷ []) ≡ 1 = rw f refl in
-    omega (arith, count_by-set is_fresh marks x Open l, one)
+    omega (arith, count_by-set is_fresh marks x Open Fresh l, one)
 
 pub no_more_fresh : (marks : List Mark) (x : ℕ) → x < length marks → fresh_count (set marks x Done) ≤ fresh_count marks
-no_more_fresh marks x l = omega (arith, count_by-set is_fresh marks x Done l)
+no_more_fresh marks x l = omega (arith, count_by-set is_fresh marks x Done Fresh l)
 
 shifted : (u : ℕ) (xs : List ℕ) (k : ℕ) → get_or (u ∷ xs) (k + 1) 0 ≡ get_or xs k 0
 shifted u xs k = rw add-one refl

@@ -12,7 +12,6 @@ use Rattle.fr_graph.specs.Laws.{BatchesHaveOneFault, EditsHaveOneFault, LinksHav
 use Rattle.fr_graph.specs.Network.{Network}
 use Rattle.fr_graph.specs.declared.fault.NetFault.{NetFault}
 use Rattle.fr_graph.specs.declared.fault.NetFault.TheVariants.{Cycle, Memory, NoLink, Range, SelfLink, TooMany, Twice}
-use Rattle.fr_graph.specs.declared.edit.Edit.{Edit}
 use Rattle.fr_graph.specs.declared.edit.Edit.TheVariants.{Add, Cut, Join}
 
 -- the faults without evidence

@@ -1,15 +1,16 @@
 -- The order in which the search leaves nodes.
 use Rattle.std.proofs.Common.{List, [], arith, cond, get_or, inl, inr, length, refl, replicate, set, subst, sym, ℕ, ◌⊎◌, ◌++◌, ◌<◌, ◌∙◌, ◌∷◌, ◌≡◌, ◌≢◌}
 use Rattle.std.proofs.lemmas.Bool.{cases_lt}
-use Rattle.std.proofs.lemmas.List.{get_or-replicate, get_or_past, length-replicate, length_push}
+use Rattle.std.proofs.lemmas.List.{get_or_past, length-replicate, length_push}
 use Rattle.std.proofs.lemmas.List.Elements.{All-get_or, All-nil, All-push, All-weaker, Contains-append_left, Contains-push}
 use Rattle.std.proofs.lemmas.List.Folds.{sum_by-replicate}
 use Rattle.std.proofs.lemmas.List.Sums.{count_by-le-length}
 use Rattle.std.specs.List.{count_by}
-use Rattle.fr_graph.proofs.Cycles.{count_by-set, mark_set}
-use Rattle.fr_graph.proofs.Lists.{push_cases}
+use Rattle.fr_graph.proofs.Counting.{count_by-set}
+use Rattle.fr_graph.proofs.Cycles.{mark_set}
+use Rattle.fr_graph.proofs.Lists.{all_default, push_cases}
 use Rattle.fr_graph.proofs.ShownLinks.{row_of_points}
-use Rattle.fr_graph.specs.CycleSearch.{AreEntriesBelow, AreRowsRising, IsAtRest, IsCycleSearch, IsOrder, IsSearch, LeadsToDone, is_done, mark_of, nodes_of}
+use Rattle.fr_graph.specs.CycleSearch.{AreEntriesBelow, AreRowsRising, IsAtRest, IsCycleSearch, IsDone, IsOrder, IsSearch, LeadsToDone, is_done, mark_of, nodes_of}
 use Rattle.fr_graph.specs.Heights.{HasHeadsFirst}
 use Rattle.fr_graph.specs.KeptRows.{net_in}
 use Rattle.fr_graph.specs.Links.{IsAcyclic, IsClosedWalk, Points}
@@ -18,15 +19,6 @@ use Rattle.fr_graph.specs.declared.cycle.Mark.{Mark}
 use Rattle.fr_graph.specs.declared.cycle.Mark.TheVariants.{Done, Fresh, Open}
 use Rattle.fr_graph.specs.declared.cycle.Search.{Search}
 use Rattle.fr_graph.specs.declared.cycle.Step.{Step}
-
-abbrev IsDone : List Mark → ℕ → Type 0
-IsDone marks x = mark_of marks x ≡ Done
-
-mark_unmet : (n x : ℕ) → mark_of (replicate n Fresh) x ≡ Fresh
-mark_unmet n x = elim (cases_lt x n) [
-  | inl l ↦ get_or-replicate n x Fresh Fresh l
-  | inr g ↦ get_or_past (replicate n Fresh) x Fresh (omega (arith, length-replicate n Fresh))
-]
 
 count_not_done : (m : Mark) → m ≢ Done → count_by is_done (m ∷ []) ≡ 0
 count_not_done Fresh other = refl
@@ -49,9 +41,9 @@ search_begins n links =
       path_once = λ i j lt l. absurd (omega (arith, l));
       begins_lowest = λ w some. absurd (omega (arith, some));
       follows_lowest = λ k w l. absurd (omega (arith, l));
-      open_on_path = λ x is. cc (mark_unmet n x, is);
-      done_closed = λ u v done. cc (mark_unmet n u, done);
-      done_safe = λ u vs done. cc (mark_unmet n u, done);
+      open_on_path = λ x is. cc (all_default n x Fresh, is);
+      done_closed = λ u v done. cc (all_default n u Fresh, done);
+      done_safe = λ u vs done. cc (all_default n u Fresh, done);
     }
 
 -- no node is left at first
@@ -59,7 +51,7 @@ pub unmet_order : (links : List (ℕ × ℕ)) (n : ℕ) → IsOrder links (repli
 unmet_order links n = record {
   counted = omega (arith, sum_by-replicate (λ (m : Mark). cond (is_done m) 1 0) n Fresh);
   listed = All-nil _;
-  all = λ x done. cc (mark_unmet n x, done);
+  all = λ x done. cc (all_default n x Fresh, done);
   heads = λ i j l. absurd (omega (arith, l));
 }
 
@@ -80,7 +72,7 @@ nothing_met n rows search fresh path order each below rising =
 pub opened_order : (links : List (ℕ × ℕ)) (marks : List Mark) (order : List ℕ) (x : ℕ) → IsOrder links marks order
     → x < length marks → mark_of marks x ≢ Done → IsOrder links (set marks x Open) order
 opened_order links marks order x o l not_done = record {
-  counted = omega (arith, o.counted, count_by-set is_done marks x Open l, count_not_done _ not_done);
+  counted = omega (arith, o.counted, count_by-set is_done marks x Open Fresh l, count_not_done _ not_done);
   listed = All-weaker (IsDone marks) (IsDone (set marks x Open))
       (λ y done. elim (mark_set marks x y Open l) [ inl w ↦ absurd (not_done (rw (← w.0) done)) | inr w ↦ w.1 ∙ done ]) order o.listed;
   all = λ y done. elim (mark_set marks x y Open l) [ inl w ↦ cc (w.1, done) | inr w ↦ o.all y (sym w.1 ∙ done) ];
@@ -94,7 +86,7 @@ pub left_order : (n : ℕ) (links : List (ℕ × ℕ)) (marks : List Mark) (path
 left_order n links marks path order x s o l not_done leads =
     let listed : (i : ℕ) → i < length order → mark_of marks (get_or order i 0) ≡ Done = λ i h. All-get_or (IsDone marks) order i 0 h o.listed in
     record {
-      counted = omega (arith, o.counted, count_by-set is_done marks x Done l, count_not_done _ not_done, length_push order x);
+      counted = omega (arith, o.counted, count_by-set is_done marks x Done Fresh l, count_not_done _ not_done, length_push order x);
       listed = All-push (IsDone (set marks x Done)) order x
           (All-weaker (IsDone marks) (IsDone (set marks x Done))
           (λ y done. elim (mark_set marks x y Done l) [ inl w ↦ w.1 | inr w ↦ w.1 ∙ done ]) order o.listed)

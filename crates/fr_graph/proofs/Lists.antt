@@ -1,9 +1,9 @@
 -- Lists of any elements that are filtered, mapped, cut and joined.
-use Rattle.std.proofs.Common.{Bool, List, [], ap, arith, cond, drop, get_or, inl, inr, length, length-drop, refl, set, subst, sym, take, ℕ, ◌++◌, ◌+◌}
+use Rattle.std.proofs.Common.{Bool, List, [], ap, arith, cond, drop, get_or, inl, inr, length, length-drop, refl, replicate, set, subst, sym, take, ℕ, ◌++◌, ◌+◌}
 use Rattle.std.proofs.Common.{◌<◌, ◌∙◌, ◌∷◌, ◌≡◌, ◌≢◌, ◌≤◌, ◌⊎◌, length-append, suc, zero, Contains, None, Option, Some, false, map, option_map}
 use Rattle.std.proofs.Common.{option_to_list, true, ⊎_elim, slice_range, ◌-◌}
 use Rattle.std.proofs.lemmas.Bool.{cases_lt}
-use Rattle.std.proofs.lemmas.List.{get_or-drop, get_or_append_left, get_or_push, length-take-le, length_push, append_assoc, drop-append-le, drop-drop}
+use Rattle.std.proofs.lemmas.List.{get_or-drop, get_or_append_left, get_or_past, get_or_push, get_or-replicate, length-replicate, length-take-le, length_push, append_assoc, drop-append-le, drop-drop}
 use Rattle.std.proofs.lemmas.List.{drop-take, drop_more, get_or-append_right, same_lists, set_at, take-append-le, take-take, take_all, take_more}
 use Rattle.std.proofs.lemmas.List.{length-append, drop_at, take_at}
 use Rattle.std.proofs.lemmas.List.Elements.{Contains-get_or}
@@ -25,6 +25,13 @@ push_cases xs x k h =
       | inl l ↦ inl (l, get_or_append_left xs (x ∷ []) 0 k l)
       | inr g ↦ let q : length xs ≡ k = omega (arith, e) in inr (sym q, get_or_push xs x 0 k q)
     ]
+
+-- each place of a list of equal elements, and each one past it
+pub all_default : {X : Type 0} (n k : ℕ) (d : X) → get_or (replicate n d) k d ≡ d
+all_default n k d = elim (cases_lt k n) [
+  | inl l ↦ get_or-replicate n k d d l
+  | inr g ↦ get_or_past (replicate n d) k d (omega (arith, length-replicate n d))
+]
 
 -- writing a part keeps the length of the list
 pub length_put : {X : Type 0} (a k : ℕ) (xs ys : List X) → a + k ≤ length xs → length ys ≡ k → length (put_mid a k xs ys) ≡ length xs

@@ -34,14 +34,13 @@ cycle_leads : (links : List (ℕ × ℕ)) (walk : List ℕ) → IsCycle links wa
 cycle_leads links [] cycle = absurd cycle
 cycle_leads links (x ∷ vs) cycle = on_cycle links x vs cycle
 
--- so does each node of a way along links that ends at one that does
-all_lead : (links : List (ℕ × ℕ)) (way : List ℕ) → ((k : ℕ) → k + 1 < length way → Points links (get_or way k 0) (get_or way (k + 1) 0))
-    → (far k : ℕ) → k + far + 1 ≡ length way → LeadsIntoCycle links (get_or way (k + far) 0) → LeadsIntoCycle links (get_or way k 0)
-all_lead links way follows zero k whole end = let e : k + 0 ≡ k = omega arith in rw e at end
-all_lead links way follows (suc far) k whole end =
+-- if each step to a node with P leads from one, each node of a way that ends at such a node has P
+pub all_lead : (step : ℕ → ℕ → Type 0) (P : ℕ → Type 0) → ((x y : ℕ) → step x y → P y → P x) → (way : List ℕ)
+    → IsWayBy step way → (far k : ℕ) → k + far + 1 ≡ length way → P (get_or way (k + far) 0) → P (get_or way k 0)
+all_lead step P before way on zero k whole end = let e : k + 0 ≡ k = omega arith in rw e at end
+all_lead step P before way on (suc far) k whole end =
     let e : k + suc far ≡ (k + 1) + far = omega arith in
-    leads_before links (get_or way k 0) (get_or way (k + 1) 0) (follows k (omega arith))
-    (all_lead links way follows far (k + 1) (omega arith) (rw e at end))
+    before (get_or way k 0) (get_or way (k + 1) 0) (on k (omega arith)) (all_lead step P before way on far (k + 1) (omega arith) (rw e at end))
 
 -- the path of the search and the node that it leads back to are the way into the cycle
 pub lowest_cycle : {n : ℕ} {links : List (ℕ × ℕ)} {marks : List Mark} {path walk : List ℕ} {k x : ℕ}
@@ -58,7 +57,7 @@ lowest_cycle {n} {links} {marks} {path} {walk} {k} {x} s leads inside at is cycl
     let x_leads : LeadsIntoCycle links x = rw x_first at (cycle_leads links walk cycle) in
     let lead : (j : ℕ) → j < length way → LeadsIntoCycle links (get_or way j 0) = λ j l.
     let e : j + (length path - j) ≡ length path = omega (arith, l, long) in
-    all_lead links way follows (length path - j) j (omega (arith, l, long)) (rw (e, end) x_leads) in
+    all_lead (Points links) (LeadsIntoCycle links) (leads_before links) way follows (length path - j) j (omega (arith, l, long)) (rw (e, end) x_leads) in
     record {
       way = way;
       last = length path;

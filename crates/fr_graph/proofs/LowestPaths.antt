@@ -1,32 +1,33 @@
--- One side alone finds all nodes from which links lead to its start. So the path that always goes on to the lowest of them
--- is found, and a link from its end to its beginning closes a cycle.
-use Rattle.std.proofs.Common.{All, Contains, List, [], ap, arith, get_or, inl, inr, length, refl, replicate, set, slice_index, subst, sym, ℕ}
-use Rattle.std.proofs.Common.{◌++◌, ◌+◌, ◌<◌, ◌∙◌, ◌∷◌, ◌≡◌, ◌≢◌, ◌≤◌}
-use Rattle.std.proofs.lemmas.Bool.{cases_lt}
-use Rattle.std.proofs.lemmas.List.{get_or_append_left, get_or_push, get_or-set_same, length-replicate, length-set, length_push}
-use Rattle.std.proofs.lemmas.List.Elements.{All-contains}
+-- The depth-first search for the lowest path keeps its state, and ends with that path. A link from the end of the path to
+-- its beginning closes a cycle.
+use Rattle.std.proofs.Common.{Bool, List, [], ap, arith, false, get_or, inl, inr, length, not, refl, replicate, set, slice_index, subst, sym, take, true, vec_capacity, ℕ}
+use Rattle.std.proofs.Common.{◌++◌, ◌+◌, ◌-◌, ◌<◌, ◌∙◌, ◌∷◌, ◌≡◌, ◌≢◌, ◌≤◌}
+use Rattle.std.proofs.lemmas.Bool.{cases_eq, cases_lt}
+use Rattle.std.proofs.lemmas.List.{get_or_append_left, get_or_default, get_or-set_other, get_or-take, length-map, length-replicate, length-set, length-take-le}
+use Rattle.std.proofs.lemmas.List.{length_push, map_push, take-map}
+use Rattle.std.proofs.lemmas.List.Elements.{All-push, All-take, Contains-append_left, Contains-push}
 use Rattle.std.proofs.lemmas.List.Sums.{count_by-le-length}
 use Rattle.fr_graph.proofs.Acyclic.{path_falls}
 use Rattle.fr_graph.proofs.AddedLinks.{added}
+use Rattle.fr_graph.proofs.Counting.{count_by-set, one_passes}
 use Rattle.fr_graph.proofs.Cycles.{end_from_last, path_from_steps}
 use Rattle.fr_graph.proofs.Joining.{path_walks}
-use Rattle.fr_graph.proofs.Linking.{link_below}
-use Rattle.fr_graph.proofs.Lists.{push_cases}
-use Rattle.fr_graph.proofs.MetNodes.{fewer_never, met_set}
-use Rattle.fr_graph.proofs.Neighbours.{out_of_row, row_of_out, row_rises}
-use Rattle.fr_graph.proofs.Sides.{met_reached, side_begins, start_met}
-use Rattle.fr_graph.proofs.TwoEnds.{none_met, path_behind, side_closed}
-use Rattle.fr_graph.specs.Evidence.{IsLowestCycleBy, IsLowestWay, LeadsTowards}
+use Rattle.fr_graph.proofs.Lists.{all_default, push_cases}
+use Rattle.fr_graph.proofs.LowestCycles.{all_lead}
+use Rattle.fr_graph.proofs.RowsRead.{reads_on, same_nodes, top_is}
+use Rattle.fr_graph.proofs.SideRows.{entry_leads}
+use Rattle.fr_graph.specs.CycleSearch.{HasRead, LeadsOnlyTo, nodes_of}
+use Rattle.fr_graph.specs.Descents.{GoesOn, HasBegun, IsDescent, IsSkipped, LeadsFirst, LeadsNot, has_met, start_of, unmet_count}
+use Rattle.fr_graph.specs.Evidence.{IsLowestCycleBy}
 use Rattle.fr_graph.specs.Heights.{AreFalling}
-use Rattle.fr_graph.specs.Links.{HasPath, IsCycle, IsNet, IsPath, Points, end_of}
-use Rattle.fr_graph.specs.Network.{Network}
-use Rattle.fr_graph.specs.PathSearch.{HasBegun, HasMet, IsFirstMet, IsSide, IsUnmet, is_never}
-use Rattle.fr_graph.specs.Rows.{row}
-use Rattle.fr_graph.specs.declared.path_search.Met.{Met}
-use Rattle.fr_graph.specs.declared.path_search.Met.TheVariants.{Backward, Never}
-use Rattle.fr_graph.specs.declared.path_search.Side.{Side}
+use Rattle.fr_graph.specs.KeptRows.{net_in}
+use Rattle.fr_graph.specs.Links.{HasPath, IsCycle, IsPath, Points, end_of}
+use Rattle.fr_graph.specs.PathSearch.{AreFallingRows}
+use Rattle.fr_graph.specs.Tables.{Table, row_of}
+use Rattle.fr_graph.specs.declared.cycle.Step.{Step}
 use Rattle.fr_graph.specs.declared.first.First.{First}
-use Rattle.fr_graph.specs.declared.first.First.TheVariants.{Inward, Outward}
+use Rattle.fr_graph.specs.declared.first.First.TheVariants.{Outward}
+use Rattle.fr_graph.specs.declared.lowest_cycle.Descent.{Descent}
 
 -- no path leads up
 pub leads_down : (links : List (ℕ × ℕ)) (heights : List ℕ) (x y : ℕ) → AreFalling heights links → HasPath links x y
@@ -34,91 +35,222 @@ pub leads_down : (links : List (ℕ × ℕ)) (heights : List ℕ) (x y : ℕ) �
 leads_down links heights x y falling path =
     omega (arith, path_falls links heights (λ u v stands. omega (arith, falling u v stands)) x path.0 path.1.0, ap (slice_index heights) path.1.1)
 
--- a path to another node begins at a node of the network
-pub tail_below : (n : ℕ) (links : List (ℕ × ℕ)) (x y : ℕ) → IsNet n links → x ≢ y → HasPath links x y → x < n
-tail_below n links x y net apart ([], here) = absurd (apart here.1)
-tail_below n links x y net apart (z ∷ zs, there) = (link_below n links x z net there.0.0).0
+-- no links lead from a node whose links lead to nodes from which none do
+pub leads_not : (links : List (ℕ × ℕ)) (u x : ℕ) → x ≢ u → ((y : ℕ) → Points links x y → LeadsNot links u y) → LeadsNot links u x
+leads_not links u x apart none ([], here) = apart here.1
+leads_not links u x apart none (y ∷ ys, there) = none y there.0.0 (ys, (there.0.1, there.1))
 
--- the side against the links when it begins, without another side
-pub alone_begins : (net : Network) (heights : List ℕ) (u limit : ℕ) (met : List Met) (behind : Side) → u < net.nodes
-    → slice_index heights u ≤ limit → met ≡ set (replicate net.nodes Never) u Backward → HasBegun Inward u limit net.nodes behind
-    → IsSide net heights Inward u limit met behind × ((x : ℕ) → ¬ HasMet Outward met x)
-alone_begins net heights u limit met behind below near met_is begun =
-    let none : List Met = replicate net.nodes Never in
-    let long : length none ≡ net.nodes = length-replicate net.nodes Never in
-    let l : u < length none = omega (arith, long) in
-    let few = fewer_never none u Inward l (none_met net.nodes u) in
-    let most = count_by-le-length is_never none in (
-      side_begins net heights Inward u limit met behind (rw met_is (length-set none u Backward ∙ long))
-          (rw met_is (get_or-set_same none u Backward Never l))
-          (λ x h. elim (met_set none u x Backward l) [ inl w ↦ w.0 | inr e ↦ let is = rw met_is at h in let was = none_met net.nodes x in cc (e, was) ])
-          (rw met_is (omega (arith, few, most, long))) (λ beyond. omega (arith, beyond, near)) begun,
-      λ x h. let is = rw met_is at h in
-          elim (met_set none u x Backward l) [ inl w ↦ let e = w.1 in cc e | inr e ↦ let was = none_met net.nodes x in cc (e, was) ],
+-- the search when it begins
+pub descent_begins : (rows : Table) (from to : ℕ) (descent : Descent) → from < length rows.rows → to < length rows.rows
+    → HasPath (net_in rows).links from to → HasBegun (length rows.rows) from to descent → IsDescent rows descent × (start_of descent ≡ from)
+descent_begins rows from to descent from_below to_below leads b =
+    let none : List Bool = replicate (length rows.rows) false in
+    let long : length none ≡ length rows.rows = length-replicate (length rows.rows) false in
+    let links = (net_in rows).links in
+    let start : Step = record { node = from; next = 0 } in
+    let fewer = count_by-set not none from true false (omega (arith, long, from_below)) in
+    let was_one : unmet_count (has_met none from ∷ []) ≡ 1 = rw (all_default (length rows.rows) from false) refl in
+    let is_none : unmet_count (true ∷ []) ≡ 0 = refl in (
+      record {
+        one_each = rw b.met_is (length-set none from true ∙ long);
+        to_below = rw b.to_is to_below;
+        full = rw b.path_is (omega arith);
+        leads = rw (b.path_is, b.to_is) leads;
+        below = rw b.path_is (λ k d l. let e : k ≡ 0 = omega (arith, l) in rw e from_below);
+        goes_on = rw b.path_is (λ k l. absurd (omega (arith, l)));
+        read = rw b.path_is (All-push (HasRead rows (LeadsNot links descent.to)) [] start (λ k d l. absurd (omega (arith, l)))
+            (record { inside = omega arith; passed = λ k d lt. absurd (omega (arith, lt)) }));
+        met = λ x met. rw b.path_is (elim (cases_eq x from) [
+          | inl e ↦ inl (rw e (Contains-push [] from))
+          | inr ne ↦ let was : has_met none x ≡ true = sym (get_or-set_other none from x true false ne) ∙ (rw b.met_is at met) in
+              cc (was, all_default (length rows.rows) x false)
+        ]);
+        room = omega (arith, ap length b.path_is, ap unmet_count b.met_is, fewer, was_one, is_none, count_by-le-length not none, long, b.room);
+      },
+      rw b.path_is refl,
     )
 
--- a side against the links that has read all its rows
-module _ {net : Network} {heights : List ℕ} {u limit : ℕ} {met : List Met} {side : Side} (falling : AreFalling heights net.links)
-    (is_net : IsNet net.nodes net.links) (s : IsSide net heights Inward u limit met side) (all : length side.nodes.items ≤ side.read) where
-  -- has met all nodes up to the limit from which links lead to its start
-  all_met : (x : ℕ) → HasPath net.links x u → slice_index heights x ≤ limit → HasMet Inward met x
-  all_met x path near =
-      path_behind heights net.links limit (HasMet Inward met) falling
-      (λ a b h step. elim (side_closed b a s all h step) [ inl there ↦ inl there | inr past ↦ inr past.0 ]) x path.0 path.1.0 near
-      (rw path.1.1 (start_met s))
+module _ {rows : Table} {descent : Descent} (s : IsDescent rows descent) where
+  -- no links lead to the end from the nodes that the search skips in the row of its last node
+  skipped_leads_not : {heights : List ℕ} (last x w : ℕ) → AreFallingRows rows heights → last + 1 ≡ length (nodes_of descent.path.items)
+      → get_or (nodes_of descent.path.items) last 0 ≡ x → Points (net_in rows).links x w → IsSkipped heights descent w
+      → LeadsNot (net_in rows).links descent.to w
+  skipped_leads_not {heights} last x w falls full top step (inr low) path =
+      omega (arith, low, leads_down (net_in rows).links heights w descent.to falls.falling path)
+  skipped_leads_not {heights} last x w falls full top step (inl met) path =
+      let nodes = nodes_of descent.path.items in
+      elim (s.met w met) [
+        | inr none ↦ none path
+        | inl on ↦
+            let end : on.0 + (last - on.0) ≡ last = omega (arith, on.1, full) in
+            let above : slice_index heights x ≤ slice_index heights (get_or nodes on.0 0) =
+            all_lead (LeadsFirst (net_in rows).links descent.to) (λ y. slice_index heights x ≤ slice_index heights y)
+            (λ a b goes low. omega (arith, low, falls.falling a b goes.points)) nodes s.goes_on (last - on.0) on.0 (omega (arith, on.1, full))
+            (rw (end, top) (omega arith)) in
+            let here : get_or nodes on.0 0 ≡ w = get_or_default nodes on.0 0 w on.1 ∙ on.2 in
+            omega (arith, rw here at above, falls.falling x w step)
+      ]
 
-  -- so there is one to go on to from such a node
-  pub some_met : (x : ℕ) → x ≢ u → HasPath net.links x u → slice_index heights x ≤ limit → ¬ All (IsUnmet met) (row net.nodes net.links x)
-  some_met x apart ([], here) near none = apart here.1
-  some_met x apart (y ∷ ys, there) near none =
-      let at = row_of_out net.nodes net.links x y is_net there.0.0 in
-      All-contains (IsUnmet met) (row net.nodes net.links x) (y, Outward) none at refl
-      (all_met y (ys, (there.0.1, there.1)) (omega (arith, falling x y there.0.0, near)))
+  -- the last node of the path is one of the nodes
+  pub top_below : (last : ℕ) (top : Step) → last + 1 ≡ length descent.path.items → top ≡ get_or descent.path.items last top
+      → top.node < length rows.rows
+  top_below last top full is =
+      let path = descent.path.items in
+      omega (arith, s.below last 0 (omega (arith, full, length-map path (λ (s : Step). s.node))), top_is path last top full is)
 
-  -- and the first one in its row is the lowest one
-  pub first_lowest : (x w : ℕ) → x ≢ u → slice_index heights x ≤ limit → IsFirstMet (row net.nodes net.links x) met w → LeadsTowards net.links u x w
-  first_lowest x w apart near first =
-      let entries = row net.nodes net.links x in
-      let listed : Contains entries (w, Outward) = (first.place, first.inside, first.is (w, Outward)) in
+  -- so none do from the neighbours in that part of the row
+  pub passed_leads_not : {heights : List ℕ} (last : ℕ) (top : Step) (k : ℕ) (d : ℕ × First) → AreFallingRows rows heights
+      → last + 1 ≡ length descent.path.items → top ≡ get_or descent.path.items last top → k < length (row_of rows top.node)
+      → LeadsOnlyTo (IsSkipped heights descent) (get_or (row_of rows top.node) k d)
+      → LeadsOnlyTo (LeadsNot (net_in rows).links descent.to) (get_or (row_of rows top.node) k d)
+  passed_leads_not last top k d falls full is l skipped out =
+      let path = descent.path.items in
+      let whole : last + 1 ≡ length (nodes_of path) = omega (arith, full, length-map path (λ (s : Step). s.node)) in
+      let on_top = top_is path last top full is in
+      let net = net_in rows in
+      skipped_leads_not last top.node _ falls whole on_top
+      (entry_leads Outward net.nodes net.links top.node (row_of rows top.node) k d (falls.shown.rows.shown top.node (top_below last top full is)) l out) (skipped out)
+
+  -- the search goes back from a node from which no links lead to the end
+  pub descent_leaves : (after : Descent) (last x : ℕ) → last + 1 ≡ length descent.path.items
+      → get_or (nodes_of descent.path.items) last 0 ≡ x → LeadsNot (net_in rows).links descent.to x
+      → after.to ≡ descent.to → after.met.items ≡ descent.met.items → after.path.items ≡ take last descent.path.items
+      → vec_capacity after.path ≡ vec_capacity descent.path → GoesOn rows descent after
+  descent_leaves after last x full top none to met path same_room =
+      let old = descent.path.items in
+      let nodes = nodes_of old in
+      let links = (net_in rows).links in
+      let whole : last + 1 ≡ length nodes = omega (arith, full, length-map old (λ (s : Step). s.node)) in
+      let front : nodes_of (take last old) ≡ take last nodes = sym (take-map (λ (s : Step). s.node) last old) in
+      let short : length (take last old) ≡ last = length-take-le last old (omega (arith, full)) in
+      let shorter : length (take last nodes) ≡ last = length-take-le last nodes (omega (arith, whole)) in
+      let more : 0 < last = elim (cases_lt 0 last) [
+        | inl l ↦ l
+        | inr g ↦ let e : last ≡ 0 = omega arith in absurd (none (rw (rw e at top) at s.leads))
+      ] in
+      let start : get_or (take last nodes) 0 0 ≡ get_or nodes 0 0 = get_or-take last nodes 0 0 more in
       record {
-        apart = apart;
-        lowest = record {
-          holds = (out_of_row net.nodes net.links x w listed, met_reached w s first.has);
-          least = λ y both.
-              let at = row_of_out net.nodes net.links x y is_net both.0 in
-              let d : ℕ × First = (y, Outward) in
-              let node : (get_or entries at.0 d).0 ≡ y = ap (λ (e : ℕ × First). e.0) at.2 in
-              let here : (get_or entries first.place d).0 ≡ w = ap (λ (e : ℕ × First). e.0) (first.is d) in
-              elim (cases_lt at.0 first.place) [
-                | inl less ↦ absurd (subst (IsUnmet met) at.2 (first.before at.0 d less) refl (all_met y both.1 (omega (arith, falling x y both.0, near))))
-                | inr more ↦ elim (cases_lt first.place at.0) [
-                  | inl past ↦ omega (arith, row_rises net.nodes net.links x first.place at.0 d past at.1, here, node)
-                  | inr same ↦ let e : at.0 ≡ first.place = omega arith in omega (arith, rw e at node, here)
-                ]
-              ];
+        descent = record {
+          one_each = rw met s.one_each;
+          to_below = rw to s.to_below;
+          full = rw (path, short) more;
+          leads = rw (path, front, start, to) s.leads;
+          below = rw (path, front) (All-take (λ (x : ℕ). x < length rows.rows) last nodes s.below);
+          goes_on = rw (path, front, to) (λ k h. rw (
+            get_or-take last nodes k 0 (omega (arith, h, shorter)),
+            get_or-take last nodes (k + 1) 0 (omega (arith, h, shorter)),
+          ) (s.goes_on k (omega (arith, h, shorter, whole))));
+          read = rw (path, to) (All-take (HasRead rows (LeadsNot links descent.to)) last old s.read);
+          met = rw (path, front, to, met) (λ y was. elim (s.met y was) [
+            | inr never ↦ inr never
+            | inl on ↦ elim (cases_lt on.0 last) [
+              | inl l ↦ inl (on.0, omega (arith, l, shorter), get_or-take last nodes on.0 y l ∙ on.2)
+              | inr g ↦
+                  let i : on.0 ≡ last = omega (arith, on.1, g, whole) in
+                  let same : x ≡ y = sym top ∙ ap (λ (k : ℕ). get_or nodes k 0) (sym i) ∙ get_or_default nodes on.0 0 y on.1 ∙ on.2 in
+                  inr (rw same at none)
+            ]
+          ]);
+          room = omega (arith, ap length path, ap unmet_count met, same_room, short, full, s.room);
         };
+        same_start = rw (path, front) start;
+        same_end = to;
+        fewer = rw (met, path) (omega (arith, short, full));
       }
 
--- the walk after one more step
-pub way_grows : {links : List (ℕ × ℕ)} {u v x w : ℕ} {walk : List ℕ} → IsLowestWay links u v x walk → LeadsTowards links u x w
-    → IsLowestWay links u v w (walk ++ w ∷ [])
-way_grows {links} {u} {v} {x} {w} {walk} so_far step =
-    let way = so_far.way in
-    let long : length (way ++ w ∷ []) ≡ length way + 1 = length_push way w in
-    record {
-      way = way ++ w ∷ [];
-      last = length way;
-      whole = sym long;
-      begins = get_or_append_left way (w ∷ []) 0 0 (omega (arith, so_far.whole)) ∙ so_far.begins;
-      goes_on = λ k h.
-          rw (get_or_append_left way (w ∷ []) 0 k (omega (arith, h, long)))
-          (elim (push_cases way w (k + 1) h) [
-            | inl t ↦ rw t.1 (so_far.goes_on k t.0)
-            | inr t ↦ let e : k ≡ so_far.last = omega (arith, t.0, so_far.whole) in rw (t.1, e, so_far.ends) step
+  -- the path has room for a node that the search has not met
+  pub has_room : (x : ℕ) → x < length rows.rows → has_met descent.met.items x ≡ false → length descent.path.items < vec_capacity descent.path
+  has_room x below fresh =
+      let counts : not (has_met descent.met.items x) ≡ true = rw fresh refl in
+      omega (arith, s.room, one_passes not descent.met.items x false (omega (arith, below, s.one_each)) counts)
+
+  -- the search goes on to a node that it has not met
+  pub descent_goes_down : (after : Descent) (last next x : ℕ) (top : Step) → last + 1 ≡ length descent.path.items
+      → top ≡ get_or descent.path.items last top → next ≤ length (row_of rows top.node)
+      → ((k : ℕ) (d : ℕ × First) → top.next ≤ k → k < next
+      → LeadsOnlyTo (LeadsNot (net_in rows).links descent.to) (get_or (row_of rows top.node) k d))
+      → LeadsFirst (net_in rows).links descent.to top.node x → x < length rows.rows → has_met descent.met.items x ≡ false
+      → after.to ≡ descent.to → after.met.items ≡ set descent.met.items x true
+      → after.path.items ≡ set descent.path.items last (record { node = top.node; next = next }) ++ record { node = x; next = 0 } ∷ []
+      → vec_capacity after.path ≡ vec_capacity descent.path → GoesOn rows descent after
+  descent_goes_down after last next x top full is inside passes goes below fresh to met path same_room =
+      let old = descent.path.items in
+      let nodes = nodes_of old in
+      let links = (net_in rows).links in
+      let moved = set old last (record { node = top.node; next = next }) in
+      let new : Step = record { node = x; next = 0 } in
+      let same : nodes_of (moved ++ new ∷ []) ≡ nodes ++ x ∷ [] =
+      map_push (λ (s : Step). s.node) moved new ∙ ap (λ (ns : List ℕ). ns ++ x ∷ []) (same_nodes old last next top is) in
+      let whole : length nodes ≡ length old = length-map old (λ (s : Step). s.node) in
+      let long : length (nodes ++ x ∷ []) ≡ length nodes + 1 = length_push nodes x in
+      let longer : length (moved ++ new ∷ []) ≡ length old + 1 = length_push moved new ∙ ap (λ (k : ℕ). k + 1) (length-set old last _) in
+      let start : get_or (nodes ++ x ∷ []) 0 0 ≡ get_or nodes 0 0 = get_or_append_left nodes (x ∷ []) 0 0 (omega (arith, s.full, whole)) in
+      let inside_met : x < length descent.met.items = omega (arith, below, s.one_each) in
+      let fewer = count_by-set not descent.met.items x true false inside_met in
+      let was_one : unmet_count (has_met descent.met.items x ∷ []) ≡ 1 = rw fresh refl in
+      let is_none : unmet_count (true ∷ []) ≡ 0 = refl in
+      record {
+        descent = record {
+          one_each = rw (met, length-set descent.met.items x true) s.one_each;
+          to_below = rw to s.to_below;
+          full = rw path (omega (arith, longer));
+          leads = rw (path, same, start, to) s.leads;
+          below = rw (path, same) (All-push (λ (x : ℕ). x < length rows.rows) nodes x s.below below);
+          goes_on = rw (path, same, to) (λ k h.
+              let l : k < length nodes = omega (arith, h, long) in
+              rw (get_or_append_left nodes (x ∷ []) 0 k l)
+              (elim (push_cases nodes x (k + 1) h) [
+                | inl t ↦ rw t.1 (s.goes_on k t.0)
+                | inr t ↦
+                    let e : k ≡ last = omega (arith, t.0, whole, full) in
+                    rw (t.1, e, top_is old last top full is) goes
+              ]));
+          read = rw (path, to) (All-push (HasRead rows (LeadsNot links descent.to)) moved new
+              (reads_on rows (LeadsNot links descent.to) old last next top full is s.read inside passes)
+              (record { inside = omega arith; passed = λ k d lt. absurd (omega (arith, lt)) }));
+          met = rw (path, same, to, met) (λ y was. elim (cases_eq y x) [
+            | inl e ↦ inl (rw e (Contains-push nodes x))
+            | inr ne ↦ elim (s.met y (sym (get_or-set_other descent.met.items x y true false ne) ∙ was)) [
+              | inl on ↦ inl (Contains-append_left nodes (x ∷ []) y on)
+              | inr never ↦ inr never
+            ]
           ]);
-      ends = get_or_push way w 0 (length way) refl;
-      is = ap (λ (ns : List ℕ). ns ++ w ∷ []) so_far.is;
-    }
+          room = omega (arith, ap length path, ap unmet_count met, same_room, longer, fewer, was_one, is_none, s.room);
+        };
+        same_start = rw (path, same) start;
+        same_end = to;
+        fewer = rw (met, path) (omega (arith, longer, fewer, was_one, is_none));
+      }
+
+  -- at its end the path is the lowest one
+  pub descent_ends : (last : ℕ) → last + 1 ≡ length (nodes_of descent.path.items) → get_or (nodes_of descent.path.items) last 0 ≡ descent.to
+      → IsLowestCycleBy (net_in rows).links descent.to (start_of descent) (descent.to ∷ nodes_of descent.path.items)
+  descent_ends last whole end =
+      let nodes = nodes_of descent.path.items in
+      let links = (net_in rows).links in
+      let leads : (j : ℕ) → j < length nodes → HasPath links (get_or nodes j 0) descent.to = λ j l.
+      let e : j + (last - j) ≡ last = omega (arith, l, whole) in
+      all_lead (LeadsFirst links descent.to) (λ y. HasPath links y descent.to)
+      (λ a b goes path. (b ∷ path.0, ((goes.points, path.1.0), path.1.1))) nodes s.goes_on (last - j) j (omega (arith, l, whole))
+      (rw (e, end) ([], (tt, refl))) in
+      record {
+        way = nodes;
+        last = last;
+        whole = whole;
+        begins = refl;
+        goes_on = λ k h. record {
+          apart = (s.goes_on k h).apart;
+          lowest = record {
+            holds = ((s.goes_on k h).points, leads (k + 1) h);
+            least = λ y both. elim (cases_lt y (get_or nodes (k + 1) 0)) [
+              | inl less ↦ absurd ((s.goes_on k h).lowest y both.0 less both.1)
+              | inr ge ↦ ge
+            ];
+          };
+        };
+        ends = end;
+        is = refl;
+      }
 
 -- with the added link, this is a cycle
 closes : (links : List (ℕ × ℕ)) (u v : ℕ) (way : List ℕ) (last : ℕ) → last + 1 ≡ length way → get_or way 0 0 ≡ v

@@ -2,8 +2,7 @@
 -- path.
 use Rattle.std.proofs.Common.{Contains, List, [], ap, arith, get_or, inl, inr, length, replicate, set, slice_index, sym, ℕ, ◌+◌, ◌<◌, ◌∙◌, ◌∷◌, ◌≡◌}
 use Rattle.std.proofs.Common.{◌≢◌, ◌≤◌, ◌⊎◌}
-use Rattle.std.proofs.lemmas.Bool.{cases_lt}
-use Rattle.std.proofs.lemmas.List.{get_or_default, get_or_past, get_or-replicate, get_or-set_other, get_or-set_same, length-replicate, length-set}
+use Rattle.std.proofs.lemmas.List.{get_or_default, get_or-set_other, get_or-set_same, length-replicate, length-set}
 use Rattle.std.proofs.lemmas.List.Elements.{Contains-push_cases}
 use Rattle.std.proofs.lemmas.List.Sums.{count_by-le-length}
 use Rattle.fr_graph.proofs.Acyclic.{path_falls}
@@ -19,6 +18,7 @@ use Rattle.fr_graph.specs.declared.path_search.Met.TheVariants.{Backward, Forwar
 use Rattle.fr_graph.specs.declared.path_search.Side.{Side}
 use Rattle.fr_graph.specs.declared.first.First.{First}
 use Rattle.fr_graph.specs.declared.first.First.TheVariants.{Inward, Outward}
+use Rattle.fr_graph.proofs.Lists.{all_default}
 use Rattle.fr_graph.proofs.MetNodes.{sides_apart, met_set, fewer_never}
 use Rattle.fr_graph.proofs.Sides.{side_begins, start_met, listed_met, near_met, met_below, met_reached}
 
@@ -34,7 +34,7 @@ path_ahead heights links limit P falling on u (v ∷ vs) path high here =
     ]
 
 -- the same backward, except from tails above the limit, along paths that begin no higher
-pub path_behind : (heights : List ℕ) (links : List (ℕ × ℕ)) (limit : ℕ) (P : ℕ → Type 0) → AreFalling heights links
+path_behind : (heights : List ℕ) (links : List (ℕ × ℕ)) (limit : ℕ) (P : ℕ → Type 0) → AreFalling heights links
     → ((u v : ℕ) → P v → Points links u v → P u ⊎ (limit < slice_index heights u)) → (u : ℕ) (vs : List ℕ)
     → IsPath links u vs → slice_index heights u ≤ limit → P (end_of u vs) → P u
 path_behind heights links limit P falling on u [] path low there = there
@@ -60,7 +60,7 @@ pub behind_meets : {net : Network} {heights : List ℕ} {from to low high : ℕ}
 behind_meets s o m = ahead_meets s o (record { own = m.other; other = m.own; own_met = m.other_met; other_met = m.own_met; leads = m.leads })
 
 -- if a side has read the rows of all its nodes, links lead on only to nodes that it has met, or that lie past its edge
-pub side_closed : {net : Network} {heights : List ℕ} {f : First} {start limit : ℕ} {met : List Met} {side : Side} (x w : ℕ)
+side_closed : {net : Network} {heights : List ℕ} {f : First} {start limit : ℕ} {met : List Met} {side : Side} (x w : ℕ)
     → IsSide net heights f start limit met side → length side.nodes.items ≤ side.read → HasMet f met x
     → LeadsOn f net.links x w → HasMet f met w ⊎ (IsBeyond f limit (slice_index heights w) × IsPast f side.edge (slice_index heights w))
 side_closed {net} {heights} {f} {start} {limit} {met} {side} x w s all h step =
@@ -138,13 +138,6 @@ ended_behind {net} {heights} {from} {to} {met} {ahead} {behind} falling o s all 
     rw (s.first_is, s.limit_is) (none, (λ k d l. met_below _ s (s.all_met k d l), fit))
 
 -- both sides when they begin
-pub none_met : (n x : ℕ) → met_of (replicate n Never) x ≡ Never
-none_met n x =
-    elim (cases_lt x n) [
-      | inl l ↦ get_or-replicate n x Never Never l
-      | inr g ↦ get_or_past (replicate n Never) x Never (omega (arith, length-replicate n Never))
-    ]
-
 pub sides_begin : (net : Network) (heights : List ℕ) (from to : ℕ) (met : List Met) (ahead behind : Side) → from < net.nodes
     → to < net.nodes → from ≢ to → slice_index heights to ≤ slice_index heights from
     → met ≡ set (set (replicate net.nodes Never) from Forward) to Backward
@@ -159,14 +152,14 @@ sides_begin net heights from to met ahead behind from_below to_below apart no_hi
     let met_long : length met ≡ net.nodes = rw met_is (length-set one to Backward ∙ one_long) in
     let l : from < length none = omega (arith, long) in
     let m : to < length one = omega (arith, one_long) in
-    let to_fresh : met_of one to ≡ Never = get_or-set_other none from to Forward Never (λ e. apart (sym e)) ∙ none_met net.nodes to in
+    let to_fresh : met_of one to ≡ Never = get_or-set_other none from to Forward Never (λ e. apart (sym e)) ∙ all_default net.nodes to Never in
     let few : never_count met + 1 ≤ net.nodes =
     rw met_is (omega (
       arith,
       long,
       count_by-le-length is_never none,
       fewer_never none from Outward l
-          (none_met net.nodes from),
+          (all_default net.nodes from Never),
       fewer_never one to Inward m to_fresh,
     )) in
     let from_met : met_of met from ≡ Forward = rw met_is (get_or-set_other one to from Backward Never apart ∙ get_or-set_same none from Forward Never l) in
@@ -174,7 +167,7 @@ sides_begin net heights from to met ahead behind from_below to_below apart no_hi
     let cases : (x : ℕ) → ((x ≡ to) × (met_of met x ≡ Backward)) ⊎ (((x ≡ from) × (met_of met x ≡ Forward)) ⊎ (met_of met x ≡ Never)) = λ x.
     rw met_is (elim (met_set one to x Backward m) [
       | inl w ↦ inl w
-      | inr e ↦ elim (met_set none from x Forward l) [ inl v ↦ inr (inl (v.0, e ∙ v.1)) | inr q ↦ inr (inr (e ∙ q ∙ none_met net.nodes x)) ]
+      | inr e ↦ elim (met_set none from x Forward l) [ inl v ↦ inr (inl (v.0, e ∙ v.1)) | inr q ↦ inr (inr (e ∙ q ∙ all_default net.nodes x Never)) ]
     ]) in
     let from_alone : (x : ℕ) → met_of met x ≡ Forward
     → x ≡ from = λ x h. elim (cases x) [ inl w ↦ cc (w.1, h) | inr r ↦ elim r [ inl v ↦ v.0 | inr q ↦ cc (q, h) ] ] in

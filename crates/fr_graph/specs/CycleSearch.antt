@@ -23,6 +23,10 @@ mark_of marks x = slice_index_or marks x Fresh
 abbrev pub nodes_of : List Step → List ℕ
 nodes_of path = map (λ (step : Step). step.node) path
 
+-- the node is done
+abbrev pub IsDone : List Mark → ℕ → Type 0
+IsDone marks x = mark_of marks x ≡ Done
+
 -- the path follows links and consists of the open nodes, each once; nodes below its first one are done, and so are
 -- those below the next one to which a link of the path's node leads; links from done nodes lead to done nodes, and no
 -- cycle leaves a done node
@@ -39,18 +43,18 @@ pub record IsCycleSearch (n : ℕ) (links : List (ℕ × ℕ)) (marks : List Mar
   pub done_closed : (u v : ℕ) → mark_of marks u ≡ Done → Points links u v → mark_of marks v ≡ Done
   pub done_safe : (u : ℕ) (vs : List ℕ) → mark_of marks u ≡ Done → ¬ IsClosedWalk links u vs
 
--- if the link of the entry leads to the neighbour, the neighbour is done
-abbrev pub IsPassed : List Mark → ℕ × First → Type 0
-IsPassed marks entry = entry.1 ≡ Outward → mark_of marks entry.0 ≡ Done
+-- if the link of the entry leads to the neighbour, the neighbour has P
+abbrev pub LeadsOnlyTo : (ℕ → Type 0) → ℕ × First → Type 0
+LeadsOnlyTo P entry = entry.1 ≡ Outward → P entry.0
 
 -- the link of the entry leads to the neighbour, and the neighbour is not done
 abbrev pub LeadsToOther : List Mark → ℕ × First → Type 0
 LeadsToOther marks entry = (entry.1 ≡ Outward) × (mark_of marks entry.0 ≢ Done)
 
--- the links before the next place in the row of this step lead to done nodes
-pub record HasRead (rows : Table) (marks : List Mark) (step : Step) : Type 0 where
+-- the links before the next place in the row of this step lead to nodes with P
+pub record HasRead (rows : Table) (P : ℕ → Type 0) (step : Step) : Type 0 where
   pub inside : step.next ≤ length (row_of rows step.node)
-  pub passed : (k : ℕ) (d : ℕ × First) → k < step.next → IsPassed marks (slice_index_or (row_of rows step.node) k d)
+  pub passed : (k : ℕ) (d : ℕ × First) → k < step.next → LeadsOnlyTo P (slice_index_or (row_of rows step.node) k d)
 
 -- the neighbours in the rows are below n
 abbrev pub AreEntriesBelow : ℕ → Table → Type 0
@@ -86,7 +90,7 @@ pub record IsSearch (rows : Table) (search : Search) : Type 0 where
   pub rising : AreRowsRising rows
   pub steps : IsCycleSearch (length search.marks.items) (net_in rows).links search.marks.items
       (nodes_of search.path.items)
-  pub read : All (HasRead rows search.marks.items) search.path.items
+  pub read : All (HasRead rows (IsDone search.marks.items)) search.path.items
   pub order : IsOrder (net_in rows).links search.marks.items search.order.items
 
 -- the search while its path is empty: before it starts from a node

@@ -19,6 +19,7 @@ pub mod LinksLeft
 pub mod Heights
 pub mod CycleSearch
 pub mod PathSearch
+pub mod Descents
 pub mod Graph
 pub mod Inside
 pub mod Laws

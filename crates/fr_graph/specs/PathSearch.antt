@@ -190,15 +190,3 @@ IsPathAnswer net heights from to (Ends nodes low high) =
     ¬ HasPath net.links from to
     × (All (λ (x : ℕ). x < net.nodes) nodes.items
     × FitBetween (net.links ++ (to, from) ∷ []) heights nodes.items low high)
-
--- if the link of the entry leads to the neighbour, the side against the links has not met the neighbour
-abbrev pub IsUnmet : List Met → ℕ × First → Type 0
-IsUnmet met entry = entry.1 ≡ Outward → ¬ HasMet Inward met entry.0
-
--- w is the first neighbour of the row to which a link leads and that the side against the links has met
-pub record IsFirstMet (entries : List (ℕ × First)) (met : List Met) (w : ℕ) : Type 0 where
-  pub place : ℕ
-  pub inside : place < length entries
-  pub is : (d : ℕ × First) → slice_index_or entries place d ≡ (w, Outward)
-  pub has : HasMet Inward met w
-  pub before : (k : ℕ) (d : ℕ × First) → k < place → IsUnmet met (slice_index_or entries k d)

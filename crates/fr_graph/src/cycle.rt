@@ -9,7 +9,7 @@ ghost use Rattle.fr_graph.specs.Heights.{HasHeadsFirst};
 ghost use Rattle.fr_graph.specs.KeptRows.{net_in};
 ghost use Rattle.fr_graph.specs.Links.{IsAcyclic};
 ghost use Rattle.fr_graph.specs.CycleSearch.{AreEntriesBelow, AreRowsRising, GoesOn, HasLeft, HasOpened};
-ghost use Rattle.fr_graph.specs.CycleSearch.{IsAtRest, IsFound, IsNext, IsPassed, IsSearch, LeadsToDone};
+ghost use Rattle.fr_graph.specs.CycleSearch.{IsAtRest, IsDone, IsFound, IsNext, IsSearch, LeadsOnlyTo, LeadsToDone};
 ghost use Rattle.fr_graph.specs.CycleSearch.{LeadsToOther, ReadsOn, left_count, mark_of, nodes_of, top_of};
 ghost use Rattle.fr_graph.specs.Tables.{Table};
 
@@ -34,11 +34,11 @@ pub(crate) enum Found {
     Order(Vec<u32>),
 }
 
-/// A node of the path, and the next place to read in its row. The links before that place lead to done nodes.
+/// A node of the path of a search, and the next place to read in its row.
 #[derive(Drop, Clone, Copy)]
-struct Step {
-    node: u32,
-    next: usize,
+pub(crate) struct Step {
+    pub(crate) node: u32,
+    pub(crate) next: usize,
 }
 
 /// The first place of the row, from `from` on, whose link leads to a node that is not done, or the length of the row.
@@ -48,7 +48,7 @@ fn first_not_done(row: &[(u16, First)], marks: &[Mark], from: usize) -> usize
     ensures low { from ≤ result }
     ensures high { result ≤ length row.now }
     ensures passed { (k : ℕ) (d : ℕ × First) → from ≤ k → k < result
-        → IsPassed marks.now (slice_index_or row.now k d) }
+        → LeadsOnlyTo (IsDone marks.now) (slice_index_or row.now k d) }
     ensures stops { (d : ℕ × First) → result < length row.now
         → LeadsToOther marks.now (slice_index_or row.now result d) }
 {

@@ -24,6 +24,7 @@ mod heights;
 pub mod laws;
 mod limits;
 mod links;
+mod lowest_cycle;
 mod network;
 mod path_search;
 mod row;

@@ -1,18 +1,13 @@
 //! The search for a path from one node to another. It starts at both ends: one side goes along the links, the other
 //! against them. Each step reads one row, most often on the side with fewer rows left to read. All links fall, so a
 //! side skips nodes beyond the height of the other end. The search ends when the sides meet, or when one side has
-//! nothing left to read. So it reads few rows if few nodes lie between the ends on either side. If a path leads there,
-//! one side alone finds all nodes from which links lead to its end, and then the lowest path can be listed.
+//! nothing left to read. So it reads few rows if few nodes lie between the ends on either side.
 
-ghost use Rattle.std.specs.Prelude.{◌≡◌, ◌≢◌, ℕ, List, ◌<◌, ◌≤◌, ◌+◌, ◌++◌, [], ◌∷◌, ◌⊎◌, ◌↔◌, length};
-ghost use Rattle.std.specs.Prelude.{slice_index, vec_capacity, All, IfOk, IfNone, IfSome, IsTrue};
-ghost use Rattle.fr_graph.specs.Heights.{AreFalling};
-ghost use Rattle.fr_graph.specs.KeptRows.{ShowsNet, net_in};
-ghost use Rattle.fr_graph.specs.Evidence.{IsLowestCycleBy};
-ghost use Rattle.fr_graph.specs.Links.{HasPath};
+ghost use Rattle.std.specs.Prelude.{◌≡◌, ◌≢◌, ℕ, ◌<◌, ◌≤◌, ◌⊎◌, ◌↔◌, length, slice_index, IfOk, IsTrue};
+ghost use Rattle.fr_graph.specs.KeptRows.{net_in};
 ghost use Rattle.fr_graph.specs.RowLists.{opposite};
 ghost use Rattle.fr_graph.specs.PathSearch.{AreFallingRows, HasBegun, HasMet, HasMetMore, HasRoom, IsBeyond};
-ghost use Rattle.fr_graph.specs.PathSearch.{IsFirstMet, IsPast, IsUnmet, IsSide, IsPathAnswer, IsReadAnswer};
+ghost use Rattle.fr_graph.specs.PathSearch.{IsPast, IsPathAnswer, IsReadAnswer, IsSide};
 ghost use Rattle.fr_graph.specs.PathSearch.{LiesOn, MeetsNew, met_by, start_of, unread_count, answer_of_ended};
 
 use crate::first::First;
@@ -216,21 +211,6 @@ impl Side {
         self.read += 1;
         false
     }
-
-    /// Reads the rows of all nodes that it meets. No node of the other side may be met.
-    fn read_all(&mut self, rows: &RowTable, heights: &Heights, met: &mut [Met])
-        requires rows { AreFallingRows rows.now heights.now.heights }
-        requires side { IsSide (net_in rows.now) heights.now.heights self.old.first
-            (start_of self.old) self.old.limit met.old self.old }
-        requires alone { (x : ℕ) → ¬ HasMet (opposite self.old.first) met.old x }
-        ensures side { IsSide (net_in rows.now) heights.now.heights self.old.first
-            (start_of self.old) self.old.limit met.new self.new }
-        ensures all { length self.new.nodes.items ≤ self.new.read }
-    {
-        while self.has_unread() {
-            self.read_next(rows, heights, met);
-        }
-    }
 }
 
 /// Whether a path leads from `from` to `to`. All links must fall, and `to` must not be higher than `from`.
@@ -271,51 +251,4 @@ pub(crate) fn path_between(
     } else {
         ahead.ended()
     })
-}
-
-/// The first link of a row that leads to a node which the side against the links has met.
-fn first_met(row: &[(u16, First)], met: &[Met]) -> Option<u32>
-    requires below { All (λ (e : ℕ × First). e.0 < length met.now) row.now }
-    ensures some { IfSome result (IsFirstMet row.now met.now) }
-    ensures none { IfNone result (All (IsUnmet met.now) row.now) }
-{
-    for (neighbour, first) in row {
-        if *first == First::Outward && met[*neighbour as usize] == Met::Backward {
-            return Some(*neighbour as u32);
-        }
-    }
-    None
-}
-
-/// The cycle that a link from `u` to `v` would close: from `v` it always goes on to the lowest node from which links
-/// lead to `u`. All links must fall, and links must lead from `v` to `u`.
-pub(crate) fn lowest_cycle(
-    alloc: Global,
-    rows: &RowTable,
-    heights: &Heights,
-    u: u32,
-    v: u32,
-) -> Result<Vec<u32>, AllocError>
-    requires rows { AreFallingRows rows.now heights.now.heights }
-    requires u { u < length rows.now.rows }
-    requires v { v < length rows.now.rows }
-    requires leads { HasPath (net_in rows.now).links v u }
-    ensures { IfOk result (λ walk. IsLowestCycleBy (net_in rows.now).links u v walk.items) }
-{
-    let nodes = rows.len();
-    let mut table = vec![in alloc; Met::Never; nodes]?;
-    let met = table.as_mut_slice();
-    met[u as usize] = Met::Backward;
-    let mut behind = Side::begun(alloc, First::Inward, u, heights.height(v), nodes)?;
-    behind.read_all(rows, heights, met);
-    let mut walk = vec![in alloc; u, v]?;
-    let mut at = v;
-    while at != u {
-        let Some(next) = first_met(rows.row(at), met) else {
-            unreachable!();
-        };
-        walk.push(next)?;
-        at = next;
-    }
-    Ok(walk)
 }

@@ -4,7 +4,7 @@ use Rattle.std.specs.Vec.{with_item}
 use Rattle.fr_graph.proofs.Neighbours.{entry_is}
 use Rattle.fr_graph.proofs.RowsRead.{read_through, read_up_to, reads_on, same_nodes, top_is}
 use Rattle.fr_graph.proofs.ShownLinks.{shown_of_row}
-use Rattle.fr_graph.specs.CycleSearch.{HasRead, IsPassed, IsSearch, LeadsToOther, ReadsOn, nodes_of}
+use Rattle.fr_graph.specs.CycleSearch.{HasRead, IsDone, IsSearch, LeadsOnlyTo, LeadsToOther, ReadsOn, nodes_of}
 use Rattle.fr_graph.specs.Tables.{row_of}
 use Rattle.fr_graph.specs.declared.cycle.Search.{Search}
 use Rattle.fr_graph.specs.declared.cycle.Step.{Step}
@@ -16,7 +16,7 @@ use Rattle.fr_graph.proofs.cycle.Search.next_head.Goals.{After-index-top, After-
 full : (c : After-index-top) → c.len-last.result - 1 + 1 ≡ length c.args.self.now.path.items
 full c = omega (arith, c.len-last.ensures, c.requires.full, c.args.self.now.path.ok.0)
 
-was : (c : After-index-top) → HasRead c.args.rows.now c.args.self.now.marks.items c.index-top.result.now
+was : (c : After-index-top) → HasRead c.args.rows.now (IsDone c.args.self.now.marks.items) c.index-top.result.now
 was c = rw (← c.index-top.ensures) at (c.requires.search.read (c.len-last.result - 1) c.index-top.result.now (omega (arith, full c)))
 
 node_is : (c : After-index-top) → get_or (nodes_of c.args.self.now.path.items) (c.len-last.result - 1) 0 ≡ c.index-top.result.now.node
@@ -33,7 +33,7 @@ pub row-row-requires : goal.row-row-requires
 row-row-requires c = below (goal.at.row-row-requires c).After-index-top
 
 passed : (c : After-index_mut) (k : ℕ) (d : ℕ × First) → c.index-top.result.now.next ≤ k → k < c.first_not_done-place.result
-    → IsPassed c.args.self.now.marks.items (get_or (row_of c.args.rows.now c.index-top.result.now.node) k d)
+    → LeadsOnlyTo (IsDone c.args.self.now.marks.items) (get_or (row_of c.args.rows.now c.index-top.result.now.node) k d)
 passed c = rw (c.row-row.ensures, c.deref.ensures.value) at c.first_not_done-place.ensures.passed
 
 -- the search after more of the row of the last node was read
@@ -61,7 +61,7 @@ searched c =
       below = s.below;
       steps = rw (same c).path s.steps;
       rising = s.rising;
-      read = reads_on c.args.rows.now c.args.self.now.marks.items c.args.self.now.path.items
+      read = reads_on c.args.rows.now (IsDone c.args.self.now.marks.items) c.args.self.now.path.items
           (c.len-last.result - 1) c.first_not_done-place.result c.index-top.result.now
           (full (goal.at.After-index_mut c).After-index-top) c.index-top.ensures s.read high (passed c);
       order = s.order;
@@ -76,7 +76,7 @@ returns-in_err-head c =
       same = same at.After-index_mut;
       next = tt;
       done = rw (← c.len-last.ensures, node_is at.After-index-top)
-          (read_through c.args.rows.now c.args.self.now.marks.items c.index-top.result.now c.first_not_done-place.result
+          (read_through c.args.rows.now (IsDone c.args.self.now.marks.items) c.index-top.result.now c.first_not_done-place.result
           (was at.After-index-top) (passed at.After-index_mut) end.3);
     }
 
@@ -105,7 +105,7 @@ returns c =
         leads = record {
           points = λ k last. rw (is_last k last, node_is at.After-index-top) (shown_of_row (length table.rows) table x e.0 (below at.After-index-top) listed);
           lowest = λ k w last points less.
-              read_up_to table c.args.self.now.marks.items c.index-top.result.now place e.0 c.requires.search.rising
+              read_up_to table (IsDone c.args.self.now.marks.items) c.index-top.result.now place e.0 c.requires.search.rising
               (was at.After-index-top) (passed at.After-index_mut) inside there w (rw (is_last k last, node_is at.After-index-top) at points) less;
           begins = λ w none. absurd (omega (arith, none, full at.After-index-top, length-map c.args.self.now.path.items (λ (s : Step). s.node)));
         };
