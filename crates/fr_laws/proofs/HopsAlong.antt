@@ -58,7 +58,7 @@ run_never_loops n d first h table net run along =
 
 -- Two moments: before the turn of node 1 its link points to it, and after the turn away from it
 
-falling_acyclic : (links : List (ℕ × ℕ)) (heights : List ℕ)
+pub falling_acyclic : (links : List (ℕ × ℕ)) (heights : List ℕ)
     → ((u v : ℕ) → Points links u v → slice_index heights v < slice_index heights u) → IsAcyclic links
 falling_acyclic links heights falls u [] none = none
 falling_acyclic links heights falls u (v ∷ vs) (path, back) =

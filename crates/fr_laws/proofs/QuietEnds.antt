@@ -32,7 +32,7 @@ use Rattle.fr_laws.specs.Quiet.{QuietIsForGood, QuietIsSettled, QuietRoundIsSett
 abbrev turns_of : Reply → ℕ
 turns_of r = cond (is_turned r) 1 0
 
-turns-cons : (e : Entry) (es : List Entry) → turn_count (e ∷ es) ≡ turns_of e.reply + turn_count es
+pub turns-cons : (e : Entry) (es : List Entry) → turn_count (e ∷ es) ≡ turns_of e.reply + turn_count es
 turns-cons e es = sum_by-cons (λ (f : Entry). turns_of f.reply) e es
 
 still_reply : (m : Moment) (x : ℕ) (r : Reply) → turns_of r ≡ 0 → after_reply m x r ≡ m

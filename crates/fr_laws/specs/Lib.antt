@@ -1,3 +1,4 @@
+pub mod Announcements
 pub mod Gains
 pub mod Hops
 pub mod Linear

@@ -23,7 +23,7 @@ above own l up none = grind (arith, nat_tests)
 not_lower : (own : Own) (l : Link) → is_lower own l ≡ false → 0 < l.heard → own.used ≤ l.seen
 not_lower own l f heard = grind (arith, nat_tests)
 
-lower : (own : Own) (l : Link) → is_way own l ≡ true
+pub lower : (own : Own) (l : Link) → is_way own l ≡ true
     → (l.up ≡ true) × ((l.seen < own.used) ⊎ ((l.seen ≡ own.used) × (l.neighbour < own.me)))
 lower own l t = grind (arith, nat_tests)
 
@@ -58,7 +58,7 @@ module _ (routers : ℕ) (node : ℕ → Node) (quiet : IsQuiet routers node) (x
         fits = omega (arith, told.seen, quiet.room l.neighbour told.within);
       })
 
-  has_way : IsStill (node x) → (w : ℕ) → IsLinkedTo (node x) w → (v : ℕ) × SendsTo (node x) v
+  pub has_way : IsStill (node x) → (w : ℕ) → IsLinkedTo (node x) w → (v : ℕ) × SendsTo (node x) v
   has_way still w linked = ⊎_elim some (λ f. absurd (none f)) (cases_Bool (list_any (is_way (node x).own) (node x).links.items))
     where
       some : list_any (is_way (node x).own) (node x).links.items ≡ true → (v : ℕ) × SendsTo (node x) v

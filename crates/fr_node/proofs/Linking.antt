@@ -46,7 +46,7 @@ is_at ls w i x e r = subst (IsAt ls w i) here there
     here = get_or_from_slice_get ls i x unknown (slice_get_read ls (length ls) i x refl there.within r)
 
 -- the link at a place within the list leads there
-leads_there : (ls : List Link) (v : ℕ) → IsKnown ls v → (link_to ls v).neighbour ≡ v
+pub leads_there : (ls : List Link) (v : ℕ) → IsKnown ls v → (link_to ls v).neighbour ≡ v
 leads_there ls v known = (is_there ls v (place_of ls v) (rw (lt-ltb (place_of ls v) (length ls) known) refl)).neighbour
 
 place_of-set : (ls : List Link) (w i : ℕ) (x k : Link) → IsAt ls w i x → k.neighbour ≡ x.neighbour

@@ -1,0 +1,166 @@
+-- What the calls of a node ensure makes them calls of the laws.
+use Rattle.std.proofs.Common.{Bool, List, None, Some, [], ap, arith, cond, eq-eqb, eqb, false, get_or, inl, inr}
+use Rattle.std.proofs.Common.{length, length-append, ne_eqb, not, refl, subst, sym, ℕ, ⊎_elim, ◌++◌, ◌+◌, ◌<◌, ◌∙◌}
+use Rattle.std.proofs.Common.{◌∷◌, ◌≡◌}
+use Rattle.std.proofs.Math.Seq.{get_or-append_seam}
+use Rattle.std.proofs.lemmas.Bool.{cases_eq, cases_lt, cond-false, cond-true}
+use Rattle.std.proofs.lemmas.List.{get_or_append_left, get_or_past}
+use Rattle.std.proofs.lemmas.List.Folds.{position_or_len_push}
+use Rattle.std.proofs.lemmas.List.Sums.{prefix_len-le-length}
+use Rattle.fr_node.specs.Links.{Hears, IsKnown, Says, SetsUp, leads_to, link_to, place_of, unknown}
+use Rattle.fr_node.specs.Nodes.{Steps}
+use Rattle.fr_laws.proofs.ListedOnce.{once_kept}
+use Rattle.fr_node.specs.declared.link.Link.{Link}
+use Rattle.fr_node.specs.declared.message.Message.{Message}
+use Rattle.fr_node.specs.declared.node.Node.{Node}
+use Rattle.fr_node.specs.declared.own.Own.{Own}
+use Rattle.fr_laws.specs.Announcements.{AreListedOnce, HearingIsACall, IsCall, KnowingIsACall, RepeatingIsACall}
+use Rattle.fr_laws.specs.Announcements.{SayingIsACall}
+
+-- the same links are known
+alike : (ls ks : List Link) (w : ℕ) → ks ≡ ls → (link_to ks w).up ≡ (link_to ls w).up
+alike ls ks w e = ap (λ (js : List Link). (link_to js w).up) e
+
+hearing_up : (own : Own) (m : Message) (ls ks : List Link) → Hears own m ls ks
+    → (w : ℕ) → (link_to ks w).up ≡ (link_to ls w).up
+hearing_up own m ls ks h w = ⊎_elim
+    (λ e. subst (λ (v : ℕ). (link_to ks v).up ≡ (link_to ls v).up) (sym e) here)
+    (λ other. ap (λ (l : Link). l.up) (h.others w other))
+    (cases_eq w m.from)
+  where
+    here : (link_to ks m.from).up ≡ (link_to ls m.from).up
+    here = ⊎_elim
+        (λ to. ⊎_elim
+        (λ known. (h.heard to known).up)
+        (λ past. alike ls ks m.from (h.stranger (inr (λ known. omega (arith, past, known)))))
+        (cases_lt (place_of ls m.from) (length ls)))
+        (λ away. alike ls ks m.from (h.stranger (inl away)))
+        (cases_eq m.to own.me)
+
+repeating_up : (w : ℕ) (up : Bool) (ls ks : List Link) → (IsKnown ls w → up ≡ (link_to ls w).up)
+    → SetsUp w up ls ks → (v : ℕ) → (link_to ks v).up ≡ (link_to ls v).up
+repeating_up w up ls ks same sets v = ⊎_elim
+    (λ e. subst (λ (u : ℕ). (link_to ks u).up ≡ (link_to ls u).up) (sym e) here)
+    (λ other. ap (λ (l : Link). l.up) (sets.others v other))
+    (cases_eq v w)
+  where
+    here : (link_to ks w).up ≡ (link_to ls w).up
+    here = ⊎_elim
+        (λ known. ap (λ (l : Link). l.up) (sets.itself known) ∙ same known)
+        (λ past. alike ls ks w (sets.stranger (λ known. omega (arith, past, known))))
+        (cases_lt (place_of ls w) (length ls))
+
+saying_up : (w : ℕ) (m : Message) (ls ks : List Link) → Says w m ls ks
+    → (v : ℕ) → (link_to ks v).up ≡ (link_to ls v).up
+saying_up w m ls ks says v = ⊎_elim
+    (λ e. subst (λ (u : ℕ). (link_to ks u).up ≡ (link_to ls u).up) (sym e) (ap (λ (l : Link). l.up) says.itself))
+    (λ other. ap (λ (l : Link). l.up) (says.others v other))
+    (cases_eq v w)
+
+-- a link to a stranger is added, which is down
+module _ (ls : List Link) (w : ℕ) (stranger : ¬ IsKnown ls w) where
+  long : length (ls ++ record unknown { neighbour = w } ∷ []) ≡ length ls + 1
+  long = simp length-append (omega arith)
+
+  place : (v : ℕ) → place_of (ls ++ record unknown { neighbour = w } ∷ []) v
+      ≡ cond (eqb (place_of ls v) (length ls)) (length ls + cond (eqb w v) 0 1) (place_of ls v)
+  place v = position_or_len_push (leads_to v) ls (record unknown { neighbour = w })
+
+  place_before : (v : ℕ) → place_of ls v < length ls
+      → place_of (ls ++ record unknown { neighbour = w } ∷ []) v ≡ place_of ls v
+  place_before v known = place v ∙ cond-false _ _ _ (ne_eqb (place_of ls v) (length ls) (λ e. omega (arith, e, known)))
+
+  -- what was listed stays where it is, and the new link comes last
+  place_there : (v : ℕ) → ¬ (place_of ls v < length ls)
+      → place_of (ls ++ record unknown { neighbour = w } ∷ []) v ≡ length ls + cond (eqb w v) 0 1
+  place_there v out = place v ∙ cond-true _ _ _ (eq-eqb (place_of ls v) (length ls) (omega (
+    arith,
+    prefix_len-le-length (λ (l : Link). not (leads_to v l)) ls,
+    ⊎_elim (λ known. absurd (out known)) (λ past. past) (cases_lt (place_of ls v) (length ls)),
+  )))
+
+  knowing_once : AreListedOnce ls → AreListedOnce (ls ++ record unknown { neighbour = w } ∷ [])
+  knowing_once once i within = ⊎_elim
+      (λ old. subst (λ (l : Link). place_of (ls ++ record unknown { neighbour = w } ∷ []) l.neighbour ≡ i)
+      (sym (get_or_append_left ls (record unknown { neighbour = w } ∷ []) unknown i old))
+      (place_before (get_or ls i unknown).neighbour (omega (arith, once i old, old)) ∙ once i old))
+      (λ past. let here : i ≡ length ls = omega (arith, past, within, long) in
+      subst (λ (k : ℕ). place_of (ls ++ record unknown { neighbour = w } ∷ [])
+      (get_or (ls ++ record unknown { neighbour = w } ∷ []) k unknown).neighbour ≡ k) (sym here)
+      (subst (λ (l : Link). place_of (ls ++ record unknown { neighbour = w } ∷ []) l.neighbour ≡ length ls)
+      (sym (get_or-append_seam ls (record unknown { neighbour = w }) [] unknown))
+      (omega (arith, place_there w stranger, ap {B = ℕ} (λ (b : Bool). cond b 0 1) (eq-eqb w w refl)))))
+      (cases_lt i (length ls))
+
+  knowing_up : (v : ℕ) → (link_to (ls ++ record unknown { neighbour = w } ∷ []) v).up ≡ (link_to ls v).up
+  knowing_up v = ⊎_elim
+      (λ known. ap (λ (l : Link). l.up) (ap (λ (k : ℕ). get_or (ls ++ record unknown { neighbour = w } ∷ []) k unknown)
+      (place_before v known)
+      ∙ get_or_append_left ls (record unknown { neighbour = w } ∷ []) unknown (place_of ls v) known))
+      (λ past. new_down (λ known. omega (arith, known, past))
+      ∙ sym (ap (λ (l : Link). l.up) (get_or_past ls (place_of ls v) unknown past)))
+      (cases_lt (place_of ls v) (length ls))
+    where
+      at : (k : ℕ) (l : Link) → get_or (ls ++ record unknown { neighbour = w } ∷ []) k unknown ≡ l → l.up ≡ false
+          → place_of (ls ++ record unknown { neighbour = w } ∷ []) v ≡ k
+          → (link_to (ls ++ record unknown { neighbour = w } ∷ []) v).up ≡ false
+      at k l is down e = ap (λ (l : Link). l.up)
+          (ap (λ (j : ℕ). get_or (ls ++ record unknown { neighbour = w } ∷ []) j unknown) e ∙ is) ∙ down
+
+      new_down : ¬ (place_of ls v < length ls) → (link_to (ls ++ record unknown { neighbour = w } ∷ []) v).up ≡ false
+      new_down out = ⊎_elim
+          (λ e. at (length ls) (record unknown { neighbour = w })
+          (get_or-append_seam ls (record unknown { neighbour = w }) [] unknown) refl
+          (omega (arith, place_there v out, ap {B = ℕ} (λ (b : Bool). cond b 0 1) (eq-eqb w v e))))
+          (λ other. at (length ls + 1) unknown
+          (get_or_past (ls ++ record unknown { neighbour = w } ∷ []) (length ls + 1) unknown (omega (arith, long))) refl
+          (omega (arith, place_there v out, ap {B = ℕ} (λ (b : Bool). cond b 0 1) (ne_eqb w v other))))
+          (cases_eq w v)
+
+pub hearing_is_a_call : HearingIsACall
+hearing_is_a_call m old new hears same acts step = record {
+  same = same;
+  once = once_kept old.links.items new.links.items hears.neighbours;
+  up = hearing_up old.own m old.links.items new.links.items hears;
+  step = step;
+  acts = inl acts;
+}
+
+pub repeating_is_a_call : RepeatingIsACall
+repeating_is_a_call w up old new repeats sets same acts step = record {
+  same = same;
+  once = once_kept old.links.items new.links.items sets.neighbours;
+  up = repeating_up w up old.links.items new.links.items repeats sets;
+  step = step;
+  acts = inl acts;
+}
+
+-- a call after which the node knows of itself what it knew
+only_links : (old new : Node) → new ≡ record old { links = new.links }
+    → (AreListedOnce old.links.items → AreListedOnce new.links.items)
+    → ((w : ℕ) → (link_to new.links.items w).up ≡ (link_to old.links.items w).up) → Steps [] old new
+    → IsCall [] old new
+only_links old new rest once up step = record {
+  same = (ap (λ (a : Node). a.gateway) rest, ap (λ (a : Node). a.policy) rest);
+  once = once;
+  up = up;
+  step = step;
+  acts = inr (ap (λ (a : Node). a.own) rest);
+}
+
+pub same_links : (old new : Node) → new ≡ record old { links = new.links } → new.links.items ≡ old.links.items
+    → Steps [] old new → IsCall [] old new
+same_links old new rest e step = only_links old new rest (subst AreListedOnce (sym e))
+    (λ w. alike old.links.items new.links.items w e) step
+
+pub saying_is_a_call : SayingIsACall
+saying_is_a_call w None old new says rest step = same_links old new rest says step
+saying_is_a_call w (Some m) old new says rest step = only_links old new rest
+    (once_kept old.links.items new.links.items says.neighbours)
+    (saying_up w m old.links.items new.links.items says) step
+
+pub knowing_is_a_call : KnowingIsACall
+knowing_is_a_call w old new (inl e) rest step = same_links old new rest e step
+knowing_is_a_call w old new (inr (stranger, e)) rest step = only_links old new rest
+    (λ once. subst AreListedOnce (sym e) (knowing_once old.links.items w stranger once))
+    (λ v. alike _ new.links.items v e ∙ knowing_up old.links.items w stranger v) step
