@@ -33,8 +33,10 @@ function tell(text) {
 }
 
 function hint() {
-  by('hint').className = fault || failing.packet && failing.packet.stuck !== null ? 'no' : '';
+  const isStuck = !acting.isOn && failing.packet && failing.packet.stuck !== null;
+  by('hint').className = fault || isStuck ? 'no' : '';
   by('hint').textContent = fault ? fault :
+      acting.isOn                ? actingHint() :
       note                       ? note :
       failureHint()              ? failureHint() :
       !viewer.blocks.length      ? 'Click empty space to add a node, take a sample, or open a file of requests.' :
@@ -447,3 +449,4 @@ setInterval(() => fetch('alive', {method: 'POST'}).catch(() => {}), 4000);
 addEventListener('pagehide', () => navigator.sendBeacon('closed'));
 if (viewer.blocks.length && !location.hash) showLast(true);
 hint();
+listenToActing();
