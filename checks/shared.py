@@ -7,6 +7,9 @@ TOP = Path(__file__).resolve().parent.parent
 EXAMPLES = TOP / "examples"
 VERSION = (TOP / "VERSION").read_text().strip()
 
+# The options for each form of answers, and how the files in examples/ end that have such answers.
+SUFFIXES = {(): ".answers", ("--json",): ".json-answers", ("--json", "--ways"): ".ways-answers"}
+
 # The output of the program `example` in each language.
 EXAMPLE_IN_C = "turned 6 cut 0\nwalk 3 2 1 0\nturned 12 cut 3\nwalk 3 cut\n"
 EXAMPLE_IN_RUST = "[4, 3, 1, 0]\nReport { turned: 1, cut_off: 0 }\n[(3, To(2)), (1, To(3))]\n[4, 3, 2, 0]\n"
@@ -19,13 +22,8 @@ def skip(what, package):
 
 
 def examples():
-    """The inputs in examples/, each with the file of its answers."""
+    """The inputs in examples/, each with the file of its answers as text."""
     return [(it, it.with_suffix(".answers")) for it in sorted(EXAMPLES.glob("*.jsonl"))]
-
-
-def json_answers(given):
-    """The file of the answers in JSON to an input in examples/."""
-    return given.with_suffix(".json-answers")
 
 
 def long_chain(nodes):

@@ -1,5 +1,6 @@
 """Runs the controllers in examples/pipe over drawn changes, and follows the routers' tables after each push."""
 
+import json
 import re
 import shutil
 import subprocess
@@ -11,12 +12,14 @@ from pathlib import Path
 import plain
 import shared
 from drawn import CHANGES, Drawn
+from phases import has_cycle
 
 TOP = Path(__file__).resolve().parents[2]
 PIPE, PAGE = TOP / "examples" / "pipe", TOP / "docs" / "PUSHING.md"
 # Seeds, the most nodes of a network, and the number of changes.
 STORIES = [(50, 4, 60), (51, 8, 80), (52, 12, 80), (53, 30, 60)]
 PUSH = re.compile(r"(\d+): (\w+) -> (\w+)")
+LIST = re.compile(r"(\d+): (\[.*\])")
 PATIENCE = 60
 
 
@@ -54,16 +57,36 @@ def follow(name, said, wanted):
         made.append([router, new])
         if loop := loop_in(table):
             stop(name, f"push {at}, {line!r}: a loop {loop}")
+    compare(name, made, wanted)
+
+
+def follow_ways(name, said, wanted):
+    """Makes the pushes of ways that a controller has printed. No push may close a cycle, and they must be the wanted ones."""
+    table, made = {}, []
+    for at, line in enumerate(said.splitlines()):
+        push = LIST.fullmatch(line)
+        if not push:
+            stop(name, f"no push of ways: {line!r}")
+        made.append([int(push[1]), json.loads(push[2])])
+        table |= [made[-1]]
+        if has_cycle(table):
+            stop(name, f"push {at}, {line!r}: a cycle in {table}")
+    compare(name, made, wanted)
+
+
+def compare(name, made, wanted):
     for at, (push, other) in enumerate(zip_longest(made, wanted)):
         if push != other:
             stop(name, f"push {at} is {push} and not {other}")
 
 
 def pushes_of(changes):
-    """What a controller has to push for these changes, by the plain program, and how many of them are refused."""
+    """What controllers have to push for these changes, by the plain program: hops, and ways; and how many changes are refused."""
     session = plain.Session()
-    values = [it[1] for it in map(session.answer, changes) if it]
-    return [push for it in values for push in it.get("changed", [])], sum("refused" in it for it in values)
+    values = [it[2] for it in map(session.answer, changes) if it]
+    hops = [push for it in values for push in it.get("changed", [])]
+    ways = [push for it in values if "changed" in it for push in it["shrink"] + it["grow"]]
+    return hops, ways, sum("refused" in it for it in values)
 
 
 def compare_page(name):
@@ -77,7 +100,7 @@ def compare_page(name):
 
 def check(program):
     """Checks each controller."""
-    names = ["controller.py", "controller.sh"]
+    names = ["controller.py", "ways_controller.py", "controller.sh"]
     for name in names:
         compare_page(name)
     if not shutil.which("jq"):
@@ -87,10 +110,13 @@ def check(program):
         Path(folder, "revroute").symlink_to(program)
         for seed, nodes, count in STORIES:
             changes = Drawn(seed, nodes).draw(count, CHANGES)
-            (wanted, refused), given = pushes_of(changes), b"\n".join(changes)
+            (hops, ways, refused), given = pushes_of(changes), b"\n".join(changes)
             for name in names:
                 ran = subprocess.run([PIPE / name], cwd=folder, input=given, capture_output=True, timeout=PATIENCE)
-                follow(name, ran.stdout.decode(), wanted)
+                if name == "ways_controller.py":
+                    follow_ways(name, ran.stdout.decode(), ways)
+                else:
+                    follow(name, ran.stdout.decode(), hops)
                 said = ran.stderr.decode().splitlines()
                 if ran.returncode or len(said) != refused or not all(it.startswith("refused: ") for it in said):
                     stop(name, f"status {ran.returncode}, {refused} refusals, and it said {said[-3:]}")

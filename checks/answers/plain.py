@@ -1,7 +1,7 @@
 #!/usr/bin/env python3
 """Answers lines of requests, as docs/LINES.md and docs/RULES.md define the answers.
 
-usage: checks/answers/plain.py [--json] < INPUT
+usage: checks/answers/plain.py [--json [--ways]] < INPUT
 
 It shares no code with revroute, so that checks can compare revroute's answers with these. It uses sets, lists and
 dictionaries only. It is slow: it turns one sink after another, and goes through all links for each turn.
@@ -18,6 +18,8 @@ MOST_NODES, MOST_LINKS, MOST_EDITS, DEEPEST, LARGEST = 4096, 32768, 1024, 127, 4
 NAMES = ["not JSON", "not a request", "no network", "no such node", "self link", "linked twice", "cycle"]
 FAULTS = dict(enumerate([*NAMES, "no such link", "too many"], 1))
 HERE, CUT = "here", "cut"
+# The options for each form of answers.
+FORMS = ([], ["--json"], ["--json", "--ways"])
 
 
 class Refused(Exception):
@@ -231,7 +233,6 @@ class Network:
             lowest[u] = min(v, lowest.get(u, v))
         return {x: HERE if x == self.dest else lowest[x] if x in joined else CUT for x in range(self.size)}
 
-
     def distances(self):
         """The fewest links that lead down from a node to the destination, for each node from which they do."""
         found, count = {self.dest: 0}, 0
@@ -240,10 +241,16 @@ class Network:
             found |= dict.fromkeys(more, count)
         return found
 
+    def all_ways(self):
+        """The ways of each node, nearest first."""
+        near, found = self.distances(), {x: [] for x in range(self.size)}
+        for u, v in self.links:
+            if v in near:
+                found[u].append(v)
+        return {x: sorted(ways, key=lambda v: (near[v], v)) for x, ways in found.items()}
+
     def ways(self, x):
-        """The ways of a node, nearest first."""
-        near = self.distances()
-        return sorted((v for u, v in self.links if u == x and v in near), key=lambda v: (near[v], v))
+        return self.all_ways()[x]
 
     def ways_in_words(self, x):
         """The ways of a node as an answer shows them."""
@@ -288,6 +295,20 @@ def lowest_loop(table):
     return None
 
 
+# Tables of ways. A number that is missing from a table has none
+
+
+def phases(old, new):
+    """The pushes of two phases from one table to another. In the first phase nodes lose ways: first those that keep one, and
+    then the others. In the second phase each node gets its new list if it has another one then."""
+    nodes = sorted({*old, *new})
+    old, new = ({x: table.get(x, []) for x in nodes} for table in (old, new))
+    less = {x: [y for y in new[x] if y in old[x]] for x in new if {*old[x]} - {*new[x]}}
+    shrink = sorted(([x, ways] for x, ways in less.items()), key=lambda it: (not it[1], it[0]))
+    grow = [[x, ways] for x, ways in new.items() if (old | less)[x] != ways]
+    return {"shrink": shrink, "grow": grow}
+
+
 # Answers
 
 
@@ -298,15 +319,20 @@ class Session:
         self.network, self.table, self.number = None, {}, 0
 
     def answer(self, line):
-        """The answer to the next line as a text and as a value for JSON, or None if the line is blank."""
+        """The answer to the next line as a text, as a value for JSON and as one with what a change does to ways, or None if the
+        line is blank."""
         self.number += 1
         if not line.strip(b" \t\r"):
             return None
+        before = self.network
         try:
-            return self.reply(read(line))
+            text, value = self.reply(read(line))
         except Refused as it:
             shown = {"nodes": it.nodes, **it.place, "line": self.number}
-            return f"refused {it.number}", {"refused": it.number, "fault": FAULTS[it.number], **shown}
+            text, value = f"refused {it.number}", {"refused": it.number, "fault": FAULTS[it.number], **shown}
+        if "changed" not in value:
+            return text, value, value
+        return text, value, value | phases(before.all_ways() if before else {}, self.network.all_ways())
 
     def reply(self, request):
         word, *items = request
@@ -317,7 +343,7 @@ class Session:
         if not self.network:
             raise Refused(3)
         if word == "pushes":
-            return self.phases(*items)
+            return self.pushed_ways(*items)
         match request:
             case ["links"]:
                 links = sorted(self.network.links)
@@ -367,20 +393,16 @@ class Session:
         differ = pushes(dict(enumerate(table)), new)
         return listed("pushes", (f"{x}>{hop}" for x, hop in differ)), {"pushes": differ}
 
-    def phases(self, table):
+    def pushed_ways(self, table):
         """The pushes of two phases from a table of ways to those of the network."""
         size = self.network.size
         if len(table) > MOST_NODES:
             raise Refused(9)
         if len(table) > size:
             raise Refused(4, [size])
-        old = dict.fromkeys(range(size), []) | {x: ways for x, ways in enumerate(table) if ways not in (HERE, CUT)}
-        new = {x: self.network.ways(x) for x in range(size)}
-        less = {x: [y for y in new[x] if y in old[x]] for x in new if {*old[x]} - {*new[x]}}
-        shrink = sorted(([x, ways] for x, ways in less.items()), key=lambda it: (not it[1], it[0]))
-        grow = [[x, ways] for x, ways in new.items() if (old | less)[x] != ways]
-        lines = (listed(word, (f"{x}>{with_commas(ways) or 'none'}" for x, ways in it)) for word, it in [("shrink", shrink), ("grow", grow)])
-        return listed("pushes", lines), {"shrink": shrink, "grow": grow}
+        found = phases({x: ways for x, ways in enumerate(table) if ways not in (HERE, CUT)}, self.network.all_ways())
+        lines = (listed(word, (f"{x}>{with_commas(ways) or 'none'}" for x, ways in it)) for word, it in found.items())
+        return listed("pushes", lines), found
 
     def round(self, network):
         """Settles a network, which is then the one of the session."""
@@ -428,18 +450,23 @@ def in_json(value):
     return json.dumps(value, separators=(",", ":"))
 
 
+def shown(answer):
+    """The line of an answer, in each form."""
+    text, *values = answer
+    return [text, *map(in_json, values)]
+
+
 def outputs(given):
-    """The output for an input, as text and in JSON."""
+    """The output for an input, in each form."""
     session = Session()
-    answers = [it for line in given.split(b"\n") if (it := session.answer(line))]
-    lines = [text for text, _ in answers], [in_json(value) for _, value in answers]
-    return tuple("".join(f"{it}\n" for it in of).encode() for of in lines)
+    lines = [shown(it) for line in given.split(b"\n") if (it := session.answer(line))]
+    return ["".join(f"{it[at]}\n" for it in lines).encode() for at in range(len(FORMS))]
 
 
 def main():
-    if sys.argv[1:] not in ([], ["--json"]):
+    if sys.argv[1:] not in FORMS:
         sys.exit(__doc__)
-    sys.stdout.buffer.write(outputs(sys.stdin.buffer.read())[len(sys.argv) - 1])
+    sys.stdout.buffer.write(outputs(sys.stdin.buffer.read())[FORMS.index(sys.argv[1:])])
 
 
 if __name__ == "__main__":

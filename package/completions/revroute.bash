@@ -9,7 +9,7 @@ _revroute() {
         words='run serve play help --help --version'
     else
         case $task in
-            run | serve) words='--alone --json --strict --workers --seed --budget --help' ;;
+            run | serve) words='--alone --json --ways --strict --workers --seed --budget --help' ;;
             play) words='--workers --seed --steps --help' ;;
             help) words='run serve play help' ;;
         esac

@@ -9,6 +9,7 @@ complete -c revroute -n '__fish_seen_subcommand_from run serve play' -x -l worke
 complete -c revroute -n '__fish_seen_subcommand_from run serve play' -x -l seed -d 'The seed'
 complete -c revroute -n '__fish_seen_subcommand_from run serve' -l alone -d 'Start no thread'
 complete -c revroute -n '__fish_seen_subcommand_from run serve' -l json -d 'Answers are JSON'
+complete -c revroute -n '__fish_seen_subcommand_from run serve' -l ways -d 'Answers list pushes of ways too; with --json'
 complete -c revroute -n '__fish_seen_subcommand_from run serve' -l strict -d 'Exit status 3 if a line was refused'
 complete -c revroute -n '__fish_seen_subcommand_from run serve' -x -l budget -d 'The most calls that each worker makes in a round'
 complete -c revroute -n '__fish_seen_subcommand_from play' -x -l steps -d 'How many steps the workers make in total'

@@ -1,4 +1,4 @@
--- The answers to lines, in either form: there are answers, only one for each line, and those to the first lines begin
+-- The answers to lines, in each form: there are answers, only one for each line, and those to the first lines begin
 -- those to all.
 use Rattle.std.proofs.Common.{◌≡◌, ◌∙◌, ◌↔◌, ℕ, Bool, true, false, List, [], ◌∷◌, ◌++◌, MatchBool, Option}
 use Rattle.std.proofs.Common.{Result, Ok, Err, inl, inr, append_assoc, append-nil, refl, sym, ap, subst}

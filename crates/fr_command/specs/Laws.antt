@@ -8,11 +8,11 @@ use Rattle.fr_bytes.specs.Bytes.{IsBeginning}
 use Rattle.fr_command.specs.Outputs.{IsOutput, IsOutputIn}
 use Rattle.fr_command.specs.Conversations.{Talk, Takes, Ends, silence_in}
 
--- In either form each input has an output.
+-- In each form each input has an output.
 abbrev pub EachInputHasAnOutput : Type 0
 EachInputHasAnOutput = (form : Form) (bytes : List ℕ) → (out : List ℕ) × IsOutputIn form bytes out
 
--- In neither form has an input two outputs.
+-- In no form has an input two outputs.
 abbrev pub OutputIsUnique : Type 0
 OutputIsUnique = (form : Form) (bytes some other : List ℕ) → IsOutputIn form bytes some → IsOutputIn form bytes other
     → some ≡ other
@@ -22,7 +22,7 @@ abbrev pub TextHasTheAnswers : Type 0
 TextHasTheAnswers = (bytes out : List ℕ)
     → IsOutput bytes out ↔ ((last : Option State) × AreAnswers None (lines_of bytes) out last)
 
--- In either form any bytes have an answer.
+-- In each form any bytes have an answer.
 abbrev pub AllBytesAreTaken : Type 0
 AllBytesAreTaken = (form : Form) (bytes : List ℕ)
     → (text : List ℕ) × (talk : Talk) × Takes (silence_in form) bytes text talk

@@ -1,4 +1,4 @@
--- The answers to lines, one after the other, in either form, and how many lines there are. This project's own.
+-- The answers to lines, one after the other, in each form, and how many lines there are. This project's own.
 use Rattle.std.specs.Prelude.{◌≡◌, ◌↔◌, ◌+◌, ◌-◌, ◌^◌, ℕ, Bool, IsTrue, List, []}
 use Rattle.std.specs.Prelude.{◌∷◌, ◌++◌, MatchBool, min, if◌then◌else◌, Option, None, false}
 use Rattle.fr_lines.specs.Requests.{reading}

@@ -2,7 +2,7 @@
 use Rattle.std.specs.Prelude.{◌≡◌, ◌≢◌, ◌⊎◌, ℕ, List, Option, IsTrue, false, if◌then◌else◌, string_bytes}
 use Rattle.std.specs.Io.KnownBytes.{Appends, Keeps}
 use Rattle.fr_route.specs.declared.form.Form.{Form}
-use Rattle.fr_route.specs.declared.form.Form.TheVariants.{Text, Json}
+use Rattle.fr_route.specs.declared.form.Form.TheVariants.{Text, Json, JsonWithWays}
 use Rattle.fr_bytes.specs.Bytes.{IsBeginning, ReadsInput}
 use Rattle.fr_bytes.specs.Streams.{Traffic}
 use Rattle.fr_bytes.specs.declared.fault.RunFault.{RunFault}
@@ -23,7 +23,7 @@ use Rattle.fr_command.specs.declared.responder.Tally.{Tally}
 
 -- the form of the answers
 abbrev pub form_of : CommandLine → Form
-form_of line = if line.json then Json else Text
+form_of line = if line.ways then JsonWithWays else (if line.json then Json else Text)
 
 -- the status if the task is done: 3 if a line was refused and the words have `--strict`, and otherwise 0
 abbrev pub IsStatus : CommandLine → (refused status : ℕ) → Type 0

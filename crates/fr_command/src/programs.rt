@@ -120,7 +120,13 @@ fn perform<T: Threads + Wait + Sync, R: Read, W: Write>(
 fn form_for(line: &CommandLine) -> Form
     ensures { result ≡ form_of line.now }
 {
-    if line.json { Form::Json } else { Form::Text }
+    if line.ways {
+        Form::JsonWithWays
+    } else if line.json {
+        Form::Json
+    } else {
+        Form::Text
+    }
 }
 
 /// The exit status for a task that was done.

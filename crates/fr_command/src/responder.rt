@@ -8,7 +8,7 @@ ghost use Rattle.fr_command.specs.InLines.{IsUnanswered};
 ghost use Rattle.fr_command.specs.Points.{AreAnswersIn, after_blank, first_point, one_more};
 
 use fr_crew::{Crew, Gate};
-use fr_route::{AnswerFault, Form, Line, Session};
+use fr_route::{AnswerFault, AnswerSpace, Form, Line, Session};
 use std::alloc::Global;
 use std::marker::Model;
 use std::sync::Wait;
@@ -28,8 +28,8 @@ pub struct Tally {
 #[derive(Debug)]
 pub(crate) struct Responder {
     session: Session,
-    // Room for the nodes that a line reroutes.
-    rerouted: Vec<u32>,
+    // Memory for answers in JSON.
+    space: AnswerSpace,
     ended: u64,
     answered: u64,
     refused: u64,
@@ -40,13 +40,13 @@ impl Drop for Responder {
     fn drop(self) {
         let Responder {
             session,
-            rerouted,
+            space,
             ended: _,
             answered: _,
             refused: _,
         } = self;
         drop(session);
-        drop(rerouted);
+        drop(space);
     }
 }
 
@@ -65,7 +65,7 @@ impl Responder {
     {
         Responder {
             session: Session::new(),
-            rerouted: Vec::new(alloc),
+            space: AnswerSpace::new(alloc),
             ended: 0,
             answered: 0,
             refused: 0,
@@ -109,7 +109,7 @@ impl Responder {
         };
         let answer = self
             .session
-            .answer_line_in(crew, form, next, &mut self.rerouted)?;
+            .answer_line_in(crew, form, next, &mut self.space)?;
         self.ended = number;
         match answer {
             Some(answer) => {

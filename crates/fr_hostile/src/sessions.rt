@@ -4,7 +4,7 @@
 use crate::telling::told;
 use fr_crew::{Crew, OpenGate, Plan};
 use fr_net::{Question, Request};
-use fr_route::{AnswerFault, Form, Line, Session};
+use fr_route::{AnswerFault, AnswerSpace, Form, Line, Session};
 use std::alloc::Global;
 use std::sync::Wait;
 use std::thread::Threads;
@@ -35,13 +35,14 @@ const LINES: [&str; 21] = [
     r#"["nearest",0]"#,
 ];
 
-/// Writes the answers to the lines, as text and then as JSON.
+/// Writes the answers to the lines, as text, then as JSON, and then as JSON with ways.
 pub fn tell_session<R: Threads + Wait + Sync + Alloc<A = Global> + Print + Eprint>(rt: &R) {
     let Some(plan) = Plan::new(3, 0, 1000) else {
         return;
     };
     tell_lines(rt, Form::Text, &plan);
     tell_lines(rt, Form::Json, &plan);
+    tell_lines(rt, Form::JsonWithWays, &plan);
 }
 
 /// Writes the answers of a new session to the lines.
@@ -91,14 +92,15 @@ fn answered<R: Threads + Wait + Sync + Alloc<A = Global> + Eprint>(
             rt,
             session.answer_line(rt, rt.alloc(), line.as_bytes(), plan, &OpenGate),
         )?,
-        Form::Json => told(rt, json_answer(rt, session, line, plan))?,
+        Form::Json | Form::JsonWithWays => told(rt, json_answer(rt, session, form, line, plan))?,
     }
 }
 
-/// The answer in JSON, as to the first line of an input.
+/// The answer in a form of JSON, as to the first line of an input.
 fn json_answer<R: Threads + Wait + Sync + Alloc<A = Global>>(
     rt: &R,
     session: &mut Session,
+    form: Form,
     line: &str,
     plan: &Plan,
 ) -> Result<Option<String>, AnswerFault> {
@@ -113,7 +115,7 @@ fn json_answer<R: Threads + Wait + Sync + Alloc<A = Global>>(
         number: 1,
         bytes: line.as_bytes(),
     };
-    let answer = session.answer_line_in(&crew, Form::Json, line, &mut Vec::new(alloc))?;
+    let answer = session.answer_line_in(&crew, form, line, &mut AnswerSpace::new(alloc))?;
     Ok(answer.map(|it| it.text))
 }
 

@@ -1,4 +1,4 @@
--- The state and a line determine the answer in either form.
+-- The state and a line determine the answer in each form.
 use Rattle.std.proofs.Common.{◌≡◌, ◌∙◌, ℕ, ◌+◌, ◌==◌, if◌then◌else◌, List, [], ◌∷◌, Option, Some, None, Result, Ok, Err, ap, inl, inr, refl, slice_get, sym, subst}
 use Rattle.fr_graph.specs.Network.{Network}
 use Rattle.fr_graph.specs.declared.edit.Edit.{Edit}
@@ -12,19 +12,19 @@ use Rattle.fr_lines.specs.declared.requests.Question.TheVariants.{Links, Counts,
 use Rattle.fr_lines.specs.declared.requests.NodeQuestion.TheVariants as node
 use Rattle.fr_graph.specs.Evidence.{evidence}
 use Rattle.fr_route.specs.Forms.{IsAnswerIn}
-use Rattle.fr_route.specs.Json.{AreChanged, AreChanges, IsBatchRefusal, IsEditRefusal, IsJsonAnswer, IsJsonReport, IsJsonText, IsJsonWalk, IsNewRefusal, IsRefusal, PlainRefusal, phases_json}
+use Rattle.fr_route.specs.Json.{AreChanged, AreChanges, EndsHere, EndsWithWays, IsBatchRefusal, IsEditRefusal, IsJsonAnswer, IsJsonLineAnswer, IsJsonReport, IsJsonText, IsJsonWalk, IsNewRefusal, IsRefusal, PlainRefusal, phases_json}
 use Rattle.fr_route.specs.Json.{IsJsonNearest, IsJsonNodeWays, IsJsonWays, nearest_json, node_ways_json, ways_json}
 use Rattle.fr_nearest.proofs.Walking.{one_list}
 use Rattle.fr_route.proofs.WaysExist.{nearest_unique}
-use Rattle.fr_route.proofs.NodeWays.{all_ways_unique, nearest_connected}
-use Rattle.fr_route.specs.Json.{ends, ends_in, hops_json, pushes_json, refusal_for, refusal_json, report_json, walk_json}
+use Rattle.fr_route.proofs.NodeWays.{ways_below_unique, nearest_connected}
+use Rattle.fr_route.specs.Json.{ends, ends_in, hops_json, more_json, pushes_json, refusal_for, refusal_json, report_json, walk_json}
 use Rattle.fr_route.specs.Reroutes.{AreReplaced}
 use Rattle.fr_route.specs.States.{State, net_at}
 use Rattle.fr_route.specs.declared.form.Form.{Form}
-use Rattle.fr_route.specs.declared.form.Form.TheVariants.{Text, Json}
+use Rattle.fr_route.specs.declared.form.Form.TheVariants.{Text, Json, JsonWithWays}
 use Rattle.fr_route.proofs.Changed.{changes_unique}
 use Rattle.fr_route.proofs.Determined.{accepted_unique, asked_not_accepted, asked_not_refused, hops_unique, line_unique, not_both, report_unique}
-use Rattle.fr_route.proofs.OneTelling.{replaced_unique, rerouted_unique}
+use Rattle.fr_route.proofs.OneTelling.{replaced_unique, replaced_ways_unique, rerouted_unique}
 use Rattle.fr_route.proofs.TablePushes.{asked_unique, pushes_refusal_unique}
 use Rattle.fr_route.proofs.Replying.{refused_by}
 use Rattle.fr_route.proofs.Routing.{route_joined, route_unique}
@@ -98,13 +98,24 @@ refusal_unique (Some s) (push_ways table) a b h k =
     let same = way_refusal_unique s table h.0 k.0 h.1 k.1 h.2 k.2 in
     h.3 ∙ ((λ i. record { number = same.0 i; nodes = same.1 i; edit = None }) ∙ sym k.3)
 
-json_report_unique : (Lists : List ℕ → Type 0) → ((a b : List ℕ) → Lists a → Lists b → a ≡ b) → (new : State) (t u : List ℕ)
-    → IsJsonReport Lists new t → IsJsonReport Lists new u → t ≡ u
-json_report_unique Lists one new t u (a, k, xs, cs, r, l, are, e) (b, j, ys, ds, q, m, too, f) =
+json_report_unique : (Lists Ends : List ℕ → Type 0) → ((a b : List ℕ) → Lists a → Lists b → a ≡ b)
+    → ((a b : List ℕ) → Ends a → Ends b → a ≡ b) → (new : State) (t u : List ℕ)
+    → IsJsonReport Lists Ends new t → IsJsonReport Lists Ends new u → t ≡ u
+json_report_unique Lists Ends one ends new t u (a, k, xs, cs, v, r, l, are, h, e) (b, j, ys, ds, w, q, m, too, g, f) =
     let same = report_unique new a b k j r q in
     let numbers : xs ≡ ys = one xs ys l m in
     let changes : cs ≡ ds = changes_unique new ys cs ds (subst (λ (ns : List ℕ). AreChanges new ns cs) numbers are) too in
-    e ∙ ((λ i. report_json (same.0 i) (same.1 i) (changes i)) ∙ sym f)
+    let end : v ≡ w = ends v w h g in
+    e ∙ ((λ i. report_json (same.0 i) (same.1 i) (changes i) (end i)) ∙ sym f)
+
+-- a report ends in one way
+ends_here_unique : (s : Option State) (new : State) (a b : List ℕ) → EndsHere s new a → EndsHere s new b → a ≡ b
+ends_here_unique s new a b h k = h ∙ sym k
+
+ends_with_ways_unique : (s : Option State) (new : State) (a b : List ℕ) → EndsWithWays s new a → EndsWithWays s new b → a ≡ b
+ends_with_ways_unique s new a b (xs, ys, h, e) (zs, ws, k, f) =
+    let same = replaced_ways_unique s new xs ys zs ws h k in
+    e ∙ ((λ i. more_json (same.0 i) (same.1 i)) ∙ sym f)
 
 changed_unique : (s : Option State) (new : State) (a b : List ℕ) → AreChanged s new a → AreChanged s new b → a ≡ b
 changed_unique None new a b h k = absurd h
@@ -117,7 +128,7 @@ json_walk_unique s x t u (inr a) (inl b) = absurd (a.0.1 (route_joined s.links s
 json_walk_unique s x t u (inr a) (inr b) = a.1 ∙ sym b.1
 
 json_ways_unique : (s : State) (t u : List ℕ) → IsJsonWays s t → IsJsonWays s u → t ≡ u
-json_ways_unique s t u a b = a.2 ∙ (ap (ways_json s.dest) (all_ways_unique s a.0 b.0 a.1 b.1) ∙ sym b.2)
+json_ways_unique s t u a b = a.2 ∙ (ap (ways_json s.dest) (ways_below_unique s s.nodes a.0 b.0 a.1 b.1) ∙ sym b.2)
 
 json_node_ways_unique : (s : State) (x : ℕ) (t u : List ℕ) → IsJsonNodeWays s x t → IsJsonNodeWays s x u → t ≡ u
 json_node_ways_unique s x t u a b =
@@ -130,42 +141,50 @@ json_nearest_unique s x t u (inl a) (inr b) = absurd (b.0.1 (nearest_connected s
 json_nearest_unique s x t u (inr a) (inl b) = absurd (a.0.1 (nearest_connected s x b.0 b.1))
 json_nearest_unique s x t u (inr a) (inr b) = a.1 ∙ sym b.1
 
-json_text_unique : (s : Option State) (r : PlainRequest) (new : State) (t u : List ℕ) → IsJsonText s r new t → IsJsonText s r new u → t ≡ u
-json_text_unique s (new_network n d links) new t u h k = json_report_unique (AreReplaced s new) (replaced_unique s new) new t u h k
-json_text_unique s (cut_link v w) new t u h k = json_report_unique (AreChanged s new) (changed_unique s new) new t u h k
-json_text_unique s (add_link v w) new t u h k = json_report_unique (AreChanged s new) (changed_unique s new) new t u h k
-json_text_unique s (join_nodes v w) new t u h k = json_report_unique (AreChanged s new) (changed_unique s new) new t u h k
-json_text_unique s (make_edits edits) new t u h k = json_report_unique (AreChanged s new) (changed_unique s new) new t u h k
-json_text_unique s (move_dest d) new t u h k = json_report_unique (AreChanged s new) (changed_unique s new) new t u h k
-json_text_unique s (walk_from x) new t u h k = json_walk_unique new x t u h k
-json_text_unique s (ask Links) new t u h k = h ∙ sym k
-json_text_unique s (ask Counts) new t u h k = h ∙ sym k
-json_text_unique s (order_pushes table wanted) new t u h k = absurd h
-json_text_unique s (push_ways table) new t u h k = phases_text_unique phases_json new table t u h k
-json_text_unique s (ask Ways) new t u h k = json_ways_unique new t u h k
-json_text_unique s (ask_node node.Ways x) new t u h k = json_node_ways_unique new x t u h k
-json_text_unique s (ask_node node.Nearest x) new t u h k = json_nearest_unique new x t u h k
-json_text_unique s (ask Hops) new t u h k = h.2 ∙ (ap hops_json (hops_unique new new.nodes h.0 k.0 h.1 k.1) ∙ sym k.2)
+-- however reports end, if they end in one way
+module _ (Ends : Option State → State → List ℕ → Type 0)
+    (one : (s : Option State) (new : State) (a b : List ℕ) → Ends s new a → Ends s new b → a ≡ b) where
+  json_text_unique : (s : Option State) (r : PlainRequest) (new : State) (t u : List ℕ) → IsJsonText Ends s r new t → IsJsonText Ends s r new u → t ≡ u
+  json_text_unique s (new_network n d links) new t u h k = json_report_unique (AreReplaced s new) (Ends s new) (replaced_unique s new) (one s new) new t u h k
+  json_text_unique s (cut_link v w) new t u h k = json_report_unique (AreChanged s new) (Ends s new) (changed_unique s new) (one s new) new t u h k
+  json_text_unique s (add_link v w) new t u h k = json_report_unique (AreChanged s new) (Ends s new) (changed_unique s new) (one s new) new t u h k
+  json_text_unique s (join_nodes v w) new t u h k = json_report_unique (AreChanged s new) (Ends s new) (changed_unique s new) (one s new) new t u h k
+  json_text_unique s (make_edits edits) new t u h k = json_report_unique (AreChanged s new) (Ends s new) (changed_unique s new) (one s new) new t u h k
+  json_text_unique s (move_dest d) new t u h k = json_report_unique (AreChanged s new) (Ends s new) (changed_unique s new) (one s new) new t u h k
+  json_text_unique s (walk_from x) new t u h k = json_walk_unique new x t u h k
+  json_text_unique s (ask Links) new t u h k = h ∙ sym k
+  json_text_unique s (ask Counts) new t u h k = h ∙ sym k
+  json_text_unique s (order_pushes table wanted) new t u h k = absurd h
+  json_text_unique s (push_ways table) new t u h k = phases_text_unique phases_json new table t u h k
+  json_text_unique s (ask Ways) new t u h k = json_ways_unique new t u h k
+  json_text_unique s (ask_node node.Ways x) new t u h k = json_node_ways_unique new x t u h k
+  json_text_unique s (ask_node node.Nearest x) new t u h k = json_nearest_unique new x t u h k
+  json_text_unique s (ask Hops) new t u h k = h.2 ∙ (ap hops_json (hops_unique new new.nodes h.0 k.0 h.1 k.1) ∙ sym k.2)
 
-json_unique : (line : ℕ) (s : Option State) (r : PlainRequest) (t u : List ℕ) (p q : Option State) → IsJsonAnswer line s r t p → IsJsonAnswer line s r u q → (t ≡ u) × (p ≡ q)
-json_unique line s r t u p q (inl (a, h, e, n)) (inl (b, k, f, m)) =
-    (e ∙ (ap (λ (refusal : PlainRefusal). refusal_json refusal line) (refusal_unique s r a b h k) ∙ sym f), n ∙ sym m)
-json_unique line s r t u p q (inl (a, h, e, n)) (inr (inl (new, k, f, m))) = absurd (not_both s r a.number new (refused_by s r a h) k)
-json_unique line s r t u p q (inl (a, h, e, n)) (inr (inr (b, k, f, m))) = absurd (asked_not_refused s r b a.number k (refused_by s r a h))
-json_unique line s r t u p q (inr (inl (new, h, e, n))) (inl (b, k, f, m)) = absurd (not_both s r b.number new (refused_by s r b k) h)
-json_unique line s r t u p q (inr (inl (a, h, e, n))) (inr (inr (b, k, f, m))) = absurd (asked_not_accepted s r b a k h)
-json_unique line s r t u p q (inr (inr (a, h, e, n))) (inl (b, k, f, m)) = absurd (asked_not_refused s r a b.number h (refused_by s r b k))
-json_unique line s r t u p q (inr (inr (a, h, e, n))) (inr (inl (b, k, f, m))) = absurd (asked_not_accepted s r a b h k)
-json_unique line s r t u p q (inr (inr (a, h, e, n))) (inr (inr (b, k, f, m))) =
-    (e ∙ (ap pushes_json (asked_unique hops_unique s r a b h k) ∙ sym f), n ∙ sym m)
-json_unique line s r t u p q (inr (inl (a, h, e, n))) (inr (inl (b, k, f, m))) =
-    let same : a ≡ b = accepted_unique s r a b h k in
-    (json_text_unique s r b t u (subst (λ (z : State). IsJsonText s r z t) same e) f, n ∙ (ap (λ (z : State). Some z) same ∙ sym m))
+  json_unique : (line : ℕ) (s : Option State) (r : PlainRequest) (t u : List ℕ) (p q : Option State) → IsJsonAnswer Ends line s r t p → IsJsonAnswer Ends line s r u q → (t ≡ u) × (p ≡ q)
+  json_unique line s r t u p q (inl (a, h, e, n)) (inl (b, k, f, m)) =
+      (e ∙ (ap (λ (refusal : PlainRefusal). refusal_json refusal line) (refusal_unique s r a b h k) ∙ sym f), n ∙ sym m)
+  json_unique line s r t u p q (inl (a, h, e, n)) (inr (inl (new, k, f, m))) = absurd (not_both s r a.number new (refused_by s r a h) k)
+  json_unique line s r t u p q (inl (a, h, e, n)) (inr (inr (b, k, f, m))) = absurd (asked_not_refused s r b a.number k (refused_by s r a h))
+  json_unique line s r t u p q (inr (inl (new, h, e, n))) (inl (b, k, f, m)) = absurd (not_both s r b.number new (refused_by s r b k) h)
+  json_unique line s r t u p q (inr (inl (a, h, e, n))) (inr (inr (b, k, f, m))) = absurd (asked_not_accepted s r b a k h)
+  json_unique line s r t u p q (inr (inr (a, h, e, n))) (inl (b, k, f, m)) = absurd (asked_not_refused s r a b.number h (refused_by s r b k))
+  json_unique line s r t u p q (inr (inr (a, h, e, n))) (inr (inl (b, k, f, m))) = absurd (asked_not_accepted s r a b h k)
+  json_unique line s r t u p q (inr (inr (a, h, e, n))) (inr (inr (b, k, f, m))) =
+      (e ∙ (ap pushes_json (asked_unique hops_unique s r a b h k) ∙ sym f), n ∙ sym m)
+  json_unique line s r t u p q (inr (inl (a, h, e, n))) (inr (inl (b, k, f, m))) =
+      let same : a ≡ b = accepted_unique s r a b h k in
+      (json_text_unique s r b t u (subst (λ (z : State). IsJsonText Ends s r z t) same e) f, n ∙ (ap (λ (z : State). Some z) same ∙ sym m))
+
+  json_line_unique : (line : ℕ) (s : Option State) (r : Result PlainRequest LineFault) (t u : List ℕ) (p q : Option State)
+      → IsJsonLineAnswer Ends line s r t p → IsJsonLineAnswer Ends line s r u q → (t ≡ u) × (p ≡ q)
+  json_line_unique line s (Ok r) t u p q h k = json_unique line s r t u p q h k
+  json_line_unique line s (Err NotJson) t u p q h k = (h.0 ∙ sym k.0, h.1 ∙ sym k.1)
+  json_line_unique line s (Err NotRequest) t u p q h k = (h.0 ∙ sym k.0, h.1 ∙ sym k.1)
+  json_line_unique line s (Err LineMemory) t u p q h k = absurd h
 
 pub answer_in_unique : (form : Form) (line : ℕ) (s : Option State) (r : Result PlainRequest LineFault) (t u : List ℕ) (p q : Option State)
     → IsAnswerIn form line s r t p → IsAnswerIn form line s r u q → (t ≡ u) × (p ≡ q)
 answer_in_unique Text line s r t u p q h k = line_unique s r t u p q h k
-answer_in_unique Json line s (Ok r) t u p q h k = json_unique line s r t u p q h k
-answer_in_unique Json line s (Err NotJson) t u p q h k = (h.0 ∙ sym k.0, h.1 ∙ sym k.1)
-answer_in_unique Json line s (Err NotRequest) t u p q h k = (h.0 ∙ sym k.0, h.1 ∙ sym k.1)
-answer_in_unique Json line s (Err LineMemory) t u p q h k = absurd h
+answer_in_unique Json line s r t u p q h k = json_line_unique EndsHere ends_here_unique line s r t u p q h k
+answer_in_unique JsonWithWays line s r t u p q h k = json_line_unique EndsWithWays ends_with_ways_unique line s r t u p q h k

@@ -1,17 +1,19 @@
 -- The numbers whose hop has changed, with their hops in the table after a round.
-use Rattle.std.proofs.Common.{◌≡◌, ◌∙◌, ℕ, List, [], ◌∷◌, Option, ap, arith, get_or, length, map, refl, slice_get, sym, subst, ⊎_elim}
+use Rattle.std.proofs.Common.{◌≡◌, ◌≢◌, ◌∙◌, ℕ, List, [], ◌∷◌, Option, ap, arith, get_or, length, map, refl, slice_get, sym, subst, ⊎_elim}
 use Rattle.std.specs.List.{AllByRecursion}
 use Rattle.std.proofs.lemmas.Bool.{cases_lt}
 use Rattle.std.proofs.lemmas.Option.{slice_get-get_or, slice_get_past}
-use Rattle.fr_route.specs.Json.{AreChanges}
+use Rattle.fr_route.specs.Json.{AreChanges, more_json, no_more_json}
 use Rattle.fr_route.specs.Pushing.{changes_of, hop_in}
 use Rattle.fr_route.specs.Routes.{AreHops, IsHop}
 use Rattle.fr_route.specs.Replies.{IsReportIn}
+use Rattle.fr_route.specs.Reroutes.{AreReplacedWays}
 use Rattle.fr_route.specs.Rooms.{report_in}
 use Rattle.fr_route.specs.States.{State, IsAfterRound, IsReport}
 use Rattle.fr_route.specs.declared.change.Report.{Report}
 use Rattle.fr_route.specs.declared.form.Form.{Form}
-use Rattle.fr_route.specs.declared.form.Form.TheVariants.{Text, Json}
+use Rattle.fr_route.specs.declared.form.Form.TheVariants.{Text, Json, JsonWithWays}
+use Rattle.fr_ways.specs.Changes.{Noted}
 use Rattle.fr_tables.specs.declared.hop.Hop.{Hop}
 use Rattle.fr_tables.specs.declared.hop.Hop.TheVariants.{CutOff}
 use Rattle.fr_route.proofs.Determined.{one_hop}
@@ -52,10 +54,34 @@ same_changes s (x ∷ xs) (y ∷ ys) e h k =
 pub changes_unique : (s : State) (numbers : List ℕ) (some other : List (ℕ × Hop)) → AreChanges s numbers some → AreChanges s numbers other → some ≡ other
 changes_unique s numbers some other h k = same_changes s some other (h.these ∙ sym k.these) h.hops k.hops
 
--- the report of a round in either form
-pub report_is : (form : Form) (Lists : List ℕ → Type 0) (new : State) → IsAfterRound new → (report : Report) → IsReport new report.turned report.cut
-    → (hops : List Hop) → AreHops new new.nodes hops → (numbers : List ℕ) → (form ≡ Json → Lists numbers) → (text : List ℕ)
-    → text ≡ report_in form report numbers hops → IsReportIn form Lists new text
-report_is Text Lists new after report is hops are numbers lists text e = (report.turned, report.cut, is, e)
-report_is Json Lists new after report is hops are numbers lists text e =
-    (report.turned, report.cut, numbers, changes_of hops numbers, is, lists refl, changes_are new after hops are numbers, e)
+-- the report of a round in each form
+pub report_is : (form : Form) (Lists : List ℕ → Type 0) (s : Option State) (new : State) → IsAfterRound new
+    → (report : Report) → IsReport new report.turned report.cut → (hops : List Hop) → AreHops new new.nodes hops
+    → (numbers : List ℕ) → (form ≢ Text → Lists numbers)
+    → (noted : Noted) → (form ≡ JsonWithWays → AreReplacedWays s new noted.shrink noted.grow)
+    → (text : List ℕ) → text ≡ report_in form report numbers hops noted → IsReportIn form Lists s new text
+report_is Text Lists s new after report is hops are numbers lists noted ways text e = (report.turned, report.cut, is, e)
+report_is Json Lists s new after report is hops are numbers lists noted ways text e = (
+  report.turned,
+  report.cut,
+  numbers,
+  changes_of hops numbers,
+  no_more_json,
+  is,
+  lists (λ same. absurd cc),
+  changes_are new after hops are numbers,
+  refl,
+  e,
+)
+report_is JsonWithWays Lists s new after report is hops are numbers lists noted ways text e = (
+  report.turned,
+  report.cut,
+  numbers,
+  changes_of hops numbers,
+  more_json noted.shrink noted.grow,
+  is,
+  lists (λ same. absurd cc),
+  changes_are new after hops are numbers,
+  (noted.shrink, noted.grow, ways refl, refl),
+  e,
+)

@@ -29,7 +29,7 @@ use Rattle.fr_route.specs.Texts.{report_text, hops_text, pushes_text, walk_text,
 use Rattle.fr_route.specs.Answers.{IsNearestLine, IsNodeWaysLine, IsWaysLine}
 use Rattle.fr_nearest.proofs.Walking.{one_list}
 use Rattle.fr_route.proofs.WaysExist.{nearest_unique}
-use Rattle.fr_route.proofs.NodeWays.{all_ways_unique, nearest_connected}
+use Rattle.fr_route.proofs.NodeWays.{ways_below_unique, nearest_connected}
 use Rattle.fr_route.proofs.WayPushes.{phases_text_unique, way_refusal_unique}
 use Rattle.fr_route.specs.Answers.{fault_number, IsRefused, IsAccepted, IsReportLine, IsWalkLine, IsText, IsAnswer, IsLineAnswer, AreAnswers}
 use Rattle.fr_tables.specs.declared.hop.Hop.{Hop}
@@ -209,7 +209,7 @@ walk_line_unique s x t u (inr a) (inl b) = absurd (a.0.1 (route_joined s.links s
 walk_line_unique s x t u (inr a) (inr b) = a.1 ∙ sym b.1
 
 ways_line_unique : (s : State) (t u : List ℕ) → IsWaysLine s t → IsWaysLine s u → t ≡ u
-ways_line_unique s t u a b = a.2 ∙ (ap (ways_text s.dest) (all_ways_unique s a.0 b.0 a.1 b.1) ∙ sym b.2)
+ways_line_unique s t u a b = a.2 ∙ (ap (ways_text s.dest) (ways_below_unique s s.nodes a.0 b.0 a.1 b.1) ∙ sym b.2)
 
 node_ways_line_unique : (s : State) (x : ℕ) (t u : List ℕ) → IsNodeWaysLine s x t → IsNodeWaysLine s x u → t ≡ u
 node_ways_line_unique s x t u a b =

@@ -47,7 +47,7 @@ use Rattle.std.specs.List.{count_by}
 use Rattle.fr_route.proofs.Changing.{joined_nodes, made_nodes}
 use Rattle.fr_route.proofs.CutNodes.{hops_cut_count}
 use Rattle.fr_route.proofs.FirstFaults.{faultless_or_fault}
-use Rattle.fr_route.proofs.NodeWays.{all_ways_exist, cut_without, nearest_route_exists, node_ways_exist}
+use Rattle.fr_route.proofs.NodeWays.{cut_without, nearest_route_exists, node_ways_exist, ways_below_exist}
 use Rattle.fr_route.proofs.Routing.{route_end, route_path}
 use Rattle.fr_route.proofs.TablePushes.{from_or_fault}
 use Rattle.fr_route.specs.Pushing.{padded}
@@ -291,7 +291,7 @@ walk_answer s good x = ⊎_elim
     (cases_lt x s.nodes)
 
 -- which nodes have a path to the destination
-decide : (s : State) → IsSettledState s → (w : ℕ) → HasPath s.links w s.dest ⊎ ¬ HasPath s.links w s.dest
+pub decide : (s : State) → IsSettledState s → (w : ℕ) → HasPath s.links w s.dest ⊎ ¬ HasPath s.links w s.dest
 decide s good w = elim ((walk_line s good w).1) [
   | inl route ↦ inl (route.0, (route_path s.links s.dest w route.0 route.1, route_end s.links s.dest w route.0 route.1))
   | inr cut ↦ inr (λ path. cut.0.1 (0, walk_from_path s.links s.dest w path.0 path.1.0 path.1.1))
@@ -301,7 +301,7 @@ ask_answer : (s : State) → IsSettledState s → (question : Question) → HasA
 ask_answer s good Links = (links_text s.links, Some s, inr (inl (s, refl, refl, refl)), good)
 ask_answer s good Counts = (counts_text s.counts, Some s, inr (inl (s, refl, refl, refl)), good)
 ask_answer s good Ways =
-    let (table, are) = all_ways_exist s good.faultless.is_net.in_range (decide s good) in
+    let (table, are) = ways_below_exist s good.faultless.is_net.in_range (decide s good) s.nodes in
     (ways_text s.dest table, Some s, inr (inl (s, refl, (table, are, refl), refl)), good)
 ask_answer s good Hops = let line = hops_line s good in (line.0, Some s, inr (inl (s, refl, line.1, refl)), good)
 
@@ -334,7 +334,7 @@ way_pushes_answer s good table = elim (cases_lt most_nodes (length table)) [
     | inl past ↦
         (refusal_text 4, Some s, inl (4, (s.nodes ∷ [], inr (few, past, refl, refl)), refl, refl), good)
     | inr fits ↦
-        let (wanted, are) = all_ways_exist s good.faultless.is_net.in_range (decide s good) in (
+        let (wanted, are) = ways_below_exist s good.faultless.is_net.in_range (decide s good) s.nodes in (
           phases_text (shrinks table wanted) (growths table wanted),
           Some s,
           inr (inl (s, (few, fits, refl), (wanted, are, refl), refl)),

@@ -23,12 +23,14 @@ pub mod Moving
 pub mod Written
 pub mod Renewing
 pub mod Noting
+pub mod ReportRooms  -- the room that a report of changed ways needs
 pub mod WaysTold  -- notes of what a change does to ways
 pub mod SettledHops
 pub mod KeptRoutes
 pub mod PushLengths
 pub mod Inside
 pub mod Glued
+pub mod PhaseLists  -- the pushes of a phase, one after another
 pub mod Changed
 pub mod AnsweredIn
 pub mod EachIn

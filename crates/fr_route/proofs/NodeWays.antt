@@ -10,7 +10,7 @@ use Rattle.fr_nearest.proofs.Walking.{one_list, walk_shortest}
 use Rattle.fr_route.proofs.WaysExist.{nearest_exists, ways_exist}
 use Rattle.fr_ways.specs.Ways.{ways}
 use Rattle.fr_nearest.specs.Distances.{IsDistance, IsMeasured, Measured, distance_of, no_distance}
-use Rattle.fr_route.specs.NodeWays.{AreAllWays, AreNodeWays, HasDistance, HasDistances, IsNearestRoute}
+use Rattle.fr_route.specs.NodeWays.{AreNodeWays, AreWaysBelow, HasDistance, HasDistances, IsNearestRoute}
 use Rattle.fr_route.specs.States.{State, IsAfterRound, IsCutOff}
 use Rattle.fr_route.proofs.RoundEnds.{route_home}
 use Rattle.fr_route.proofs.Routing.{route_end, route_path}
@@ -46,8 +46,8 @@ same_lists d (x ∷ xs) (y ∷ ys) long each =
     ap (λ z. z ∷ xs) (each 0 (omega arith))
     ∙ ap (λ zs. y ∷ zs) (same_lists d xs ys (omega (arith, long)) (λ k low. each (suc k) (omega (arith, low))))
 
-pub all_ways_unique : (s : State) (a b : List (List ℕ)) → AreAllWays s a → AreAllWays s b → a ≡ b
-all_ways_unique s a b are also = same_lists [] a b (are.one_each ∙ sym also.one_each)
+pub ways_below_unique : (s : State) (n : ℕ) (a b : List (List ℕ)) → AreWaysBelow s n a → AreWaysBelow s n b → a ≡ b
+ways_below_unique s n a b are also = same_lists [] a b (are.one_each ∙ sym also.one_each)
     (λ x low. one_list s.links s.dest x (ways a x) (ways b x) (are.each x (omega (arith, low, are.one_each)))
     (also.each x (omega (arith, low, are.one_each))))
 
@@ -75,17 +75,15 @@ module _ (s : State) (below : AreBelow s.nodes s.links)
   pub node_ways_exist : (x : ℕ) → (list : List ℕ) × AreNodeWays s x list
   node_ways_exist x = ways_exist s.links s.dest decide x s.nodes below
 
-  -- the ways of the nodes below n
-  ways_below : (n : ℕ) → (table : List (List ℕ)) × (length table ≡ n) × ((x : ℕ) → x < n → AreNodeWays s x (ways table x))
-  ways_below zero = ([], refl, λ x low. absurd (omega (arith, low)))
-  ways_below (suc n) =
-      let (table, long, each) = ways_below n in
-      let (list, are) = node_ways_exist n in
-      let more = ways_pushed (AreNodeWays s) table list n long each are in
-      (table ++ list ∷ [], omega (arith, more.0), λ x low. more.1 x (omega (arith, low)))
-
-  pub all_ways_exist : (table : List (List ℕ)) × AreAllWays s table
-  all_ways_exist = let (table, long, each) = ways_below s.nodes in (table, record { one_each = long; each = each })
+  pub ways_below_exist : (n : ℕ) → (table : List (List ℕ)) × AreWaysBelow s n table
+  ways_below_exist zero = ([], record { one_each = refl; each = λ x low. absurd (omega (arith, low)) })
+  ways_below_exist (suc n) =
+      let (table, are) = ways_below_exist n in
+      let (list, is) = node_ways_exist n in
+      let more = ways_pushed (AreNodeWays s) table list n are.one_each are.each is in (
+        table ++ list ∷ [],
+        record { one_each = omega (arith, more.0); each = λ x low. more.1 x (omega (arith, low)) },
+      )
 
   pub nearest_route_exists : (x : ℕ) → HasPath s.links x s.dest → (rest : List ℕ) × IsNearestRoute s x rest
   nearest_route_exists x path = nearest_exists s.links s.dest s.nodes below decide x path

@@ -1,14 +1,16 @@
 -- A line and the states before and after it determine the list of rerouted nodes.
-use Rattle.std.proofs.Common.{◌≡◌, ◌∙◌, ℕ, List, Option, Some, None, Result, Ok, Err, inl, inr, subst, sym}
+use Rattle.std.proofs.Common.{◌≡◌, ◌∙◌, ℕ, List, max, Option, Some, None, Result, Ok, Err, inl, inr, subst, sym}
 use Rattle.fr_lines.specs.Requests.{PlainRequest, new_network, cut_link, add_link, join_nodes, make_edits, move_dest, walk_from, ask, ask_node, order_pushes, push_ways}
 use Rattle.fr_lines.specs.declared.requests.LineFault.{LineFault}
 use Rattle.fr_tables.specs.declared.hop.Hop.{Hop}
 use Rattle.fr_tables.specs.Pushes.{IsPushOrder}
 use Rattle.fr_tables.proofs.Orders.{order_unique}
-use Rattle.fr_route.specs.Reroutes.{AreHopsIn, AreReplaced, AreRerouted}
+use Rattle.fr_route.specs.Reroutes.{AreHopsIn, AreReplaced, AreReplacedWays, AreRerouted, AreWaysIn, nodes_in}
 use Rattle.fr_route.specs.Routes.{AreHops}
 use Rattle.fr_route.specs.States.{State}
 use Rattle.fr_route.specs.Told.{IsLineTold, IsTold, TellsOf}
+use Rattle.fr_ways.specs.Phases.{growths, shrinks}
+use Rattle.fr_route.proofs.NodeWays.{ways_below_unique}
 use Rattle.fr_route.proofs.Determined.{asked_not_accepted, hops_unique, not_both}
 
 -- equal tables have the same push order
@@ -37,6 +39,20 @@ replaced_unique old new a b h k =
     let before : h.before ≡ k.before = hops_in_unique old k.count h.before k.before were k.were in
     let after : h.after ≡ k.after = hops_unique new k.count h.after k.after are k.are in
     same_order h.before h.after k.before k.after a b before after h.order k.order
+
+ways_in_unique : (s : Option State) (a b : List (List ℕ)) → AreWaysIn s a → AreWaysIn s b → a ≡ b
+ways_in_unique None a b h k = h ∙ sym k
+ways_in_unique (Some s) a b h k = ways_below_unique s s.nodes a b h k
+
+pub replaced_ways_unique : (old : Option State) (new : State) (some others these those : List (ℕ × List ℕ))
+    → AreReplacedWays old new some others → AreReplacedWays old new these those → (some ≡ these) × (others ≡ those)
+replaced_ways_unique old new some others these those h k =
+    let before : h.before ≡ k.before = ways_in_unique old h.before k.before h.were k.were in
+    let after : h.after ≡ k.after =
+    ways_below_unique new (max new.nodes (nodes_in old)) h.after k.after h.are k.are in (
+      h.shrinks ∙ ((λ i. shrinks (before i) (after i)) ∙ sym k.shrinks),
+      h.grows ∙ ((λ i. growths (before i) (after i)) ∙ sym k.grows),
+    )
 
 tells_unique : (s : Option State) (r : PlainRequest) (new : State) (old a b : List ℕ)
     → TellsOf s r new old a → TellsOf s r new old b → a ≡ b

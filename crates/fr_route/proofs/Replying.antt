@@ -1,6 +1,6 @@
 -- What a session replies to a request, from the result of the call below.
 use Rattle.std.proofs.Common.{Err, IfErr, IfOk, List, [], ◌∷◌, None, Ok, Option, Result, Some, ap, arith, get_or, inl, inr, length, max, refl, slice_get, string_bytes, subst, sym}
-use Rattle.std.proofs.Common.{ℕ, ◌∙◌, ◌≡◌, ◌≢◌, ◌<◌, ◌≤◌, ◌↔◌, ◌⊎◌, IfSome, Bool, true, false, IsTrue, rules}
+use Rattle.std.proofs.Common.{ℕ, ◌∙◌, ◌≡◌, ◌≢◌, ◌<◌, ◌≤◌, ◌↔◌, ◌⊎◌, ◌+◌, ◌*◌, IfSome, Bool, true, false, IsTrue, rules}
 use Rattle.std.proofs.lemmas.Option.{slice_get-get_or}
 use Rattle.std.specs.Prelude.{String}
 use Rattle.std.specs.declared.alloc.Global.{Global}
@@ -17,14 +17,14 @@ use Rattle.fr_graph.specs.declared.fault.NetFault.TheVariants as net
 use Rattle.fr_route.specs.Blank.{is_blank}
 use Rattle.fr_route.specs.Answers.{IsAccepted, IsRefused, MayStartFor, MayStartForLine, fault_number}
 use Rattle.fr_route.specs.Forms.{IsAnswerIn, IsLineRefused}
-use Rattle.fr_route.specs.Json.{IsBatchRefusal, IsEditRefusal, IsNewRefusal, IsRefusal, PlainRefusal, bare_refusal, ends, ends_in, refusal_for, refusal_json}
-use Rattle.fr_route.specs.Listing.{IsListing, nodes_told}
+use Rattle.fr_route.specs.Json.{IsBatchRefusal, IsEditRefusal, IsNewRefusal, IsRefusal, PlainRefusal, bare_refusal, ends, ends_in, phases_json, refusal_for, refusal_json}
+use Rattle.fr_route.specs.Listing.{AsksWays, IsListing, nodes_told}
 use Rattle.fr_route.specs.Outcomes.{IsEdited, IsPlacedFault}
 use Rattle.fr_route.specs.Pushing.{IsPushesRefused, padded}
 use Rattle.fr_route.specs.Refusals.{IsNewFault, IsRefusalOf}
 use Rattle.fr_route.specs.Replies.{HasList, IsFromReply, IsLineRefusal, IsLineAnsweredIn, IsLineReplied, IsReplied, IsReply, IsReportIn, IsRevised, IsStillReply, IsTextIn, Refuses, RefusesBy, request_of_edit}
 use Rattle.fr_route.specs.Reroutes.{AreReplaced, AreRerouted}
-use Rattle.fr_route.specs.Rooms.{report_room}
+use Rattle.fr_route.specs.Rooms.{lists_size, report_room, report_size}
 use Rattle.fr_route.specs.Sessions.{IsAnswered, IsLineAnswered}
 use Rattle.fr_route.specs.Routes.{AreHops}
 use Rattle.fr_route.specs.States.{State, net_at}
@@ -36,14 +36,16 @@ use Rattle.fr_route.specs.declared.fault.RouteFault.{RouteFault}
 use Rattle.fr_route.specs.declared.fault.RouteFault.TheVariants as route
 use Rattle.fr_route.specs.declared.form.Answer.{Answer}
 use Rattle.fr_route.specs.declared.form.Form.{Form}
-use Rattle.fr_route.specs.declared.form.Form.TheVariants.{Text, Json}
+use Rattle.fr_route.specs.declared.form.Form.TheVariants.{Text, Json, JsonWithWays}
 use Rattle.fr_route.specs.declared.form.Manner.{Manner}
 use Rattle.fr_route.specs.declared.revision.Revision.{Revision}
 use Rattle.fr_route.specs.declared.told.Told.{Told}
+use Rattle.fr_route.specs.declared.told.Told.TheVariants.{Nobody, Nodes}
+use Rattle.fr_ways.specs.Changes.{Noted}
 use Rattle.fr_tables.specs.declared.hop.Hop.{Hop}
 use Rattle.fr_route.proofs.Changing.{add_by, cut_by, join_by, named_edit, refused_edit}
 use Rattle.fr_route.proofs.Determined.{asked_not_refused, not_both}
-use Rattle.fr_route.specs.WayPushes.{AreWayPushesRefused}
+use Rattle.fr_route.specs.WayPushes.{AreWayPushesRefused, IsPhasesText}
 
 -- a refusal is a reply
 refused_reply : (manner : Manner) (s : Option State) (asked : Result PlainRequest LineFault) (told : Told) (a : Answer) (next : Option State) (more : Told)
@@ -111,13 +113,13 @@ pub revised : (never : Type 0) (manner : Manner) (s : State) (request : PlainReq
     (a : Answer) (new : State) (more : Told) → (a.text ≡ text) × (a.refused ≡ false)
     → IsRevised never manner.form s revision told (Ok text) new more
     → (IsEdited s revision.edits.now revision.dest new → IsAccepted (Some s) request new)
-    → ((bytes : List ℕ) → IsReportIn manner.form (AreRerouted s new) new bytes → IsTextIn manner.form (Some s) request new bytes)
+    → ((bytes : List ℕ) → IsReportIn manner.form (AreRerouted s new) (Some s) new bytes → IsTextIn manner.form (Some s) request new bytes)
     → ((after : List ℕ) → AreRerouted s new after → TellsOf (Some s) request new (nodes_told told) after)
     → IsReplied never manner (Some s) (Ok request) told (Ok a) (Some new) more
 revised never manner s request revision told text a new more is made accepted texts tells =
     let same : string_bytes text ≡ string_bytes a.text = ap (λ (t : String Global). string_bytes t) (sym is.0) in
     done never manner (Some s) request told new a (Some new) more (accepted made.made)
-    (λ list. texts (string_bytes a.text) (subst (λ (bytes : List ℕ). IsReportIn manner.form (AreRerouted s new) new bytes) same (made.report list)))
+    (λ list. texts (string_bytes a.text) (subst (λ (bytes : List ℕ). IsReportIn manner.form (AreRerouted s new) (Some s) new bytes) same (made.report list)))
     is.1 refl (λ listing. tells (nodes_told more) (made.rerouted listing))
     (λ e. subst (λ (bytes : List ℕ). length bytes ≤ longest_report) same (made.short e))
 
@@ -248,7 +250,7 @@ edit_accepted s (edit.Cut u v) new made = (cut_by s u v).done new made
 edit_accepted s (edit.Add u v) new made = (add_by s u v).done new made
 edit_accepted s (edit.Join u v) new made = (join_by s u v).done new made
 
-pub edit_text : (form : Form) (s : State) (e : Edit) (new : State) (text : List ℕ) → IsReportIn form (AreRerouted s new) new text
+pub edit_text : (form : Form) (s : State) (e : Edit) (new : State) (text : List ℕ) → IsReportIn form (AreRerouted s new) (Some s) new text
     → IsTextIn form (Some s) (request_of_edit e) new text
 edit_text Text s (edit.Cut u v) new text is = is
 edit_text Text s (edit.Add u v) new text is = is
@@ -256,21 +258,34 @@ edit_text Text s (edit.Join u v) new text is = is
 edit_text Json s (edit.Cut u v) new text is = is
 edit_text Json s (edit.Add u v) new text is = is
 edit_text Json s (edit.Join u v) new text is = is
+edit_text JsonWithWays s (edit.Cut u v) new text is = is
+edit_text JsonWithWays s (edit.Add u v) new text is = is
+edit_text JsonWithWays s (edit.Join u v) new text is = is
 
-pub batch_text : (form : Form) (s : State) (edits : List Edit) (new : State) (text : List ℕ) → IsReportIn form (AreRerouted s new) new text
+pub batch_text : (form : Form) (s : State) (edits : List Edit) (new : State) (text : List ℕ) → IsReportIn form (AreRerouted s new) (Some s) new text
     → IsTextIn form (Some s) (make_edits edits) new text
 batch_text Text s edits new text is = is
 batch_text Json s edits new text is = is
+batch_text JsonWithWays s edits new text is = is
 
-pub move_text : (form : Form) (s : State) (d : ℕ) (new : State) (text : List ℕ) → IsReportIn form (AreRerouted s new) new text
+pub move_text : (form : Form) (s : State) (d : ℕ) (new : State) (text : List ℕ) → IsReportIn form (AreRerouted s new) (Some s) new text
     → IsTextIn form (Some s) (move_dest d) new text
 move_text Text s d new text is = is
 move_text Json s d new text is = is
+move_text JsonWithWays s d new text is = is
 
-pub new_text : (form : Form) (s : Option State) (n d : ℕ) (links : List (ℕ × ℕ)) (new : State) (text : List ℕ) → IsReportIn form (AreReplaced s new) new text
+pub new_text : (form : Form) (s : Option State) (n d : ℕ) (links : List (ℕ × ℕ)) (new : State) (text : List ℕ) → IsReportIn form (AreReplaced s new) s new text
     → IsTextIn form s (new_network n d links) new text
 new_text Text s n d links new text is = is
 new_text Json s n d links new text is = is
+new_text JsonWithWays s n d links new text is = is
+
+-- JSON has one text for pushes
+pub json_phases : (form : Form) → ¬ (form ≡ Text) → (s : State) (table : List (List ℕ)) (text : List ℕ)
+    → IsPhasesText phases_json s table text → IsTextIn form None (push_ways table) s text
+json_phases Text other s table text is = absurd (other refl)
+json_phases Json other s table text is = is
+json_phases JsonWithWays other s table text is = is
 
 pub edit_tells : (s : State) (e : Edit) (new : State) (before after : List ℕ) → AreRerouted s new after
     → TellsOf (Some s) (request_of_edit e) new before after
@@ -371,6 +386,12 @@ module _ (number : ℕ) (s : Option State) (told : Told) (a : Answer) (next : Op
   answer_in Json (Err NotJson) list h = (h.by.0 ∙ ap (λ (r : PlainRefusal). refusal_json r number) h.why, h.same)
   answer_in Json (Err NotRequest) list h = (h.by.0 ∙ ap (λ (r : PlainRefusal). refusal_json r number) h.why, h.same)
   answer_in Json (Err LineMemory) list h = absurd h.why
+  answer_in JsonWithWays (Ok r) list (inl h) = inl (h.refusal, h.why, h.by.0, h.same)
+  answer_in JsonWithWays (Ok r) list (inr (inl h)) = inr (inl (h.new, h.accepted, h.text list, h.next_is))
+  answer_in JsonWithWays (Ok r) list (inr (inr h)) = inr (inr (h.pushes, h.asked, h.text, h.same))
+  answer_in JsonWithWays (Err NotJson) list h = (h.by.0 ∙ ap (λ (r : PlainRefusal). refusal_json r number) h.why, h.same)
+  answer_in JsonWithWays (Err NotRequest) list h = (h.by.0 ∙ ap (λ (r : PlainRefusal). refusal_json r number) h.why, h.same)
+  answer_in JsonWithWays (Err LineMemory) list h = absurd h.why
 
   module _ (form : Form) where
     -- whether it refuses the line
@@ -399,8 +420,19 @@ module _ (number : ℕ) (s : Option State) (told : Told) (a : Answer) (next : Op
   short_is (Ok r) (inr (inr h)) = inl (h.same, h.untold)
   short_is (Err fault) h = inl (h.same, h.untold)
 
-no_list : (told : Told) → HasList Text told
-no_list told e = absurd cc
+pub no_list : (told : Told) → HasList Text told
+no_list told = record { list = λ other. absurd (other refl); notes = λ e. absurd cc }
+
+pub list_alone : (told : Told) → IsListing told → HasList Json told
+list_alone told listing = record { list = λ other. listing; notes = λ e. absurd cc }
+
+-- notes are beside a list
+asked_listing : (told : Told) → AsksWays told → IsListing told
+asked_listing Nobody (notes, is) = absurd cc
+asked_listing (Nodes list notes) asks = tt
+
+pub list_with_notes : (told : Told) → AsksWays told → HasList JsonWithWays told
+list_with_notes told asks = record { list = λ other. asked_listing told asks; notes = λ e. asks }
 
 -- the answers in text
 module _ (never : Type 0) (number : ℕ) (s : Option State) where
@@ -444,11 +476,20 @@ line_in never form number s line told (Ok (Some a)) next more list is = record {
 line_in never form number s line told (Err fault) next more list is =
     record { blank = tt; text = tt; refused = tt; unchanged = (is.unchanged.0, is.unchanged.1); start = is.start; no_start = is.no_start }
 
--- a longer report needs more room
-pub room_grows : (form : Form) (a b : ℕ) → (form ≡ Json → a ≤ b) → report_room form a ≤ report_room form b
-room_grows Text a b less = omega arith
-room_grows Json a b less = let more : a ≤ b = less refl in omega (arith, more)
+-- a report fits in the room for it
+pub report_fits : (form : Form) (nodes links changed : ℕ) (noted : Noted) → (form ≢ Text → changed ≤ nodes)
+    → (form ≡ JsonWithWays → lists_size noted.shrink + lists_size noted.grow ≤ 32 * nodes + 22 * links)
+    → report_size form changed noted ≤ report_room form nodes links
+report_fits Text nodes links changed noted less more = omega arith
+report_fits Json nodes links changed noted less more =
+    let few : changed ≤ nodes = less (λ e. absurd cc) in
+    omega (arith, few)
+report_fits JsonWithWays nodes links changed noted less more =
+    let few : changed ≤ nodes = less (λ e. absurd cc) in
+    let short : lists_size noted.shrink + lists_size noted.grow ≤ 32 * nodes + 22 * links = more refl in
+    omega (arith, few, short)
 
-pub text_room : (form : Form) (n : ℕ) → form ≡ Text → report_room form n ≡ longest_report
-text_room Text n e = refl
-text_room Json n e = cc
+pub text_size : (form : Form) (n : ℕ) (noted : Noted) → form ≡ Text → report_size form n noted ≡ longest_report
+text_size Text n noted e = refl
+text_size Json n noted e = cc
+text_size JsonWithWays n noted e = cc

@@ -22,8 +22,8 @@ use Rattle.fr_route.specs.NodeWays.{AreAllWays, HasTurnedEnd}
 use Rattle.fr_route.specs.States.{State, net_at}
 use Rattle.fr_route.specs.WayNotes.{AreWaysOf, HasSameMemory, IsNext, LeadsOn}
 use Rattle.fr_route.specs.declared.way_notes.WayNotes.{WayNotes}
-use Rattle.fr_route.proofs.NodeWays.{all_ways_exist}
-use Rattle.fr_route.proofs.WayPushes.{all_in_range}
+use Rattle.fr_route.proofs.NodeWays.{ways_below_exist}
+use Rattle.fr_route.proofs.WayPushes.{ways_in_range}
 
 -- From which nodes a path leads to the destination is told by the distances. So each node has a list of ways.
 
@@ -47,7 +47,7 @@ module _ (n : ℕ) (links : List (ℕ × ℕ)) (d : ℕ) (net : IsNet n links) (
 pub tables_exist : (s : State) → IsNet s.nodes s.links → s.dest < s.nodes → (table : List ℕ)
     → AreDistances s.nodes s.links s.dest table → (all : List (List ℕ)) × AreAllWays s all
 tables_exist s net low table are =
-    all_ways_exist s net.in_range (leads_or_not s.nodes s.links s.dest net low table are)
+    ways_below_exist s net.in_range (leads_or_not s.nodes s.links s.dest net low table are) s.nodes
 
 -- the ways of one more of these nodes
 pub ways_of_more : (n : ℕ) (links : List (ℕ × ℕ)) (d : ℕ) (nodes : List ℕ) (table : List (List ℕ)) (k : ℕ)
@@ -178,7 +178,7 @@ module _ (s next : State) (edits : List Edit) (m : Measured) (before after : Lis
     ways_before = one_list s.links s.dest x (ways before x) old (is.were.each x (omega (arith, is.node, leads.same_nodes))) were;
     ways_after = one_list next.links next.dest x (ways after x) new (is.are.each x is.node) are;
     inside = omega (arith, is.node, is.are.one_each);
-    range = all_in_range next leads.is_net after is.are;
+    range = ways_in_range next leads.is_net next.nodes after (omega arith) is.are;
     room = has_room s next edits m before after notes leads is.were is.are;
   }
 

@@ -1,7 +1,7 @@
 -- The ways of a settled network as a table: each names a node, and no list is longer than there are nodes. And the
 -- pushes that lead to this table.
 use Rattle.std.proofs.Common.{[], Bool, Contains, List, ap, arith, eqb, get_or, inl, inr, length, map, ne_eqb, refl, slice_index}
-use Rattle.std.proofs.Common.{subst, sym, ℕ, ⊎_elim, ◌^◌, ◌<◌, ◌∙◌, ◌∷◌, ◌≡◌, ◌≤◌}
+use Rattle.std.proofs.Common.{subst, sym, ℕ, ⊎_elim, ◌^◌, ◌+◌, ◌++◌, ◌<◌, ◌∙◌, ◌∷◌, ◌≡◌, ◌≤◌}
 use Rattle.std.specs.List.{IsDistinct, filter}
 use Rattle.std.proofs.lemmas.Bool.{cases_lt}
 use Rattle.std.proofs.lemmas.List.{get_or_past, get_or_default, length-append, length-map}
@@ -20,11 +20,11 @@ use Rattle.fr_ways.specs.Phases.{empties, growing_nodes, grows, growths, kept, n
 use Rattle.fr_ways.specs.Ways.{IsInRange, ways}
 use Rattle.fr_ways.specs.declared.plan.Pushes.{Pushes}
 use Rattle.fr_ways.specs.declared.plan.TwoPhases.{TwoPhases}
-use Rattle.fr_route.specs.NodeWays.{AreAllWays, AreNodeWays}
+use Rattle.fr_route.specs.NodeWays.{AreNodeWays, AreWaysBelow}
 use Rattle.fr_route.specs.States.{State}
 use Rattle.fr_route.specs.WayLists.{AreListed, paired, pairs}
 use Rattle.fr_route.specs.WayPushes.{AreWayPushesRefused, IsPhasesText}
-use Rattle.fr_route.proofs.NodeWays.{all_ways_unique}
+use Rattle.fr_route.proofs.NodeWays.{ways_below_unique, ways_pushed}
 
 module _ (s : State) (net : IsNet s.nodes s.links) where
   -- each way of a node is a node
@@ -49,13 +49,29 @@ module _ (s : State) (net : IsNet s.nodes s.links) where
           rw (first, second) (are.order i j lt low) in
           apart (get_or list j d) (subst (λ (w : ℕ). IsNearer s.links s.dest w (get_or list j d)) e near)))
 
-  pub all_in_range : (table : List (List ℕ)) → AreAllWays s table → IsInRange table
-  all_in_range table are x y sends = elim (cases_lt x (length table)) [
+  pub ways_in_range : (n : ℕ) (table : List (List ℕ)) → s.nodes ≤ n → AreWaysBelow s n table → IsInRange table
+  ways_in_range n table enough are x y sends = elim (cases_lt x (length table)) [
     | inl low ↦
         let each = are.each x (omega (arith, low, are.one_each)) in
-        omega (arith, way_low x (ways table x) each y sends, are.one_each)
+        omega (arith, way_low x (ways table x) each y sends, are.one_each, enough)
     | inr past ↦ absurd (Contains-none y (subst (λ (list : List ℕ). Contains list y) (get_or_past table x [] past) sends))
   ]
+
+  -- a number that is not a node has no ways
+  none_outside : (x : ℕ) → s.nodes ≤ x → AreNodeWays s x []
+  none_outside x out = record {
+    just = λ w. (
+      λ h. absurd (Contains-none w h),
+      λ way. absurd (omega (arith, (link_below s.nodes s.links x w net way.link).0, out)),
+    );
+    order = λ i j lt low. absurd (omega (arith, low));
+  }
+
+  pub ways_longer : (n : ℕ) (table : List (List ℕ)) → s.nodes ≤ n → AreWaysBelow s n table
+      → AreWaysBelow s (n + 1) (table ++ [] ∷ [])
+  ways_longer n table enough are =
+      let more = ways_pushed (AreNodeWays s) table [] n are.one_each are.each (none_outside n enough) in
+      record { one_each = more.0; each = more.1 }
 
 -- each node with its list
 paired_with : (list_of : ℕ → List ℕ) (xs : List ℕ) → paired xs (map list_of xs) ≡ map (λ x. (x, list_of x)) xs
@@ -106,7 +122,7 @@ pub phases_text_unique : (text_for : List (ℕ × List ℕ) → List (ℕ × Lis
     (table : List (List ℕ)) (t u : List ℕ) → IsPhasesText text_for s table t → IsPhasesText text_for s table u → t ≡ u
 phases_text_unique text_for s table t u a b =
     a.2 ∙ (ap (λ (wanted : List (List ℕ)). text_for (shrinks table wanted) (growths table wanted))
-    (all_ways_unique s a.0 b.0 a.1 b.1) ∙ sym b.2)
+    (ways_below_unique s s.nodes a.0 b.0 a.1 b.1) ∙ sym b.2)
 
 -- a table is refused with one number, and for the same nodes
 pub way_refusal_unique : (s : State) (table : List (List ℕ)) (j k : ℕ) (xs ys : List ℕ)

@@ -21,7 +21,7 @@ use Rattle.fr_lines.specs.declared.requests.LineFault.{LineFault}
 use Rattle.fr_lines.specs.declared.requests.LineFault.TheVariants.{NotJson, NotRequest, Memory as LineMemory}
 use Rattle.fr_route.specs.Answers.{IsAccepted, fault_number}
 use Rattle.fr_route.specs.Pushing.{AreAsked, IsPushesRefused}
-use Rattle.fr_route.specs.Reroutes.{AreReplaced, AreRerouted}
+use Rattle.fr_route.specs.Reroutes.{AreReplaced, AreReplacedWays, AreRerouted}
 use Rattle.fr_route.specs.NodeWays.{AreAllWays, AreNodeWays, IsNearestRoute}
 use Rattle.fr_route.specs.Routes.{AreHops, IsHop, IsRoute}
 use Rattle.fr_route.specs.Separated.{comma_before, listed}
@@ -89,17 +89,28 @@ pushes_json pushes = codes "{\"pushes\":[" ++ (listed change_json pushes ++ code
 abbrev pub list_json : ℕ × List ℕ → List ℕ
 list_json push = codes "[" ++ (decimal push.0 ++ (codes ",[" ++ (listed decimal push.1 ++ codes "]]")))
 
--- the pushes of two phases
+-- the pushes of two phases, from the first push to the end of the object
+abbrev pub lists_json : List (ℕ × List ℕ) → List (ℕ × List ℕ) → List ℕ
+lists_json shrink grow = listed list_json shrink ++ (codes "],\"grow\":[" ++ (listed list_json grow ++ codes "]}"))
+
 abbrev pub phases_json : List (ℕ × List ℕ) → List (ℕ × List ℕ) → List ℕ
-phases_json shrink grow = codes "{\"shrink\":["
-    ++ (listed list_json shrink ++ (codes "],\"grow\":[" ++ (listed list_json grow ++ codes "]}")))
+phases_json shrink grow = codes "{\"shrink\":[" ++ lists_json shrink grow
 
 abbrev pub round_json : ℕ → ℕ → List ℕ
 round_json turned cut = codes "{\"turned\":" ++ (decimal turned ++ (codes ",\"cut_off\":" ++ decimal cut))
 
-abbrev pub report_json : ℕ → ℕ → List (ℕ × Hop) → List ℕ
-report_json turned cut changed = round_json turned cut
-    ++ (codes ",\"changed\":[" ++ (listed change_json changed ++ codes "]}"))
+-- what follows the changed numbers in a report: nothing more
+abbrev pub no_more_json : List ℕ
+no_more_json = codes "]}"
+
+-- or the pushes of two phases
+abbrev pub more_json : List (ℕ × List ℕ) → List (ℕ × List ℕ) → List ℕ
+more_json shrink grow = codes "],\"shrink\":[" ++ lists_json shrink grow
+
+-- a report that ends so
+abbrev pub report_json : ℕ → ℕ → List (ℕ × Hop) → List ℕ → List ℕ
+report_json turned cut changed end = round_json turned cut
+    ++ (codes ",\"changed\":[" ++ (listed change_json changed ++ end))
 
 -- a refusal: its number, the nodes that show the fault, and the place of the refused edit in a batch
 pub record PlainRefusal : Type 0 where
@@ -205,11 +216,22 @@ pub record AreChanges (s : State) (numbers : List ℕ) (changed : List (ℕ × H
   pub these : map (λ (change : ℕ × Hop). change.0) changed ≡ numbers
   pub hops : AllByRecursion (λ (change : ℕ × Hop). IsHop s change.0 change.1) changed
 
--- the report of the round that made the state `new`. `Lists` says which numbers have changed, in push order
-abbrev pub IsJsonReport : (List ℕ → Type 0) → State → List ℕ → Type 0
-IsJsonReport Lists new text =
-    (turned : ℕ) × (cut : ℕ) × (numbers : List ℕ) × (changed : List (ℕ × Hop))
-    × IsReport new turned cut × Lists numbers × AreChanges new numbers changed × (text ≡ report_json turned cut changed)
+-- how a report ends after the changed numbers, from the states before and after the round: with nothing more
+abbrev pub EndsHere : Option State → State → List ℕ → Type 0
+EndsHere s new end = end ≡ no_more_json
+
+-- or with what to push to routers that hold all their ways
+abbrev pub EndsWithWays : Option State → State → List ℕ → Type 0
+EndsWithWays s new end = (shrink : List (ℕ × List ℕ)) × (grow : List (ℕ × List ℕ))
+    × AreReplacedWays s new shrink grow × (end ≡ more_json shrink grow)
+
+-- the report of the round that made the state `new`. `Lists` says which numbers have changed, in push order, and `Ends`
+-- how the report ends after them
+abbrev pub IsJsonReport : (List ℕ → Type 0) → (List ℕ → Type 0) → State → List ℕ → Type 0
+IsJsonReport Lists Ends new text =
+    (turned : ℕ) × (cut : ℕ) × (numbers : List ℕ) × (changed : List (ℕ × Hop)) × (end : List ℕ)
+    × IsReport new turned cut × Lists numbers × AreChanges new numbers changed × Ends end
+    × (text ≡ report_json turned cut changed end)
 
 -- the hop of each node
 abbrev pub IsJsonHops : State → List ℕ → Type 0
@@ -240,35 +262,36 @@ abbrev pub AreChanged : Option State → State → List ℕ → Type 0
 AreChanged None new numbers = ⊥
 AreChanged (Some s) new numbers = AreRerouted s new numbers
 
--- the answer to an accepted request, from the states before and after it
-abbrev pub IsJsonText : Option State → PlainRequest → State → List ℕ → Type 0
-IsJsonText s (new_network n d links) new text = IsJsonReport (AreReplaced s new) new text
-IsJsonText s (cut_link u v) new text = IsJsonReport (AreChanged s new) new text
-IsJsonText s (add_link u v) new text = IsJsonReport (AreChanged s new) new text
-IsJsonText s (join_nodes u v) new text = IsJsonReport (AreChanged s new) new text
-IsJsonText s (make_edits edits) new text = IsJsonReport (AreChanged s new) new text
-IsJsonText s (move_dest d) new text = IsJsonReport (AreChanged s new) new text
-IsJsonText s (walk_from x) new text = IsJsonWalk new x text
-IsJsonText s (ask Links) new text = text ≡ links_json new.links
-IsJsonText s (ask Counts) new text = text ≡ counts_json new.counts
-IsJsonText s (ask Hops) new text = IsJsonHops new text
-IsJsonText s (ask Ways) new text = IsJsonWays new text
-IsJsonText s (ask_node node.Ways x) new text = IsJsonNodeWays new x text
-IsJsonText s (ask_node node.Nearest x) new text = IsJsonNearest new x text
-IsJsonText s (push_ways table) new text = IsPhasesText phases_json new table text
-IsJsonText s (order_pushes table wanted) new text = ⊥
+module _ (Ends : Option State → State → List ℕ → Type 0) where
+  -- the answer to an accepted request, from the states before and after it. `Ends` says how reports end
+  abbrev pub IsJsonText : Option State → PlainRequest → State → List ℕ → Type 0
+  IsJsonText s (new_network n d links) new text = IsJsonReport (AreReplaced s new) (Ends s new) new text
+  IsJsonText s (cut_link u v) new text = IsJsonReport (AreChanged s new) (Ends s new) new text
+  IsJsonText s (add_link u v) new text = IsJsonReport (AreChanged s new) (Ends s new) new text
+  IsJsonText s (join_nodes u v) new text = IsJsonReport (AreChanged s new) (Ends s new) new text
+  IsJsonText s (make_edits edits) new text = IsJsonReport (AreChanged s new) (Ends s new) new text
+  IsJsonText s (move_dest d) new text = IsJsonReport (AreChanged s new) (Ends s new) new text
+  IsJsonText s (walk_from x) new text = IsJsonWalk new x text
+  IsJsonText s (ask Links) new text = text ≡ links_json new.links
+  IsJsonText s (ask Counts) new text = text ≡ counts_json new.counts
+  IsJsonText s (ask Hops) new text = IsJsonHops new text
+  IsJsonText s (ask Ways) new text = IsJsonWays new text
+  IsJsonText s (ask_node node.Ways x) new text = IsJsonNodeWays new x text
+  IsJsonText s (ask_node node.Nearest x) new text = IsJsonNearest new x text
+  IsJsonText s (push_ways table) new text = IsPhasesText phases_json new table text
+  IsJsonText s (order_pushes table wanted) new text = ⊥
 
--- the answer to a request of the line with this number, and the state after it: refusals and pushes between tables do
--- not change the state
-abbrev pub IsJsonAnswer : ℕ → Option State → PlainRequest → List ℕ → Option State → Type 0
-IsJsonAnswer line s request text next =
-    ((refusal : PlainRefusal) × IsRefusal s request refusal × (text ≡ refusal_json refusal line) × (next ≡ s))
-    ⊎ (((new : State) × IsAccepted s request new × IsJsonText s request new text × (next ≡ Some new))
-    ⊎ ((pushes : List (ℕ × Hop)) × AreAsked s request pushes × (text ≡ pushes_json pushes) × (next ≡ s)))
+  -- the answer to a request of the line with this number, and the state after it: refusals and pushes between tables do
+  -- not change the state
+  abbrev pub IsJsonAnswer : ℕ → Option State → PlainRequest → List ℕ → Option State → Type 0
+  IsJsonAnswer line s request text next =
+      ((refusal : PlainRefusal) × IsRefusal s request refusal × (text ≡ refusal_json refusal line) × (next ≡ s))
+      ⊎ (((new : State) × IsAccepted s request new × IsJsonText s request new text × (next ≡ Some new))
+      ⊎ ((pushes : List (ℕ × Hop)) × AreAsked s request pushes × (text ≡ pushes_json pushes) × (next ≡ s)))
 
--- the answer to the line with this number, which was read with this result
-abbrev pub IsJsonLineAnswer : ℕ → Option State → Result PlainRequest LineFault → List ℕ → Option State → Type 0
-IsJsonLineAnswer line s (Ok request) text next = IsJsonAnswer line s request text next
-IsJsonLineAnswer line s (Err NotJson) text next = (text ≡ refusal_json (bare_refusal 1) line) × (next ≡ s)
-IsJsonLineAnswer line s (Err NotRequest) text next = (text ≡ refusal_json (bare_refusal 2) line) × (next ≡ s)
-IsJsonLineAnswer line s (Err LineMemory) text next = ⊥
+  -- the answer to the line with this number, which was read with this result
+  abbrev pub IsJsonLineAnswer : ℕ → Option State → Result PlainRequest LineFault → List ℕ → Option State → Type 0
+  IsJsonLineAnswer line s (Ok request) text next = IsJsonAnswer line s request text next
+  IsJsonLineAnswer line s (Err NotJson) text next = (text ≡ refusal_json (bare_refusal 1) line) × (next ≡ s)
+  IsJsonLineAnswer line s (Err NotRequest) text next = (text ≡ refusal_json (bare_refusal 2) line) × (next ≡ s)
+  IsJsonLineAnswer line s (Err LineMemory) text next = ⊥

@@ -21,6 +21,7 @@ pub mod Answers
 pub mod Told
 pub mod Rerouting
 pub mod Json
+pub mod Listed
 pub mod Rooms
 pub mod Forms
 pub mod Refusals

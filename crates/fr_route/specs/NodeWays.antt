@@ -42,10 +42,14 @@ pub record AreOldDistances (net : Network) (counts : List ℕ) (edits : List Edi
 abbrev pub AreNodeWays : State → ℕ → List ℕ → Type 0
 AreNodeWays s x list = AreWays s.links s.dest x list
 
+-- for each number below n its ways. A number that is not a node has none
+pub record AreWaysBelow (s : State) (n : ℕ) (table : List (List ℕ)) : Type 0 where
+  pub one_each : length table ≡ n
+  pub each : (x : ℕ) → x < n → AreNodeWays s x (ways table x)
+
 -- for each node its ways
-pub record AreAllWays (s : State) (table : List (List ℕ)) : Type 0 where
-  pub one_each : length table ≡ s.nodes
-  pub each : (x : ℕ) → x < s.nodes → AreNodeWays s x (ways table x)
+abbrev pub AreAllWays : State → List (List ℕ) → Type 0
+AreAllWays s table = AreWaysBelow s s.nodes table
 
 -- a route from x along these nodes, each the nearest way of the one before
 abbrev pub IsNearestRoute : State → ℕ → List ℕ → Type 0

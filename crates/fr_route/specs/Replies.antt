@@ -1,4 +1,4 @@
--- What a session does with a request in either form, by any way to settle networks. For proofs only.
+-- What a session does with a request in each form, by any way to settle networks. For proofs only.
 use Rattle.std.specs.Prelude.{◌≡◌, ◌≢◌, ℕ, ◌≤◌, ◌⊎◌, ◌↔◌, IsTrue, true, false, length, List, Option, None, Some}
 use Rattle.std.specs.Prelude.{Result, Ok, Err, String, IfOk, IfErr, IfSome, IfNone, OnErr, string_bytes}
 use Rattle.std.specs.declared.alloc.Global.{Global}
@@ -10,8 +10,9 @@ use Rattle.fr_graph.specs.declared.edit.Edit.TheVariants.{Cut, Add, Join}
 use Rattle.fr_route.specs.Answers.{IsAccepted, IsReportLine, IsText, MayStartForLine}
 use Rattle.fr_route.specs.Blank.{is_blank}
 use Rattle.fr_route.specs.Forms.{IsAnswerIn, IsLineRefused}
-use Rattle.fr_route.specs.Json.{IsJsonReport, IsJsonText, IsRefusal, PlainRefusal, bare_refusal, pushes_json, refusal_json}
-use Rattle.fr_route.specs.Listing.{IsListing, nodes_told}
+use Rattle.fr_route.specs.Json.{EndsHere, EndsWithWays, IsJsonReport, IsJsonText, IsRefusal}
+use Rattle.fr_route.specs.Json.{PlainRefusal, bare_refusal, pushes_json, refusal_json}
+use Rattle.fr_route.specs.Listing.{AsksWays, IsListing, nodes_told}
 use Rattle.fr_route.specs.Outcomes.{IsEdited}
 use Rattle.fr_route.specs.Pushing.{AreAsked, IsFaultFrom, LeadFrom}
 use Rattle.fr_route.specs.Reroutes.{AreRerouted}
@@ -25,40 +26,45 @@ use Rattle.fr_route.specs.declared.fault.NotMade.{NotMade}
 use Rattle.fr_route.specs.declared.fault.RouteFault.TheVariants as route
 use Rattle.fr_route.specs.declared.form.Answer.{Answer}
 use Rattle.fr_route.specs.declared.form.Form.{Form}
-use Rattle.fr_route.specs.declared.form.Form.TheVariants.{Text, Json}
+use Rattle.fr_route.specs.declared.form.Form.TheVariants.{Text, Json, JsonWithWays}
 use Rattle.fr_route.specs.declared.form.Manner.{Manner}
 use Rattle.fr_route.specs.declared.revision.Revision.{Revision}
 use Rattle.fr_route.specs.declared.told.Told.{Told}
 use Rattle.fr_tables.specs.declared.hop.Hop.{Hop}
 
--- the list that JSON needs is there
-abbrev pub HasList : Form → Told → Type 0
-HasList form told = form ≡ Json → IsListing told
+-- the list that JSON needs is there, and the notes that JSON with ways needs
+pub record HasList (form : Form) (told : Told) : Type 0 where
+  pub list : form ≢ Text → IsListing told
+  pub notes : form ≡ JsonWithWays → AsksWays told
 
 -- the text of a refusal in this form
 abbrev pub refused_in : Form → ℕ → PlainRefusal → List ℕ
 refused_in Text line refusal = refusal_text refusal.number
 refused_in Json line refusal = refusal_json refusal line
+refused_in JsonWithWays line refusal = refusal_json refusal line
 
 -- the answer refuses the line so
 abbrev pub RefusesBy : Manner → PlainRefusal → Answer → Type 0
 RefusesBy manner refusal answer = (string_bytes answer.text ≡ refused_in manner.form manner.number refusal)
     × (answer.refused ≡ true)
 
--- the report of a round in this form
-abbrev pub IsReportIn : Form → (List ℕ → Type 0) → State → List ℕ → Type 0
-IsReportIn Text Lists new text = IsReportLine new text
-IsReportIn Json Lists new text = IsJsonReport Lists new text
+-- the report of a round in this form, from the states before and after it
+abbrev pub IsReportIn : Form → (List ℕ → Type 0) → Option State → State → List ℕ → Type 0
+IsReportIn Text Lists s new text = IsReportLine new text
+IsReportIn Json Lists s new text = IsJsonReport Lists (EndsHere s new) new text
+IsReportIn JsonWithWays Lists s new text = IsJsonReport Lists (EndsWithWays s new) new text
 
 -- the text for an accepted request in this form
 abbrev pub IsTextIn : Form → Option State → PlainRequest → State → List ℕ → Type 0
 IsTextIn Text s request new text = IsText new request text
-IsTextIn Json s request new text = IsJsonText s request new text
+IsTextIn Json s request new text = IsJsonText EndsHere s request new text
+IsTextIn JsonWithWays s request new text = IsJsonText EndsWithWays s request new text
 
 -- the text for pushes between tables in this form
 abbrev pub pushes_in : Form → List (ℕ × Hop) → List ℕ
 pushes_in Text pushes = pushes_text pushes
 pushes_in Json pushes = pushes_json pushes
+pushes_in JsonWithWays pushes = pushes_json pushes
 
 -- the request for an edit
 abbrev pub request_of_edit : Edit → PlainRequest
@@ -162,7 +168,8 @@ pub record IsLineAnsweredIn (never : Type 0) (form : Form) (number : ℕ) (s : O
 pub record IsRevised (never : Type 0) (form : Form) (s : State) (revision : Revision) (told : Told)
     (text : Result (String Global) NotMade) (next : State) (more : Told) : Type 0 where
   pub made : IfOk text (λ _. IsEdited s revision.edits.now revision.dest next)
-  pub report : HasList form told → IfOk text (λ it. IsReportIn form (AreRerouted s next) next (string_bytes it))
+  pub report : HasList form told
+      → IfOk text (λ it. IsReportIn form (AreRerouted s next) (Some s) next (string_bytes it))
   pub short : form ≡ Text → IfOk text (λ it. length (string_bytes it) ≤ longest_report)
   pub rerouted : IsListing told → IfOk text (λ _. AreRerouted s next (nodes_told more))
   pub fault : IfErr text (IsPlaced s revision.edits.now revision.dest)

@@ -1,6 +1,7 @@
 -- Which nodes a round reroutes: those whose hop changes, in push order. The same for a new network, and for a table of
 -- the caller. This project's own.
-use Rattle.std.specs.Prelude.{◌≡◌, ◌≢◌, ℕ, max, List, Option, Some, None, Result, IfOk, OnErr, length, replicate}
+use Rattle.std.specs.Prelude.{◌≡◌, ◌≢◌, ℕ, max, List, [], Option, Some, None, Result, IfOk, OnErr, length, replicate}
+use Rattle.fr_route.specs.NodeWays.{AreAllWays, AreWaysBelow}
 use Rattle.fr_route.specs.Routes.{AreHops, IsHop}
 use Rattle.fr_route.specs.States.{State}
 use Rattle.fr_route.specs.WayPushes.{AreWayChanges}
@@ -11,6 +12,9 @@ use Rattle.fr_tables.specs.declared.fault.TableFault.{TableFault}
 use Rattle.fr_tables.specs.declared.fault.TableFault.TheVariants.{Length, Range, Loop, Memory}
 use Rattle.fr_tables.specs.declared.hop.Hop.{Hop}
 use Rattle.fr_tables.specs.declared.hop.Hop.TheVariants.{CutOff}
+use Rattle.fr_ways.specs.Faults.{ArePhases}
+use Rattle.fr_ways.specs.Phases.{growths, shrinks}
+use Rattle.fr_ways.specs.declared.plan.TwoPhases.{TwoPhases}
 
 -- the hop of x differs in the two states
 pub record IsRerouted (old new : State) (x : ℕ) : Type 0 where
@@ -67,6 +71,29 @@ pub record AreReplaced (old : Option State) (new : State) (nodes : List ℕ) : T
   pub were : AreHopsIn old count before
   pub are : AreHops new count after
   pub order : IsPushOrder before after nodes
+
+-- the ways of all nodes in a session. Without a network there are none
+abbrev pub AreWaysIn : Option State → List (List ℕ) → Type 0
+AreWaysIn None table = table ≡ []
+AreWaysIn (Some s) table = AreAllWays s table
+
+-- the pushes of both phases that lead from the ways before a change or a new network to those after it. A number that
+-- is not a node has no ways
+pub record AreReplacedWays (old : Option State) (new : State) (shrink grow : List (ℕ × List ℕ)) : Type 0 where
+  pub before : List (List ℕ)
+  pub after : List (List ℕ)
+  pub were : AreWaysIn old before
+  pub are : AreWaysBelow new (max new.nodes (nodes_in old)) after
+  pub shrinks : shrink ≡ shrinks before after
+  pub grows : grow ≡ growths before after
+
+-- the same pushes as a plan
+pub record LeadFromWays (old : Option State) (new : State) (plan : TwoPhases) : Type 0 where
+  pub before : List (List ℕ)
+  pub after : List (List ℕ)
+  pub were : AreWaysIn old before
+  pub are : AreWaysBelow new (max new.nodes (nodes_in old)) after
+  pub phases : ArePhases before after plan
 
 -- the nodes whose hop in the state differs from that in the table, in push order
 pub record ArePushes (s : State) (table : List Hop) (nodes : List ℕ) : Type 0 where

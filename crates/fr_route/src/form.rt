@@ -9,6 +9,8 @@ pub enum Form {
     Text,
     /// One JSON object.
     Json,
+    /// One JSON object. A report also says what to push to routers that hold all their ways.
+    JsonWithWays,
 }
 
 /// A line of an input.

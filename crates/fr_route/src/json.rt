@@ -1,24 +1,26 @@
 //! The answers in JSON. The functions that other modules call are not inlined, so that answers in text do not pay for
 //! their local variables.
 
-ghost use Rattle.std.specs.Prelude.{◌≡◌, ◌<◌, ◌≤◌, ◌++◌, ◌+◌, ◌*◌, ◌^◌, length, slice_get};
+ghost use Rattle.std.specs.Prelude.{◌≡◌, ◌<◌, ◌≤◌, ◌++◌, ◌+◌, ◌*◌, ◌^◌, List, ℕ, length, slice_get};
 ghost use Rattle.std.specs.Prelude.{IfOk, OnOk, codes, decimal, string_bytes};
 ghost use Rattle.fr_route.specs.Json.{change_json, counts_json, hop_json, pushes_json};
-ghost use Rattle.fr_route.specs.Json.{list_json, nearest_json, no_nearest_json, node_ways_json, phases_json};
-ghost use Rattle.fr_route.specs.Json.{ways_item, ways_json};
-ghost use Rattle.fr_route.specs.WayLists.{AreListed, pairs};
+ghost use Rattle.fr_route.specs.Json.{list_json, lists_json, more_json, nearest_json, no_more_json, no_nearest_json};
+ghost use Rattle.fr_route.specs.Json.{node_ways_json, phases_json, ways_item, ways_json};
+ghost use Rattle.fr_route.specs.Listed.{ArePhasesListed};
+ghost use Rattle.fr_ways.specs.PushLists.{AreListed};
 ghost use Rattle.fr_route.specs.Pushing.{changes_of, hop_in};
 ghost use Rattle.fr_route.specs.Json.{hops_json, link_json, links_json, no_walk_json, place_json};
 ghost use Rattle.fr_route.specs.Json.{refusal_json, refused_json, report_json, round_json, shown_json, walk_json};
 ghost use Rattle.fr_route.specs.Refusals.{number_of, plain_refusal};
-ghost use Rattle.fr_route.specs.Rooms.{Fits};
+ghost use Rattle.fr_route.specs.Rooms.{Fits, lists_size};
 ghost use Rattle.fr_route.specs.Separated.{comma_before, listed};
 
 use crate::change::Report;
+use crate::listed::Listed;
 use crate::refusals::Refusal;
 use fr_graph::Links;
 use fr_tables::Hop;
-use fr_ways::{Pushes, TwoPhases, WayTable};
+use fr_ways::{PushList, WayTable};
 use itoa::Buffer;
 use std::alloc::{AllocError, Global};
 
@@ -80,7 +82,8 @@ pub(crate) fn push_nodes(
     nodes: &[u32],
     buffer: &mut Buffer,
 ) -> Result<(), AllocError>
-    ensures { OnOk result (string_bytes line.new ≡ string_bytes line.old ++ listed decimal nodes.now) }
+    ensures text { OnOk result (string_bytes line.new ≡ string_bytes line.old ++ listed decimal nodes.now) }
+    ensures room { Fits line.old line.new result (11 * length nodes.now) }
 {
     let mut first = true;
     for node in nodes {
@@ -238,8 +241,9 @@ fn push_list(
     list: &[u32],
     buffer: &mut Buffer,
 ) -> Result<(), AllocError>
-    ensures { OnOk result
+    ensures text { OnOk result
         (string_bytes line.new ≡ string_bytes line.old ++ (comma_before first ++ list_json (node, list.now))) }
+    ensures room { Fits line.old line.new result (16 + 11 * length list.now) }
 {
     push_comma(line, first)?;
     line.push_str("[")?;
@@ -250,37 +254,48 @@ fn push_list(
 }
 
 /// Appends the pushes of a phase, with commas between them.
-fn push_lists(line: &mut String, pushes: &Pushes, buffer: &mut Buffer) -> Result<(), AllocError>
-    requires { AreListed pushes.now }
-    ensures { OnOk result (string_bytes line.new ≡ string_bytes line.old ++ listed list_json (pairs pushes.now)) }
+fn push_lists(
+    line: &mut String,
+    pushes: PushList<'_>,
+    buffer: &mut Buffer,
+) -> Result<(), AllocError>
+    requires { (these : List (ℕ × List ℕ)) × AreListed these pushes }
+    ensures text { (these : List (ℕ × List ℕ)) → AreListed these pushes.entry
+        → OnOk result (string_bytes line.new ≡ string_bytes line.old ++ listed list_json these) }
+    ensures room { (these : List (ℕ × List ℕ)) → AreListed these pushes.entry
+        → Fits line.old line.new result (lists_size these) }
 {
     let mut first = true;
     for at in 0..pushes.nodes.len() {
-        push_list(
-            line,
-            first,
-            pushes.nodes[at],
-            pushes.lists.row(at as u32),
-            buffer,
-        )?;
+        push_list(line, first, pushes.nodes[at], pushes.row(at), buffer)?;
         first = false;
     }
     Ok(())
 }
 
+/// Appends the pushes of two phases, up to the end of the object: `[5,[2]],[3,[]]],"grow":[[3,[5,7]]]}`.
+fn push_phases(line: &mut String, phases: Listed<'_>, buffer: &mut Buffer) -> Result<(), AllocError>
+    requires { (shrink grow : List (ℕ × List ℕ)) × ArePhasesListed shrink grow phases }
+    ensures text { (shrink grow : List (ℕ × List ℕ)) → ArePhasesListed shrink grow phases.entry
+        → OnOk result (string_bytes line.new ≡ string_bytes line.old ++ lists_json shrink grow) }
+    ensures room { (shrink grow : List (ℕ × List ℕ)) → ArePhasesListed shrink grow phases.entry
+        → Fits line.old line.new result (12 + (lists_size shrink + lists_size grow)) }
+{
+    push_lists(line, phases.shrink, buffer)?;
+    line.push_str("],\"grow\":[")?;
+    push_lists(line, phases.grow, buffer)?;
+    line.push_str("]}")
+}
+
 /// `{"shrink":[[5,[2]],[3,[]]],"grow":[[3,[5,7]]]}`: the pushes of two phases.
 #[inline(never)]
-pub(crate) fn phases_object(alloc: Global, phases: &TwoPhases) -> Result<String, AllocError>
-    requires { AreListed phases.now.shrink × AreListed phases.now.grow }
-    ensures { IfOk result (λ line. string_bytes line
-        ≡ phases_json (pairs phases.now.shrink) (pairs phases.now.grow)) }
+pub(crate) fn phases_object(alloc: Global, phases: Listed<'_>) -> Result<String, AllocError>
+    requires { (shrink grow : List (ℕ × List ℕ)) × ArePhasesListed shrink grow phases }
+    ensures { (shrink grow : List (ℕ × List ℕ)) → ArePhasesListed shrink grow phases.entry
+        → IfOk result (λ line. string_bytes line ≡ phases_json shrink grow) }
 {
     let mut line = begun(alloc, "{\"shrink\":[", 0)?;
-    let mut buffer = Buffer::new();
-    push_lists(&mut line, &phases.shrink, &mut buffer)?;
-    line.push_str("],\"grow\":[")?;
-    push_lists(&mut line, &phases.grow, &mut buffer)?;
-    line.push_str("]}")?;
+    push_phases(&mut line, phases, &mut Buffer::new())?;
     Ok(line)
 }
 
@@ -377,6 +392,25 @@ fn push_round(line: &mut String, report: Report, buffer: &mut Buffer) -> Result<
     Ok(())
 }
 
+/// Appends the report of a round up to the changed numbers, each with its hop in this table.
+#[inline(always)]
+fn push_report_front(
+    line: &mut String,
+    report: Report,
+    changed: &[u32],
+    hops: &[Hop],
+    buffer: &mut Buffer,
+) -> Result<(), AllocError>
+    ensures text { OnOk result
+        ((end : List ℕ) → string_bytes line.new ++ end
+        ≡ string_bytes line.old ++ report_json report.turned report.cut (changes_of hops.now changed.now) end) }
+    ensures room { Fits line.old line.new result (73 + 24 * length changed.now) }
+{
+    push_round(line, report, buffer)?;
+    line.push_str(",\"changed\":[")?;
+    push_changes(line, changed, hops, buffer)
+}
+
 /// Appends the report of a round, with the numbers whose hop has changed, and their hops in this table:
 /// `{"turned":1,"cut_off":0,"changed":[[3,2],[1,3]]}`.
 #[inline(never)]
@@ -387,15 +421,36 @@ pub(crate) fn push_report_object(
     hops: &[Hop],
 ) -> Result<(), AllocError>
     ensures text { OnOk result
-        (string_bytes line.new
-        ≡ string_bytes line.old ++ report_json report.turned report.cut (changes_of hops.now changed.now)) }
+        (string_bytes line.new ≡ string_bytes line.old
+        ++ report_json report.turned report.cut (changes_of hops.now changed.now) no_more_json) }
     ensures room { Fits line.old line.new result (80 + 24 * length changed.now) }
 {
-    let mut buffer = Buffer::new();
-    push_round(line, report, &mut buffer)?;
-    line.push_str(",\"changed\":[")?;
-    push_changes(line, changed, hops, &mut buffer)?;
+    push_report_front(line, report, changed, hops, &mut Buffer::new())?;
     line.push_str("]}")
+}
+
+/// Appends the same report with the pushes of two phases:
+/// `{"turned":1,"cut_off":0,"changed":[[3,2],[1,3]],"shrink":[[3,[]]],"grow":[[1,[3]],[3,[2]]]}`.
+#[inline(never)]
+pub(crate) fn push_report_with_ways(
+    line: &mut String,
+    report: Report,
+    changed: &[u32],
+    hops: &[Hop],
+    phases: Listed<'_>,
+) -> Result<(), AllocError>
+    requires { (shrink grow : List (ℕ × List ℕ)) × ArePhasesListed shrink grow phases }
+    ensures text { (shrink grow : List (ℕ × List ℕ)) → ArePhasesListed shrink grow phases.entry
+        → OnOk result
+        (string_bytes line.new ≡ string_bytes line.old
+        ++ report_json report.turned report.cut (changes_of hops.now changed.now) (more_json shrink grow)) }
+    ensures room { (shrink grow : List (ℕ × List ℕ)) → ArePhasesListed shrink grow phases.entry
+        → Fits line.old line.new result (100 + 24 * length changed.now + (lists_size shrink + lists_size grow)) }
+{
+    let mut buffer = Buffer::new();
+    push_report_front(line, report, changed, hops, &mut buffer)?;
+    line.push_str("],\"shrink\":[")?;
+    push_phases(line, phases, &mut buffer)
 }
 
 /// The answer to a line that is refused: `{"refused":7,"fault":"cycle","nodes":[0,4,3,2,0],"line":12}`, with

@@ -70,7 +70,7 @@ fn pushes_text(alloc: Global, form: Form, nodes: &[u32], hops: &[Hop]) -> Result
 {
     match form {
         Form::Text => pushes_line(alloc, nodes, hops),
-        Form::Json => pushes_object(alloc, nodes, hops),
+        _ => pushes_object(alloc, nodes, hops),
     }
 }
 

@@ -1,4 +1,4 @@
-//! The answers to questions about a router, in either form.
+//! The answers to questions about a router, in each form. Both forms of JSON have the same.
 
 ghost use Rattle.std.specs.Prelude.{◌≡◌, ◌==◌, ℕ, ◌<◌, None, IfErr, IfOk, string_bytes};
 ghost use Rattle.fr_lines.specs.Requests.{ask, ask_node, push_ways, walk_from};
@@ -17,6 +17,7 @@ use crate::json::{
     counts_object, hops_object, links_object, nearest_object, no_nearest_object, no_walk_object,
     node_ways_object, phases_object, walk_object, ways_object,
 };
+use crate::listed::planned;
 use crate::router::Router;
 use crate::texts::{
     counts_line, hops_line, links_line, nearest_line, no_nearest_line, no_walk_line,
@@ -40,9 +41,9 @@ pub(crate) fn question_in(
         (Form::Text, Question::Counts) => counts_line(alloc, router.counts()),
         (Form::Text, Question::Hops) => hops_line(alloc, router.hops()),
         (_, Question::Ways) => all_ways_in(alloc, form, router),
-        (Form::Json, Question::Links) => links_object(alloc, router.net().links()),
-        (Form::Json, Question::Counts) => counts_object(alloc, router.counts()),
-        (Form::Json, Question::Hops) => hops_object(alloc, router.hops()),
+        (_, Question::Links) => links_object(alloc, router.net().links()),
+        (_, Question::Counts) => counts_object(alloc, router.counts()),
+        (_, Question::Hops) => hops_object(alloc, router.hops()),
     }
 }
 
@@ -55,7 +56,7 @@ fn all_ways_in(alloc: Global, form: Form, router: &Router) -> Result<String, All
     let table = router.all_ways(alloc)?;
     match form {
         Form::Text => ways_line(alloc, router.dest(), &table),
-        Form::Json => ways_object(alloc, router.dest(), &table),
+        _ => ways_object(alloc, router.dest(), &table),
     }
 }
 
@@ -74,7 +75,7 @@ pub(crate) fn phases_in(
     let phases = known_phases(alloc, table, &wanted)?;
     match form {
         Form::Text => phases_line(alloc, &phases),
-        Form::Json => phases_object(alloc, &phases),
+        _ => phases_object(alloc, planned(&phases)),
     }
 }
 
@@ -103,8 +104,8 @@ fn walked_in(alloc: Global, form: Form, x: u32, walked: &Walked) -> Result<Strin
     match (form, walked) {
         (Form::Text, Walked::Route(nodes)) => walk_line(alloc, nodes),
         (Form::Text, Walked::CutOff) => no_walk_line(alloc, x),
-        (Form::Json, Walked::Route(nodes)) => walk_object(alloc, nodes),
-        (Form::Json, Walked::CutOff) => no_walk_object(alloc),
+        (_, Walked::Route(nodes)) => walk_object(alloc, nodes),
+        (_, Walked::CutOff) => no_walk_object(alloc),
     }
 }
 
@@ -143,7 +144,7 @@ fn ways_in(alloc: Global, form: Form, home: bool, ways: &[u32]) -> Result<String
 {
     match form {
         Form::Text => node_ways_line(alloc, home, ways),
-        Form::Json => node_ways_object(alloc, home, ways),
+        _ => node_ways_object(alloc, home, ways),
     }
 }
 
@@ -155,7 +156,7 @@ fn nearest_in(alloc: Global, form: Form, x: u32, walked: &Walked) -> Result<Stri
     match (form, walked) {
         (Form::Text, Walked::Route(nodes)) => nearest_line(alloc, nodes),
         (Form::Text, Walked::CutOff) => no_nearest_line(alloc, x),
-        (Form::Json, Walked::Route(nodes)) => nearest_object(alloc, nodes),
-        (Form::Json, Walked::CutOff) => no_nearest_object(alloc),
+        (_, Walked::Route(nodes)) => nearest_object(alloc, nodes),
+        (_, Walked::CutOff) => no_nearest_object(alloc),
     }
 }

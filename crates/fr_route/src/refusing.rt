@@ -46,7 +46,7 @@ fn refused_text(alloc: Global, manner: Manner, refusal: &Refusal<'_>) -> Result<
 {
     match manner.form {
         Form::Text => refusal_line(alloc, refusal.reason),
-        Form::Json => refusal_object(alloc, refusal, manner.number),
+        _ => refusal_object(alloc, refusal, manner.number),
     }
 }
 

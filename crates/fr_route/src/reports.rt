@@ -1,48 +1,125 @@
-//! The report of a round, in either form.
+//! The report of a round, in each form.
 
-ghost use Rattle.std.specs.Prelude.{◌≡◌, ◌≤◌, ◌++◌, [], length, IfOk, OnOk, string_bytes, string_capacity, string_len};
-ghost use Rattle.fr_route.specs.Rooms.{Fits, report_in, report_room};
+ghost use Rattle.std.specs.Prelude.{◌≡◌, ◌≢◌, ◌<◌, ◌≤◌, ◌++◌, ◌^◌, [], length, IfOk, OnOk, string_bytes};
+ghost use Rattle.std.specs.Prelude.{string_capacity, string_len};
+ghost use Rattle.std.specs.Option.{option_copied};
+ghost use Rattle.fr_route.specs.Listing.{AsksWays, nodes_told, ways_told};
+ghost use Rattle.fr_route.specs.Replies.{IsReportIn};
+ghost use Rattle.fr_route.specs.Reroutes.{AreReplaced};
+ghost use Rattle.fr_route.specs.Rooms.{Fits, report_in, report_room, report_size};
+ghost use Rattle.fr_route.specs.Texts.{longest_report};
+ghost use Rattle.fr_route.specs.declared.form.Form.TheVariants.{JsonWithWays, Text};
 
 use crate::change::Report;
 use crate::form::Form;
-use crate::json::push_report_object;
+use crate::json::{push_report_object, push_report_with_ways};
+use crate::listed::{noted, planned};
+use crate::router::Router;
 use crate::texts::push_report;
+use crate::told::Told;
 use fr_tables::Hop;
 use std::alloc::{AllocError, Global};
 
-/// An empty line with room for each report of a round that changes the hops of at most so many numbers.
-pub(crate) fn report_begun(alloc: Global, form: Form, most: u32) -> Result<String, AllocError>
+/// An empty line with room for each report of a round on a network of so many nodes and at most so many links.
+pub(crate) fn report_begun(
+    alloc: Global,
+    form: Form,
+    nodes: u32,
+    links: usize,
+) -> Result<String, AllocError>
+    requires { links < 2 ^ 32 }
     ensures empty { IfOk result (λ line. string_bytes line ≡ []) }
     ensures length { IfOk result (λ line. string_len line ≡ 0) }
-    ensures room { IfOk result (λ line. report_room form most ≤ string_capacity line) }
+    ensures room { IfOk result (λ line. report_room form nodes links ≤ string_capacity line) }
 {
-    String::with_capacity(alloc, room_of(form, most))
+    String::with_capacity(alloc, room_of(form, nodes, links))
 }
 
 /// The bytes of the longest such report.
-fn room_of(form: Form, most: u32) -> usize
-    ensures { result ≡ report_room form most }
+fn room_of(form: Form, nodes: u32, links: usize) -> usize
+    requires { links < 2 ^ 32 }
+    ensures { result ≡ report_room form nodes links }
 {
     match form {
         Form::Text => 52,
-        Form::Json => 80 + 24 * most as usize,
+        Form::Json => 80 + 24 * nodes as usize,
+        Form::JsonWithWays => 100 + 56 * nodes as usize + 22 * links,
     }
 }
 
-/// Appends the report of a round, with the numbers whose hop has changed, and all hops after it.
+/// Appends the report of a round, with what a change told of it, and all hops after it.
 pub(crate) fn push_report_in(
     line: &mut String,
     form: Form,
     report: Report,
-    changed: &[u32],
+    told: &Told,
     hops: &[Hop],
 ) -> Result<(), AllocError>
-    ensures text { OnOk result
-        (string_bytes line.new ≡ string_bytes line.old ++ report_in form report changed.now hops.now) }
-    ensures room { Fits line.old line.new result (report_room form (length changed.now)) }
+    requires { form ≡ JsonWithWays → AsksWays told.now }
+    ensures text { OnOk result (string_bytes line.new
+        ≡ string_bytes line.old ++ report_in form report (nodes_told told.now) hops.now (ways_told told.now)) }
+    ensures room { Fits line.old line.new result
+        (report_size form (length (nodes_told told.now)) (ways_told told.now)) }
 {
     match form {
         Form::Text => push_report(line, report),
-        Form::Json => push_report_object(line, report, changed, hops),
+        Form::Json => push_report_object(line, report, told.nodes(), hops),
+        Form::JsonWithWays => {
+            let phases = noted(told.way_changes());
+            push_report_with_ways(line, report, told.nodes(), hops, phases)
+        }
     }
+}
+
+/// The report of a network that replaces the one before it, if there was one. These numbers have a new hop.
+pub(crate) fn new_report(
+    alloc: Global,
+    form: Form,
+    before: Option<&Router>,
+    router: &Router,
+    replaced: &[u32],
+) -> Result<String, AllocError>
+    ensures report { (form ≢ Text → AreReplaced (option_copied before.entry) router.now replaced.now)
+        → IfOk result (λ text. IsReportIn form (AreReplaced (option_copied before.entry) router.now)
+        (option_copied before.entry) router.now (string_bytes text)) }
+    ensures short { form ≡ Text → IfOk result (λ text. length (string_bytes text) ≤ longest_report) }
+{
+    router.state_law();
+    router.net().network_law();
+    let net = router.net();
+    let mut text = report_begun(alloc, form, net.nodes(), net.link_count())?;
+    let report = router.report();
+    match form {
+        Form::Text => {
+            push_report(&mut text, report)?;
+            Ok(text)
+        }
+        Form::Json => {
+            push_report_object(&mut text, report, replaced, router.hops())?;
+            Ok(text)
+        }
+        Form::JsonWithWays => {
+            push_new_report(alloc, &mut text, before, router, replaced)?;
+            Ok(text)
+        }
+    }
+}
+
+/// Appends this report in JSON with ways. It is not inlined, so that other reports do not pay for its local variables.
+#[inline(never)]
+fn push_new_report(
+    alloc: Global,
+    line: &mut String,
+    before: Option<&Router>,
+    router: &Router,
+    replaced: &[u32],
+) -> Result<(), AllocError>
+    ensures { string_bytes line.old ≡ [] → AreReplaced (option_copied before.entry) router.now replaced.now
+        → OnOk result (IsReportIn JsonWithWays (AreReplaced (option_copied before.entry) router.now)
+        (option_copied before.entry) router.now (string_bytes line.new)) }
+{
+    router.state_law();
+    let phases = router.phases_since(alloc, before)?;
+    let report = router.report();
+    push_report_with_ways(line, report, replaced, router.hops(), planned(&phases))
 }

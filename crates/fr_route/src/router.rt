@@ -8,14 +8,16 @@ ghost use Rattle.fr_crew.specs.Settlements.{CanBegin, HoldsSinks, IsCounted};
 ghost use Rattle.fr_route.specs.Ways.{Settles, NeverStarts};
 ghost use Rattle.fr_route.specs.declared.fault.RouteFault.TheVariants.{Start, Memory};
 ghost use Rattle.fr_route.specs.Listing.{nodes_told};
-ghost use Rattle.fr_route.specs.NodeWays.{AreAllWays, AreNodeWays, HasDistance, IsNearest};
+ghost use Rattle.fr_route.specs.NodeWays.{AreAllWays, AreNodeWays, AreWaysBelow, HasDistance, IsNearest};
 ghost use Rattle.fr_route.specs.States.{IsAfterRound, IsCutOff, IsRound, IsReport};
 ghost use Rattle.fr_route.specs.Routes.{IsHop, AreHops, IsWalked};
 ghost use Rattle.fr_route.specs.Changes.{IsOpenFault, IsChanged, IsRouteFault, IsStill};
-ghost use Rattle.fr_route.specs.Reroutes.{ArePushes, AreReplaced, IsPushesFault, TellsRerouted, TellsReroutes};
+ghost use Rattle.fr_route.specs.Reroutes.{ArePushes, AreReplaced, IsPushesFault, LeadFromWays};
+ghost use Rattle.fr_route.specs.Reroutes.{TellsRerouted, TellsReroutes};
 ghost use Rattle.fr_route.specs.WayPushes.{IsPhasesFault, LeadToWays};
 ghost use Rattle.fr_route.specs.Tries.{IsPlaced, IsTried, change_of, edit_of, revision_of, without_place};
 ghost use Rattle.fr_route.specs.Outcomes.{IsOutcome, IsRoundFault};
+ghost use Rattle.fr_ways.specs.Ways.{IsInRange};
 ghost use Rattle.fr_route.specs.Outcomes.{IsSettledTable, cut_off_nodes, movable};
 
 use crate::change::{Change, Report};
@@ -540,6 +542,43 @@ impl Router {
         };
         let new = self.hops_below(alloc, count)?;
         Ok(known_push_order(alloc, &old, &new)?)
+    }
+
+    /// The pushes of both phases that lead from the ways of `before`, the router that this one replaces, to the ways of
+    /// this one. Numbers that are not nodes of a router have no ways there. Without `before`, no node has ways before.
+    pub(crate) fn phases_since(
+        &self,
+        alloc: Global,
+        before: Option<&Router>,
+    ) -> Result<TwoPhases, AllocError>
+        ensures { IfOk result (LeadFromWays (option_copied before.entry) self.now) }
+    {
+        self.net.network_law();
+        let nodes = self.net.nodes();
+        let count = match before {
+            Some(router) => nodes.max(router.net.nodes()),
+            None => nodes,
+        };
+        let old = match before {
+            Some(router) => router.all_ways(alloc)?,
+            None => WayTable::with_capacity(alloc, 0, 0)?,
+        };
+        let new = self.ways_below(alloc, count)?;
+        known_phases(alloc, &old, &new)
+    }
+
+    /// The ways of the numbers below `count`. A number that is not a node has none.
+    fn ways_below(&self, alloc: Global, count: u32) -> Result<WayTable, AllocError>
+        requires { self.now.nodes ≤ count }
+        ensures ways { IfOk result (AreWaysBelow self.now count) }
+        ensures range { IfOk result IsInRange }
+    {
+        self.net.network_law();
+        let mut table = self.all_ways(alloc)?;
+        'rows: while table.len() < count as usize {
+            table.push_row(&[])?;
+        }
+        Ok(table)
     }
 
     /// The hops of the numbers below `count`. A number that is not a node is cut off.

@@ -25,7 +25,7 @@ ghost use Rattle.fr_route.specs.Texts.{longest_report};
 ghost use Rattle.fr_route.specs.Refusals.{IsNewFault};
 ghost use Rattle.fr_route.specs.declared.fault.AnswerFault.TheVariants.{Start, Memory};
 ghost use Rattle.fr_route.specs.declared.fault.RouteFault.TheVariants.{Start as RouteStart};
-ghost use Rattle.fr_route.specs.declared.form.Form.TheVariants.{Text};
+ghost use Rattle.fr_route.specs.declared.form.Form.TheVariants.{JsonWithWays, Text};
 
 use crate::blank::is_blank;
 use crate::fault::{AnswerFault, NotMade, RouteFault};
@@ -35,10 +35,11 @@ use crate::pushing::{pushes_between, pushes_from};
 use crate::questions::{node_question_in, phases_in, question_in, walk_in};
 use crate::refusals::Reason;
 use crate::refusing::{refuse, refuse_for};
-use crate::reports::{push_report_in, report_begun};
+use crate::reports::{new_report, push_report_in, report_begun};
 use crate::revision::Revision;
 use crate::router::Router;
 use crate::settling::Asking;
+use crate::space::AnswerSpace;
 use crate::told::Told;
 use fr_crew::{Crew, CrewFault, Gate, Plan, settled_counts, settled_counts_alone};
 use fr_graph::{Edit, MAX_EDITS, MAX_NODES, Net, NetFault, Turns};
@@ -280,18 +281,19 @@ impl Session {
         answer
     }
 
-    /// Answers a line, or returns `None` for a blank one, in this form. Both forms say the same; `specs/Json.antt`
-    /// defines the answers in JSON. A refusal in JSON has the number of the line. `rerouted` is room for the call: pass
-    /// the same list each time. What it contains afterwards has no meaning.
+    /// Answers a line, or returns `None` for a blank one, in this form. `specs/Json.antt` defines the answers in JSON.
+    /// A refusal in JSON has the number of the line. `space` is memory for the call: pass the same one each time.
     ///
-    /// The session and the faults are as for [`Session::answer_line`]. So is the cost; an answer in JSON to a change also
-    /// takes room of O(n) and puts the rerouted nodes in push order.
+    /// The session and the faults are as for [`Session::answer_line`]. So is the cost; an answer in JSON to a change
+    /// also takes space of O(n) and puts the rerouted nodes in push order. A report with ways takes space of O(n + m).
+    /// Its cost is that of [`Router::change_telling_ways_alone`], and after a new network that of
+    /// [`Router::all_ways`] for the network and for the one before it.
     pub fn answer_line_in<R: Threads + Wait + Sync, G: Gate + Sync>(
         &mut self,
         crew: &Crew<'_, R, G>,
         form: Form,
         line: Line<'_>,
-        rerouted: &mut Vec<u32>,
+        space: &mut AnswerSpace,
     ) -> Result<Option<Answer>, AnswerFault>
         ensures blank { IfOk result
             (λ answer. IfNone answer ((is_blank_line line.entry.bytes.now ≡ true) × (self.new ≡ self.old))) }
@@ -313,7 +315,7 @@ impl Session {
                 requires { CanBegin net.now dest from turns }
             { settled_counts(crew, net, dest, from, turns) },
         )
-        .reply_line_in(self, form, line, rerouted)
+        .reply_line_in(self, form, line, space)
     }
 
     /// Does the same on the calling thread. It starts no thread, does not wait, and never fails with `Start`. The cost
@@ -323,7 +325,7 @@ impl Session {
         alloc: Global,
         form: Form,
         line: Line<'_>,
-        rerouted: &mut Vec<u32>,
+        space: &mut AnswerSpace,
     ) -> Result<Option<Answer>, AnswerFault>
         ensures blank { IfOk result
             (λ answer. IfNone answer ((is_blank_line line.entry.bytes.now ≡ true) × (self.new ≡ self.old))) }
@@ -340,7 +342,7 @@ impl Session {
             alloc,
             &|net, dest, from, turns| settled_counts_alone(net, dest, from, turns),
         )
-        .reply_line_in(self, form, line, rerouted)
+        .reply_line_in(self, form, line, space)
     }
 
     /// Puts a router in place once its answer is made, and lists the nodes whose hop has changed if the caller asks for
@@ -353,7 +355,7 @@ impl Session {
         told: &mut Told,
     ) -> Result<String, AnswerFault>
         ensures report { HasList form told.old
-            → IfOk result (λ text. IsReportIn form (AreReplaced self.old router) router (string_bytes text)) }
+            → IfOk result (λ text. IsReportIn form (AreReplaced self.old router) self.old router (string_bytes text)) }
         ensures put { OnOk result (self.new ≡ Some router) }
         ensures told { IsListing told.old → OnOk result (AreReplaced self.old router (nodes_told told.new)) }
         ensures unchanged { OnErr result ((self.new ≡ self.old) × (nodes_told told.new ≡ nodes_told told.old)) }
@@ -362,8 +364,7 @@ impl Session {
     {
         router.state_law();
         let replaced = replaced_nodes(alloc, self.router.as_ref(), &router, told)?;
-        let mut text = report_begun(alloc, form, router.net().nodes())?;
-        push_report_in(&mut text, form, router.report(), &replaced, router.hops())?;
+        let text = new_report(alloc, form, self.router.as_ref(), &router, &replaced)?;
         told.put_list(replaced);
         self.put_router(router);
         Ok(text)
@@ -561,13 +562,14 @@ impl<'a, F: Fn(&Net, u32, Option<&[u32]>, Turns) -> Result<Turns, CrewFault>> As
         Ok(self.reply(session, AS_TEXT, request, told)?.text)
     }
 
-    /// The answer to a line in this form, or `None` for a blank one. Lists rerouted nodes only for JSON.
+    /// The answer to a line in this form, or `None` for a blank one. Lists rerouted nodes only for JSON, and notes ways
+    /// only for JSON with ways.
     fn reply_line_in(
         &self,
         session: &mut Session,
         form: Form,
         line: Line<'_>,
-        rerouted: &mut Vec<u32>,
+        space: &mut AnswerSpace,
     ) -> Result<Option<Answer>, AnswerFault>
         requires { Settles F.pre F.post self.now.settle.now }
         ensures { IsLineAnsweredIn (NeverStarts F.post self.now.settle.now) form line.entry.number session.old line.entry.bytes.now result session.new }
@@ -577,12 +579,37 @@ impl<'a, F: Fn(&Net, u32, Option<&[u32]>, Turns) -> Result<Turns, CrewFault>> As
         match form {
             Form::Text => self.reply_line(session, manner, line.bytes, &mut Told::Nobody),
             Form::Json => {
-                let mut told = Told::taken(rerouted, self.alloc);
+                let mut told = space.listing(self.alloc);
                 let answer = self.reply_line(session, manner, line.bytes, &mut told);
-                *rerouted = told.into_list(self.alloc);
+                space.keep(told);
                 answer
             }
+            Form::JsonWithWays => self.reply_with_ways(session, line, space),
         }
+    }
+
+    /// The answer to a line in JSON with ways, or `None` for a blank one. It is not inlined, so that other answers do
+    /// not pay for its local variables.
+    #[inline(never)]
+    fn reply_with_ways(
+        &self,
+        session: &mut Session,
+        line: Line<'_>,
+        space: &mut AnswerSpace,
+    ) -> Result<Option<Answer>, AnswerFault>
+        requires { Settles F.pre F.post self.now.settle.now }
+        ensures { IsLineAnsweredIn (NeverStarts F.post self.now.settle.now) JsonWithWays line.entry.number session.old
+            line.entry.bytes.now result session.new }
+    {
+        if is_blank(line.bytes) {
+            return Ok(None);
+        }
+        let form = Form::JsonWithWays;
+        let number = line.number;
+        let mut told = space.asking(self.alloc)?;
+        let answer = self.reply_line(session, Manner { form, number }, line.bytes, &mut told);
+        space.keep(told);
+        answer
     }
 
     /// The answer to a line, or `None` for a blank one.
@@ -813,11 +840,14 @@ impl<'a, F: Fn(&Net, u32, Option<&[u32]>, Turns) -> Result<Turns, CrewFault>> As
                 fault: RouteFault::Net(NetFault::TooMany),
             });
         }
-        let mut text = report_begun(self.alloc, form, router.net().nodes())?;
+        let net = router.net();
+        net.network_law();
+        let links = net.link_count() + revision.edits.len();
+        let mut text = report_begun(self.alloc, form, net.nodes(), links)?;
         let report = self.edit(router, revision, &|report| Ok(report), told)?;
         router.state_law();
         // There is room, so this does not fail.
-        push_report_in(&mut text, form, report, told.nodes(), router.hops())?;
+        push_report_in(&mut text, form, report, told, router.hops())?;
         Ok(text)
     }
 }

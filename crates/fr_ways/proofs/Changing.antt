@@ -13,7 +13,8 @@ use Rattle.std.proofs.lemmas.List.Sums.{count_by-le-length, length-filter}
 use Rattle.fr_ways.specs.Changes.{IsNotedTo, MayNote, Noted}
 use Rattle.fr_ways.specs.ChangesInside.{noted_in}
 use Rattle.fr_ways.specs.Held.{all_ways}
-use Rattle.fr_ways.specs.Phases.{differs, empties, grows, is_empty, is_way, kept, loses, sheds, shrinks, shrunk}
+use Rattle.fr_ways.specs.Phases.{differs, empties, grows, growths, is_empty, is_way, kept, loses, sheds, shrinks}
+use Rattle.fr_ways.specs.Phases.{shrunk}
 use Rattle.fr_ways.specs.Ways.{ways}
 use Rattle.fr_ways.specs.declared.changes.WayChanges.TheInside.{Inside}
 use Rattle.fr_ways.proofs.Holding.{list_seconds, with_list}
@@ -54,7 +55,7 @@ filter_all p (x ∷ xs) long = elim (cases_Bool (p x)) [
 ]
 
 -- the ways of the first nodes of a table
-take_ways : (table : List (List ℕ)) (x : ℕ)
+pub take_ways : (table : List (List ℕ)) (x : ℕ)
     → length (concat (take (suc x) table)) ≡ length (concat (take x table)) + length (ways table x)
 take_ways [] zero = refl
 take_ways [] (suc x) = refl
@@ -290,3 +291,65 @@ noted_whole before after noted shrink is more =
     (map_passed bare pair (empties before after)
     (λ x t. ap (λ (list : List ℕ). with_list (λ (y : ℕ). list) x) (sym (empties_none before after x t))) nodes)
     ∙ sym (map-append pair first last))))
+
+-- both phases together
+
+no_ways : (xs : List ℕ) → concat (map (λ (x : ℕ). []) xs) ≡ []
+no_ways [] = refl
+no_ways (x ∷ xs) = no_ways xs
+
+module _ (before after : List (List ℕ)) where
+  pub shrinks_short : length (shrinks before after) ≤ length after
+  shrinks_short =
+      let nodes = range_with_len 0 (length after) in
+      let first = filter (sheds before after) nodes in
+      let last = filter (empties before after) nodes in
+      omega (
+        arith,
+        length-map (first ++ last) (with_list (kept before after)),
+        length-append first last,
+        parts_fit (sheds before after) (empties before after)
+            (λ y t. one_part (loses before after y) (is_empty (kept before after y)) t) nodes,
+        length-range_with_len 0 (length after),
+      )
+
+  pub growths_short : length (growths before after) ≤ length after
+  growths_short =
+      let nodes = range_with_len 0 (length after) in
+      omega (
+        arith,
+        length-map (filter (grows before after) nodes) (with_list (ways after)),
+        filter_fits (grows before after) nodes,
+        length-range_with_len 0 (length after),
+      )
+
+  pub shrinks_fit : length (all_ways (shrinks before after)) ≤ length (concat after)
+  shrinks_fit =
+      let nodes = range_with_len 0 (length after) in
+      let first = filter (sheds before after) nodes in
+      let last = filter (empties before after) nodes in
+      let list = kept before after in
+      let parts : concat (map list (first ++ last)) ≡ concat (map list first) ++ concat (map list last) =
+      ap concat (map-append list first last) ∙ concat-append (map list first) (map list last) in
+      let none : concat (map list last) ≡ [] =
+      ap concat (sym (map_passed (λ (x : ℕ). []) list (empties before after)
+      (λ x t. sym (empties_none before after x t)) nodes)) ∙ no_ways last in
+      omega (
+        arith,
+        ap (λ (t : List (List ℕ)). length (concat t)) (list_seconds list (first ++ last)),
+        ap length parts,
+        length-append (concat (map list first)) (concat (map list last)),
+        ap length none,
+        lists_fit after (sheds before after) list
+            (λ y. filter_fits (is_way (ways before y)) (ways after y)) (length after),
+        take_fits after (length after),
+      )
+
+  pub growths_fit : length (all_ways (growths before after)) ≤ length (concat after)
+  growths_fit =
+      let nodes = range_with_len 0 (length after) in omega (
+        arith,
+        ap (λ (t : List (List ℕ)). length (concat t)) (list_seconds (ways after) (filter (grows before after) nodes)),
+        lists_fit after (grows before after) (ways after) (λ y. omega arith) (length after),
+        take_fits after (length after),
+      )

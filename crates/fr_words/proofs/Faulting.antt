@@ -38,7 +38,7 @@ module _ {T : Type 0} where
 -- the fault says whether help or the version was asked for
 pub said_fault : (words : List Text) (e : Error) (fault : TaskFault) → HasKind (fault_of command words) e → IsUsageOf (kind_of e) fault → IsFaultOf words fault
 said_fault words e (Usage text asked) (inl none) said = absurd (said.0 none)
-said_fault words e (Usage text asked) (inr among) said = (kind_of e, among, said.1, said.2)
+said_fault words e (Usage text asked) (inr among) said = inl (kind_of e, among, said.1, said.2)
 said_fault words e (Version text) (inl none) said = absurd (cc (none, said))
 said_fault words e (Version text) (inr among) said = subst (λ (kind : ErrorKind). IsAmong kind (fault_of command words)) said among
 said_fault words e Memory kinds said = tt

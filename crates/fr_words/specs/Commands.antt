@@ -1,6 +1,6 @@
 -- The command line, as the crate `clap` reads it. This project's own:
---     revroute run [--workers N] [--seed S] [--budget B] [--alone] [--json] [--strict]
---     revroute serve [--workers N] [--seed S] [--budget B] [--alone] [--json] [--strict]
+--     revroute run [--workers N] [--seed S] [--budget B] [--alone] [--json [--ways]] [--strict]
+--     revroute serve [--workers N] [--seed S] [--budget B] [--alone] [--json [--ways]] [--strict]
 --     revroute play [--workers N] [--seed S] [--steps M]
 use Rattle.std.specs.Prelude.{◌≡◌, ℕ, ◌≤◌, List, [], ◌∷◌, Option, Some, true, pos, codes, option_map}
 use Rattle.std.specs.Str.Parse.{digits_value, without_leading_plus, IsNumeral}
@@ -49,8 +49,8 @@ planning name = with_rule (with_rule (with_rule (new_app name) (workers_option (
 -- a subcommand with this name that answers requests
 abbrev pub answering : Text → App
 answering name =
-    with_rule (with_rule (with_rule (planning name) (flag (codes "alone"))) (flag (codes "json")))
-    (flag (codes "strict"))
+    with_rule (with_rule (with_rule (with_rule (planning name) (flag (codes "alone"))) (flag (codes "json")))
+    (flag (codes "ways"))) (flag (codes "strict"))
 
 abbrev pub run_command : App
 run_command = answering (codes "run")
@@ -87,3 +87,7 @@ number_of name rows = option_map (λ text. digits_value 10 (without_leading_plus
 -- the flag with this name was given
 abbrev pub IsGiven : Text → List Row → Type 0
 IsGiven name rows = one_of name rows ≡ Some (codes "true")
+
+-- the flag `ways` was given without the flag `json`
+abbrev pub LacksJson : List Row → Type 0
+LacksJson rows = IsGiven (codes "ways") rows × ¬ IsGiven (codes "json") rows

@@ -1,5 +1,5 @@
 -- What a command line asks for. This project's own.
-use Rattle.std.specs.Prelude.{ℕ, ◌⊎◌, ◌≡◌, ◌≢◌, ◌≤◌, ◌↔◌, ⊤, IsTrue, List, [], Some, codes, if◌then◌else◌, string_bytes}
+use Rattle.std.specs.Prelude.{ℕ, ◌⊎◌, ◌≡◌, ◌≢◌, ◌≤◌, ◌↔◌, ⊤, IsTrue, List, [], Some, codes, false, if◌then◌else◌, string_bytes}
 use Rattle.clap.specs.Walk.{Row, Text}
 use Rattle.clap.specs.Simple.{subcommand_of}
 use Rattle.clap.specs.Faults.{fault_of}
@@ -9,7 +9,7 @@ use Rattle.clap.specs.declared.error.kind.ErrorKind.TheVariants.{DisplayHelp, Di
 use Rattle.fr_core.specs.Limits.{most_workers}
 use Rattle.fr_crew.specs.declared.plan.Plan.{Plan}
 use Rattle.fr_words.specs.Draws.{most_steps}
-use Rattle.fr_words.specs.Commands.{command, most_budget, most_seed, number_of, HasNumber, IsGiven}
+use Rattle.fr_words.specs.Commands.{command, most_budget, most_seed, number_of, HasNumber, IsGiven, LacksJson}
 use Rattle.fr_words.specs.declared.draws.Draw.{Draw}
 use Rattle.fr_words.specs.declared.task.CommandLine.{CommandLine}
 use Rattle.fr_words.specs.declared.task.Task.{Task}
@@ -69,21 +69,22 @@ IsTaskOf name rows (Play draw) = (name ≡ codes "play") × IsDrawIn rows draw
 abbrev pub IsCommandLineOf : Text → List Row → CommandLine → Type 0
 IsCommandLineOf name rows line =
     IsTaskOf name rows line.task
-    × (IsTrue line.json ↔ IsGiven (codes "json") rows) × (IsTrue line.strict ↔ IsGiven (codes "strict") rows)
+    × (IsTrue line.json ↔ IsGiven (codes "json") rows) × (IsTrue line.ways ↔ IsGiven (codes "ways") rows)
+    × (IsTrue line.strict ↔ IsGiven (codes "strict") rows)
 
--- The command line of the words, in which `clap` finds no fault, as `clap` reads them. If an option is not given, its
--- number is the default.
+-- the subcommand of the words, in which `clap` finds no fault, and its options, as `clap` reads them. If an option is
+-- not given, its number is the default.
+abbrev pub IsReadAs : List Text → (name : Text) → (rows : List Row) → Type 0
+IsReadAs words name rows = (fault_of command words ≡ []) × (subcommand_of command words ≡ Some (name, rows))
+
+-- the command line of the words
 abbrev pub IsCommandLineIn : List Text → CommandLine → Type 0
 IsCommandLineIn words line =
-    (fault_of command words ≡ [])
-    × ((name : Text) × (rows : List Row) × (subcommand_of command words ≡ Some (name, rows))
-    × IsCommandLineOf name rows line)
+    (name : Text) × (rows : List Row) × IsReadAs words name rows × ¬ LacksJson rows × IsCommandLineOf name rows line
 
 -- the task of that command line
 abbrev pub IsTaskIn : List Text → Task → Type 0
-IsTaskIn words task =
-    (fault_of command words ≡ [])
-    × ((name : Text) × (rows : List Row) × (subcommand_of command words ≡ Some (name, rows)) × IsTaskOf name rows task)
+IsTaskIn words task = (line : CommandLine) × IsCommandLineIn words line × (task ≡ line.task)
 
 -- the fault for an error of this kind: it says that help or the version was asked for exactly if it was
 abbrev pub IsUsageOf : ErrorKind → TaskFault → Type 0
@@ -92,11 +93,19 @@ IsUsageOf kind (Usage text asked) = (kind ≢ OutOfMemory) × (kind ≢ DisplayV
 IsUsageOf kind (Version text) = kind ≡ DisplayVersion
 IsUsageOf kind Memory = ⊤
 
--- the fault for words that `clap` does not accept, with one of the kinds of error that it has for them; memory can be
--- missing for any words
+-- the fault for words that `clap` accepts, but that are wrong
+abbrev pub IsUsageError : TaskFault → Type 0
+IsUsageError (Usage text asked) = asked ≡ false
+IsUsageError (Version text) = ⊥
+IsUsageError Memory = ⊤
+
+-- The fault for words that `clap` does not accept, with one of the kinds of error that it has for them; or for words
+-- with the flag `ways` and without the flag `json`. Memory can be missing for any words.
 abbrev pub IsFaultOf : List Text → TaskFault → Type 0
-IsFaultOf words (Usage text asked) = (kind : ErrorKind) × IsAmong kind (fault_of command words)
-    × (kind ≢ DisplayVersion) × (IsTrue asked ↔ (kind ≡ DisplayHelp))
+IsFaultOf words (Usage text asked) =
+    ((kind : ErrorKind) × IsAmong kind (fault_of command words)
+    × (kind ≢ DisplayVersion) × (IsTrue asked ↔ (kind ≡ DisplayHelp)))
+    ⊎ ((name : Text) × (rows : List Row) × IsReadAs words name rows × LacksJson rows × (asked ≡ false))
 IsFaultOf words (Version text) = IsAmong DisplayVersion (fault_of command words)
 IsFaultOf words Memory = ⊤
 

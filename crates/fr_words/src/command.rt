@@ -46,6 +46,7 @@ Requests:
 
 Answers, and with --json:
   turned T cut K      {\"turned\":T,\"cut_off\":K,\"changed\":[[X,HOP],..]}  after a change
+      with --ways     {.. \"changed\":[[X,HOP],..],\"shrink\":[[X,[W,W]],..],\"grow\":[[X,[W,W]],..]}
   walk X Y ..         {\"walk\":[X,Y,..]}, or {\"walk\":null} if X is cut off
   links U>V ..        {\"links\":[[U,V],..]}
   counts C ..         {\"counts\":[C,..]}
@@ -83,6 +84,9 @@ const ALONE: &str =
     "One thread makes all turns: the budget is 0, whatever --budget says; fastest, and the way to serve";
 
 const JSON: &str = "Answers are JSON, one object on a line";
+
+const WAYS: &str =
+    "The answer to a change also lists what to push to routers that hold all their ways; needs --json";
 
 const STRICT: &str = "Ends with status 3 if a line was refused";
 
@@ -171,6 +175,7 @@ fn answering<'a>(alloc: Global, name: &'a str, about: &'a str) -> Result<Command
     let command = planning(alloc, name, about)?;
     let command = with_option(command, flag(alloc, "alone", ALONE))?;
     let command = with_option(command, flag(alloc, "json", JSON))?;
+    let command = with_option(command, flag(alloc, "ways", WAYS))?;
     with_option(command, flag(alloc, "strict", STRICT))
 }
 

@@ -3,10 +3,10 @@
 ghost use Rattle.std.specs.Prelude.{◌≡◌, ◌≤◌, ◌↔◌, IsTrue, Some, IfOk, IfErr, IfSome, IsNone, map, codes};
 ghost use Rattle.clap.specs.Values.{kind_of};
 ghost use Rattle.clap.specs.Words.{found_of, rows_of};
-ghost use Rattle.fr_words.specs.Commands.{number_of, HasNumber, IsGiven, most_budget, most_seed};
+ghost use Rattle.fr_words.specs.Commands.{number_of, HasNumber, IsGiven, LacksJson, most_budget, most_seed};
 ghost use Rattle.fr_words.specs.Tasks.{IsBudgetIn, IsPlanIn, IsDrawIn, IsTaskIn, IsTaskOf};
 ghost use Rattle.fr_words.specs.Tasks.{HasBudget, HasDraw, HasPlan, HasTask};
-ghost use Rattle.fr_words.specs.Tasks.{IsCommandLineIn, IsCommandLineOf, IsEndOf, IsUsageOf, IsFaultOf};
+ghost use Rattle.fr_words.specs.Tasks.{IsCommandLineIn, IsCommandLineOf, IsEndOf, IsUsageError, IsUsageOf, IsFaultOf};
 
 use crate::command::{MAX_BUDGET, matches_of};
 use crate::draws::{Draw, MAX_STEPS};
@@ -23,6 +23,15 @@ const USAGE: &str = "\n\nUsage:";
 /// The same text after a tip for users who name a file.
 const USAGE_WITH_TIP: &str =
     "\n\n  tip: revroute reads requests from standard input, as in 'revroute run < FILE'\n\nUsage:";
+
+/// The text for `--ways` without `--json`, in the form of the texts of `clap`.
+const WAYS_WITHOUT_JSON: &str = "\
+error: the argument '--ways' needs '--json'
+
+Usage: revroute run --json --ways [OPTIONS]
+       revroute serve --json --ways [OPTIONS]
+
+For more information, try '--help'.";
 
 /// What the program is to do.
 #[derive(Clone, Copy, Debug, PartialEq, Eq)]
@@ -42,6 +51,9 @@ pub struct CommandLine {
     pub task: Task,
     /// Whether answers are JSON (`--json`). Always `false` for `play`, which has no such flag.
     pub json: bool,
+    /// Whether the answers to changes also list what to push to routers that hold all their ways (`--ways`). Only
+    /// `true` if `json` is.
+    pub ways: bool,
     /// Whether the program is to report by its exit status that it refused a line (`--strict`). Always `false` for
     /// `play`.
     pub strict: bool,
@@ -67,10 +79,12 @@ pub enum TaskFault {
 ///
 /// The task is `run` or `serve`, with 1 to 16 workers (4 if not given), any seed (0) and a budget of at most
 /// 1,000,000,000 calls (1,000,000); or `play`, with 1 to 16 workers (2), any seed (0) and at most 10,000 steps (100).
-/// `run` and `serve` have the flags `--json`, `--strict` and `--alone`, which makes the budget 0.
+/// `run` and `serve` have the flags `--json`, `--ways`, which needs `--json`, `--strict`, and `--alone`, which makes the
+/// budget 0.
 ///
-/// Fails with `Version` if the words ask for the version, with `Usage` if they ask for help (`asked`) or are not those
-/// of the command line, and with `Memory` if an allocation is refused. O(b) for b bytes of words.
+/// Fails with `Version` if the words ask for the version, with `Usage` if they ask for help (`asked`), are not those of
+/// the command line, or have `--ways` without `--json`, and with `Memory` if an allocation is refused. O(b) for b bytes
+/// of words.
 pub fn command_line<'a>(
     alloc: Global,
     words: &'a [&'a str],
@@ -85,6 +99,7 @@ pub fn command_line<'a>(
     };
     // `clap` accepts no words without a subcommand. Its contract does not say so, so this case needs an answer.
     match matches.subcommand() {
+        Some((_, options)) if lacks_json(options) => Err(ways_without_json(alloc)),
         Some((name, options)) => command_line_in(name, options).ok_or(TaskFault::Memory),
         None => Err(TaskFault::Memory),
     }
@@ -109,6 +124,7 @@ fn command_line_in(name: &str, options: &ArgMatches) -> Option<CommandLine>
     Some(CommandLine {
         task: task_in(name, options)?,
         json: is_given(options, "json"),
+        ways: is_given(options, "ways"),
         strict: is_given(options, "strict"),
     })
 }
@@ -182,6 +198,23 @@ fn is_given(options: &ArgMatches, name: &str) -> bool
 {
     // The contract of `get_flag` leaves open what it returns for a text that is not a truth value.
     options.get_one::<bool>(name).unwrap_or(false)
+}
+
+/// Whether `--ways` was given without `--json`.
+fn lacks_json(options: &ArgMatches) -> bool
+    ensures { IsTrue result ↔ LacksJson (rows_of (found_of options.now)) }
+{
+    is_given(options, "ways") && !is_given(options, "json")
+}
+
+/// The fault for `--ways` without `--json`.
+fn ways_without_json(alloc: Global) -> TaskFault
+    ensures { IsUsageError result }
+{
+    match String::from_str(alloc, WAYS_WITHOUT_JSON) {
+        Ok(text) => TaskFault::Usage { text, asked: false },
+        Err(_) => TaskFault::Memory,
+    }
 }
 
 /// The fault for words that `clap` does not accept, with a text made from the text of `clap`. No clause says what the

@@ -17,7 +17,7 @@ use Rattle.fr_lines.specs.declared.requests.LineFault.{LineFault}
 use Rattle.fr_lines.specs.Requests.{PlainRequest, new_network, cut_link, add_link, join_nodes, make_edits, move_dest, walk_from, ask, ask_node, order_pushes, push_ways, reading}
 use Rattle.fr_route.specs.Answers.{IsAnswer, IsLineAnswer, IsText}
 use Rattle.fr_route.specs.Blank.{is_blank}
-use Rattle.fr_route.specs.Json.{IsJsonAnswer}
+use Rattle.fr_route.specs.Json.{EndsHere, IsJsonAnswer}
 use Rattle.fr_route.specs.Texts.{refusal_text}
 use Rattle.fr_route.specs.Told.{IsTold}
 use Rattle.revdot.specs.Asked.{asked_text}
@@ -203,7 +203,7 @@ answered_told s next number request answer rerouted told old one two new is_answ
 -- the same for a refused request, whose answer in JSON changes nothing
 pub refused_told : (s next last : Option State) (number : ℕ) (request : PlainRequest) (answer rerouted text old one two new : List ℕ)
     → IsAnswer s request answer next → IsTold s request next [] rerouted → starts_with eqb answer (codes "refused") ≡ true
-    → IsJsonAnswer number next request text last
+    → IsJsonAnswer EndsHere number next request text last
     → one ≡ old ++ answer_text number answer → two ≡ one ++ asked_text (Ok request) → new ≡ two ++ refusal_line text
     → (block : List ℕ) × IsAnsweredBlock s number (Ok request) block last × (new ≡ old ++ block)
 refused_told s next last number request answer rerouted text old one two new (inl (why, refused, is, same)) tells starts json e f g =
@@ -218,8 +218,8 @@ refused_told s next last number request answer rerouted text old one two new (in
       | inr (inr (pushes, asked, _, _)) ↦ absurd (asked_not_refused s request pushes why asked refused)
     ]
   where
-    json_here : IsJsonAnswer number s request text last
-    json_here = subst (λ (t : Option State). IsJsonAnswer number t request text last) same json
+    json_here : IsJsonAnswer EndsHere number s request text last
+    json_here = subst (λ (t : Option State). IsJsonAnswer EndsHere number t request text last) same json
 refused_told s next last number request answer rerouted text old one two new (inr (inl (state, accepted, is, same))) tells starts json e f g =
     absurd (both_ways (starts_with eqb answer (codes "refused")) (no_refusal state request answer is) starts)
 refused_told s next last number request answer rerouted text old one two new (inr (inr (pushes, asked, is, same))) tells starts json e f g =

@@ -3,7 +3,7 @@
 
 ghost use Rattle.std.specs.Prelude.{◌≡◌, ◌++◌, ℕ, IfOk, List, [], None, Ok, OnOk, codes, string_bytes};
 ghost use Rattle.fr_lines.specs.Requests.{plain, reading};
-ghost use Rattle.fr_route.specs.Json.{IsJsonLineAnswer};
+ghost use Rattle.fr_route.specs.Json.{EndsHere, IsJsonLineAnswer};
 ghost use Rattle.fr_route.specs.Refusals.{number_of};
 ghost use Rattle.fr_route.specs.Texts.{refusal_text};
 ghost use Rattle.revdot.specs.Stories.{IsAnsweredBlock, IsBlock, IsMark, IsStep, IsStory, answer_text, refusal_line};
@@ -15,7 +15,7 @@ use crate::rounds::{is_told, push_round, push_settled_lines};
 use fr_bytes::Lines;
 use fr_graph::Net;
 use fr_lines::{LineFault, Request, read_line};
-use fr_route::{Form, Line, Reason, Session, is_blank};
+use fr_route::{AnswerSpace, Form, Line, Reason, Session, is_blank};
 use fr_ways::WayTable;
 use std::alloc::{AllocError, Global};
 use std::fmt::Write;
@@ -153,13 +153,13 @@ fn push_refusal(
     session: &mut Session,
     line: Line<'_>,
 ) -> Result<(), AllocError>
-    ensures { OnOk result ((refusal : List ℕ) × IsJsonLineAnswer line.entry.number session.old
+    ensures { OnOk result ((refusal : List ℕ) × IsJsonLineAnswer EndsHere line.entry.number session.old
         (reading line.entry.bytes.now) refusal session.new
         × (string_bytes story.new ≡ string_bytes story.old ++ refusal_line refusal)) }
 {
-    let mut unused = Vec::new(alloc);
+    let mut space = AnswerSpace::new(alloc);
     // A blank line has no answer, and never comes here.
-    let Ok(Some(refusal)) = session.answer_line_in_alone(alloc, Form::Json, line, &mut unused)
+    let Ok(Some(refusal)) = session.answer_line_in_alone(alloc, Form::Json, line, &mut space)
     else {
         return Err(AllocError);
     };

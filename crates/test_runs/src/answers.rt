@@ -48,8 +48,8 @@ fn tell_run<R: Threads + Wait + Sync + AllocGlobal + Print>(rt: &R, input: &str)
     Some(())
 }
 
-/// `["form", form]`: a run of the lines in this form, `text` or `json`, and how many lines were answered and refused.
-/// Then whether a service writes the same.
+/// `["form", form]`: a run of the lines in this form, `text`, `json` or `json ways`, and how many lines were answered
+/// and refused. Then whether a service writes the same.
 fn tell_form<R: Threads + Wait + Sync + AllocGlobal + Print>(
     rt: &R,
     case: &Case<'_>,
@@ -57,6 +57,7 @@ fn tell_form<R: Threads + Wait + Sync + AllocGlobal + Print>(
     let form = match case.text(1)? {
         "text" => Form::Text,
         "json" => Form::Json,
+        "json ways" => Form::JsonWithWays,
         _ => return None,
     };
     tell_in(rt, form, &case.input(rt.alloc()));

@@ -41,6 +41,9 @@ fn tell_command_line<R: Print>(rt: &R, line: &CommandLine) {
     if line.json {
         tell(rt, "json");
     }
+    if line.ways {
+        tell(rt, "ways");
+    }
     if line.strict {
         tell(rt, "strict");
     }

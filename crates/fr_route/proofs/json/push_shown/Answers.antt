@@ -8,4 +8,4 @@ pub returns : goal.returns
 returns c =
     glued3 (string_bytes c.args.line.now) (string_bytes c.push_str.new.self) (string_bytes c.push_nodes.new.line) (string_bytes c.push_place.new.line)
     (codes "\",\"nodes\":[") (listed decimal c.args.refusal.now.nodes.now) (codes "]" ++ place_json c.args.refusal.now.edit)
-    c.in_ok-push_str.ensures.bytes c.in_ok-push_nodes.ensures c.in_ok-push_place.ensures
+    c.in_ok-push_str.ensures.bytes c.in_ok-push_nodes.ensures.text c.in_ok-push_place.ensures

@@ -2,7 +2,7 @@ use Rattle.std.proofs.Common.{◌≡◌, ◌∙◌, ◌++◌, List, Ok, [], appe
 use Rattle.std.proofs.lemmas.Result.{on_ok_weaker}
 use Rattle.std.specs.List.{starts_with}
 use Rattle.fr_lines.specs.Requests.{plain, reading}
-use Rattle.fr_route.specs.Json.{IsJsonLineAnswer}
+use Rattle.fr_route.specs.Json.{EndsHere, IsJsonLineAnswer}
 use Rattle.fr_route.specs.Told.{IsTold}
 use Rattle.revdot.specs.Stories.{IsRoundStory, makes_round, net_before, refusal_line}
 use Rattle.revdot.proofs.Telling.{answered_told, refused_told, round_follows}
@@ -18,7 +18,7 @@ returns-then-starts_with c =
     rw c.new-rerouted.ensures.items at c.in-Ok.ensures.told in
     let starts : starts_with eqb (string_bytes c.in-Ok.answer) (codes "refused") ≡ true = search rules in
     on_ok_weaker c.push_refusal.result
-    (λ (refusal : (text : List ℕ) × IsJsonLineAnswer c.args.line.number next (reading c.args.line.bytes.now) text last
+    (λ (refusal : (text : List ℕ) × IsJsonLineAnswer EndsHere c.args.line.number next (reading c.args.line.bytes.now) text last
     × (new ≡ two ++ refusal_line text)).
     refused_told _ next last c.args.line.number _ _ _ refusal.0 (string_bytes c.args.story.now) _ two new c.in-Ok.ensures.text tells
     starts (rw c.requires at refusal.1) c.in_ok-writeln.ensures.bytes c.in_ok-push_asked.ensures refusal.2)

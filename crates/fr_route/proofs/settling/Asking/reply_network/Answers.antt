@@ -21,7 +21,7 @@ returns-in_ok-put-in-Ok g c =
     done _ c.args.manner s (new_network n d links) c.args.told.now c.in-Ok.router c.accepted.result c.put.new.self c.put.new.told
     c.in-Ok.ensures.accepted
     (λ list. new_text c.args.manner.form s n d links c.in-Ok.router (string_bytes c.accepted.result.text)
-    (subst (λ (t : String Global). IsReportIn c.args.manner.form (AreReplaced s c.in-Ok.router) c.in-Ok.router (string_bytes t)) (sym text) (put.report list)))
+    (subst (λ (t : String Global). IsReportIn c.args.manner.form (AreReplaced s c.in-Ok.router) s c.in-Ok.router (string_bytes t)) (sym text) (put.report list)))
     c.accepted.ensures.1 put.put (λ listing. put.told listing)
     (λ e. subst (λ (t : String Global). length (string_bytes t) ≤ longest_report) (sym text) (put.short e))
 

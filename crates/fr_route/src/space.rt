@@ -1,0 +1,67 @@
+//! Memory for answers in JSON.
+
+ghost use Rattle.std.specs.Prelude.{IfOk};
+ghost use Rattle.fr_route.specs.Listing.{AsksWays, IsListing};
+
+use crate::told::Told;
+use crate::way_notes::WayNotes;
+use std::alloc::{AllocError, Global};
+use std::mem;
+
+/// Memory for answers in JSON, which is kept from one line to the next. What it contains has no meaning for the caller.
+#[derive(Debug)]
+pub struct AnswerSpace {
+    // For the rerouted nodes.
+    list: Vec<u32>,
+    // For the notes of ways. A report in [`Form::JsonWithWays`](crate::Form) needs them, and no other answer does.
+    notes: Option<Box<WayNotes>>,
+}
+
+// Written by hand: code that drops a space proves this one call. With a derived Drop it proves how each part is
+// dropped.
+impl Drop for AnswerSpace {
+    fn drop(self) {
+        let AnswerSpace { list, notes } = self;
+        drop(list);
+        drop(notes);
+    }
+}
+
+impl AnswerSpace {
+    /// No memory yet. It allocates nothing. O(1).
+    pub fn new(alloc: Global) -> AnswerSpace {
+        AnswerSpace {
+            list: Vec::new(alloc),
+            notes: None,
+        }
+    }
+
+    /// Takes the list. It comes back by `keep`.
+    pub(crate) fn listing(&mut self, alloc: Global) -> Told
+        ensures { IsListing result }
+    {
+        Told::Nodes(mem::replace(&mut self.list, Vec::new(alloc)), None)
+    }
+
+    /// Takes the list and the notes, and makes the notes if there are none yet. They come back by `keep`.
+    pub(crate) fn asking(&mut self, alloc: Global) -> Result<Told, AllocError>
+        ensures { IfOk result AsksWays }
+    {
+        let notes = match mem::replace(&mut self.notes, None) {
+            Some(notes) => notes,
+            None => Box::new(alloc, WayNotes::new(alloc)?)?,
+        };
+        let list = mem::replace(&mut self.list, Vec::new(alloc));
+        Ok(Told::Nodes(list, Some(notes)))
+    }
+
+    /// Keeps what was taken for the next line.
+    pub(crate) fn keep(&mut self, told: Told) {
+        if let Told::Nodes(list, notes) = told {
+            self.list = list;
+            if notes.is_some() {
+                self.notes = notes;
+            }
+        }
+    }
+}
