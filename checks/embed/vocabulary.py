@@ -22,6 +22,9 @@ net      | revroute_open | Network::new | Network
 pushes   | revroute_pushes | Network::pushes Session::pushes | Network.pushes Session.pushes
 shrink   | revroute_shrink | Network::shrink Session::shrink | Network.shrink Session.shrink
 grow     | revroute_grow | Network::grow Session::grow | Network.grow Session.grow
+with_ways | revroute_change_with_ways | Network::batch_with_ways | Network.batch_with_ways
+change_shrink | revroute_change_shrink | Network::change_shrink | Network.change_shrink
+change_grow | revroute_change_grow | Network::change_grow | Network.change_grow
 distance | revroute_distance revroute_node_distance | Network::distance Session::distance NodeTable::distance | Network.distance Session.distance Node.distance
 next_hop | revroute_next_hop revroute_reader_next_hop | Network::next_hop Network::try_next_hop Session::next_hop Reader::next_hop Reader::try_next_hop | Network.next_hop Session.next_hop Reader.next_hop
 changed  | revroute_changed | Network::changed Session::changed | Network.changed Session.changed

@@ -280,6 +280,15 @@ revroute_status revroute_open(revroute *session, uint32_t nodes, uint32_t dest, 
 revroute_status revroute_change(revroute *session, const revroute_edit *edits, size_t count, revroute_round *round,
                                 revroute_refusal *refusal);
 
+/* Does the same, and keeps what has to be pushed to routers that hold all their ways: revroute_change_shrink and
+ * revroute_change_grow below write it. No table of ways is needed, and only the nodes are looked at whose ways may have
+ * changed. So for routers with all their ways, this is the cheap way to make a change. Its results are those of
+ * revroute_change. The first call measures the distances of all nodes and takes memory for the notes, in O(n + m). From
+ * then on a call costs what revroute_change costs, and O(d log d) for each node whose ways may have changed and that has
+ * d links. */
+revroute_status revroute_change_with_ways(revroute *session, const revroute_edit *edits, size_t count,
+                                          revroute_round *round, revroute_refusal *refusal);
+
 /* Makes `dest` the destination. O(n + m). */
 revroute_status revroute_move_dest(revroute *session, uint32_t dest, revroute_round *round, revroute_refusal *refusal);
 
@@ -325,7 +334,8 @@ revroute_status revroute_finish(revroute *session, uint8_t *answer, size_t room,
 void revroute_close(revroute *session);
 
 /* Questions. They change nothing. revroute_walk, revroute_ways, revroute_nearest, revroute_all_ways, revroute_shrink,
- * revroute_grow, revroute_links and revroute_pushes need memory; the others do not. Like every call, a question has the session for itself while it runs.
+ * revroute_grow, revroute_change_shrink, revroute_change_grow, revroute_links and revroute_pushes need memory; the others
+ * do not. Like every call, a question has the session for itself while it runs.
  *
  * Some questions fill an array of `room` places. They write to its front, leave the rest unchanged, and write the
  * number of elements to *length. With REVROUTE_TOO_SHORT *length is that number too. After any result but
@@ -449,6 +459,20 @@ revroute_status revroute_shrink(revroute *session, const size_t *starts, size_t 
                                 size_t count, uint32_t *pushes, size_t room, size_t *length);
 revroute_status revroute_grow(revroute *session, const size_t *starts, size_t starts_count, const uint32_t *ways,
                               size_t count, uint32_t *pushes, size_t room, size_t *length);
+
+/* Pushes of ways for one change, without a table: what the last revroute_change_with_ways that was answered has to push,
+ * in the two phases and in the form of revroute_shrink and revroute_grow. These are the pushes that those two calls would
+ * write for a table with the ways before the change.
+ *
+ * Use them if your routers hold the ways that the session had before the change: if you have pushed all of each change
+ * before, and all of it is confirmed. Otherwise, and after a call that makes a change in another way or opens a network,
+ * use revroute_shrink and revroute_grow with the ways that routers may hold.
+ *
+ * Only revroute_change_with_ways and revroute_close change these pushes, so you can ask for them at any time before the
+ * next change. A change that is refused leaves them as they are. Before the first such change there is nothing to push.
+ * REVROUTE_NO_MEMORY if memory ran out; then ask again. O(p) for p numbers. */
+revroute_status revroute_change_shrink(revroute *session, uint32_t *pushes, size_t room, size_t *length);
+revroute_status revroute_change_grow(revroute *session, uint32_t *pushes, size_t room, size_t *length);
 
 /* Writes the links, ordered by tail and then by head. REVROUTE_NO_MEMORY if memory ran out. O(n + m). */
 revroute_status revroute_links(revroute *session, revroute_link *links, size_t room, size_t *length);
@@ -708,6 +732,15 @@ static inline revroute_status revroute_change_(revroute *session_, const revrout
 }
 #define revroute_change revroute_change_
 
+static inline revroute_status revroute_change_with_ways_(revroute *session_, const revroute_edit *edits_,
+                                                         size_t count_, revroute_round *round_,
+                                                         revroute_refusal *refusal_) {
+    if (REVROUTE_IS_MISSING(edits_, count_)) return REVROUTE_NULL_ARRAY;
+    return revroute_change_with_ways(session_, REVROUTE_SOME(const revroute_edit, edits_, session_), count_, round_,
+                                     refusal_);
+}
+#define revroute_change_with_ways revroute_change_with_ways_
+
 static inline revroute_status revroute_closed_walk_(revroute *session_, const revroute_edit *edits_, size_t count_,
                                                     uint32_t *nodes_, size_t room_, size_t *length_) {
     if (REVROUTE_IS_MISSING(edits_, count_) || REVROUTE_IS_MISSING(nodes_, room_)) return REVROUTE_NULL_ARRAY;
@@ -837,6 +870,20 @@ static inline revroute_status revroute_grow_(revroute *session_, const size_t *s
                          REVROUTE_SOME(uint32_t, pushes_, length_), room_, length_);
 }
 #define revroute_grow revroute_grow_
+
+static inline revroute_status revroute_change_shrink_(revroute *session_, uint32_t *pushes_, size_t room_,
+                                                      size_t *length_) {
+    if (REVROUTE_IS_MISSING(pushes_, room_)) return REVROUTE_NULL_ARRAY;
+    return revroute_change_shrink(session_, REVROUTE_SOME(uint32_t, pushes_, length_), room_, length_);
+}
+#define revroute_change_shrink revroute_change_shrink_
+
+static inline revroute_status revroute_change_grow_(revroute *session_, uint32_t *pushes_, size_t room_,
+                                                    size_t *length_) {
+    if (REVROUTE_IS_MISSING(pushes_, room_)) return REVROUTE_NULL_ARRAY;
+    return revroute_change_grow(session_, REVROUTE_SOME(uint32_t, pushes_, length_), room_, length_);
+}
+#define revroute_change_grow revroute_change_grow_
 
 static inline revroute_status revroute_links_(revroute *session_, revroute_link *links_, size_t room_,
                                               size_t *length_) {

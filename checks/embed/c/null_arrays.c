@@ -41,6 +41,7 @@ static void pass_null(void) {
     uint32_t table[] = {REVROUTE_HERE, 0, 0};
     LOOK(open(&session, 3, 0, NULL, 2, &at->round, &at->why));
     LOOK(change(&session, NULL, 1, &at->round, &at->why));
+    LOOK(change_with_ways(&session, NULL, 1, &at->round, &at->why));
     LOOK(closed_walk(&session, NULL, 1, at->nodes, 8, &at->length));
     LOOK(closed_walk(&session, edits, 1, NULL, 8, &at->length));
     LOOK(closed_walk_of(3, NULL, 2, at->nodes, 8, &at->length));
@@ -69,6 +70,8 @@ static void pass_null(void) {
     LOOK(grow(&session, NULL, 4, at->nodes, 2, at->nodes, 8, &at->length));
     LOOK(grow(&session, at->starts, 4, NULL, 2, at->nodes, 8, &at->length));
     LOOK(grow(&session, at->starts, 4, at->nodes, 2, NULL, 8, &at->length));
+    LOOK(change_shrink(&session, NULL, 8, &at->length));
+    LOOK(change_grow(&session, NULL, 8, &at->length));
     LOOK(links(&session, NULL, 8, &at->length));
     LOOK(reader_walk(&reader, 2, NULL, 8, &at->length));
     LOOK(node_hear(&node, NULL, REVROUTE_MESSAGE_LENGTH));

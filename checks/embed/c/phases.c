@@ -2,7 +2,8 @@
  *
  * There are random networks and changes. After each change the program asks what to push to routers that hold the ways
  * before it, or any lists of numbers. From the lists that revroute_all_ways writes it computes the same by the
- * definition, number by number. Then it makes the pushes of each phase in a random order. If the routers hold the ways
+ * definition, number by number. Some changes are made by revroute_change_with_ways: the session then keeps the pushes from
+ * the ways before, until the next such change, whatever else is called or refused meanwhile. Then the program makes the pushes of each phase in a random order. If the routers hold the ways
  * before a change, it looks for a cycle after each push. Each call is made with too little room too, with tables that
  * are none, and sometimes with the Nth allocation refused, for N = 1, 2, .. until the call succeeds. Arrays end where
  * the next page cannot be accessed.
@@ -167,6 +168,33 @@ static void expect(phase *call, revroute *session, const table *old, const pushe
     if (!rises && (ask(call, session, starts, starts_count, ways, count, MOST_NUMBERS, &length) != REVROUTE_NO_TABLE || length)) stop("bad starts are a table");
 }
 
+typedef revroute_status kept_phase(revroute *, uint32_t *, size_t, size_t *);
+
+static revroute_status ask_kept(kept_phase *call, revroute *session, size_t room, size_t *length) {
+    uint32_t *place = (uint32_t *)(void *)pushes_end - room;
+    for (long number = draw(4) ? 0 : 1;; number++) {
+        for (size_t at = 0; at < room; at++) place[at] = UNTOUCHED;
+        refusing_left = number;
+        revroute_status status = call(session, place, room, length);
+        bool was_refused = number && refusing_left == 0;
+        refusing_left = 0;
+        for (size_t at = status == REVROUTE_ANSWERED ? *length : 0; at < room; at++)
+            if (place[at] != UNTOUCHED) stop("more was written than the pushes that are kept");
+        if (status != REVROUTE_NO_MEMORY) return status;
+        if (!was_refused || *length) stop("want of memory was told for pushes that are kept");
+        poor++;
+    }
+}
+
+/* Asks for the pushes that the session keeps, and compares them with the wanted ones. */
+static void expect_kept(kept_phase *call, revroute *session, const pushes *wanted) {
+    size_t length = UNTOUCHED, room = wanted->length + draw(2);
+    if (ask_kept(call, session, room, &length) != REVROUTE_ANSWERED || length != wanted->length) stop("other pushes are kept");
+    if (memcmp((uint32_t *)(void *)pushes_end - room, wanted->numbers, length * sizeof *wanted->numbers)) stop("the pushes that are kept are others");
+    if (!wanted->length) return;
+    if (ask_kept(call, session, draw((uint32_t)wanted->length), &length) != REVROUTE_TOO_SHORT || length != wanted->length) stop("kept pushes fit where they do not");
+}
+
 /* Gives routers the lists of the pushes, in a random order. */
 static size_t make(const pushes *all, table *held, bool may_cycle) {
     size_t at[MOST], count = 0;
@@ -219,14 +247,31 @@ static void open_drawn(revroute *session) {
     if (revroute_open(session, nodes, draw(nodes), links, count, &round, &why) != REVROUTE_ANSWERED) stop("a network is refused");
 }
 
-static void change_drawn(revroute *session, uint32_t nodes) {
+static revroute_status change_with_ways(revroute *session, const revroute_edit *edits, size_t count) {
+    revroute_round round;
+    revroute_refusal why;
+    for (long number = draw(4) ? 0 : 1;; number++) {
+        refusing_left = number;
+        revroute_status status = revroute_change_with_ways(session, edits, count, &round, &why);
+        bool was_refused = number && refusing_left == 0;
+        refusing_left = 0;
+        if (status != REVROUTE_NO_MEMORY) return status;
+        if (!was_refused) stop("want of memory was told of a change");
+        poor++;
+    }
+}
+
+/* Returns whether the session now keeps the pushes of this change. */
+static bool change_drawn(revroute *session, uint32_t nodes) {
     static const revroute_kind kinds[] = {REVROUTE_CUT, REVROUTE_JOIN, REVROUTE_ADD};
     revroute_round round;
     revroute_refusal why;
     revroute_edit edits[3];
     for (size_t at = 0; at < 3; at++) edits[at] = (revroute_edit){kinds[draw(3)], draw(nodes), draw(nodes)};
-    if (draw(8)) revroute_change(session, edits, 1 + draw(3), &round, &why);
-    else revroute_move_dest(session, draw(nodes), &round, &why);
+    if (draw(8) == 0) revroute_move_dest(session, draw(nodes), &round, &why);
+    else if (draw(2)) revroute_change(session, edits, 1 + draw(3), &round, &why);
+    else return change_with_ways(session, edits, 1 + draw(3)) == REVROUTE_ANSWERED;
+    return false;
 }
 
 static void look_at_nothing(revroute *session) {
@@ -235,6 +280,9 @@ static void look_at_nothing(revroute *session) {
     if (ask(revroute_shrink, session, starts, 1, ways, 0, 3, &length) != REVROUTE_NO_NETWORK || length) stop("something shrinks before there is a network");
     length = UNTOUCHED;
     if (ask(revroute_grow, session, starts, 1, ways, 0, 3, &length) != REVROUTE_NO_NETWORK || length) stop("something grows before there is a network");
+    pushes none = {{0}, 0};
+    expect_kept(revroute_change_shrink, session, &none);
+    expect_kept(revroute_change_grow, session, &none);
 }
 
 int main(void) {
@@ -244,8 +292,14 @@ int main(void) {
         look_at_nothing(&session);
         open_drawn(&session);
         table held = ways_now(&session);
+        pushes first = {{0}, 0}, then = {{0}, 0};
         for (int change = 0; change < CHANGES; change++) {
-            change_drawn(&session, held.nodes);
+            if (change_drawn(&session, held.nodes)) {
+                table new = ways_now(&session);
+                first = wanted_shrinks(&held, &new), then = wanted_growths(&held, &new);
+            }
+            expect_kept(revroute_change_shrink, &session, &first);
+            expect_kept(revroute_change_grow, &session, &then);
             look(&session, &held, false);
             held = ways_now(&session);
             table any = any_table(held.nodes);

@@ -37,6 +37,8 @@ static void pass_null(revroute *session, revroute_reader *reader) {
     expect(revroute_take(session, NULL, 0, NULL, 0, &length, &taken) == REVROUTE_TOO_SHORT && !taken, "null is a buffer for a piece");
     expect(revroute_finish(session, NULL, 0, &length) == REVROUTE_TOO_SHORT, "null is a buffer for the end");
     expect(revroute_change(session, NULL, 0, &round, &why) == REVROUTE_NO_NETWORK, "a change is made of nothing");
+    expect(revroute_change_with_ways(session, NULL, 0, &round, &why) == REVROUTE_NO_NETWORK, "a change with ways is made of nothing");
+    expect(revroute_change_shrink(session, NULL, 0, &length) == REVROUTE_ANSWERED && !length, "something is kept to shrink before a network");
     expect(revroute_closed_walk_of(2, NULL, 0, NULL, 0, &length) == REVROUTE_NO_WALK, "there is a cycle of no links");
     expect(revroute_version(NULL, 0, &length) == REVROUTE_TOO_SHORT && length == strlen(REVROUTE_VERSION), "null is a text");
     expect(revroute_changed(session, NULL, 0, &length) == REVROUTE_ANSWERED && !length, "a node is rerouted before a network");
@@ -53,6 +55,9 @@ static void pass_null(revroute *session, revroute_reader *reader) {
     expect(revroute_all_ways(session, NULL, 0, NULL, 0, &length) == REVROUTE_TOO_SHORT && !length, "starts fit into null");
     expect(revroute_shrink(session, NULL, 0, NULL, 0, NULL, 0, &length) == REVROUTE_NO_TABLE && !length, "null is a table of ways that shrinks");
     expect(revroute_grow(session, NULL, 0, NULL, 0, NULL, 0, &length) == REVROUTE_NO_TABLE && !length, "null is a table of ways that grows");
+    expect(revroute_change_with_ways(session, NULL, 0, &round, &why) == REVROUTE_ANSWERED && round.cut_off == 1, "no edits are no batch with ways");
+    expect(revroute_change_shrink(session, NULL, 0, &length) == REVROUTE_ANSWERED && !length, "no edits make something shrink");
+    expect(revroute_change_grow(session, NULL, 0, &length) == REVROUTE_ANSWERED && !length, "no edits make something grow");
     expect(revroute_links(session, NULL, 0, &length) == REVROUTE_ANSWERED && !length, "there are links");
     expect(revroute_reader_open(session, reader) == REVROUTE_ANSWERED, "there is no reader");
     expect(revroute_reader_walk(reader, 1, NULL, 0, &length) == REVROUTE_TOO_SHORT && length == 1, "a walk fits into null");

@@ -36,6 +36,8 @@ revroute_status engine_report(revroute *, revroute_round *);
 revroute_status engine_changed(revroute *, uint32_t *, size_t, size_t *);
 revroute_status engine_walk(revroute *, uint32_t, uint32_t *, size_t, size_t *);
 revroute_status engine_ways(revroute *, uint32_t, uint32_t *, size_t, size_t *);
+revroute_status engine_change_with_ways(revroute *, const revroute_edit *, size_t, revroute_round *, revroute_refusal *);
+revroute_status engine_change_shrink(revroute *, uint32_t *, size_t, size_t *);
 revroute_status engine_shrink(revroute *, const size_t *, size_t, const uint32_t *, size_t, uint32_t *, size_t, size_t *);
 revroute_status engine_size(revroute *, uint32_t *, size_t *);
 revroute_status engine_take(revroute *, const uint8_t *, size_t, uint8_t *, size_t, size_t *, size_t *);
@@ -75,6 +77,8 @@ enum {
     starts_without_the_end,
     a_shrink_that_keeps_a_lost_way,
     a_grow_before_the_shrinks,
+    a_change_that_keeps_the_pushes_before,
+    kept_growths_for_kept_shrinks,
     a_report_of_another_round,
     a_destination_of_its_own,
     a_link_too_few,
@@ -275,6 +279,17 @@ revroute_status revroute_shrink(revroute *session, const size_t *starts, size_t 
     uint32_t status = engine_shrink(session, starts, starts_count, ways, count, pushes, room, length);
     if (FAULT == a_shrink_that_keeps_a_lost_way && status == REVROUTE_ANSWERED) keep_lost(starts, ways, pushes, *length);
     return status;
+}
+
+revroute_status revroute_change_with_ways(revroute *session, const revroute_edit *edits, size_t count, revroute_round *round,
+                                          revroute_refusal *refusal) {
+    if (FAULT == a_change_that_keeps_the_pushes_before) return engine_change(session, edits, count, round, refusal);
+    return engine_change_with_ways(session, edits, count, round, refusal);
+}
+
+revroute_status revroute_change_shrink(revroute *session, uint32_t *pushes, size_t room, size_t *length) {
+    if (FAULT == kept_growths_for_kept_shrinks) return revroute_change_grow(session, pushes, room, length);
+    return engine_change_shrink(session, pushes, room, length);
 }
 
 revroute_status revroute_links(revroute *session, revroute_link *links, size_t room, size_t *length) {

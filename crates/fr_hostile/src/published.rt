@@ -22,6 +22,7 @@ pub fn published<R: Alloc<A = Global> + Print + Eprint>(rt: &R, answer: &mut Ans
             reader.learn(past);
         }
         change(rt, answer, &mut session, &mut reader);
+        change_with_ways(rt, answer, &mut session);
         replace(rt, answer, &mut session, &mut reader);
     }
 }
@@ -43,6 +44,27 @@ fn change<R: Alloc<A = Global> + Print + Eprint>(
         answer.put(&session.rerouted());
         answer.put(&reader.hop(2));
     } else if session.rerouted().len() != 4 {
+        say(rt, "the list has changed");
+    }
+}
+
+/// Cuts the last node off, with what has to be pushed to routers that hold all their ways. If that fails for want of
+/// memory, there must be nothing to push.
+fn change_with_ways<R: Alloc<A = Global> + Print + Eprint>(
+    rt: &R,
+    answer: &mut Answer,
+    session: &mut PublishedSession,
+) {
+    let Some(changed) = session.change_with_ways(rt.alloc(), Change::Cut { u: 1, v: 0 }) else {
+        return;
+    };
+    if answer.told(rt, changed).is_some() {
+        answer.put(&session.rerouted());
+        answer.put(&session.shrink().nodes);
+        answer.put(&session.shrink().list);
+        answer.put(&session.grow().nodes);
+        answer.put(&session.grow().list);
+    } else if session.rerouted().len() != 2 || !session.shrink().nodes.is_empty() {
         say(rt, "the list has changed");
     }
 }

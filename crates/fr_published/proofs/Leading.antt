@@ -5,7 +5,7 @@ use Rattle.std.proofs.lemmas.Bool.{cases_lt}
 use Rattle.std.proofs.lemmas.List.{ext_get_or, get_or_past, length-replicate, replicate-append-replicate}
 use Rattle.std.proofs.lemmas.Option.{get_or_from_slice_get, slice_get-get_or, slice_get_within}
 use Rattle.fr_graph.specs.Limits.{most_nodes}
-use Rattle.fr_route.specs.Changes.{IsChanged}
+use Rattle.fr_route.specs.Changes.{IsChanged, MayLackMemory}
 use Rattle.fr_route.specs.Reroutes.{AreHopsIn, AreReplaced, AreRerouted, nodes_in}
 use Rattle.fr_route.specs.Routes.{AreHops, IsHop}
 use Rattle.fr_route.specs.States.{State, IsAfterRound, net_at}
@@ -13,6 +13,7 @@ use Rattle.fr_route.specs.declared.change.Change.{Change}
 use Rattle.fr_route.specs.declared.change.Change.TheVariants.{Cut, Add, Join, Batch, Destination}
 use Rattle.fr_route.proofs.Changing.{joined_nodes, made_nodes}
 use Rattle.fr_route.proofs.Determined.{one_hop}
+use Rattle.fr_route.proofs.PushLengths.{order_short}
 use Rattle.fr_route.proofs.SettledHops.{outside_cut, settled_table}
 use Rattle.fr_tables.specs.Pushes.{IsPushOrder}
 use Rattle.fr_tables.specs.declared.hop.Hop.{Hop}
@@ -146,3 +147,18 @@ can_publish s t settled settled' nodes by k has = record {
       (λ same. inl (subst (λ (u : Option State). AreHopsIn u most_nodes (last_table k)) (sym same) has.are))
       (λ l. inr (leads_to s t settled settled' k has nodes l)) by;
 }
+
+-- no more nodes are rerouted than there are
+pub rerouted_short : (s : State) (change : Change) (next : State) (nodes : List ℕ) → IsChanged s change next → AreRerouted s next nodes
+    → length nodes ≤ s.nodes
+rerouted_short s change next nodes changed is =
+    let same = changed_nodes s change next changed in
+    omega (arith, order_short is.before is.after nodes (is.were.one_each ∙ sym (is.are.one_each ∙ same)) is.order, is.are.one_each, same)
+
+-- a change with a fault that is tested without memory is not made
+pub needs_memory : (s : State) (change : Change) (next : State) → IsChanged s change next → MayLackMemory s change
+needs_memory s (Cut u v) next is = tt
+needs_memory s (Add u v) next is = tt
+needs_memory s (Join u v) next is = tt
+needs_memory s (Batch edits) next is = is.0
+needs_memory s (Destination d) next is = is.0

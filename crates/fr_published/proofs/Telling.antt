@@ -21,8 +21,8 @@ use Rattle.fr_route.specs.declared.fault.RouteFault.TheVariants.{Start as RouteS
 use Rattle.fr_route.proofs.Changing.{made_nodes}
 use Rattle.fr_shared.specs.Knowledge.{Knowledge}
 use Rattle.fr_shared_ways.specs.Knowledge.{Knowledge as WayKnowledge}
-use Rattle.fr_published.specs.Answers.{AnswersLine, MakesChange}
-use Rattle.fr_published.specs.Published.{HasHopsOf, HasWaysOf, published}
+use Rattle.fr_published.specs.Answers.{AnswersLine, ChangesRouter, MakesChange}
+use Rattle.fr_published.specs.Published.{HasHopsOf, HasWaysOf, WayPushes, published}
 use Rattle.fr_published.specs.Publishing.{IsSettled, IsSettledSession, PublishesIn, PublishesWaysIn}
 use Rattle.fr_published.proofs.Bringing.{left_in}
 use Rattle.fr_published.proofs.FirstWays.{ways_left_in}
@@ -84,79 +84,92 @@ answer_leads s next settled settled' line (Ok (Some text)) before after blank fa
     line_leads s next settled settled' (reading line) before after told.answered
 answer_leads s next settled settled' line (Err why) before after blank fault told = inl fault.1
 
+-- the clauses of a call that changes a router
+pub router_changed : {s next : State} {change : Change} {answer : Result Report RouteFault}
+    → IfOk answer (λ _. IsChanged s change next) → IfOk answer (λ report. IsReport next report.turned report.cut)
+    → IfErr answer (IsRouteFault s change) → OnErr answer (next ≡ s) → IfErr answer (λ fault. fault ≢ RouteStart)
+    → ChangesRouter s change answer next
+router_changed changed report fault unchanged no_start =
+    record { changed = changed; report = report; fault = fault; unchanged = unchanged; no_start = no_start }
+
+pub same_pushes : (answer : Result Report RouteFault) (ps : WayPushes) → OnErr answer (ps ≡ ps)
+same_pushes (Ok report) ps = tt
+same_pushes (Err why) ps = refl
+
 -- so does a change
 pub change_leads : (s next : State) → IsSettled s → (change : Change) (answer : Result Report RouteFault) (before after : List ℕ)
-    → IfOk answer (λ _. IsChanged s change next) → OnErr answer (next ≡ s) → TellsRerouted s answer next before after
+    → ChangesRouter s change answer next → TellsRerouted s answer next before after
     → (Some next ≡ Some s) ⊎ Leads (Some s) (Some next) after
-change_leads s next settled change (Ok report) before after changed fault told =
-    inr (rerouted_leads s next after settled (changed_nodes s change next changed) told.rerouted)
-change_leads s next settled change (Err why) before after changed fault told = inl (ap Some fault)
+change_leads s next settled change (Ok report) before after changes told =
+    inr (rerouted_leads s next after settled (changed_nodes s change next changes.changed) told.rerouted)
+change_leads s next settled change (Err why) before after changes told = inl (ap Some changes.unchanged)
 
 -- The answers of a session and its router, with publishing
 
 module _ (s s' : Option State) (nodes nodes' : List ℕ) (t t' : Option Knowledge) (w w' : Option WayKnowledge) where
-  -- what leaves the session and the list unchanged leaves the table unchanged
-  all_left : IfSome t (HasHopsOf s) → PublishesIn t s' nodes' t' → IfSome w (HasWaysOf s) → PublishesWaysIn w s' w'
-      → s' ≡ s → nodes' ≡ nodes → published s' nodes' t' w' ≡ published s nodes t w
-  all_left has p had q same list =
+  -- what leaves the session, the list and the pushes unchanged leaves the tables unchanged
+  all_left : (ps ps' : WayPushes) → ps' ≡ ps → IfSome t (HasHopsOf s) → PublishesIn t s' nodes' t' → IfSome w (HasWaysOf s) → PublishesWaysIn w s' w'
+      → s' ≡ s → nodes' ≡ nodes → published s' nodes' t' w' ps' ≡ published s nodes t w ps
+  all_left ps ps' left has p had q same list =
       let kept : t' ≡ t = left_in t s' nodes' t' (subst (λ (u : Option State). IfSome t (HasHopsOf u)) (sym same) has) p in
       let kept_ways : w' ≡ w = ways_left_in w s' w' (subst (λ (u : Option State). IfSome w (HasWaysOf u)) (sym same) had) q in
-      λ i. record { session = same i; rerouted = list i; table = kept i; ways = kept_ways i }
+      λ i. record { session = same i; rerouted = list i; table = kept i; ways = kept_ways i; pushes = left i }
 
-  pub line_answered : IfSome t (HasHopsOf s) → PublishesIn t s' nodes' t' → IfSome w (HasWaysOf s) → PublishesWaysIn w s' w'
+  pub line_answered : (ps : WayPushes) → IfSome t (HasHopsOf s) → PublishesIn t s' nodes' t' → IfSome w (HasWaysOf s) → PublishesWaysIn w s' w'
       → (line : List ℕ) (answer : Result (Option (String Global)) AnswerFault)
       → IfOk answer (λ a. IfNone a ((is_blank line ≡ true) × (s' ≡ s)))
       → IfOk answer (λ a. IfSome a (λ text. (is_blank line ≡ false) × IsLineAnswer s (reading line) (string_bytes text) s'))
       → TellsOfLine s (reading line) answer s' nodes nodes' → OnErr answer ((is_blank line ≡ false) × (s' ≡ s))
       → IfOk answer (λ a. IfSome a (λ text. ((s' ≡ s) × (nodes' ≡ nodes)) ⊎ (length (string_bytes text) ≤ longest_report)))
-      → IfErr answer (λ fault. fault ≢ Start) → AnswersLine (published s nodes t w) line answer (published s' nodes' t' w')
-  line_answered has p had q line (Ok None) blank text told fault short no_start = record {
-    blank = (blank.0, all_left has p had q blank.1 told.blank);
+      → IfErr answer (λ fault. fault ≢ Start) → AnswersLine (published s nodes t w ps) line answer (published s' nodes' t' w' ps)
+  line_answered ps has p had q line (Ok None) blank text told fault short no_start = record {
+    blank = (blank.0, all_left ps ps refl has p had q blank.1 told.blank);
     text = tt;
     told = told;
     published = p;
     ways = q;
+    pushes = refl;
     short = tt;
     unchanged = tt;
     no_start = tt;
   }
-  line_answered has p had q line (Ok (Some answer)) blank text told fault short no_start = record {
+  line_answered ps has p had q line (Ok (Some answer)) blank text told fault short no_start = record {
     blank = tt;
     text = text;
     told = told;
     published = p;
     ways = q;
-    short = ⊎_elim (λ same. inl (all_left has p had q same.0 same.1)) (λ few. inr few) short;
+    pushes = refl;
+    short = ⊎_elim (λ same. inl (all_left ps ps refl has p had q same.0 same.1)) (λ few. inr few) short;
     unchanged = tt;
     no_start = tt;
   }
-  line_answered has p had q line (Err why) blank text told fault short no_start = record {
+  line_answered ps has p had q line (Err why) blank text told fault short no_start = record {
     blank = tt;
     text = tt;
     told = told;
     published = p;
     ways = q;
+    pushes = refl;
     short = tt;
-    unchanged = (fault.0, all_left has p had q fault.1 told.fault);
+    unchanged = (fault.0, all_left ps ps refl has p had q fault.1 told.fault);
     no_start = no_start;
   }
 
 module _ (s s' : State) (nodes nodes' : List ℕ) (t t' : Option Knowledge) (w w' : Option WayKnowledge) where
-  pub change_made : IfSome t (HasHopsOf (Some s)) → PublishesIn t (Some s') nodes' t' → IfSome w (HasWaysOf (Some s))
+  pub change_made : (ps ps' : WayPushes) → IfSome t (HasHopsOf (Some s)) → PublishesIn t (Some s') nodes' t' → IfSome w (HasWaysOf (Some s))
       → PublishesWaysIn w (Some s') w' → (change : Change) (answer : Result Report RouteFault)
-      → IfOk answer (λ _. IsChanged s change s') → IfOk answer (λ report. IsReport s' report.turned report.cut)
-      → TellsRerouted s answer s' nodes nodes' → IfErr answer (IsRouteFault s change) → OnErr answer (s' ≡ s)
-      → IfErr answer (λ fault. fault ≢ RouteStart)
-      → MakesChange (published (Some s) nodes t w) change (Some answer) (published (Some s') nodes' t' w')
-  change_made has p had q change (Ok report) changed is_report told fault unchanged no_start = record {
+      → ChangesRouter s change answer s' → TellsRerouted s answer s' nodes nodes' → OnErr answer (ps' ≡ ps)
+      → MakesChange (published (Some s) nodes t w ps) change (Some answer) (published (Some s') nodes' t' w' ps')
+  change_made ps ps' has p had q change (Ok report) changes told left = record {
     none = tt;
     made = record {
       before = s;
       after = s';
       was = refl;
       is = refl;
-      changed = changed;
-      report_is = is_report;
+      changed = changes.changed;
+      report_is = changes.report;
       rerouted = told.rerouted;
     };
     fault = tt;
@@ -164,11 +177,11 @@ module _ (s s' : State) (nodes nodes' : List ℕ) (t t' : Option Knowledge) (w w
     published = p;
     ways = q;
   }
-  change_made has p had q change (Err why) changed is_report told fault unchanged no_start = record {
+  change_made ps ps' has p had q change (Err why) changes told left = record {
     none = tt;
     made = tt;
-    fault = record { before = s; was = refl; refused = fault; no_start = no_start };
-    unchanged = all_left (Some s) (Some s') nodes nodes' t t' w w' has p had q (ap Some unchanged) told.untold;
+    fault = record { before = s; was = refl; refused = changes.fault; no_start = changes.no_start };
+    unchanged = all_left (Some s) (Some s') nodes nodes' t t' w w' ps ps' left has p had q (ap Some changes.unchanged) told.untold;
     published = p;
     ways = q;
   }

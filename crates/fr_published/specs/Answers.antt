@@ -17,7 +17,7 @@ use Rattle.fr_route.specs.declared.fault.AnswerFault.{AnswerFault}
 use Rattle.fr_route.specs.declared.fault.AnswerFault.TheVariants.{Start}
 use Rattle.fr_route.specs.declared.fault.RouteFault.{RouteFault}
 use Rattle.fr_route.specs.declared.fault.RouteFault.TheVariants.{Start as RouteStart}
-use Rattle.fr_published.specs.Published.{Published}
+use Rattle.fr_published.specs.Published.{LeadsBetween, Published}
 use Rattle.fr_published.specs.Publishing.{PublishesTo, PublishesWaysTo}
 
 -- a line is answered, and the nodes that it reroutes and the ways are published; a blank line has no answer
@@ -30,6 +30,7 @@ pub record AnswersLine
   pub told : TellsOfLine old.session (reading line) answer new.session old.rerouted new.rerouted
   pub published : PublishesTo old.table new
   pub ways : PublishesWaysTo old.ways new
+  pub pushes : new.pushes ≡ old.pushes
   -- if the answer is longer than any report, nothing has changed
   pub short : IfOk answer (λ a. IfSome a (λ text. (new ≡ old) ⊎ (length (string_bytes text) ≤ longest_report)))
   pub unchanged : OnErr answer ((is_blank line ≡ false) × (new ≡ old))
@@ -63,10 +64,24 @@ pub record MakesChange
   pub published : PublishesTo old.table new
   pub ways : PublishesWaysTo old.ways new
 
+-- the pushes of both phases are those of a change that was made
+abbrev pub NotesPushes : Published → Option (Result Report RouteFault) → Published → Type 0
+NotesPushes old answer new =
+    IfSome answer (λ a. IfOk a (λ _. LeadsBetween old.session new.session new.pushes))
+
+-- a router is changed, with this report of its round
+pub record ChangesRouter (s : State) (change : Change) (answer : Result Report RouteFault) (next : State) : Type 0 where
+  pub changed : IfOk answer (λ _. IsChanged s change next)
+  pub report : IfOk answer (λ report. IsReport next report.turned report.cut)
+  pub fault : IfErr answer (IsRouteFault s change)
+  pub unchanged : OnErr answer (next ≡ s)
+  pub no_start : IfErr answer (λ fault. fault ≢ RouteStart)
+
 -- a router replaces the one before it, if there was one, and the nodes that it reroutes and the ways are published
 pub record PutsRouter (old : Published) (router : State) (answer : Result (Unit {0}) AllocError)
     (new : Published) : Type 0 where
   pub put : OnOk answer (new.session ≡ Some router)
+  pub pushes : new.pushes ≡ old.pushes
   pub rerouted : OnOk answer (AreReplaced old.session router new.rerouted)
   pub published : PublishesTo old.table new
   pub ways : PublishesWaysTo old.ways new

@@ -1,13 +1,19 @@
 -- The values of a `PublishedSession` and of its table of ways in contracts. For proofs only.
-use Rattle.std.specs.Prelude.{◌≡◌, IfSome, length}
+use Rattle.std.specs.Prelude.{◌≡◌, IfSome, length, Option, Some, None}
 use Rattle.fr_graph.specs.Limits.{most_nodes}
+use Rattle.fr_route.specs.Reroutes.{Rerouted}
 use Rattle.fr_shared_ways.specs.Knowledge.{Knowledge as WayKnowledge}
 use Rattle.fr_published.specs.declared.ways.WayTables.TheInside.{Inside as InTables}
-use Rattle.fr_published.specs.Published.{HasHopsOf, HasWaysOf, Published, published}
+use Rattle.fr_published.specs.Published.{HasHopsOf, HasWaysOf, Published, WayPushes, no_pushes, published}
 use Rattle.fr_published.specs.declared.session.PublishedSession.TheInside.{Inside}
 
+-- the pushes of the reroutes that a session keeps; none before there are any
+abbrev pub pushes_in : Option Rerouted → WayPushes
+pushes_in None = no_pushes
+pushes_in (Some r) = record { shrink = r.shrink; grow = r.grow }
+
 abbrev pub published_in : Inside → Published
-published_in p = published p.session p.rerouted.items p.publisher p.ways
+published_in p = published p.session p.rerouted.items p.publisher p.ways (pushes_in p.reroutes)
 
 -- the tables have what the session has
 pub record IsInStep (p : Inside) : Type 0 where

@@ -4,21 +4,39 @@ use Rattle.fr_graph.specs.Limits.{most_nodes}
 use Rattle.fr_route.specs.Reroutes.{AreHopsIn}
 use Rattle.fr_route.specs.States.{State}
 use Rattle.fr_route.specs.NodeWays.{AreNodeWays}
+use Rattle.fr_route.specs.WayPushes.{AreWayChanges}
 use Rattle.fr_shared.specs.Knowledge.{Knowledge, last_table}
 use Rattle.fr_ways.specs.Ways.{ways}
 use Rattle.fr_shared_ways.specs.Histories.{blank}
 use Rattle.fr_shared_ways.specs.Knowledge.{Knowledge as WayKnowledge, last_table as last_ways}
 
--- the session, the nodes that its last accepted round rerouted, and, once there are readers of hops or of ways, their
--- tables with all pushes
+-- what has to be pushed to routers that hold all their ways: first nodes shrink, and then nodes grow
+pub record WayPushes : Type 0 where
+  pub shrink : List (ℕ × List ℕ)
+  pub grow : List (ℕ × List ℕ)
+
+abbrev pub no_pushes : WayPushes
+no_pushes = record { shrink = []; grow = [] }
+
+-- the session, the nodes that its last accepted round rerouted, once there are readers of hops or of ways, their tables
+-- with all pushes, and the pushes of the last change for which a caller asked for them
 pub record Published : Type 0 where
   pub session : Option State
   pub rerouted : List ℕ
   pub table : Option Knowledge
   pub ways : Option WayKnowledge
+  pub pushes : WayPushes
 
-abbrev pub published : Option State → List ℕ → Option Knowledge → Option WayKnowledge → Published
-published s nodes t w = record { session = s; rerouted = nodes; table = t; ways = w }
+abbrev pub published : Option State → List ℕ → Option Knowledge → Option WayKnowledge → WayPushes → Published
+published s nodes t w p = record { session = s; rerouted = nodes; table = t; ways = w; pushes = p }
+
+-- the pushes lead from the ways of all nodes in one session to those in another
+pub record LeadsBetween (old new : Option State) (p : WayPushes) : Type 0 where
+  pub before : State
+  pub after : State
+  pub was : old ≡ Some before
+  pub is : new ≡ Some after
+  pub changes : AreWayChanges before after p.shrink p.grow
 
 -- the table has as many nodes as the largest network, and the hops of the session. A number that is not a node is cut
 -- off

@@ -11,6 +11,7 @@
 //! Costs are for n nodes. They are read off the code, not proved.
 #![tactic(auto)]
 
+mod noting;
 mod publishing;
 mod session;
 #[cfg(test)]

@@ -1,30 +1,36 @@
 //! A session whose next hops and ways other threads read.
 
 ghost use Rattle.std.specs.Prelude.{◌≡◌, ◌↔◌, ◌<◌, [], None, Some, IfErr, IfOk, IfSome, OnErr, OnOk};
-ghost use Rattle.fr_published.specs.Answers.{AnswersLine, MakesChange, PutsRouter};
-ghost use Rattle.fr_published.specs.Published.{HasHopsOf, HasWaysOf, published};
+ghost use Rattle.fr_published.specs.Answers.{AnswersLine, MakesChange, NotesPushes, PutsRouter};
+ghost use Rattle.fr_published.specs.Published.{HasHopsOf, HasWaysOf, no_pushes, published};
 ghost use Rattle.std.specs.Option.{option_map};
 ghost use Rattle.fr_shared.specs.Knowledge.{past_of};
 ghost use Rattle.fr_shared_ways.specs.Knowledge.{past_of as ways_past_of};
+ghost use Rattle.fr_ways.specs.PushLists.{AreListed};
 ghost use Rattle.fr_route.specs.NodeWays.{AreNodeWays, HasDistance, IsNearest};
 ghost use Rattle.fr_route.specs.declared.fault.RouteFault.TheVariants.{Memory};
 
+use crate::noting::{change_noting, nothing};
 use crate::publishing::{opened, publish, replaced, session_law};
 use crate::ways::{WayTables, publish_ways};
-use fr_route::{AnswerFault, Change, Report, RouteFault, Router, Session, Walked};
+use fr_route::{AnswerFault, Change, Report, Reroutes, RouteFault, Router, Session, Walked};
 use fr_shared::{Past, Publisher, Reader};
 use fr_shared_ways as shared_ways;
+use fr_ways::PushList;
 use std::alloc::{AllocError, Global};
 use std::marker::Model;
 
 /// A session whose next hops and ways other threads read. The value in contracts is the state of the session, the nodes
-/// that its last accepted round rerouted, and, once there are readers of hops or of ways, their tables with all pushes.
+/// that its last accepted round rerouted, once there are readers of hops or of ways, their tables with all pushes, and
+/// the pushes of both phases of the last change that
+/// [`change_with_ways`](PublishedSession::change_with_ways) made.
 #[derive(Drop)]
 pub struct PublishedSession {
     session: Session,
     rerouted: Vec<u32>,
     publisher: Option<Publisher>,
     ways: Option<WayTables>,
+    reroutes: Option<Reroutes>,
 }
 
 impl Model for PublishedSession {
@@ -42,13 +48,14 @@ impl Model for PublishedSession {
 impl PublishedSession {
     /// A session without a network and without readers. It does not allocate. O(1).
     pub fn new(alloc: Global) -> PublishedSession
-        ensures { result ≡ published None [] None None }
+        ensures { result ≡ published None [] None None no_pushes }
     {
         PublishedSession {
             session: Session::new(),
             rerouted: Vec::new(alloc),
             publisher: None,
             ways: None,
+            reroutes: None,
         }
     }
 
@@ -64,6 +71,31 @@ impl PublishedSession {
         ensures { result.now ≡ self.now.rerouted }
     {
         &self.rerouted
+    }
+
+    /// What to push first to routers that hold all their ways, once
+    /// [`change_with_ways`](PublishedSession::change_with_ways) has made a change: the nodes that lose ways, each with
+    /// those that it keeps, in the order of [`Reroutes::shrink`]. It is empty before the first such change. No other
+    /// call changes it, so after another change or a new network it is about an earlier one. O(1).
+    pub fn shrink(&self) -> PushList<'_>
+        ensures { AreListed self.now.pushes.shrink result }
+    {
+        match &self.reroutes {
+            Some(reroutes) => reroutes.shrink(),
+            None => nothing(),
+        }
+    }
+
+    /// What to push once routers have confirmed all pushes of [`shrink`](PublishedSession::shrink): the nodes whose list
+    /// still differs, each with its new list, in the order of [`Reroutes::grow`]. All else is as for
+    /// [`shrink`](PublishedSession::shrink).
+    pub fn grow(&self) -> PushList<'_>
+        ensures { AreListed self.now.pushes.grow result }
+    {
+        match &self.reroutes {
+            Some(reroutes) => reroutes.grow(),
+            None => nothing(),
+        }
     }
 
     /// Between two calls, the tables of the readers have the hops and the ways of the session. The function does
@@ -85,7 +117,7 @@ impl PublishedSession {
     /// allocate.
     pub fn reader(&mut self, alloc: Global) -> Result<Reader, AllocError>
         ensures session { (self.new.session ≡ self.old.session) × (self.new.rerouted ≡ self.old.rerouted)
-            × (self.new.ways ≡ self.old.ways) }
+            × (self.new.ways ≡ self.old.ways) × (self.new.pushes ≡ self.old.pushes) }
         ensures kept { IfSome self.old.table (λ k. self.new.table ≡ Some k) }
         ensures reader { IfOk result (λ reader. self.new.table ≡ Some reader) }
         ensures unchanged { OnErr result (self.new ≡ self.old) }
@@ -109,7 +141,7 @@ impl PublishedSession {
     /// one takes O(1) time and does not allocate.
     pub fn way_reader(&mut self, alloc: Global) -> Result<shared_ways::Reader, AllocError>
         ensures session { (self.new.session ≡ self.old.session) × (self.new.rerouted ≡ self.old.rerouted)
-            × (self.new.table ≡ self.old.table) }
+            × (self.new.table ≡ self.old.table) × (self.new.pushes ≡ self.old.pushes) }
         ensures kept { IfSome self.old.ways (λ k. self.new.ways ≡ Some k) }
         ensures reader { IfOk result (λ reader. self.new.ways ≡ Some reader) }
         ensures unchanged { OnErr result (self.new ≡ self.old) }
@@ -215,11 +247,44 @@ impl PublishedSession {
     /// are those of [`change_telling_alone`](fr_route::Router::change_telling_alone). Returns `None` if there is no
     /// network yet. It publishes the ways as [`answer_line`](PublishedSession::answer_line) does, at the same cost.
     pub fn change(&mut self, alloc: Global, change: Change) -> Option<Result<Report, RouteFault>>
-        ensures { MakesChange self.old change result self.new }
+        ensures changes { MakesChange self.old change result self.new }
+        ensures pushes { self.new.pushes ≡ self.old.pushes }
     {
         session_law(&self.session);
         let router = self.session.router_mut()?;
         let answer = router.change_telling_alone(alloc, change, &mut self.rerouted);
+        session_law(&self.session);
+        publish(&mut self.publisher, &self.session, &self.rerouted);
+        publish_ways(&mut self.ways, &mut self.session);
+        Some(answer)
+    }
+
+    /// Changes the network as [`change`](PublishedSession::change) does, and keeps what has to be pushed to routers that
+    /// hold all their ways, for [`shrink`](PublishedSession::shrink) and [`grow`](PublishedSession::grow). These are the
+    /// pushes that [`phases`](fr_route::Router::phases) lists from the ways before the change. If the change fails, the
+    /// pushes of the change before are kept.
+    ///
+    /// The cost is that of
+    /// [`change_telling_ways_alone`](fr_route::Router::change_telling_ways_alone), and one step for each rerouted node.
+    /// The first call takes the memory for the notes, and all later ones use it again. It publishes the ways to readers
+    /// as [`answer_line`](PublishedSession::answer_line) does, at the same cost.
+    pub fn change_with_ways(
+        &mut self,
+        alloc: Global,
+        change: Change,
+    ) -> Option<Result<Report, RouteFault>>
+        ensures changes { MakesChange self.old change result self.new }
+        ensures pushes { NotesPushes self.old result self.new }
+    {
+        session_law(&self.session);
+        let router = self.session.router_mut()?;
+        let answer = change_noting(
+            alloc,
+            router,
+            change,
+            &mut self.rerouted,
+            &mut self.reroutes,
+        );
         session_law(&self.session);
         publish(&mut self.publisher, &self.session, &self.rerouted);
         publish_ways(&mut self.ways, &mut self.session);

@@ -10,7 +10,7 @@ use Rattle.revroute_c.specs.contracts.handle.Handle.{the_row}
 
 -- the value of a handle
 abbrev pub held_by : Handle → Held
-held_by h = held h.session h.rerouted h.table h.begun
+held_by h = held h.session h.rerouted h.table h.pushes h.begun
 
 -- the handle is null, and has the value of null
 pub record IsNull (h : Handle) : Type 0 where
@@ -24,7 +24,8 @@ pub record IsUnchanged (old new : Handle) : Type 0 where
 
 -- the same handle with this engine
 abbrev pub with_engine : Handle → Held → Handle
-with_engine h e = record h { session = e.session; rerouted = e.rerouted; table = e.table; begun = e.begun }
+with_engine h e =
+    record h { session = e.session; rerouted = e.rerouted; table = e.table; pushes = e.pushes; begun = e.begun }
 
 -- the handle ends with the last value of the lent engine, and is otherwise unchanged; it is unchanged if nothing was
 -- lent

@@ -53,6 +53,7 @@ pub record AnswersEnd (piece : List ℕ) (old new : Held) (taken : ℕ) (o : Out
   pub told : IsLineTold old.session (reading line) new.session old.rerouted new.rerouted
   -- they are pushed to the readers
   pub published : PublishesTo old.table (published_of new)
+  pub pushes : new.pushes ≡ old.pushes
 
 -- a call takes `taken` bytes of the piece, and answers the line that ends there; the engine changes from `old` to `new`
 pub record TakesPiece (piece : List ℕ) (old new : Held) (taken : ℕ) (o : Outcome ℕ) : Type 0 where

@@ -8,6 +8,7 @@ use Rattle.revroute_c.specs.Engines.{Held}
 pub record OpensTable (old new : Held) : Type 0 where
   pub session : new.session ≡ old.session
   pub rerouted : new.rerouted ≡ old.rerouted
+  pub pushes : new.pushes ≡ old.pushes
   pub begun : new.begun ≡ old.begun
   pub table : IfSome old.table (λ k. new.table ≡ Some k)
   -- if there is a table now, it has the hops of the session

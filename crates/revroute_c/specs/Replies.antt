@@ -78,6 +78,7 @@ pub record AnswersLine (line : List ℕ) (old new : Held) (o : Outcome ℕ) : Ty
   pub no_memory : o.status ≡ REVROUTE_NO_MEMORY → o.size ≡ 0
   -- they are pushed to the readers
   pub published : o.status ≡ REVROUTE_ANSWERED → PublishesTo old.table (published_of new)
+  pub pushes : new.pushes ≡ old.pushes
   pub unchanged : ¬ (o.status ≡ REVROUTE_ANSWERED) → (published_of new ≡ published_of old) × (o.after ≡ o.before)
   pub room : length o.before < least_room → o.status ≡ REVROUTE_TOO_SHORT
   pub status : o.status ≤ REVROUTE_NO_MEMORY

@@ -1,7 +1,7 @@
 -- The results of the calls that begin a round, and why they are refused. The requests are those of the lines. This
 -- project's own.
 use Rattle.std.specs.Prelude.{◌≡◌, ℕ, ◌<◌, ◌≤◌, ◌⊎◌, List, [], ◌∷◌, length, map, position, slice_get}
-use Rattle.std.specs.Prelude.{Option, Some, None}
+use Rattle.std.specs.Prelude.{Bool, false, true, Option, Some, None}
 use Rattle.fr_graph.specs.Batches.{IsRefusedAt}
 use Rattle.fr_graph.specs.Evidence.{NamesFirst, NamesInBatch}
 use Rattle.fr_graph.specs.Faults.{IsFaultless, IsFirstFault}
@@ -13,6 +13,7 @@ use Rattle.fr_graph.specs.declared.fault.NetFault.TheVariants.{TooMany, Range, S
 use Rattle.fr_route.specs.Answers.{IsAccepted, fault_number}
 use Rattle.fr_route.specs.States.{State, IsReport, net_at}
 use Rattle.fr_route.specs.Told.{TellsOf}
+use Rattle.fr_published.specs.Published.{LeadsBetween}
 use Rattle.fr_published.specs.Publishing.{PublishesTo}
 use Rattle.revroute_c.specs.Engines.{Held, published_of}
 use Rattle.revroute_c.specs.Records.{AreKnown, edit_of, is_unknown}
@@ -58,6 +59,13 @@ pub record BeginsRound
   pub unrefused : ¬ (o.status ≡ REVROUTE_REFUSED) → o.refusal_after ≡ o.refusal_before
   -- the bytes of a line that has begun are unchanged
   pub begun : new.begun ≡ old.begun
+
+-- what a call does to the pushes that the session keeps: if the caller asks for them and the change is made, they are
+-- those of this change, and otherwise they are unchanged
+abbrev pub KeepsPushes : Bool → ℕ → Held → Held → Type 0
+KeepsPushes with_ways status old new =
+    (with_ways ≡ true → status ≡ REVROUTE_ANSWERED → LeadsBetween old.session new.session new.pushes)
+    × (with_ways ≡ false → new.pushes ≡ old.pushes)
 
 -- the first step along a cycle
 abbrev pub first_step : List ℕ → ℕ × ℕ

@@ -9,8 +9,9 @@ use std::alloc::Global;
 use std::marker::Model;
 
 /// What the handle of a session points to: the session, the nodes that its last accepted round rerouted, the table of
-/// its readers, and the bytes of a line that has begun. The list of ways belongs to no value: it is the room in which a
-/// question puts the ways of a node together, so that the next question does not allocate.
+/// its readers, the pushes of the last change that a caller asked for, and the bytes of a line that has begun. The list
+/// of ways belongs to no value: it is the room in which a question puts the ways of a node together, so that the next
+/// question does not allocate.
 #[derive(Drop)]
 pub(crate) struct Engine {
     pub(crate) published: PublishedSession,

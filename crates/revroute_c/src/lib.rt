@@ -11,10 +11,11 @@ ghost use Rattle.fr_graph.specs.Faults.{PassFirstTests};
 ghost use Rattle.fr_graph.specs.Limits.{most_edits};
 ghost use Rattle.fr_lines.specs.Requests.{make_edits, move_dest, new_network};
 ghost use Rattle.fr_route.specs.States.{IsReport};
+ghost use Rattle.fr_published.specs.Published.{LeadsBetween, no_pushes};
 ghost use Rattle.revroute_c.specs.ClosedWalks.{HasNoWalkOfChange, HasNoWalkOfNetwork};
 ghost use Rattle.revroute_c.specs.ClosedWalks.{IsWalkOfChange, IsWalkOfNetwork};
 ghost use Rattle.revroute_c.specs.Lending.{held_by, IsUnchanged};
-ghost use Rattle.revroute_c.specs.Phases.{AreGrowths, AreShrinks, HoldNoTable};
+ghost use Rattle.revroute_c.specs.Phases.{AreGrowths, AreShrinks, HoldNoTable, numbers_of};
 ghost use Rattle.revroute_c.specs.Pieces.{TakesPiece};
 ghost use Rattle.revroute_c.specs.PushOrders.{OrdersPushes};
 ghost use Rattle.revroute_c.specs.Questions.{AreCounts, AreHopsWritten, AreAsManyAsNodes, AreLinks};
@@ -57,7 +58,7 @@ use closed_walks::{walk_of_change, walk_of_network};
 use fr_route::{VERSION, is_blank};
 use handle::Handle;
 use link_faults::early_fault;
-use phases::{Asked, Phase, way_pushes_in};
+use phases::{Asked, Phase, hand_out_pushes, way_pushes_in};
 use pieces::{finish_line, take_anew, take_front};
 use push_orders::{Tables, order_of};
 use questions::{
@@ -68,7 +69,7 @@ use reader_opening::{reader_anew, reader_in};
 use readers::{copied, hop_read, walk_read};
 use records::{Link, LinkEdit, Refusal, Round, first_unknown, unknown_at};
 use replies::{LEAST_ROOM, hand_out, reply, reply_anew};
-use rounds::{NewNetwork, change_in, move_dest_in, open_anew, open_in, refuse_links};
+use rounds::{NewEdits, NewNetwork, change_in, move_dest_in, open_anew, open_in, refuse_links};
 use statuses::{ANSWERED, BLANK, NO_MEMORY, NO_NETWORK, REFUSED, TOO_SHORT};
 use std::alloc::Global;
 use tables::pushes_in;
@@ -196,6 +197,7 @@ pub extern "C" fn revroute_open(
         (IsNewRefused nodes dest (map link_of links.now)) (held_by handle.old) (held_by handle.new)
         (round_outcome result round.old round.new refusal.old refusal.new) }
     ensures no_memory { result ≡ REVROUTE_NO_MEMORY → PassFirstTests nodes (map link_of links.now) }
+    ensures pushes { handle.new.pushes ≡ handle.old.pushes }
     ensures kept { ¬ (result ≡ REVROUTE_ANSWERED) → handle.new.at ≡ handle.old.at }
     ensures status { (result ≡ REVROUTE_ANSWERED) ⊎ (result ≡ REVROUTE_NO_MEMORY) ⊎ (result ≡ REVROUTE_REFUSED) }
 {
@@ -232,6 +234,7 @@ pub extern "C" fn revroute_change(
     ensures begins { BeginsRound (make_edits (map edit_of edits.now)) (IsChangeRefused handle.old.session edits.now)
         (held_by handle.old) (held_by handle.new) (round_outcome result round.old round.new refusal.old refusal.new) }
     ensures known { result ≡ REVROUTE_ANSWERED → AreKnown edits.now }
+    ensures pushes { handle.new.pushes ≡ handle.old.pushes }
     ensures no_memory { result ≡ REVROUTE_NO_MEMORY → length edits.now ≤ most_edits }
     ensures unknown { ¬ AreKnown edits.now → result ≡ REVROUTE_REFUSED }
     ensures no_network { (result ≡ REVROUTE_NO_NETWORK) ↔ (AreKnown edits.now × (handle.old.session ≡ None)) }
@@ -244,7 +247,56 @@ pub extern "C" fn revroute_change(
         return REFUSED;
     }
     match handle.engine_mut() {
-        Some(engine) => change_in(engine, alloc, edits, round, refusal),
+        Some(engine) => {
+            let asked = NewEdits {
+                edits,
+                with_ways: false,
+            };
+            change_in(engine, alloc, &asked, round, refusal)
+        }
+        None => NO_NETWORK,
+    }
+}
+
+/// Makes edits as [`revroute_change`] does, and keeps what has to be pushed to routers that hold all their ways, for
+/// [`revroute_change_shrink`] and [`revroute_change_grow`]. These are the pushes that [`revroute_shrink`] and
+/// [`revroute_grow`] write for a table with the ways before the change, but only the nodes are looked at whose ways may
+/// have changed. If the change is not made, the pushes are unchanged too.
+///
+/// The results are those of [`revroute_change`]. The cost is that of
+/// [`Router::change_telling_ways_alone`](fr_route::Router::change_telling_ways_alone).
+#[unsafe(no_mangle)]
+pub extern "C" fn revroute_change_with_ways(
+    alloc: Global,
+    handle: &mut Handle,
+    edits: &[LinkEdit],
+    round: &mut Round,
+    refusal: &mut Refusal,
+) -> u32
+    ensures begins { BeginsRound (make_edits (map edit_of edits.now)) (IsChangeRefused handle.old.session edits.now)
+        (held_by handle.old) (held_by handle.new) (round_outcome result round.old round.new refusal.old refusal.new) }
+    ensures known { result ≡ REVROUTE_ANSWERED → AreKnown edits.now }
+    ensures pushes { result ≡ REVROUTE_ANSWERED
+        → LeadsBetween handle.old.session handle.new.session handle.new.pushes }
+    ensures no_memory { result ≡ REVROUTE_NO_MEMORY → length edits.now ≤ most_edits }
+    ensures unknown { ¬ AreKnown edits.now → result ≡ REVROUTE_REFUSED }
+    ensures no_network { (result ≡ REVROUTE_NO_NETWORK) ↔ (AreKnown edits.now × (handle.old.session ≡ None)) }
+    ensures kept { handle.new.at ≡ handle.old.at }
+    ensures status { (result ≡ REVROUTE_ANSWERED) ⊎ (result ≡ REVROUTE_NO_MEMORY) ⊎ (result ≡ REVROUTE_NO_NETWORK)
+        ⊎ (result ≡ REVROUTE_REFUSED) }
+{
+    if let Some(at) = first_unknown(edits) {
+        *refusal = unknown_at(at);
+        return REFUSED;
+    }
+    match handle.engine_mut() {
+        Some(engine) => {
+            let asked = NewEdits {
+                edits,
+                with_ways: true,
+            };
+            change_in(engine, alloc, &asked, round, refusal)
+        }
         None => NO_NETWORK,
     }
 }
@@ -261,6 +313,7 @@ pub extern "C" fn revroute_move_dest(
 ) -> u32
     ensures begins { BeginsRound (move_dest dest) (IsMoveRefused handle.old.session dest)
         (held_by handle.old) (held_by handle.new) (round_outcome result round.old round.new refusal.old refusal.new) }
+    ensures pushes { handle.new.pushes ≡ handle.old.pushes }
     ensures no_network { (result ≡ REVROUTE_NO_NETWORK) ↔ (handle.old.session ≡ None) }
     ensures no_memory { result ≡ REVROUTE_NO_MEMORY → IfSome handle.old.session (λ s. dest < s.nodes) }
     ensures kept { handle.new.at ≡ handle.old.at }
@@ -328,6 +381,7 @@ pub extern "C" fn revroute_closed_walk_of(
 pub extern "C" fn revroute_close(alloc: Global, handle: &mut Handle)
     ensures session { handle.new.session ≡ None }
     ensures rerouted { handle.new.rerouted ≡ [] }
+    ensures pushes { handle.new.pushes ≡ no_pushes }
     ensures begun { handle.new.begun ≡ [] }
     ensures table { handle.new.table ≡ None }
     ensures null { handle.new.at ≡ null_ptr }
@@ -684,6 +738,55 @@ pub extern "C" fn revroute_grow(
             size,
         ),
         None => NO_NETWORK,
+    }
+}
+
+/// Writes what the last change that [`revroute_change_with_ways`] made has to push first: the nodes that lose a way, each
+/// with the ways that it keeps, in the order and the form of [`revroute_shrink`]. Before such a change there is nothing to
+/// push. No other call changes this, so after another change or a new network it is about an earlier change. Returns
+/// `ANSWERED`, or:
+///
+/// - `TOO_SHORT`: there is too little room. `size` is the room that is needed.
+/// - `NO_MEMORY`: an allocation was refused. `size` is 0.
+///
+/// In both cases `pushes` is unchanged. The session never changes. O(p) for p numbers.
+#[unsafe(no_mangle)]
+pub extern "C" fn revroute_change_shrink(
+    alloc: Global,
+    handle: &mut Handle,
+    pushes: &mut [u32],
+    size: &mut usize,
+) -> u32
+    ensures same { IsUnchanged handle.old handle.new }
+    ensures gives { GivesList (λ numbers. numbers ≡ numbers_of handle.old.pushes.shrink)
+        (outcome result pushes.old pushes.new size.new) }
+    ensures status { (result ≡ REVROUTE_ANSWERED) ⊎ (result ≡ REVROUTE_TOO_SHORT) ⊎ (result ≡ REVROUTE_NO_MEMORY) }
+{
+    *size = 0;
+    match handle.engine_mut() {
+        Some(engine) => hand_out_pushes(alloc, &engine.published.shrink(), pushes, size),
+        None => hand_out(&[], pushes, size),
+    }
+}
+
+/// Writes what to push once routers have confirmed the pushes of [`revroute_change_shrink`]: the nodes whose list still
+/// differs, by number, each with all its ways, nearest first. All else is as for [`revroute_change_shrink`].
+#[unsafe(no_mangle)]
+pub extern "C" fn revroute_change_grow(
+    alloc: Global,
+    handle: &mut Handle,
+    pushes: &mut [u32],
+    size: &mut usize,
+) -> u32
+    ensures same { IsUnchanged handle.old handle.new }
+    ensures gives { GivesList (λ numbers. numbers ≡ numbers_of handle.old.pushes.grow)
+        (outcome result pushes.old pushes.new size.new) }
+    ensures status { (result ≡ REVROUTE_ANSWERED) ⊎ (result ≡ REVROUTE_TOO_SHORT) ⊎ (result ≡ REVROUTE_NO_MEMORY) }
+{
+    *size = 0;
+    match handle.engine_mut() {
+        Some(engine) => hand_out_pushes(alloc, &engine.published.grow(), pushes, size),
+        None => hand_out(&[], pushes, size),
     }
 }
 

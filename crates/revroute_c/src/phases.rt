@@ -1,13 +1,14 @@
 //! What to push in two phases, from the ways that routers hold to those of a session.
 
-ghost use Rattle.std.specs.Prelude.{◌≡◌, ◌≤◌, ◌⊎◌, ◌↔◌, List, None, ℕ, map, IfErr, IfOk};
-ghost use Rattle.revroute_c.specs.Phases.{ArePushesOf, AreShort, HoldNoTable, IsPlannedFor, numbers_of};
+ghost use Rattle.std.specs.Prelude.{◌≡◌, ◌≤◌, ◌⊎◌, ◌↔◌, List, None, ℕ, IfErr, IfOk};
+ghost use Rattle.fr_ways.specs.PushLists.{AreListed};
+ghost use Rattle.revroute_c.specs.Phases.{ArePushesOf, HoldNoTable, IsPlannedFor, numbers_of};
 ghost use Rattle.revroute_c.specs.Replies.{outcome, GivesList};
 
 use crate::replies::hand_out;
 use crate::statuses::{ANSWERED, NO_MEMORY, NO_NETWORK, NO_TABLE, TOO_SHORT};
 use fr_route::Session;
-use fr_ways::{Pushes, TwoPhases, WayTable, WaysFault};
+use fr_ways::{PushList, TwoPhases, WayTable, WaysFault};
 use std::alloc::{AllocError, Global};
 
 /// One of the two phases in which ways are pushed.
@@ -55,22 +56,45 @@ fn phases_from(session: &Session, alloc: Global, asked: &Asked<'_>) -> Result<Tw
     }
 }
 
-/// The pushes of a phase as numbers: for each push its node, how many ways the node gets, and these ways.
-fn numbers(alloc: Global, pushes: &Pushes) -> Result<Vec<u32>, AllocError>
-    requires { AreShort pushes.now }
-    ensures { IfOk result (λ numbers. (list_of : ℕ → List ℕ) → pushes.now.lists ≡ map list_of pushes.now.nodes.items
-        → numbers.items ≡ numbers_of list_of pushes.now.nodes.items) }
+/// The pushes of a phase as numbers: for each push its node, how many ways the node gets, and these ways. Fails also for
+/// more ways of a node than fit into a number. No network has so many.
+fn numbers(alloc: Global, list: &PushList<'_>) -> Result<Vec<u32>, AllocError>
+    requires { (pushes : List (ℕ × List ℕ)) × AreListed pushes list.now }
+    ensures { IfOk result (λ numbers. (pushes : List (ℕ × List ℕ)) → AreListed pushes list.now
+        → numbers.items ≡ numbers_of pushes) }
 {
-    let room = pushes.nodes.len().saturating_mul(2);
-    let room = room.saturating_add(pushes.lists.list().len());
+    let room = list.nodes.len().saturating_mul(2);
+    let room = room.saturating_add(list.list.len());
     let mut numbers = Vec::with_capacity(alloc, room)?;
-    for k in 0..pushes.nodes.len() {
-        let ways = pushes.lists.row(k as u32);
-        numbers.push(pushes.nodes[k])?;
+    for k in 0..list.nodes.len() {
+        let ways = list.row(k);
+        if ways.len() > u32::MAX as usize {
+            return Err(AllocError);
+        }
+        numbers.push(list.nodes[k])?;
         numbers.push(ways.len() as u32)?;
         numbers.extend_from_slice(ways)?;
     }
     Ok(numbers)
+}
+
+/// Writes these pushes as numbers.
+pub(crate) fn hand_out_pushes(
+    alloc: Global,
+    list: &PushList<'_>,
+    place: &mut [u32],
+    size: &mut usize,
+) -> u32
+    requires listed { (pushes : List (ℕ × List ℕ)) × AreListed pushes list.now }
+    requires size { size.old ≡ 0 }
+    ensures gives { (pushes : List (ℕ × List ℕ)) → AreListed pushes list.now
+        → GivesList (λ numbers. numbers ≡ numbers_of pushes) (outcome result place.old place.new size.new) }
+    ensures status { (result ≡ ANSWERED) ⊎ (result ≡ TOO_SHORT) ⊎ (result ≡ NO_MEMORY) }
+{
+    match numbers(alloc, list) {
+        Ok(numbers) => hand_out(&numbers, place, size),
+        Err(_memory) => NO_MEMORY,
+    }
 }
 
 /// Writes the pushes that the caller asks for. `size` must be 0.
@@ -95,12 +119,8 @@ pub(crate) fn way_pushes_in(
         Ok(phases) => phases,
         Err(status) => return status,
     };
-    let pushed = match asked.phase {
-        Phase::Shrink => numbers(alloc, &phases.shrink),
-        Phase::Grow => numbers(alloc, &phases.grow),
-    };
-    match pushed {
-        Ok(numbers) => hand_out(&numbers, pushes, size),
-        Err(_memory) => NO_MEMORY,
+    match asked.phase {
+        Phase::Shrink => hand_out_pushes(alloc, &phases.shrink.as_list(), pushes, size),
+        Phase::Grow => hand_out_pushes(alloc, &phases.grow.as_list(), pushes, size),
     }
 }

@@ -1,6 +1,6 @@
 //! The calls with numbers that begin a round: a network, edits, another destination.
 
-ghost use Rattle.std.specs.Prelude.{◌≡◌, ◌≢◌, ◌<◌, ◌≤◌, ◌⊎◌, ◌↔◌, length, map, None, IfOk, IfErr, IfSome};
+ghost use Rattle.std.specs.Prelude.{◌≡◌, ◌≢◌, ◌<◌, ◌≤◌, ◌⊎◌, ◌↔◌, false, length, map, true, None, IfOk, IfErr, IfSome};
 ghost use Rattle.fr_graph.specs.Batches.{AreMade, IsBatchFault};
 ghost use Rattle.fr_graph.specs.Evidence.{NamesFirst, NamesInBatch};
 ghost use Rattle.fr_graph.specs.Faults.{IsFirstFault, IsNetworkOf};
@@ -8,18 +8,21 @@ ghost use Rattle.fr_graph.specs.Limits.{most_edits};
 ghost use Rattle.fr_lines.specs.Requests.{make_edits, move_dest, new_network};
 ghost use Rattle.fr_graph.specs.declared.fault.EditFault.{EditFault};
 ghost use Rattle.fr_graph.specs.declared.fault.NetFault.TheVariants.{Memory};
+ghost use Rattle.fr_published.specs.Answers.{MakesChange, NotesPushes};
 ghost use Rattle.fr_route.specs.Answers.{IsAccepted};
 ghost use Rattle.revroute_c.specs.Lending.{held_by, IsNull};
 ghost use Rattle.revroute_c.specs.Records.{AreKnown, edit_of, link_of};
 ghost use Rattle.revroute_c.specs.Rounds.{round_outcome, BeginsRound, IsChangeRefused, IsEditRefused, IsMoveRefused};
-ghost use Rattle.revroute_c.specs.Rounds.{IsNewFault, IsNewRefused, first_step, nodes_named, nodes_of_edit, refusal_at};
+ghost use Rattle.revroute_c.specs.Rounds.{IsNewFault, IsNewRefused, KeepsPushes, first_step, nodes_named, nodes_of_edit};
+ghost use Rattle.revroute_c.specs.Rounds.{refusal_at};
 
 use crate::engine::Engine;
 use crate::handle::Handle;
 use crate::records::{Link, LinkEdit, Refusal, Round, edits_of, pairs_of, round_of};
 use crate::statuses::{ANSWERED, NO_MEMORY, NO_NETWORK, REFUSED};
 use fr_graph::{EditFault, MAX_EDITS, Net, NetFault};
-use fr_route::{Change, RouteFault, Router, fault_number};
+use fr_published::PublishedSession;
+use fr_route::{Change, Report, RouteFault, Router, fault_number};
 use std::alloc::Global;
 
 /// The first step along a cycle.
@@ -125,6 +128,7 @@ pub(crate) fn open_in(
     ensures begins { BeginsRound (new_network asked.now.nodes asked.now.dest (map link_of asked.now.links.now))
         (IsNewRefused asked.now.nodes asked.now.dest (map link_of asked.now.links.now)) engine.old engine.new
         (round_outcome result round.old round.new refusal.old refusal.new) }
+    ensures pushes { engine.new.pushes ≡ engine.old.pushes }
     ensures status { (result ≡ ANSWERED) ⊎ (result ≡ NO_MEMORY) ⊎ (result ≡ REFUSED) }
 {
     let router = match asked.opened(alloc) {
@@ -153,6 +157,7 @@ pub(crate) fn open_anew(
         (IsNewRefused asked.now.nodes asked.now.dest (map link_of asked.now.links.now))
         (held_by handle.old) (held_by handle.new)
         (round_outcome result round.old round.new refusal.old refusal.new) }
+    ensures pushes { handle.new.pushes ≡ handle.old.pushes }
     ensures kept { ¬ (result ≡ ANSWERED) → handle.new ≡ handle.old }
     ensures status { (result ≡ ANSWERED) ⊎ (result ≡ NO_MEMORY) ⊎ (result ≡ REFUSED) }
 {
@@ -200,25 +205,52 @@ fn tell_refused(net: &Net, alloc: Global, edits: &[LinkEdit], refusal: &mut Refu
     }
 }
 
+/// Edits that a caller asks for, and whether he also asks what they do to the ways of nodes.
+#[derive(Drop)]
+pub(crate) struct NewEdits<'a> {
+    pub(crate) edits: &'a [LinkEdit],
+    pub(crate) with_ways: bool,
+}
+
+/// Makes a change, and keeps what it does to the ways of nodes if the caller asks for that.
+fn change_published(
+    published: &mut PublishedSession,
+    alloc: Global,
+    change: Change,
+    with_ways: bool,
+) -> Option<Result<Report, RouteFault>>
+    ensures changes { MakesChange published.old change result published.new }
+    ensures noted { with_ways ≡ true → NotesPushes published.old result published.new }
+    ensures kept { with_ways ≡ false → published.new.pushes ≡ published.old.pushes }
+{
+    if with_ways {
+        published.change_with_ways(alloc, change)
+    } else {
+        published.change(alloc, change)
+    }
+}
+
 /// Makes edits of known kinds, with one round after the last, and lists the nodes that it reroutes.
 pub(crate) fn change_in(
     engine: &mut Engine,
     alloc: Global,
-    edits: &[LinkEdit],
+    asked: &NewEdits<'_>,
     round: &mut Round,
     refusal: &mut Refusal,
 ) -> u32
-    requires { AreKnown edits.now }
-    ensures begins { BeginsRound (make_edits (map edit_of edits.now)) (IsChangeRefused engine.old.session edits.now)
-        engine.old engine.new
+    requires { AreKnown asked.now.edits.now }
+    ensures begins { BeginsRound (make_edits (map edit_of asked.now.edits.now))
+        (IsChangeRefused engine.old.session asked.now.edits.now) engine.old engine.new
         (round_outcome result round.old round.new refusal.old refusal.new) }
+    ensures pushes { KeepsPushes asked.now.with_ways result engine.old engine.new }
     ensures no_network { (result ≡ NO_NETWORK) ↔ (engine.old.session ≡ None) }
-    ensures no_memory { result ≡ NO_MEMORY → length edits.now ≤ most_edits }
+    ensures no_memory { result ≡ NO_MEMORY → length asked.now.edits.now ≤ most_edits }
     ensures status { (result ≡ ANSWERED) ⊎ (result ≡ NO_MEMORY) ⊎ (result ≡ NO_NETWORK) ⊎ (result ≡ REFUSED) }
 {
     if engine.session().router().is_none() {
         return NO_NETWORK;
     }
+    let edits = asked.edits;
     if edits.len() > MAX_EDITS {
         *refusal = refusal_for(MAX_EDITS, &NetFault::TooMany, (0, 0));
         return REFUSED;
@@ -226,7 +258,8 @@ pub(crate) fn change_in(
     let Ok(made) = edits_of(alloc, edits) else {
         return NO_MEMORY;
     };
-    match engine.published.change(alloc, Change::Batch(made)) {
+    let change = Change::Batch(made);
+    match change_published(&mut engine.published, alloc, change, asked.with_ways) {
         Some(Ok(report)) => {
             *round = round_of(report);
             ANSWERED
@@ -250,6 +283,7 @@ pub(crate) fn move_dest_in(
 ) -> u32
     ensures begins { BeginsRound (move_dest dest) (IsMoveRefused engine.old.session dest) engine.old engine.new
         (round_outcome result round.old round.new refusal.old refusal.new) }
+    ensures pushes { engine.new.pushes ≡ engine.old.pushes }
     ensures no_network { (result ≡ NO_NETWORK) ↔ (engine.old.session ≡ None) }
     ensures no_memory { result ≡ NO_MEMORY → IfSome engine.old.session (λ s. dest < s.nodes) }
     ensures status { (result ≡ ANSWERED) ⊎ (result ≡ NO_MEMORY) ⊎ (result ≡ NO_NETWORK) ⊎ (result ≡ REFUSED) }

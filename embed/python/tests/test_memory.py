@@ -237,6 +237,29 @@ class MemoryTest(unittest.TestCase):
                 self.assertGreater(number, 1)
         self.assertEqual(ctypes.c_long.in_dll(library, "refusing_held").value, 0)
 
+    def test_a_change_with_ways_without_memory_changes_nothing(self):
+        left = ctypes.c_long.in_dll(library, "refusing_left")
+        with revroute.Network(3, 0, [(1, 0), (2, 1), (2, 0)]) as network:
+            for call, wanted in (
+                (lambda: network.batch_with_ways([("cut", 1, 0)]), (1, 0)),
+                (network.change_shrink, [(2, [0]), (1, [])]),
+                (network.change_grow, [(1, [2])]),
+            ):
+                found, number = None, 0
+                while found is None:
+                    number += 1
+                    links = network.links()
+                    left.value = number
+                    try:
+                        found = call()
+                    except MemoryError:
+                        self.assertEqual(left.value, 0)
+                        self.assertEqual(network.links(), links)
+                    left.value = 0
+                self.assertEqual(found, wanted)
+                self.assertGreater(number, 1)
+        self.assertEqual(ctypes.c_long.in_dll(library, "refusing_held").value, 0)
+
     def test_without_memory_there_is_no_reader(self):
         left = ctypes.c_long.in_dll(library, "refusing_left")
         network, reader, number = revroute.Network(3, 0, [(0, 1), (1, 2)]), None, 0

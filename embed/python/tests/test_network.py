@@ -227,6 +227,37 @@ class NetworkTests(unittest.TestCase):
                 except Refused:
                     network.move_dest(draw.randrange(nodes))
 
+    def test_a_change_keeps_its_pushes_until_the_next_one(self):
+        for seed in range(60):
+            draw = random.Random(seed)
+            nodes = draw.randrange(1, 9)
+            network, kept = Network(nodes, draw.randrange(nodes), drawn(draw, nodes)), ([], [])
+            for _ in range(20):
+                before = [*network.all_ways().values()]
+                with_ways = draw.random() < 0.7
+                try:
+                    (network.batch_with_ways if with_ways else network.batch)([drawn_edit(draw, nodes)])
+                    if with_ways:
+                        kept = phases(before, [*network.all_ways().values()])
+                except Refused:
+                    network.move_dest(draw.randrange(nodes))
+                self.assertEqual((network.change_shrink(), network.change_grow()), kept)
+
+    def test_a_change_with_ways_names_nodes_and_is_refused_as_any_other(self):
+        network = Network(3, "a", [("b", "a"), ("c", "b"), ("c", "a")], names="abc")
+        self.assertEqual((network.change_shrink(), network.change_grow()), ([], []))
+        for batch in (network.batch, network.batch_with_ways):
+            with self.assertRaises(Refused) as refused:
+                batch([("cut", "c", "a"), ("add", "a", "c")])
+            self.assertEqual((refused.exception.at, refused.exception.nodes), (1, ("a", "c", "b", "a")))
+            self.assertRaises(ValueError, batch, [("move", "a", "b")])
+            self.assertRaises(NoSuchNode, batch, [("cut", "a", "d")])
+        network.batch_with_ways([("cut", "b", "a")])
+        self.assertEqual((network.change_shrink(), network.change_grow()), ([("c", ["a"]), ("b", [])], [("b", ["c"])]))
+        network.close()
+        for call in (network.change_shrink, network.change_grow, lambda: network.batch_with_ways([])):
+            self.assertRaises(ValueError, call)
+
     def test_a_table_has_the_ways_that_a_router_may_hold(self):
         network = Network(3, 0, [(1, 0), (2, 0)])
         network.add(1, 2)

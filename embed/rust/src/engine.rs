@@ -140,6 +140,14 @@ impl Engine {
         self.phase(sys::revroute_grow, table)
     }
 
+    pub fn change_shrink(&self) -> Result<WayPushes, NoMemory> {
+        table::way_pushes(&self.all_of(sys::revroute_change_shrink)?)
+    }
+
+    pub fn change_grow(&self) -> Result<WayPushes, NoMemory> {
+        table::way_pushes(&self.all_of(sys::revroute_change_grow)?)
+    }
+
     /// The pushes of one of the two phases.
     fn phase(&self, call: Phase, table: &[impl AsRef<[u32]>]) -> Result<WayPushes, TableFault> {
         let (nodes, links) = self.extent();

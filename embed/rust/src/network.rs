@@ -113,7 +113,7 @@ impl Network {
     ///
     /// [`NoLink`](Refused::NoLink), [`NoSuchNode`](Refused::NoSuchNode) and [`NoMemory`](Refused::NoMemory).
     pub fn cut(&mut self, u: u32, v: u32) -> Result<Report, Refused> {
-        Ok(self.change(&[Edit::Cut(u, v).into()])?)
+        Ok(self.change(sys::revroute_change, &[Edit::Cut(u, v).into()])?)
     }
 
     /// Adds a link from u to v.
@@ -135,7 +135,7 @@ impl Network {
     ///
     /// All variants of [`Refused`] except [`NoLink`](Refused::NoLink).
     pub fn add(&mut self, u: u32, v: u32) -> Result<Report, Refused> {
-        Ok(self.change(&[Edit::Add(u, v).into()])?)
+        Ok(self.change(sys::revroute_change, &[Edit::Add(u, v).into()])?)
     }
 
     /// Adds a link from u to v, or from v to u if the first would close a cycle. It costs what [`add`](Network::add)
@@ -152,7 +152,7 @@ impl Network {
     ///
     /// All variants of [`Refused`] except [`NoLink`](Refused::NoLink) and [`ClosedWalk`](Refused::ClosedWalk).
     pub fn join(&mut self, u: u32, v: u32) -> Result<Report, Refused> {
-        Ok(self.change(&[Edit::Join(u, v).into()])?)
+        Ok(self.change(sys::revroute_change, &[Edit::Join(u, v).into()])?)
     }
 
     /// Makes edits in order, and then one round. If one edit is refused, none is made. Each edit costs what it costs
@@ -173,11 +173,31 @@ impl Network {
     ///
     /// All variants of [`Refused`], with the index of the first refused edit.
     pub fn batch(&mut self, edits: &[Edit]) -> Result<Report, RefusedEdit> {
-        let made = listed(edits.iter().map(|&edit| edit.into())).map_err(|_| RefusedEdit {
-            at: edits.len(),
-            why: Refused::NoMemory,
-        })?;
-        self.change(&made)
+        self.change(sys::revroute_change, &made_of(edits)?)
+    }
+
+    /// Does the same, and keeps what has to be pushed to routers that hold all their [`ways`](Network::ways):
+    /// [`change_shrink`](Network::change_shrink) and [`change_grow`](Network::change_grow) return it.
+    ///
+    /// The engine looks only at nodes whose ways may have changed, and no table of ways is needed. The first call also
+    /// measures the distances of all nodes, in `O(n + m)`. From then on a call costs what [`batch`](Network::batch) costs,
+    /// and `O(d log d)` for each of these nodes with d links.
+    ///
+    /// ```
+    /// use revroute::{Edit, Network, Refused};
+    ///
+    /// let mut network = Network::new(4, 0, &[(1, 0), (2, 0), (2, 1), (3, 2)])?;
+    /// network.batch_with_ways(&[Edit::Cut(1, 0)])?; // now 1 sends to 2, which must drop its way to 1 before
+    /// assert_eq!(network.change_shrink()?, [(2, vec![0]), (1, vec![])]);
+    /// assert_eq!(network.change_grow()?, [(1, vec![2])]);
+    /// # Ok::<(), Refused>(())
+    /// ```
+    ///
+    /// # Errors
+    ///
+    /// Those of [`batch`](Network::batch).
+    pub fn batch_with_ways(&mut self, edits: &[Edit]) -> Result<Report, RefusedEdit> {
+        self.change(sys::revroute_change_with_ways, &made_of(edits)?)
     }
 
     /// Makes `dest` the destination. `O(n + m)`, plus the round.
@@ -550,6 +570,42 @@ impl Network {
         self.engine.grow(table)
     }
 
+    /// What the last change by [`batch_with_ways`](Network::batch_with_ways) has to push first to routers that hold all
+    /// their ways: the nodes that lose a way, each with the ways that it keeps, in the order of
+    /// [`shrink`](Network::shrink). Before such a change there is nothing to push. `O(k)` for k numbers.
+    ///
+    /// These are the pushes that `shrink` returns for the ways before the change. Use them if your routers hold these ways:
+    /// if all pushes of earlier changes are confirmed. Otherwise, and after a change by another call, use `shrink` with
+    /// the ways that routers may hold. Refused changes and changes by other calls leave the pushes as they are.
+    ///
+    /// ```
+    /// use revroute::{Edit, Network, Refused};
+    ///
+    /// let mut network = Network::new(3, 0, &[(1, 0), (2, 1), (2, 0)])?;
+    /// let table = network.all_ways()?;
+    /// network.batch_with_ways(&[Edit::Cut(2, 0), Edit::Join(0, 2)])?;
+    /// assert_eq!(network.change_shrink()?, network.shrink(&table)?);
+    /// assert_eq!(network.change_grow()?, network.grow(&table)?);
+    /// # Ok::<(), Box<dyn std::error::Error>>(())
+    /// ```
+    ///
+    /// # Errors
+    ///
+    /// If memory for the lists runs out.
+    pub fn change_shrink(&self) -> Result<Vec<(u32, Vec<u32>)>, NoMemory> {
+        self.engine.change_shrink()
+    }
+
+    /// What to push once all routers have confirmed the pushes of [`change_shrink`](Network::change_shrink): each node
+    /// whose list then still differs, with all its ways, nearest first. The nodes come by number. `O(k)` for k numbers.
+    ///
+    /// # Errors
+    ///
+    /// If memory for the lists runs out.
+    pub fn change_grow(&self) -> Result<Vec<(u32, Vec<u32>)>, NoMemory> {
+        self.engine.change_grow()
+    }
+
     /// How often each node turned in the last round, in the order of the nodes. `O(n)`.
     ///
     /// ```
@@ -642,12 +698,12 @@ impl Network {
         })
     }
 
-    fn change(&mut self, edits: &[sys::Edit]) -> Result<Report, RefusedEdit> {
+    fn change(&mut self, call: Change, edits: &[sys::Edit]) -> Result<Report, RefusedEdit> {
         let (mut round, mut refusal) = (sys::Round::default(), sys::Refusal::default());
         let (handle, list, count) = (self.engine.handle(), edits.as_ptr(), edits.len());
         // SAFETY: the handle is the library's own, no other call has it, the edits are a slice, and none of the four
         // overlap.
-        let status = unsafe { sys::revroute_change(handle, list, count, &mut round, &mut refusal) };
+        let status = unsafe { call(handle, list, count, &mut round, &mut refusal) };
         ended(status, &round, || {
             refused(&refusal, self.size().nodes, |walk, room, length| {
                 // SAFETY: as above, and the places of the walk are another slice.
@@ -704,6 +760,23 @@ impl Iterator for Walk<'_> {
 }
 
 impl FusedIterator for Walk<'_> {}
+
+/// A call that makes edits.
+type Change = unsafe extern "C" fn(
+    *mut sys::Handle,
+    *const sys::Edit,
+    usize,
+    *mut sys::Round,
+    *mut sys::Refusal,
+) -> u32;
+
+/// These edits as the library takes them.
+fn made_of(edits: &[Edit]) -> Result<Vec<sys::Edit>, RefusedEdit> {
+    listed(edits.iter().map(|&edit| edit.into())).map_err(|_| RefusedEdit {
+        at: edits.len(),
+        why: Refused::NoMemory,
+    })
+}
 
 /// The result of a call with this status: the report of its round, or why it is refused.
 fn ended(

@@ -162,6 +162,14 @@ unsafe extern "C" {
         refusal: *mut Refusal,
     ) -> u32;
 
+    pub fn revroute_change_with_ways(
+        session: *mut Handle,
+        edits: *const Edit,
+        count: usize,
+        round: *mut Round,
+        refusal: *mut Refusal,
+    ) -> u32;
+
     pub fn revroute_move_dest(
         session: *mut Handle,
         dest: u32,
@@ -308,6 +316,20 @@ unsafe extern "C" {
         starts_count: usize,
         ways: *const u32,
         count: usize,
+        pushes: *mut u32,
+        room: usize,
+        length: *mut usize,
+    ) -> u32;
+
+    pub fn revroute_change_shrink(
+        session: *mut Handle,
+        pushes: *mut u32,
+        room: usize,
+        length: *mut usize,
+    ) -> u32;
+
+    pub fn revroute_change_grow(
+        session: *mut Handle,
         pushes: *mut u32,
         room: usize,
         length: *mut usize,

@@ -109,6 +109,42 @@ fn without_memory_pushes_change_nothing() -> Result<(), Refused> {
 }
 
 #[test]
+fn without_memory_a_change_with_ways_changes_nothing() -> Result<(), Refused> {
+    let _held = COUNTER.lock().unwrap_or_else(PoisonError::into_inner);
+    let mut network = Network::new(3, 0, &[(1, 0), (2, 1), (2, 0)])?;
+    let (links, mut number) = (network.links()?, 1);
+    while let Err(why) = poor(number, || network.batch_with_ways(&[Edit::Cut(1, 0)])) {
+        assert_eq!(why.why, Refused::NoMemory);
+        assert_eq!(
+            (network.links()?, network.change_grow()?),
+            (links.clone(), vec![])
+        );
+        number += 1;
+    }
+    assert!(number > 1, "a change with ways takes memory");
+    type Phase = fn(&Network) -> Result<Vec<(u32, Vec<u32>)>, NoMemory>;
+    let phases: [(Phase, _); 2] = [
+        (
+            |network| network.change_shrink(),
+            vec![(2, vec![0]), (1, vec![])],
+        ),
+        (|network| network.change_grow(), vec![(1, vec![2])]),
+    ];
+    for (phase, wanted) in phases {
+        let mut number = 1;
+        let pushes = loop {
+            match poor(number, || phase(&network)) {
+                Err(NoMemory) => number += 1,
+                Ok(pushes) => break pushes,
+            }
+        };
+        assert!(number > 1, "a phase takes memory");
+        assert_eq!(pushes, wanted);
+    }
+    Ok(())
+}
+
+#[test]
 fn without_memory_there_are_no_phases() -> Result<(), Refused> {
     let _held = COUNTER.lock().unwrap_or_else(PoisonError::into_inner);
     let network = Network::new(3, 0, &[(1, 0), (2, 1), (2, 0)])?;

@@ -573,6 +573,44 @@ fn the_largest_tables_have_pushes() -> Result<(), Box<dyn Error>> {
 }
 
 #[test]
+fn a_change_keeps_its_pushes_until_the_next_one() -> Result<(), Box<dyn Error>> {
+    let mut draw = Draw(20_261_129);
+    for _ in 0..200 {
+        let nodes = 1 + draw.below(8);
+        let mut network = Network::new(nodes, draw.below(nodes), &draw.links(nodes))?;
+        let mut kept = (vec![], vec![]);
+        for _ in 0..20 {
+            let before = network.all_ways()?;
+            let edits = [draw.edit(nodes), draw.edit(nodes)];
+            let is_kept = draw.below(3) > 0 && network.batch_with_ways(&edits).is_ok();
+            if is_kept {
+                kept = phases_of(&before, &network.all_ways()?);
+            } else {
+                let _ = network.batch(&edits[..1]);
+            }
+            assert_eq!((network.change_shrink()?, network.change_grow()?), kept);
+        }
+    }
+    Ok(())
+}
+
+#[test]
+fn a_change_with_ways_is_refused_as_any_other() -> Result<(), Box<dyn Error>> {
+    let mut network = Network::new(3, 0, &[(1, 0), (2, 1), (2, 0)])?;
+    let edits = [Edit::Cut(1, 0), Edit::Add(1, 1)];
+    assert_eq!(network.batch_with_ways(&edits), network.batch(&edits));
+    let why = Refused::ClosedWalk(vec![0, 2, 1, 0]);
+    let refused = network.batch_with_ways(&[Edit::Cut(2, 0), Edit::Add(0, 2)]);
+    assert_eq!(refused, Err(RefusedEdit { at: 1, why }));
+    assert_eq!(network.links()?, [(1, 0), (2, 0), (2, 1)]);
+    assert_eq!(
+        (network.change_shrink()?, network.change_grow()?),
+        (vec![], vec![])
+    );
+    Ok(())
+}
+
+#[test]
 fn a_change_while_routers_still_shrink_begins_again() -> Result<(), Box<dyn Error>> {
     let mut network = Network::new(4, 0, &[(1, 0), (2, 0), (2, 1), (3, 2)])?;
     let mut held = network.all_ways()?;

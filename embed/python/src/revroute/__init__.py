@@ -18,6 +18,7 @@ Changes. Each starts a round, and returns its Report or raises Refused, which sa
     add(u, v)         adds a link from u to v
     join(u, v)        adds a link from u to v, or from v to u if the first would close a cycle
     batch(edits)      makes edits such as ("cut", u, v) in order, and then one round
+    batch_with_ways(edits)   does the same, and keeps what to push to routers that hold all their ways
     move_dest(dest)   makes dest the destination
 
 Questions:
@@ -30,6 +31,7 @@ Questions:
     pushes(table)     the nodes whose hop in your table is not their next hop, with the next hop, in push order
     shrink(table)     for routers that hold all their ways: the nodes that lose a way, with the ways that they keep
     grow(table)       once routers have confirmed these: the nodes whose ways still differ, with all their ways
+    change_shrink()   what shrink returns for the ways before the last batch_with_ways, without a table; also change_grow()
     counts(), links(), report, size, dest, len(network), x in network
 
 If forwarding tables get their hops in push order, no new loop appears in them. This is a complete controller. `send`

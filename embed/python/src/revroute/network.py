@@ -103,7 +103,7 @@ class Network(Generic[Name]):
     - `links` and `copy`: O(n + m).
     - `all_ways`, `shrink` and `grow`: O(n + m log d).
     - `move_dest` and a new network: O(n + m), plus the round.
-    - `cut`, `add`, `join` and `batch`: O(n + m) at most. If few nodes turn, only the links at these nodes, and at the
+    - `cut`, `add`, `join`, `batch` and `batch_with_ways`: O(n + m) at most. If few nodes turn, only the links at these nodes, and at the
       nodes that had one of these as their next hop.
     """
 
@@ -196,12 +196,20 @@ class Network(Generic[Name]):
     def batch(self, edits: Iterable[tuple[str, Name, Name]]) -> Report:
         """Makes edits in order, and then one round. If one edit is refused, none is made. An edit is a tuple of "cut",
         "add" or "join" and its two nodes."""
-        made: list[int] = []
-        for kind, u, v in edits:
-            if kind not in _KINDS:
-                raise ValueError(f"no edit is of the kind {kind!r}")
-            made += _KINDS[kind], self._number(u), self._number(v)
-        return self._change(made)
+        return self._change(_calls.change, self._made(edits))
+
+    def batch_with_ways(self, edits: Iterable[tuple[str, Name, Name]]) -> Report:
+        """Makes edits as `batch` does, and keeps what has to be pushed to routers that hold all their ways:
+        `change_shrink` and `change_grow` return it. It looks only at nodes whose ways may have changed, and needs no
+        table.
+
+        >>> network = Network(4, 0, [(1, 0), (2, 0), (2, 1), (3, 2)])
+        >>> network.batch_with_ways([("cut", 1, 0)])
+        Report(turned=1, cut_off=0)
+        >>> network.change_shrink(), network.change_grow()
+        ([(2, [0]), (1, [])], [(1, [2])])
+        """
+        return self._change(library.revroute_change_with_ways, self._made(edits))
 
     def move_dest(self, dest: Name) -> Report:
         """Makes `dest` the destination."""
@@ -334,6 +342,24 @@ class Network(Generic[Name]):
         for the table that was given to `shrink` and for the table after its pushes."""
         return self._phase(questions.revroute_grow, table)
 
+    def change_shrink(self) -> list[tuple[Name, list[Name]]]:
+        """What the last change by `batch_with_ways` has to push first to routers that hold all their ways: the nodes that
+        lose a way, each with the ways that it keeps, in the order of `shrink`. Before such a change it is empty.
+
+        These are the pushes that `shrink` returns for the ways before the change. Use them if your routers hold these
+        ways: if all pushes of earlier changes are confirmed. Otherwise, and after a change by another call, use
+        `shrink` with the ways that routers may hold. Refused changes and changes by other calls leave the pushes as
+        they are.
+
+        Raises MemoryError if memory runs out.
+        """
+        return self._named_pushes(self._session._pushed(questions.revroute_change_shrink))
+
+    def change_grow(self) -> list[tuple[Name, list[Name]]]:
+        """What to push once all routers have confirmed the pushes of `change_shrink`: each node whose list then still
+        differs, with all its ways, nearest first. All else is as for `change_shrink`."""
+        return self._named_pushes(self._session._pushed(questions.revroute_change_grow))
+
     def counts(self) -> list[int]:
         """How often each node turned in the last round, in the order of the nodes."""
         return self._session.counts()
@@ -453,9 +479,18 @@ class Network(Generic[Name]):
         made = self._session._begin_round(_calls.change, library.revroute_closed_walk, _packed(edit), _ONE)
         return made if isinstance(made, Report) else self._reported(made, lambda at: [*map(index, edit[1:])])
 
-    def _change(self, edits: list[int]) -> Report:
+    def _made(self, edits: Iterable[tuple[str, Name, Name]]) -> list[int]:
+        """The numbers of these edits: three for each."""
+        made: list[int] = []
+        for kind, u, v in edits:
+            if kind not in _KINDS:
+                raise ValueError(f"no edit is of the kind {kind!r}")
+            made += _KINDS[kind], self._number(u), self._number(v)
+        return made
+
+    def _change(self, call: Any, edits: list[int]) -> Report:
         words = _packed(edits), ctypes.c_size_t(len(edits) // 3)
-        made = self._session._begin_round(_calls.change, library.revroute_closed_walk, *words)
+        made = self._session._begin_round(call, library.revroute_closed_walk, *words)
         return self._reported(made, lambda at: edits[3 * at + 1 : 3 * at + 3])
 
     def _reported(self, made: Union[Report, _Why], given: Callable[[int], list[int]]) -> Report:
@@ -488,7 +523,10 @@ class Network(Generic[Name]):
         return [(self._name(node), self._hop_of(hop)) for node, hop in hops]
 
     def _phase(self, question: Any, table: Any) -> list[tuple[Name, list[Name]]]:
-        pushes = self._session._phase(question, *_packed_ways(table, len(self._nodes), self._numbers))
+        return self._named_pushes(self._session._phase(question, *_packed_ways(table, len(self._nodes), self._numbers)))
+
+    def _named_pushes(self, pushes: list[tuple[int, list[int]]]) -> list[tuple[Name, list[Name]]]:
+        """Pushes of ways, by the names of their nodes if they have names."""
         return [(self._name(node), [self._name(it) for it in ways]) for node, ways in pushes]
 
     def _hop_of(self, hop: int) -> Union[Name, NoHop]:

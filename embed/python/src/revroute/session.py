@@ -123,6 +123,16 @@ class _Why(NamedTuple):
     at: int
 
 
+def _pushes_of(numbers: list[int]) -> list[tuple[int, list[int]]]:
+    """The pushes that are written as numbers: for each push its node, how many ways it gets, and these ways."""
+    pushes, at = [], 0
+    while at < len(numbers):
+        end = at + 2 + numbers[at + 1]
+        pushes.append((numbers[at], numbers[at + 2 : end]))
+        at = end
+    return pushes
+
+
 def _hop(value: int) -> Union[int, NoHop]:
     return NoHop.HERE if value == _calls.HERE else NoHop.CUT_OFF if value == _calls.CUT_OFF else value
 
@@ -743,12 +753,17 @@ class Session:
                 numbers = self._places(ctypes.c_uint32, lambda *places: question(self._at, *words, *places), 2 * nodes + links)
             finally:
                 self._caller = None
-        pushes, at = [], 0
-        while at < len(numbers):
-            end = at + 2 + numbers[at + 1]
-            pushes.append((numbers[at], numbers[at + 2 : end]))
-            at = end
-        return pushes
+        return _pushes_of(numbers)
+
+    def _pushed(self, question: Any) -> list[tuple[int, list[int]]]:
+        """The pushes of a phase that the session keeps."""
+        with self._lock:
+            self._begin_call()
+            try:
+                numbers = self._places(ctypes.c_uint32, lambda *places: question(self._at, *places))
+            finally:
+                self._caller = None
+        return _pushes_of(numbers)
 
     def _extent(self) -> tuple[int, int]:
         """The number of nodes and of links, or zeros before the first network. The caller must have the session."""

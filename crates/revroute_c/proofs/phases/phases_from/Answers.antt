@@ -1,15 +1,12 @@
 use Rattle.std.proofs.Common.{arith, rules}
-use Rattle.fr_graph.specs.Faults.{IsFaultless}
 use Rattle.fr_ways.specs.Rows.{IsLaidOut}
 use Rattle.revroute_c.specs.Phases.{IsPlanned}
-use Rattle.revroute_c.proofs.PushNumbers.{phases_short}
 use Rattle.revroute_c.proofs.phases.phases_from.Goals as goal
 
 pub returns-in-Ok-phases-clause-phases : goal.returns-in-Ok-phases-clause-phases
 returns-in-Ok-phases-clause-phases c =
     let s = c.in-Some.router.now in
     let asked = c.args.asked.now in
-    let net : IsFaultless s.nodes s.links = rw (c.net.ensures.nodes, c.net.ensures.links) at c.nodes.ensures.faultless in
     let laid : IsLaidOut asked.starts.now asked.ways.now c.in-Some-table.table = search rules in
     let planned : IsPlanned s asked.starts.now asked.ways.now c.in-Ok-phases.phases = record {
       table = c.in-Some-table.table;
@@ -18,6 +15,5 @@ returns-in-Ok-phases-clause-phases c =
         one_each = omega (arith, c.if-asked-nodes.false, c.nodes.ensures.value, c.net.ensures.nodes, laid.begins.one_more);
       };
       leads = c.in-Ok-phases.ensures.phases;
-      short = phases_short s net.is_net net.limits.nodes_few c.in-Some-table.table c.in-Ok-phases.phases c.in-Ok-phases.ensures.phases;
     } in
     search (rules, planned)

@@ -13,7 +13,7 @@ use Rattle.revroute_c.proofs.rounds.change_in.Goals as goal
 pub tell_refused-requires-clause-refused : goal.tell_refused-requires-clause-refused
 tell_refused-requires-clause-refused c =
     let why : IsNotMade c.engine.inside.published (Batch c.in-Ok.made) (Net c.in-Some-Err-Net.field-0-0-0) = search rules in
-    let edits : List Edit = map edit_of c.args.edits.now in
+    let edits : List Edit = map edit_of c.args.asked.now.edits.now in
     let refused : EditFault = record { at = why.refused.0; fault = c.in-Some-Err-Net.field-0-0-0 } in
     let net : net_at why.before ≡ c.net.result.now = search rules in
     let made : c.in-Ok.made.items ≡ edits = search rules in

@@ -1,7 +1,8 @@
 use Rattle.std.proofs.Common.{IfSome, List, subst, sym, ℕ}
 use Rattle.std.proofs.lemmas.Option.{IfSome_then}
 use Rattle.fr_published.specs.Answers.{AnswersLine}
-use Rattle.fr_published.specs.Published.{Published, published}
+use Rattle.fr_published.specs.Inside.{pushes_in}
+use Rattle.fr_published.specs.Published.{Published, WayPushes, published}
 use Rattle.fr_published.specs.Publishing.{CanPublish, PublishesIn}
 use Rattle.fr_published.proofs.Leading.{can_publish}
 use Rattle.fr_published.proofs.Telling.{answer_leads, line_answered}
@@ -23,9 +24,10 @@ returns c =
     let a = c.answer_line_telling_alone-answer in
     let t = c.publish.new.publisher in
     let w = c.publish_ways.new.tables in
+    let ps : WayPushes = pushes_in p.reroutes in
     let table = subst (λ (nodes : List ℕ). PublishesIn p.publisher a.new.self nodes t) c.deref.ensures.value c.publish.ensures in
     rw c.publish_ways.ensures.same (subst (λ (old : Published). AnswersLine old c.args.line.now a.result
-    (published a.new.self a.new.rerouted.items t w)) c.self.view_is
-    (line_answered p.session a.new.self p.rerouted.items a.new.rerouted.items p.publisher t p.ways w c.self.invariant.hops table
+    (published a.new.self a.new.rerouted.items t w ps)) c.self.view_is
+    (line_answered p.session a.new.self p.rerouted.items a.new.rerouted.items p.publisher t p.ways w ps c.self.invariant.hops table
     c.self.invariant.ways c.publish_ways.ensures.published c.args.line.now a.result
     a.ensures.blank a.ensures.text a.ensures.told a.ensures.unchanged a.ensures.short a.ensures.no_start))
