@@ -4,7 +4,7 @@ use Rattle.std.proofs.Common.{◌<◌, ◌∙◌, ◌∷◌, ◌≡◌, ◌⊎�
 use Rattle.std.specs.Prelude.{not}
 use Rattle.std.proofs.lemmas.Bool.{cases_lt}
 use Rattle.fr_graph.specs.Edits.{IsJoined as IsNetJoined, without}
-use Rattle.fr_graph.specs.Links.{HaveSameLinks, IsNet, IsPath, Joins, Points, end_of, is_between}
+use Rattle.fr_graph.specs.Links.{HaveSameLinks, IsNet, IsPath, Joins, end_of, is_between}
 use Rattle.fr_graph.specs.Network.{Network}
 use Rattle.fr_graph.proofs.AddedLinks.{added}
 use Rattle.fr_graph.proofs.Editing.{from_filter}

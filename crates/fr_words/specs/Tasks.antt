@@ -1,5 +1,6 @@
 -- What a command line asks for. This project's own.
-use Rattle.std.specs.Prelude.{ℕ, ◌⊎◌, ◌≡◌, ◌≢◌, ◌≤◌, ◌↔◌, ⊤, IsTrue, List, [], Some, codes, false, if◌then◌else◌, string_bytes}
+use Rattle.std.specs.Prelude.{ℕ, ◌⊎◌, ◌≡◌, ◌≢◌, ◌≤◌, ◌↔◌, ⊤, IsTrue, List, [], Some, codes, false}
+use Rattle.std.specs.Prelude.{if◌then◌else◌, string_bytes}
 use Rattle.clap.specs.Walk.{Row, Text}
 use Rattle.clap.specs.Simple.{subcommand_of}
 use Rattle.clap.specs.Faults.{fault_of}

@@ -79,8 +79,8 @@ pub enum TaskFault {
 ///
 /// The task is `run` or `serve`, with 1 to 16 workers (4 if not given), any seed (0) and a budget of at most
 /// 1,000,000,000 calls (1,000,000); or `play`, with 1 to 16 workers (2), any seed (0) and at most 10,000 steps (100).
-/// `run` and `serve` have the flags `--json`, `--ways`, which needs `--json`, `--strict`, and `--alone`, which makes the
-/// budget 0.
+/// `run` and `serve` have the flags `--json`, `--ways`, which needs `--json`, `--strict`, and `--alone`, which makes
+/// the budget 0.
 ///
 /// Fails with `Version` if the words ask for the version, with `Usage` if they ask for help (`asked`), are not those of
 /// the command line, or have `--ways` without `--json`, and with `Memory` if an allocation is refused. O(b) for b bytes
