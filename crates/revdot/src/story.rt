@@ -159,8 +159,7 @@ fn push_refusal(
 {
     let mut space = AnswerSpace::new(alloc);
     // A blank line has no answer, and never comes here.
-    let Ok(Some(refusal)) = session.answer_line_in_alone(alloc, Form::Json, line, &mut space)
-    else {
+    let Ok(Some(refusal)) = session.answer_line_in_alone(alloc, Form::Json, line, &mut space) else {
         return Err(AllocError);
     };
     writeln!(story, "refusal {}", refusal.text)
