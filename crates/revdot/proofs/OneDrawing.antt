@@ -7,7 +7,7 @@ use Rattle.fr_core.specs.Legal.{NoneCanTurn}
 use Rattle.fr_route.specs.States.{State}
 use Rattle.fr_tables.specs.declared.hop.Hop.{Hop}
 use Rattle.fr_route.proofs.Determined.{hops_unique, answers_unique}
-use Rattle.fr_route.proofs.NodeWays.{all_ways_unique}
+use Rattle.fr_route.proofs.NodeWays.{ways_below_unique}
 use Rattle.fr_bytes.specs.Lines.{lines_of}
 use Rattle.revdot.specs.Drawings.{IsDrawing, IsPictureOf}
 use Rattle.revdot.specs.Graphs.{graph_text}
@@ -26,7 +26,7 @@ graph_unique s a b p q =
 ways_graph_unique : (s : State) (a b : List ℕ) → IsWaysGraphOf s a → IsWaysGraphOf s b → a ≡ b
 ways_graph_unique s a b p q =
     let hops : p.hops ≡ q.hops = hops_unique s s.nodes p.hops q.hops p.are_hops q.are_hops in
-    let table : p.table ≡ q.table = all_ways_unique s p.table q.table p.are_ways q.are_ways in
+    let table : p.table ≡ q.table = ways_below_unique s s.nodes p.table q.table p.are_ways q.are_ways in
     let text = λ (hs : List Hop) (ws : List (List ℕ)).
     graph_text None s.dest (map (settled_node s.counts hs) (range_with_len 0 s.nodes)) (map (way_link hs ws) s.links) in
     let texts : text p.hops p.table ≡ text q.hops q.table = λ i. text (hops i) (table i) in

@@ -10,7 +10,7 @@ use Rattle.fr_route.specs.States.{State}
 use Rattle.fr_graph.specs.Network.{Network}
 use Rattle.fr_route.proofs.AnsweredIn.{refusal_unique}
 use Rattle.fr_route.proofs.Determined.{answer_unique, asked_not_accepted, asked_not_refused, hops_unique, line_unique, not_both}
-use Rattle.fr_route.proofs.NodeWays.{all_ways_unique}
+use Rattle.fr_route.proofs.NodeWays.{ways_below_unique}
 use Rattle.fr_route.proofs.OneTelling.{line_told_unique}
 use Rattle.fr_route.proofs.Replying.{refused_by}
 use Rattle.fr_route.specs.Json.{PlainRefusal, refusal_json}
@@ -39,7 +39,7 @@ settled_unique s a b h k =
     h.text ∙ (texts ∙ sym k.text)
 
 listed_unique : (old : List (List ℕ)) (s : State) (a b : List ℕ) → AreListed old s a → AreListed old s b → a ≡ b
-listed_unique old s a b h k = h.2 ∙ (ap (listed_line s.nodes old) (all_ways_unique s h.0 k.0 h.1 k.1) ∙ sym k.2)
+listed_unique old s a b h k = h.2 ∙ (ap (listed_line s.nodes old) (ways_below_unique s s.nodes h.0 k.0 h.1 k.1) ∙ sym k.2)
 
 result_unique : (before : Option Network) (old : List (List ℕ)) (s : State) (a b : List ℕ) → IsResult before old s a
     → IsResult before old s b → a ≡ b
@@ -53,7 +53,7 @@ before_unique : (s : Option State) (before : Option Network) (a b : List (List �
     → AreWaysBefore s before b → a ≡ b
 before_unique None before a b h k = h ∙ sym k
 before_unique (Some s) None a b h k = h ∙ sym k
-before_unique (Some s) (Some net) a b h k = all_ways_unique s a b h k
+before_unique (Some s) (Some net) a b h k = ways_below_unique s s.nodes a b h k
 
 turn_by_turn_unique : (before : Option Network) (old : List (List ℕ)) (s : State) (rerouted a b : List ℕ)
     → IsTurnByTurn before old s rerouted a → IsTurnByTurn before old s rerouted b → a ≡ b
