@@ -17,7 +17,7 @@ use Rattle.fr_route.specs.declared.fault.AnswerFault.{AnswerFault}
 use Rattle.fr_route.specs.declared.fault.AnswerFault.TheVariants.{Start}
 use Rattle.fr_route.specs.declared.fault.RouteFault.{RouteFault}
 use Rattle.fr_route.specs.declared.fault.RouteFault.TheVariants.{Start as RouteStart}
-use Rattle.fr_published.specs.Published.{LeadsBetween, Published}
+use Rattle.fr_published.specs.Published.{LeadsBetween, Published, WayPushes}
 use Rattle.fr_published.specs.Publishing.{PublishesTo, PublishesWaysTo}
 
 -- a line is answered, and the nodes that it reroutes and the ways are published; a blank line has no answer
@@ -68,6 +68,13 @@ pub record MakesChange
 abbrev pub NotesPushes : Published → Option (Result Report RouteFault) → Published → Type 0
 NotesPushes old answer new =
     IfSome answer (λ a. IfOk a (λ _. LeadsBetween old.session new.session new.pushes))
+
+-- the noted pushes of both phases are those of a change that was made. Otherwise they are as before
+pub record Notes (old : Option State) (answer : Option (Result Report RouteFault)) (new : Option State)
+    (before after : WayPushes) : Type 0 where
+  pub made : IfSome answer (λ a. IfOk a (λ _. LeadsBetween old new after))
+  pub fault : IfSome answer (λ a. OnErr a (after ≡ before))
+  pub none : IfNone answer (after ≡ before)
 
 -- a router is changed, with this report of its round
 pub record ChangesRouter (s : State) (change : Change) (answer : Result Report RouteFault) (next : State) : Type 0 where
