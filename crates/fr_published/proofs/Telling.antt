@@ -7,7 +7,7 @@ use Rattle.fr_lines.specs.Requests.{PlainRequest, new_network, cut_link, add_lin
 use Rattle.fr_lines.specs.declared.requests.LineFault.{LineFault}
 use Rattle.fr_route.specs.Answers.{IsAccepted, IsLineAnswer}
 use Rattle.fr_route.specs.Blank.{is_blank}
-use Rattle.fr_route.specs.Changes.{IsChanged, IsRouteFault}
+use Rattle.fr_route.specs.Changes.{IsChanged, IsUndone}
 use Rattle.fr_route.specs.Reroutes.{TellsRerouted}
 use Rattle.fr_route.specs.States.{State, IsReport, net_at}
 use Rattle.fr_route.specs.Texts.{longest_report}
@@ -18,7 +18,7 @@ use Rattle.fr_route.specs.declared.change.Change.TheVariants.{Cut, Add, Join, De
 use Rattle.fr_route.specs.declared.change.Report.{Report}
 use Rattle.fr_route.specs.declared.fault.AnswerFault.{AnswerFault}
 use Rattle.fr_route.specs.declared.fault.AnswerFault.TheVariants.{Start}
-use Rattle.fr_route.specs.declared.fault.RouteFault.{RouteFault}
+use Rattle.fr_route.specs.declared.fault.NotMade.{NotMade}
 use Rattle.fr_route.specs.declared.fault.RouteFault.TheVariants.{Start as RouteStart}
 use Rattle.fr_route.proofs.Changing.{made_nodes}
 use Rattle.fr_shared.specs.Knowledge.{Knowledge}
@@ -87,19 +87,19 @@ answer_leads s next settled settled' line (Ok (Some text)) before after blank fa
 answer_leads s next settled settled' line (Err why) before after blank fault told = inl fault.1
 
 -- the clauses of a call that changes a router
-pub router_changed : {s next : State} {change : Change} {answer : Result Report RouteFault}
+pub router_changed : {s next : State} {change : Change} {answer : Result Report NotMade}
     → IfOk answer (λ _. IsChanged s change next) → IfOk answer (λ report. IsReport next report.turned report.cut)
-    → IfErr answer (IsRouteFault s change) → OnErr answer (next ≡ s) → IfErr answer (λ fault. fault ≢ RouteStart)
+    → IfErr answer (IsUndone s change) → OnErr answer (next ≡ s) → IfErr answer (λ undone. undone.fault ≢ RouteStart)
     → ChangesRouter s change answer next
 router_changed changed report fault unchanged no_start =
     record { changed = changed; report = report; fault = fault; unchanged = unchanged; no_start = no_start }
 
-pub same_pushes : (answer : Result Report RouteFault) (ps : WayPushes) → OnErr answer (ps ≡ ps)
+pub same_pushes : (answer : Result Report NotMade) (ps : WayPushes) → OnErr answer (ps ≡ ps)
 same_pushes (Ok report) ps = tt
 same_pushes (Err why) ps = refl
 
 -- so does a change
-pub change_leads : (s next : State) → IsSettled s → (change : Change) (answer : Result Report RouteFault) (before after : List ℕ)
+pub change_leads : (s next : State) → IsSettled s → (change : Change) (answer : Result Report NotMade) (before after : List ℕ)
     → ChangesRouter s change answer next → TellsRerouted s answer next before after
     → (Some next ≡ Some s) ⊎ Leads (Some s) (Some next) after
 change_leads s next settled change (Ok report) before after changes told =
@@ -107,7 +107,7 @@ change_leads s next settled change (Ok report) before after changes told =
 change_leads s next settled change (Err why) before after changes told = inl (ap Some changes.unchanged)
 
 -- a change alters the ways, or leaves them
-pub change_alters : (s next : State) (change : Change) (answer : Result Report RouteFault) (p : WayPushes) (k : WayKnowledge)
+pub change_alters : (s next : State) (change : Change) (answer : Result Report NotMade) (p : WayPushes) (k : WayKnowledge)
     → HasWaysOf (Some s) k → ChangesRouter s change answer next
     → IfOk answer (λ _. AreWayChanges s next p.shrink p.grow)
     → MatchBool (is_ok answer) (AlterWays (last_table k) next p) (HasWaysOf (Some next) k)
@@ -117,7 +117,7 @@ change_alters s next change (Err why) p k has changes ways =
     subst (λ (t : State). HasWaysOf (Some t) k) (sym changes.unchanged) has
 
 -- and its pushes are noted, or those before are kept
-pub change_notes : (s next : State) (answer : Result Report RouteFault) (ps ps' : WayPushes)
+pub change_notes : (s next : State) (answer : Result Report NotMade) (ps ps' : WayPushes)
     → IfOk answer (λ _. AreWayChanges s next ps'.shrink ps'.grow) → OnErr answer (ps' ≡ ps)
     → Notes (Some s) (Some answer) (Some next) ps ps'
 change_notes s next (Ok report) ps ps' ways left = record {
@@ -181,7 +181,7 @@ module _ (s s' : Option State) (nodes nodes' : List ℕ) (t t' : Option Knowledg
 
 module _ (s s' : State) (nodes nodes' : List ℕ) (t t' : Option Knowledge) (w w' : Option WayKnowledge) where
   pub change_made : (ps ps' : WayPushes) → IfSome t (HasHopsOf (Some s)) → PublishesIn t (Some s') nodes' t' → IfSome w (HasWaysOf (Some s))
-      → PublishesWaysIn w (Some s') w' → (change : Change) (answer : Result Report RouteFault)
+      → PublishesWaysIn w (Some s') w' → (change : Change) (answer : Result Report NotMade)
       → ChangesRouter s change answer s' → TellsRerouted s answer s' nodes nodes' → OnErr answer (ps' ≡ ps)
       → MakesChange (published (Some s) nodes t w ps) change (Some answer) (published (Some s') nodes' t' w' ps')
   change_made ps ps' has p had q change (Ok report) changes told left = record {
@@ -210,7 +210,7 @@ module _ (s s' : State) (nodes nodes' : List ℕ) (t t' : Option Knowledge) (w w
   }
 
 -- the same change, for a session with other pushes
-pub with_pushes : (old new : Published) (change : Change) (answer : Option (Result Report RouteFault)) (ps ps' : WayPushes)
+pub with_pushes : (old new : Published) (change : Change) (answer : Option (Result Report NotMade)) (ps ps' : WayPushes)
     → MakesChange old change answer new → IfNone answer (ps' ≡ ps) → IfSome answer (λ a. OnErr a (ps' ≡ ps))
     → MakesChange (record old { pushes = ps }) change answer (record new { pushes = ps' })
 with_pushes old new change None ps ps' m none fault = record {

@@ -9,7 +9,7 @@ ghost use Rattle.fr_route.specs.WayPushes.{AreWayChanges};
 ghost use Rattle.fr_ways.specs.PushLists.{AreListed};
 
 use fr_graph::MAX_EDITS;
-use fr_route::{Change, Report, Reroutes, RouteFault, Router};
+use fr_route::{Change, NotMade, Report, Reroutes, Router};
 use fr_ways::PushList;
 use std::alloc::{AllocError, Global};
 
@@ -95,7 +95,7 @@ pub(crate) fn change_noting(
     change: Change,
     rerouted: &mut Vec<u32>,
     reroutes: &mut Option<Reroutes>,
-) -> Result<Report, RouteFault>
+) -> Result<Report, NotMade>
     ensures changes { ChangesRouter router.old change result router.new }
     ensures told { TellsRerouted router.old result router.new rerouted.old.items rerouted.new.items }
     ensures ways { IfOk result (λ _. AreWayChanges router.old router.new

@@ -14,7 +14,7 @@ ghost use Rattle.fr_route.specs.declared.fault.RouteFault.TheVariants.{Memory};
 use crate::noting::{change_noting, grow_in, shrink_in};
 use crate::publishing::{opened, publish, replaced, session_law};
 use crate::ways::{WayTables, publish_changes, publish_ways};
-use fr_route::{AnswerFault, Change, Report, Reroutes, RouteFault, Router, Session, Walked};
+use fr_route::{AnswerFault, Change, NotMade, Report, Reroutes, RouteFault, Router, Session, Walked};
 use fr_shared::{Past, Publisher, Reader};
 use fr_shared_ways as shared_ways;
 use fr_ways::PushList;
@@ -247,7 +247,7 @@ impl PublishedSession {
     ///
     /// It also publishes the ways, once there is a reader of them. Then the cost is that of
     /// [`change_with_ways`](PublishedSession::change_with_ways).
-    pub fn change(&mut self, alloc: Global, change: Change) -> Option<Result<Report, RouteFault>>
+    pub fn change(&mut self, alloc: Global, change: Change) -> Option<Result<Report, NotMade>>
         ensures changes { MakesChange self.old change result self.new }
         ensures pushes { self.new.pushes ≡ self.old.pushes }
     {
@@ -274,7 +274,7 @@ impl PublishedSession {
         &mut self,
         alloc: Global,
         change: Change,
-    ) -> Option<Result<Report, RouteFault>>
+    ) -> Option<Result<Report, NotMade>>
         ensures changes { MakesChange self.old change result self.new }
         ensures pushes { NotesPushes self.old result self.new }
     {
@@ -285,7 +285,7 @@ impl PublishedSession {
     }
 
     /// Makes a change while there is no reader of ways.
-    fn change_hops(&mut self, alloc: Global, change: Change) -> Option<Result<Report, RouteFault>>
+    fn change_hops(&mut self, alloc: Global, change: Change) -> Option<Result<Report, NotMade>>
         requires { self.old.ways ≡ None }
         ensures changes { MakesChange self.old change result self.new }
         ensures pushes { self.new.pushes ≡ self.old.pushes }
@@ -304,7 +304,7 @@ impl PublishedSession {
         alloc: Global,
         change: Change,
         reroutes: &mut Option<Reroutes>,
-    ) -> Option<Result<Report, RouteFault>>
+    ) -> Option<Result<Report, NotMade>>
         ensures changes { MakesChange self.old change result self.new }
         ensures pushes { self.new.pushes ≡ self.old.pushes }
         ensures noted { Notes self.old.session result self.new.session (pushes_in reroutes.old) (pushes_in reroutes.new) }
