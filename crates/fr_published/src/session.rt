@@ -11,7 +11,7 @@ ghost use Rattle.fr_ways.specs.PushLists.{AreListed};
 ghost use Rattle.fr_route.specs.NodeWays.{AreNodeWays, HasDistance, IsNearest};
 ghost use Rattle.fr_route.specs.declared.fault.RouteFault.TheVariants.{Memory};
 
-use crate::noting::{change_noting, grow_in, shrink_in};
+use crate::noting::{change_noting, grow_in, is_report, shrink_in};
 use crate::publishing::{opened, publish, replaced, session_law};
 use crate::ways::{WayTables, publish_changes, publish_ways};
 use fr_route::{AnswerFault, Change, Report, Reroutes, RouteFault, Router, Session, Walked};
@@ -225,9 +225,10 @@ impl PublishedSession {
     /// those of [`answer_line_telling_alone`](fr_route::Session::answer_line_telling_alone). Once there is a reader,
     /// each line also costs one load, and each rerouted node one store.
     ///
-    /// It also publishes the ways, once there is a reader of them: all shrinks before all grows. Each line, also a
-    /// question, then costs O(4,096 + m log d) more for m links and at most d links of a node, because the ways of all
-    /// nodes are listed again.
+    /// It also publishes the ways, once there is a reader of them: all shrinks before all grows. A new network and an
+    /// accepted change then cost O(4,096 + m log d) more for m links and at most d links of a node, because the ways of
+    /// all nodes are listed again. [`change`](PublishedSession::change) lists only those that a change has altered. A
+    /// question, a refused line and a blank line cost one test more.
     pub fn answer_line(&mut self, alloc: Global, line: &[u8]) -> Result<Option<String>, AnswerFault>
         ensures { AnswersLine self.old line.now result self.new }
     {
@@ -237,7 +238,7 @@ impl PublishedSession {
             .answer_line_telling_alone(alloc, line, &mut self.rerouted);
         session_law(&self.session);
         publish(&mut self.publisher, &self.session, &self.rerouted);
-        publish_ways(&mut self.ways, &mut self.session);
+        publish_ways(&mut self.ways, &mut self.session, is_report(&answer));
         answer
     }
 
@@ -322,7 +323,8 @@ impl PublishedSession {
     /// as [`changed_since`](fr_route::Router::changed_since) lists them.
     ///
     /// Fails with `AllocError` if an allocation is refused. Then nothing has changed. O(n) for the n nodes of the
-    /// larger network. It publishes the ways as [`answer_line`](PublishedSession::answer_line) does, at the same cost.
+    /// larger network. It publishes the ways as [`answer_line`](PublishedSession::answer_line) does after a new network,
+    /// at the same cost.
     pub fn put_router(&mut self, alloc: Global, router: Router) -> Result<(), AllocError>
         ensures { PutsRouter self.old router result self.new }
     {
@@ -332,7 +334,7 @@ impl PublishedSession {
         self.session.put_router(router);
         session_law(&self.session);
         publish(&mut self.publisher, &self.session, &self.rerouted);
-        publish_ways(&mut self.ways, &mut self.session);
+        publish_ways(&mut self.ways, &mut self.session, true);
         Ok(())
     }
 }

@@ -176,3 +176,31 @@ fn a_reader_of_ways_reads_five(rt: HostRuntime) -> Result<(), Fail> {
     assert!(rt; has_ways(&mut reader, 1, &[0]) && has_ways(&mut reader, 0, &[2]));
     Ok(())
 }
+
+/// Questions, refused lines and a blank line leave the table as it is. An edit by a line is followed, and so is a change
+/// after it.
+#[test]
+fn a_reader_of_ways_follows_lines(rt: HostRuntime) -> Result<(), Fail> {
+    let mut session = PublishedSession::new(rt.alloc());
+    let mut reader = session.way_reader(rt.alloc())?;
+    session.table_law();
+    session
+        .answer_line(rt.alloc(), b"[\"net\",4,0,[[1,0],[2,0],[3,1],[3,2]]]")
+        .expect(&rt, "an answer");
+    session
+        .answer_line(rt.alloc(), b"[\"ways\"]")
+        .expect(&rt, "an answer");
+    session
+        .answer_line(rt.alloc(), b"[\"cut\",3,0]")
+        .expect(&rt, "a refusal");
+    session.answer_line(rt.alloc(), b" ").expect(&rt, "nothing");
+    assert!(rt; has_ways(&mut reader, 3, &[1, 2]) && has_ways(&mut reader, 1, &[0]));
+    // Node 1 turns.
+    session
+        .answer_line(rt.alloc(), b"[\"cut\",1,0]")
+        .expect(&rt, "an answer");
+    assert!(rt; has_ways(&mut reader, 3, &[2]) && has_ways(&mut reader, 1, &[3]));
+    assert!(rt; cut_by(rt.alloc(), &mut session, Change::Join { u: 1, v: 2 }) == Some(0));
+    assert!(rt; has_ways(&mut reader, 3, &[2]) && has_ways(&mut reader, 1, &[2, 3]));
+    Ok(())
+}
