@@ -117,7 +117,7 @@ pub(crate) fn change_noting(
     Ok(report)
 }
 
-/// Whether an answer to a line reports a round: its text is then the only one that begins with this letter. Any other
+/// Whether an answer to a line reports a round. A report is the only answer that begins with a `t`, and every other
 /// answer leaves the session unchanged.
 pub(crate) fn is_report(answer: &Result<Option<String>, AnswerFault>) -> bool
     ensures { result ≡ false → IfOk answer.now

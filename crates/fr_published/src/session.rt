@@ -134,9 +134,13 @@ impl PublishedSession {
     /// the table can be used for every later network. A number that is not a node has no way in the table.
     ///
     /// Fails with `AllocError` if an allocation is refused, or if the table already has 2^63 readers. Then nothing has
-    /// changed. The first reader takes 80 KiB: the table, the ways that are to be pushed, and space to list those of
-    /// one node. It takes the time that publishing takes in [`answer_line`](PublishedSession::answer_line). Each later
-    /// one takes O(1) time and does not allocate.
+    /// changed. The first reader takes 112 KiB: the table, the ways that are to be pushed, space to list those of one
+    /// node, and space for the nodes of a change. It takes the time that publishing takes in
+    /// [`answer_line`](PublishedSession::answer_line) after a new network. Each later one takes O(1) time and does not
+    /// allocate.
+    ///
+    /// Once there is a reader, the first [`change`](PublishedSession::change) measures the distances and takes memory for
+    /// notes of all nodes and links.
     pub fn way_reader(&mut self, alloc: Global) -> Result<shared_ways::Reader, AllocError>
         ensures session { (self.new.session ≡ self.old.session) × (self.new.rerouted ≡ self.old.rerouted)
             × (self.new.table ≡ self.old.table) × (self.new.pushes ≡ self.old.pushes) }
@@ -246,7 +250,7 @@ impl PublishedSession {
     /// are those of [`change_telling_alone`](fr_route::Router::change_telling_alone). Returns `None` if there is no
     /// network yet.
     ///
-    /// It also publishes the ways, once there is a reader of them. Then the cost is that of
+    /// It also publishes the ways, once there is a reader of them. Then its cost and its memory are those of
     /// [`change_with_ways`](PublishedSession::change_with_ways).
     pub fn change(&mut self, alloc: Global, change: Change) -> Option<Result<Report, RouteFault>>
         ensures changes { MakesChange self.old change result self.new }
