@@ -1,16 +1,17 @@
 -- When a line leaves the session unchanged, and when it leads to other hops.
-use Rattle.std.proofs.Common.{List, Option, Some, None, Result, Ok, Err, IfErr, IfNone, IfOk, IfSome, OnErr, String, ap, false, inl, inr, length}
+use Rattle.std.proofs.Common.{List, Option, Some, None, Result, Ok, Err, IfErr, IfNone, IfOk, IfSome, OnErr, String, ap, false, inl, inr, length, slice_get}
 use Rattle.std.proofs.Common.{refl, string_bytes, subst, sym, true, ℕ, ⊎_elim, ◌∙◌, ◌≡◌, ◌≢◌, ◌≤◌, ◌⊎◌}
 use Rattle.std.specs.Prelude.{MatchBool, is_ok}
 use Rattle.std.specs.declared.alloc.Global.{Global}
 use Rattle.fr_lines.specs.Requests.{PlainRequest, new_network, cut_link, add_link, join_nodes, make_edits, move_dest, walk_from, ask, ask_node, order_pushes, push_ways, reading}
 use Rattle.fr_lines.specs.declared.requests.LineFault.{LineFault}
-use Rattle.fr_route.specs.Answers.{IsAccepted, IsLineAnswer}
+use Rattle.fr_lines.specs.declared.requests.LineFault.TheVariants.{NotJson, NotRequest, Memory as LineMemory}
+use Rattle.fr_route.specs.Answers.{IsAccepted, IsLineAnswer, IsReportLine, IsText}
 use Rattle.fr_route.specs.Blank.{is_blank}
 use Rattle.fr_route.specs.Changes.{IsChanged, IsUndone}
 use Rattle.fr_route.specs.Reroutes.{TellsRerouted}
 use Rattle.fr_route.specs.States.{State, IsReport, net_at}
-use Rattle.fr_route.specs.Texts.{longest_report}
+use Rattle.fr_route.specs.Texts.{longest_report, report_text}
 use Rattle.fr_route.specs.Told.{IsLineTold, TellsOf, TellsOfLine}
 use Rattle.fr_route.specs.WayPushes.{AreWayChanges}
 use Rattle.fr_route.specs.declared.change.Change.{Change}
@@ -85,6 +86,65 @@ answer_leads s next settled settled' line (Ok None) before after blank fault tol
 answer_leads s next settled settled' line (Ok (Some text)) before after blank fault told =
     line_leads s next settled settled' (reading line) before after told.answered
 answer_leads s next settled settled' line (Err why) before after blank fault told = inl fault.1
+
+-- an answer that does not begin as a report leaves the session unchanged
+
+reported : (turned cut : ℕ) (text : List ℕ) → text ≡ report_text turned cut → slice_get text 0 ≡ Some 116
+reported turned cut text is = ap (λ (xs : List ℕ). slice_get xs 0) is
+
+module _ (text : List ℕ) (other : slice_get text 0 ≢ Some 116) where
+  no_report : (new : State) {T : Type 0} → IsReportLine new text → T
+  no_report new line = absurd (other (reported line.0 line.1 text line.3))
+
+  accepted_keeps : (s new : State) (request : PlainRequest) → IsAccepted (Some s) request new → IsText new request text → new ≡ s
+  accepted_keeps s new (new_network n d links) is line = no_report new line
+  accepted_keeps s new (cut_link u v) is line = no_report new line
+  accepted_keeps s new (add_link u v) is line = no_report new line
+  accepted_keeps s new (join_nodes u v) is line = no_report new line
+  accepted_keeps s new (make_edits edits) is line = no_report new line
+  accepted_keeps s new (move_dest d) is line = no_report new line
+  accepted_keeps s new (walk_from x) is line = is.1
+  accepted_keeps s new (ask question) is line = is
+  accepted_keeps s new (ask_node question x) is line = is.1
+  accepted_keeps s new (push_ways table) is line = is.2
+  accepted_keeps s new (order_pushes table wanted) is line = absurd is
+
+  first_keeps : (new : State) (request : PlainRequest) → IsAccepted None request new → IsText new request text → ⊥
+  first_keeps new (new_network n d links) is line = no_report new line
+  first_keeps new (cut_link u v) is line = is
+  first_keeps new (add_link u v) is line = is
+  first_keeps new (join_nodes u v) is line = is
+  first_keeps new (make_edits edits) is line = is
+  first_keeps new (move_dest d) is line = is
+  first_keeps new (walk_from x) is line = is
+  first_keeps new (ask question) is line = is
+  first_keeps new (ask_node question x) is line = is
+  first_keeps new (push_ways table) is line = is
+  first_keeps new (order_pushes table wanted) is line = is
+
+  keeps_in : (s : Option State) (new : State) (request : PlainRequest) → IsAccepted s request new → IsText new request text
+      → Some new ≡ s
+  keeps_in None new request is line = absurd (first_keeps new request is line)
+  keeps_in (Some s) new request is line = ap Some (accepted_keeps s new request is line)
+
+  line_keeps : (s next : Option State) (asked : Result PlainRequest LineFault) → IsLineAnswer s asked text next → next ≡ s
+  line_keeps s next (Ok request) is = ⊎_elim
+      (λ refused. refused.3)
+      (λ others. ⊎_elim (λ a. a.3 ∙ keeps_in s a.0 request a.1 a.2) (λ pushes. pushes.3) others)
+      is
+  line_keeps s next (Err NotJson) is = is.1
+  line_keeps s next (Err NotRequest) is = is.1
+  line_keeps s next (Err LineMemory) is = absurd is
+
+pub answer_keeps : (s next : Option State) (line : List ℕ) (answer : Result (Option (String Global)) AnswerFault)
+    → IfOk answer (λ a. IfNone a ((is_blank line ≡ true) × (next ≡ s)))
+    → IfOk answer (λ a. IfSome a (λ text. (is_blank line ≡ false) × IsLineAnswer s (reading line) (string_bytes text) next))
+    → OnErr answer ((is_blank line ≡ false) × (next ≡ s))
+    → IfOk answer (λ a. IfSome a (λ text. slice_get (string_bytes text) 0 ≢ Some 116)) → next ≡ s
+answer_keeps s next line (Ok None) blank text fault other = blank.1
+answer_keeps s next line (Ok (Some answer)) blank text fault other =
+    line_keeps (string_bytes answer) other s next (reading line) text.1
+answer_keeps s next line (Err why) blank text fault other = fault.1
 
 -- the clauses of a call that changes a router
 pub router_changed : {s next : State} {change : Change} {answer : Result Report NotMade}

@@ -1,6 +1,7 @@
 //! What a change does to the ways of nodes, which a session keeps for questions.
 
-ghost use Rattle.std.specs.Prelude.{◌≡◌, ◌≢◌, ◌≤◌, ◌↔◌, ◌+◌, ◌++◌, [], IfOk, IsTrue, None, OnErr, OnOk, length, vec_capacity};
+ghost use Rattle.std.specs.Prelude.{◌≡◌, ◌≢◌, ◌≤◌, ◌↔◌, ◌+◌, ◌++◌, [], IfOk, IfSome, IsTrue, None, OnErr, OnOk, Some, false};
+ghost use Rattle.std.specs.Prelude.{length, slice_get, string_bytes, vec_capacity};
 ghost use Rattle.fr_published.specs.Answers.{ChangesRouter};
 ghost use Rattle.fr_published.specs.Inside.{pushes_in};
 ghost use Rattle.fr_route.specs.Changes.{MayLackMemory};
@@ -9,7 +10,7 @@ ghost use Rattle.fr_route.specs.WayPushes.{AreWayChanges};
 ghost use Rattle.fr_ways.specs.PushLists.{AreListed};
 
 use fr_graph::MAX_EDITS;
-use fr_route::{Change, NotMade, Report, Reroutes, Router};
+use fr_route::{AnswerFault, Change, NotMade, Report, Reroutes, Router};
 use fr_ways::PushList;
 use std::alloc::{AllocError, Global};
 
@@ -114,4 +115,16 @@ pub(crate) fn change_noting(
     rerouted.clear();
     push_nodes(rerouted, noted.nodes());
     Ok(report)
+}
+
+/// Whether an answer to a line reports a round. A report is the only answer that begins with a `t`, and every other
+/// answer leaves the session unchanged.
+pub(crate) fn is_report(answer: &Result<Option<String>, AnswerFault>) -> bool
+    ensures { result ≡ false → IfOk answer.now
+        (λ answer. IfSome answer (λ text. slice_get (string_bytes text) 0 ≢ Some 116)) }
+{
+    match answer {
+        Ok(Some(text)) => text.as_bytes().first() == Some(&b't'),
+        _ => false,
+    }
 }

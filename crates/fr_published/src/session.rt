@@ -11,7 +11,7 @@ ghost use Rattle.fr_ways.specs.PushLists.{AreListed};
 ghost use Rattle.fr_route.specs.NodeWays.{AreNodeWays, HasDistance, IsNearest};
 ghost use Rattle.fr_route.specs.declared.fault.RouteFault.TheVariants.{Memory};
 
-use crate::noting::{change_noting, grow_in, shrink_in};
+use crate::noting::{change_noting, grow_in, is_report, shrink_in};
 use crate::publishing::{opened, publish, replaced, session_law};
 use crate::ways::{WayTables, publish_changes, publish_ways};
 use fr_route::{AnswerFault, Change, NotMade, Report, Reroutes, RouteFault, Router, Session, Walked};
@@ -134,9 +134,13 @@ impl PublishedSession {
     /// the table can be used for every later network. A number that is not a node has no way in the table.
     ///
     /// Fails with `AllocError` if an allocation is refused, or if the table already has 2^63 readers. Then nothing has
-    /// changed. The first reader takes 80 KiB: the table, the ways that are to be pushed, and space to list those of
-    /// one node. It takes the time that publishing takes in [`answer_line`](PublishedSession::answer_line). Each later
-    /// one takes O(1) time and does not allocate.
+    /// changed. The first reader takes 112 KiB: the table, the ways that are to be pushed, space to list those of one
+    /// node, and space for the nodes of a change. It takes the time that publishing takes in
+    /// [`answer_line`](PublishedSession::answer_line) after a new network. Each later one takes O(1) time and does not
+    /// allocate.
+    ///
+    /// Once there is a reader, the first [`change`](PublishedSession::change) measures the distances and takes memory for
+    /// notes of all nodes and links.
     pub fn way_reader(&mut self, alloc: Global) -> Result<shared_ways::Reader, AllocError>
         ensures session { (self.new.session ≡ self.old.session) × (self.new.rerouted ≡ self.old.rerouted)
             × (self.new.table ≡ self.old.table) × (self.new.pushes ≡ self.old.pushes) }
@@ -225,9 +229,10 @@ impl PublishedSession {
     /// those of [`answer_line_telling_alone`](fr_route::Session::answer_line_telling_alone). Once there is a reader,
     /// each line also costs one load, and each rerouted node one store.
     ///
-    /// It also publishes the ways, once there is a reader of them: all shrinks before all grows. Each line, also a
-    /// question, then costs O(4,096 + m log d) more for m links and at most d links of a node, because the ways of all
-    /// nodes are listed again.
+    /// It also publishes the ways, once there is a reader of them: all shrinks before all grows. A new network and an
+    /// accepted change then cost O(4,096 + m log d) more for m links and at most d links of a node, because the ways of
+    /// all nodes are listed again. [`change`](PublishedSession::change) lists only those that a change has altered. A
+    /// question, a refused line and a blank line cost one test more.
     pub fn answer_line(&mut self, alloc: Global, line: &[u8]) -> Result<Option<String>, AnswerFault>
         ensures { AnswersLine self.old line.now result self.new }
     {
@@ -237,7 +242,7 @@ impl PublishedSession {
             .answer_line_telling_alone(alloc, line, &mut self.rerouted);
         session_law(&self.session);
         publish(&mut self.publisher, &self.session, &self.rerouted);
-        publish_ways(&mut self.ways, &mut self.session);
+        publish_ways(&mut self.ways, &mut self.session, is_report(&answer));
         answer
     }
 
@@ -245,7 +250,7 @@ impl PublishedSession {
     /// are those of [`change_telling_alone`](fr_route::Router::change_telling_alone). Returns `None` if there is no
     /// network yet.
     ///
-    /// It also publishes the ways, once there is a reader of them. Then the cost is that of
+    /// It also publishes the ways, once there is a reader of them. Then its cost and its memory are those of
     /// [`change_with_ways`](PublishedSession::change_with_ways).
     pub fn change(&mut self, alloc: Global, change: Change) -> Option<Result<Report, NotMade>>
         ensures changes { MakesChange self.old change result self.new }
@@ -322,7 +327,8 @@ impl PublishedSession {
     /// as [`changed_since`](fr_route::Router::changed_since) lists them.
     ///
     /// Fails with `AllocError` if an allocation is refused. Then nothing has changed. O(n) for the n nodes of the
-    /// larger network. It publishes the ways as [`answer_line`](PublishedSession::answer_line) does, at the same cost.
+    /// larger network. It publishes the ways as [`answer_line`](PublishedSession::answer_line) does after a new network,
+    /// at the same cost.
     pub fn put_router(&mut self, alloc: Global, router: Router) -> Result<(), AllocError>
         ensures { PutsRouter self.old router result self.new }
     {
@@ -332,7 +338,7 @@ impl PublishedSession {
         self.session.put_router(router);
         session_law(&self.session);
         publish(&mut self.publisher, &self.session, &self.rerouted);
-        publish_ways(&mut self.ways, &mut self.session);
+        publish_ways(&mut self.ways, &mut self.session, true);
         Ok(())
     }
 }

@@ -1,6 +1,6 @@
 //! Pushing the ways of a session into a table.
 
-ghost use Rattle.std.specs.Prelude.{◌≡◌, ℕ, ◌+◌, ◌<◌, ◌≤◌, ◌⊎◌, ◌++◌, List, [], Some};
+ghost use Rattle.std.specs.Prelude.{◌≡◌, ℕ, ◌+◌, ◌<◌, ◌≤◌, ◌⊎◌, ◌++◌, List, [], Some, false};
 ghost use Rattle.std.specs.Prelude.{All, Contains, IfOk, IfSome, MatchBool, length, take, vec_capacity};
 ghost use Rattle.std.specs.List.Sorted.{IsNonDecreasing, IsPermutation};
 ghost use Rattle.fr_graph.specs.Limits.{most_nodes};
@@ -202,12 +202,17 @@ fn want_none(wanted: &mut FirstWays, from: u32)
     }
 }
 
-/// Pushes the ways of a session, if there is a table of them.
-pub(crate) fn publish_ways(tables: &mut Option<WayTables>, session: &mut Session)
-    requires { IsSettledSession session.old }
+/// Pushes the ways of a session, if there is a table of them. If `may_differ` is false, the table must have them
+/// already, and no node is looked at.
+pub(crate) fn publish_ways(tables: &mut Option<WayTables>, session: &mut Session, may_differ: bool)
+    requires settled { IsSettledSession session.old }
+    requires had { may_differ ≡ false → IfSome tables.old (HasWaysOf session.old) }
     ensures same { session.new ≡ session.old }
     ensures published { PublishesWaysIn tables.old session.old tables.new }
 {
+    if !may_differ {
+        return;
+    }
     if let Some(tables) = tables {
         tables.bring(session);
     }

@@ -1,11 +1,12 @@
-use Rattle.std.proofs.Common.{IfSome, List, subst, sym, ℕ}
+use Rattle.std.proofs.Common.{IfSome, List, Option, subst, sym, ℕ, ◌≡◌}
 use Rattle.std.proofs.lemmas.Option.{IfSome_then}
 use Rattle.fr_published.specs.Answers.{AnswersLine}
 use Rattle.fr_published.specs.Inside.{pushes_in}
-use Rattle.fr_published.specs.Published.{Published, WayPushes, published}
+use Rattle.fr_published.specs.Published.{HasWaysOf, Published, WayPushes, published}
+use Rattle.fr_route.specs.States.{State}
 use Rattle.fr_published.specs.Publishing.{CanPublish, PublishesIn}
 use Rattle.fr_published.proofs.Leading.{can_publish}
-use Rattle.fr_published.proofs.Telling.{answer_leads, line_answered}
+use Rattle.fr_published.proofs.Telling.{answer_keeps, answer_leads, line_answered}
 use Rattle.fr_published.proofs.session.PublishedSession.answer_line.Goals as goal
 
 pub publish-requires-clause-can : goal.publish-requires-clause-can
@@ -17,6 +18,15 @@ publish-requires-clause-can c =
     subst (λ (nodes : List ℕ). IfSome p.publisher (λ k. CanPublish k a.new.self nodes)) (sym c.deref.ensures.value)
     (IfSome_then p.publisher c.self.invariant.hops
     (can_publish p.session a.new.self c.session_law.ensures c.session_law-2.ensures a.new.rerouted.items by))
+
+pub publish_ways-requires-clause-had : goal.publish_ways-requires-clause-had
+publish_ways-requires-clause-had c = λ other.
+    let p = c.self.inside in
+    let a = c.answer_line_telling_alone-answer in
+    let same : a.new.self ≡ p.session =
+    answer_keeps p.session a.new.self c.args.line.now a.result a.ensures.blank a.ensures.text a.ensures.unchanged
+    (c.is_report.ensures other) in
+    subst (λ (s : Option State). IfSome p.ways (HasWaysOf s)) (sym same) c.self.invariant.ways
 
 pub returns : goal.returns
 returns c =
