@@ -57,6 +57,7 @@ mod statuses;
 mod tables;
 mod way_reader_calls;
 mod way_reader_handle;
+mod way_reader_opening;
 mod way_readers;
 mod ways;
 

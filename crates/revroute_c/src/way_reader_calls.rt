@@ -16,9 +16,9 @@ ghost use Rattle.revroute_c.specs.WayReaders.{TellsWayRead, TellsWaysRead, no_wa
 
 use crate::handle::Handle;
 use crate::questions::HOP_OF_NO_NETWORK;
-use crate::reader_opening::{way_reader_anew, way_reader_in};
 use crate::statuses::{ANSWERED, NO_MEMORY, NO_NETWORK};
 use crate::way_reader_handle::WayReaderHandle;
+use crate::way_reader_opening::{way_reader_anew, way_reader_in};
 use crate::way_readers::{way_read, ways_copied, ways_read};
 use std::alloc::Global;
 
