@@ -15,7 +15,7 @@ from revroute import Network, NoSuchNode, Session
 
 SIDE = 6
 NODES = SIDE * SIDE
-CHANGES = 2000
+CHANGES = 600
 LINKS = [(x, x - 1) for x in range(NODES) if x % SIDE] + [(x, x - SIDE) for x in range(SIDE, NODES)]
 NEIGHBOURS = {*LINKS, *((v, u) for u, v in LINKS)}
 
