@@ -26,7 +26,7 @@ MOST_JOBS = 4
 FUNCTIONS_OF_A_JOB = 20
 # Libraries beside the one that others wait for: how many jobs they have together, and how they give way to it.
 JOBS_BESIDE = 2
-NICENESS_BESIDE = 10
+NICENESS_BESIDE = 5
 # In seconds: longer than rt ci takes for all crates on one processor.
 MOST_TIME_BESIDE = 4 * 3600
 

@@ -6,7 +6,7 @@ ghost use Rattle.fr_route.specs.Reroutes.{AreRerouted};
 ghost use Rattle.fr_route.specs.Routes.{IsWalked};
 ghost use Rattle.fr_route.specs.declared.change.Change.TheVariants.{Cut};
 
-use fr_route::{Change, Report, RouteFault, Router, Walked};
+use fr_route::{Change, NotMade, Report, RouteFault, Router, Walked};
 use std::alloc::Global;
 
 /// Takes the link between `u` and `v` out, settles the network on this thread, and answers the way of node `x` after it.
@@ -33,7 +33,7 @@ pub fn rerouted_by_cut(
     u: u32,
     v: u32,
     rerouted: &mut Vec<u32>,
-) -> Result<Report, RouteFault>
+) -> Result<Report, NotMade>
     ensures cut { IfOk result (λ _. IsChanged router.old (Cut u v) router.new) }
     ensures rerouted { IfOk result (λ _. AreRerouted router.old router.new rerouted.new.items) }
     ensures unchanged { OnErr result (router.new ≡ router.old) }

@@ -1,9 +1,9 @@
 -- The first ways of a session as a table, and when it is unchanged.
 use Rattle.std.proofs.Common.{All, Contains, IfSome, List, None, Option, Some, [], ap, append-nil, arith, drop, inl}
 use Rattle.std.proofs.Common.{inr, length, map, refl}
-use Rattle.std.proofs.Common.{set, subst, sym, take, ℕ, ⊎_elim, ◌++◌, ◌+◌, ◌<◌, ◌≤◌, ◌∙◌, ◌∷◌, ◌≡◌, Bool, false, true}
+use Rattle.std.proofs.Common.{set, subst, sym, take, ℕ, ⊎_elim, ◌++◌, ◌+◌, ◌<◌, ◌≤◌, ◌∙◌, ◌∷◌, ◌≡◌, Bool, false}
 use Rattle.std.proofs.Common.{cond}
-use Rattle.std.specs.List.{filter, list_any, range_with_len}
+use Rattle.std.specs.List.{filter, range_with_len}
 use Rattle.std.specs.Prelude.{not, ◌&&◌}
 use Rattle.std.proofs.lemmas.Bool.{cases_Bool, cases_eq, cases_lt, false≢true}
 use Rattle.std.proofs.lemmas.List.{ext_get_or, get_or-set_other, get_or-set_same, length-take, take-append-drop}
@@ -16,7 +16,7 @@ use Rattle.fr_route.specs.NodeWays.{AreNodeWays}
 use Rattle.fr_route.specs.States.{State}
 use Rattle.fr_tables.proofs.Members.{Contains-none}
 use Rattle.fr_tables.specs.Walks.{IsCycleFree, IsWalk}
-use Rattle.fr_ways.specs.Phases.{differs, empties, grows, is_empty, is_way, kept, loses, sheds, shrunk}
+use Rattle.fr_ways.specs.Phases.{empties, grows, is_empty, is_way, kept, loses, sheds, shrunk}
 use Rattle.fr_ways.specs.Ways.{Sends, ways}
 use Rattle.fr_ways.proofs.Parts.{part_free}
 use Rattle.fr_ways.proofs.Planning.{differs_no}
@@ -147,20 +147,30 @@ pub ways_left_in : (w : Option WayKnowledge) (s : Option State) (w' : Option Way
 ways_left_in None s w' has p = p
 ways_left_in (Some k) s w' has p = p.1 ∙ ap Some (ways_left k s p.0 has p.2)
 
--- one more node of a table gets its ways
-pub set_each : (P : ℕ → List ℕ → Type 0) (table : List (List ℕ)) (x : ℕ) (list : List ℕ) → x < length table
-    → ((y : ℕ) → y < x → (l : List ℕ) × P y l × (ways table y ≡ take 5 l)) → P x list
-    → (y : ℕ) → y < x + 1 → (l : List ℕ) × P y l × (ways (set table x (take 5 list)) y ≡ take 5 l)
-set_each P table x list low each is y lower = ⊎_elim
+-- if nothing changes, nothing is pushed
+pub ways_stay : (w : Option WayKnowledge) (s : Option State) → IfSome w (HasWaysOf s) → PublishesWaysIn w s w
+ways_stay None s has = refl
+ways_stay (Some k) s has = (k, refl, record { has = has; by = inl refl })
+
+-- one more of some nodes gets its ways
+pub set_each : (P : ℕ → List ℕ → Type 0) (node : ℕ → ℕ) (i : ℕ) (table : List (List ℕ)) (list : List ℕ)
+    → node i < length table
+    → ((k : ℕ) → k < i → (l : List ℕ) × P (node k) l × (ways table (node k) ≡ take 5 l)) → P (node i) list
+    → (k : ℕ) → k < i + 1
+    → (l : List ℕ) × P (node k) l × (ways (set table (node i) (take 5 list)) (node k) ≡ take 5 l)
+set_each P node i table list low each is k lower = ⊎_elim
     (λ e. (
       list,
       subst (λ (z : ℕ). P z list) (sym e) is,
-      ap (λ (z : ℕ). ways (set table x (take 5 list)) z) e ∙ get_or-set_same table x (take 5 list) [] low,
+      ap (λ (z : ℕ). ways (set table (node i) (take 5 list)) z) e
+          ∙ get_or-set_same table (node i) (take 5 list) [] low,
     ))
     (λ apart.
-    let (l, was, there) = each y (omega (arith, lower, apart)) in
-    (l, was, get_or-set_other table x y (take 5 list) [] apart ∙ there))
-    (cases_eq y x)
+    let before : k < i = ⊎_elim (λ earlier. earlier)
+    (λ last. let same : k ≡ i = omega (arith, lower, last) in absurd (apart (ap node same))) (cases_lt k i) in
+    let (l, was, there) = each k before in
+    (l, was, get_or-set_other table (node i) (node k) (take 5 list) [] apart ∙ there))
+    (cases_eq (node k) (node i))
 
 pub all_blank : (table : List (List ℕ)) → length table ≡ most_nodes → ((x : ℕ) → ways table x ≡ [])
     → table ≡ blank most_nodes

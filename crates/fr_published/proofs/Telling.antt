@@ -1,29 +1,31 @@
 -- When a line leaves the session unchanged, and when it leads to other hops.
 use Rattle.std.proofs.Common.{List, Option, Some, None, Result, Ok, Err, IfErr, IfNone, IfOk, IfSome, OnErr, String, ap, false, inl, inr, length}
 use Rattle.std.proofs.Common.{refl, string_bytes, subst, sym, true, ℕ, ⊎_elim, ◌∙◌, ◌≡◌, ◌≢◌, ◌≤◌, ◌⊎◌}
+use Rattle.std.specs.Prelude.{MatchBool, is_ok}
 use Rattle.std.specs.declared.alloc.Global.{Global}
 use Rattle.fr_lines.specs.Requests.{PlainRequest, new_network, cut_link, add_link, join_nodes, make_edits, move_dest, walk_from, ask, ask_node, order_pushes, push_ways, reading}
 use Rattle.fr_lines.specs.declared.requests.LineFault.{LineFault}
 use Rattle.fr_route.specs.Answers.{IsAccepted, IsLineAnswer}
 use Rattle.fr_route.specs.Blank.{is_blank}
-use Rattle.fr_route.specs.Changes.{IsChanged, IsRouteFault}
+use Rattle.fr_route.specs.Changes.{IsChanged, IsUndone}
 use Rattle.fr_route.specs.Reroutes.{TellsRerouted}
 use Rattle.fr_route.specs.States.{State, IsReport, net_at}
 use Rattle.fr_route.specs.Texts.{longest_report}
 use Rattle.fr_route.specs.Told.{IsLineTold, TellsOf, TellsOfLine}
+use Rattle.fr_route.specs.WayPushes.{AreWayChanges}
 use Rattle.fr_route.specs.declared.change.Change.{Change}
 use Rattle.fr_route.specs.declared.change.Change.TheVariants.{Cut, Add, Join, Destination}
 use Rattle.fr_route.specs.declared.change.Report.{Report}
 use Rattle.fr_route.specs.declared.fault.AnswerFault.{AnswerFault}
 use Rattle.fr_route.specs.declared.fault.AnswerFault.TheVariants.{Start}
-use Rattle.fr_route.specs.declared.fault.RouteFault.{RouteFault}
+use Rattle.fr_route.specs.declared.fault.NotMade.{NotMade}
 use Rattle.fr_route.specs.declared.fault.RouteFault.TheVariants.{Start as RouteStart}
 use Rattle.fr_route.proofs.Changing.{made_nodes}
 use Rattle.fr_shared.specs.Knowledge.{Knowledge}
-use Rattle.fr_shared_ways.specs.Knowledge.{Knowledge as WayKnowledge}
-use Rattle.fr_published.specs.Answers.{AnswersLine, ChangesRouter, MakesChange}
-use Rattle.fr_published.specs.Published.{HasHopsOf, HasWaysOf, WayPushes, published}
-use Rattle.fr_published.specs.Publishing.{IsSettled, IsSettledSession, PublishesIn, PublishesWaysIn}
+use Rattle.fr_shared_ways.specs.Knowledge.{Knowledge as WayKnowledge, last_table}
+use Rattle.fr_published.specs.Answers.{AnswersLine, ChangesRouter, MakesChange, Notes}
+use Rattle.fr_published.specs.Published.{HasHopsOf, HasWaysOf, Published, WayPushes, published}
+use Rattle.fr_published.specs.Publishing.{AlterWays, IsSettled, IsSettledSession, PublishesIn, PublishesWaysIn}
 use Rattle.fr_published.proofs.Bringing.{left_in}
 use Rattle.fr_published.proofs.FirstWays.{ways_left_in}
 use Rattle.fr_published.proofs.Leading.{Leads, changed_nodes, replaced_leads, rerouted_leads}
@@ -85,24 +87,45 @@ answer_leads s next settled settled' line (Ok (Some text)) before after blank fa
 answer_leads s next settled settled' line (Err why) before after blank fault told = inl fault.1
 
 -- the clauses of a call that changes a router
-pub router_changed : {s next : State} {change : Change} {answer : Result Report RouteFault}
+pub router_changed : {s next : State} {change : Change} {answer : Result Report NotMade}
     → IfOk answer (λ _. IsChanged s change next) → IfOk answer (λ report. IsReport next report.turned report.cut)
-    → IfErr answer (IsRouteFault s change) → OnErr answer (next ≡ s) → IfErr answer (λ fault. fault ≢ RouteStart)
+    → IfErr answer (IsUndone s change) → OnErr answer (next ≡ s) → IfErr answer (λ undone. undone.fault ≢ RouteStart)
     → ChangesRouter s change answer next
 router_changed changed report fault unchanged no_start =
     record { changed = changed; report = report; fault = fault; unchanged = unchanged; no_start = no_start }
 
-pub same_pushes : (answer : Result Report RouteFault) (ps : WayPushes) → OnErr answer (ps ≡ ps)
+pub same_pushes : (answer : Result Report NotMade) (ps : WayPushes) → OnErr answer (ps ≡ ps)
 same_pushes (Ok report) ps = tt
 same_pushes (Err why) ps = refl
 
 -- so does a change
-pub change_leads : (s next : State) → IsSettled s → (change : Change) (answer : Result Report RouteFault) (before after : List ℕ)
+pub change_leads : (s next : State) → IsSettled s → (change : Change) (answer : Result Report NotMade) (before after : List ℕ)
     → ChangesRouter s change answer next → TellsRerouted s answer next before after
     → (Some next ≡ Some s) ⊎ Leads (Some s) (Some next) after
 change_leads s next settled change (Ok report) before after changes told =
     inr (rerouted_leads s next after settled (changed_nodes s change next changes.changed) told.rerouted)
 change_leads s next settled change (Err why) before after changes told = inl (ap Some changes.unchanged)
+
+-- a change alters the ways, or leaves them
+pub change_alters : (s next : State) (change : Change) (answer : Result Report NotMade) (p : WayPushes) (k : WayKnowledge)
+    → HasWaysOf (Some s) k → ChangesRouter s change answer next
+    → IfOk answer (λ _. AreWayChanges s next p.shrink p.grow)
+    → MatchBool (is_ok answer) (AlterWays (last_table k) next p) (HasWaysOf (Some next) k)
+change_alters s next change (Ok report) p k has changes ways =
+    record { before = s; had = has.are; nodes = changed_nodes s change next changes.changed; changes = ways }
+change_alters s next change (Err why) p k has changes ways =
+    subst (λ (t : State). HasWaysOf (Some t) k) (sym changes.unchanged) has
+
+-- and its pushes are noted, or those before are kept
+pub change_notes : (s next : State) (answer : Result Report NotMade) (ps ps' : WayPushes)
+    → IfOk answer (λ _. AreWayChanges s next ps'.shrink ps'.grow) → OnErr answer (ps' ≡ ps)
+    → Notes (Some s) (Some answer) (Some next) ps ps'
+change_notes s next (Ok report) ps ps' ways left = record {
+  made = record { before = s; after = next; was = refl; is = refl; changes = ways };
+  fault = tt;
+  none = tt;
+}
+change_notes s next (Err why) ps ps' ways left = record { made = tt; fault = left; none = tt }
 
 -- The answers of a session and its router, with publishing
 
@@ -158,7 +181,7 @@ module _ (s s' : Option State) (nodes nodes' : List ℕ) (t t' : Option Knowledg
 
 module _ (s s' : State) (nodes nodes' : List ℕ) (t t' : Option Knowledge) (w w' : Option WayKnowledge) where
   pub change_made : (ps ps' : WayPushes) → IfSome t (HasHopsOf (Some s)) → PublishesIn t (Some s') nodes' t' → IfSome w (HasWaysOf (Some s))
-      → PublishesWaysIn w (Some s') w' → (change : Change) (answer : Result Report RouteFault)
+      → PublishesWaysIn w (Some s') w' → (change : Change) (answer : Result Report NotMade)
       → ChangesRouter s change answer s' → TellsRerouted s answer s' nodes nodes' → OnErr answer (ps' ≡ ps)
       → MakesChange (published (Some s) nodes t w ps) change (Some answer) (published (Some s') nodes' t' w' ps')
   change_made ps ps' has p had q change (Ok report) changes told left = record {
@@ -185,3 +208,45 @@ module _ (s s' : State) (nodes nodes' : List ℕ) (t t' : Option Knowledge) (w w
     published = p;
     ways = q;
   }
+
+-- the same change, for a session with other pushes
+pub with_pushes : (old new : Published) (change : Change) (answer : Option (Result Report NotMade)) (ps ps' : WayPushes)
+    → MakesChange old change answer new → IfNone answer (ps' ≡ ps) → IfSome answer (λ a. OnErr a (ps' ≡ ps))
+    → MakesChange (record old { pushes = ps }) change answer (record new { pushes = ps' })
+with_pushes old new change None ps ps' m none fault = record {
+  none = (m.none.0, λ i. record (m.none.1 i) { pushes = none i });
+  made = tt;
+  fault = tt;
+  unchanged = tt;
+  published = m.published;
+  ways = m.ways;
+}
+with_pushes old new change (Some (Ok report)) ps ps' m none fault = record {
+  none = tt;
+  made = record {
+    before = m.made.before;
+    after = m.made.after;
+    was = m.made.was;
+    is = m.made.is;
+    changed = m.made.changed;
+    report_is = m.made.report_is;
+    rerouted = m.made.rerouted;
+  };
+  fault = tt;
+  unchanged = tt;
+  published = m.published;
+  ways = m.ways;
+}
+with_pushes old new change (Some (Err why)) ps ps' m none fault = record {
+  none = tt;
+  made = tt;
+  fault = record {
+    before = m.fault.before;
+    was = m.fault.was;
+    refused = m.fault.refused;
+    no_start = m.fault.no_start;
+  };
+  unchanged = λ i. record (m.unchanged i) { pushes = fault i };
+  published = m.published;
+  ways = m.ways;
+}

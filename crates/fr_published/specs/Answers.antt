@@ -6,7 +6,7 @@ use Rattle.std.specs.declared.alloc.Global.{Global}
 use Rattle.fr_lines.specs.Requests.{reading}
 use Rattle.fr_route.specs.Answers.{IsLineAnswer}
 use Rattle.fr_route.specs.Blank.{is_blank}
-use Rattle.fr_route.specs.Changes.{IsChanged, IsRouteFault}
+use Rattle.fr_route.specs.Changes.{IsChanged, IsUndone}
 use Rattle.fr_route.specs.Reroutes.{AreReplaced, AreRerouted}
 use Rattle.fr_route.specs.States.{State, IsReport}
 use Rattle.fr_route.specs.Texts.{longest_report}
@@ -15,9 +15,9 @@ use Rattle.fr_route.specs.declared.change.Change.{Change}
 use Rattle.fr_route.specs.declared.change.Report.{Report}
 use Rattle.fr_route.specs.declared.fault.AnswerFault.{AnswerFault}
 use Rattle.fr_route.specs.declared.fault.AnswerFault.TheVariants.{Start}
-use Rattle.fr_route.specs.declared.fault.RouteFault.{RouteFault}
+use Rattle.fr_route.specs.declared.fault.NotMade.{NotMade}
 use Rattle.fr_route.specs.declared.fault.RouteFault.TheVariants.{Start as RouteStart}
-use Rattle.fr_published.specs.Published.{LeadsBetween, Published}
+use Rattle.fr_published.specs.Published.{LeadsBetween, Published, WayPushes}
 use Rattle.fr_published.specs.Publishing.{PublishesTo, PublishesWaysTo}
 
 -- a line is answered, and the nodes that it reroutes and the ways are published; a blank line has no answer
@@ -46,17 +46,17 @@ pub record IsMade (old : Published) (change : Change) (report : Report) (new : P
   pub report_is : IsReport after report.turned report.cut
   pub rerouted : AreRerouted before after new.rerouted
 
--- the change is refused with this fault, or memory is missing
-pub record IsNotMade (old : Published) (change : Change) (fault : RouteFault) : Type 0 where
+-- the change is refused so, or memory is missing
+pub record IsNotMade (old : Published) (change : Change) (undone : NotMade) : Type 0 where
   pub before : State
   pub was : old.session ≡ Some before
-  pub refused : IsRouteFault before change fault
-  pub no_start : fault ≢ RouteStart
+  pub refused : IsUndone before change undone
+  pub no_start : undone.fault ≢ RouteStart
 
 -- a change is made, and the nodes that it reroutes and the ways are published; there is no answer exactly if there is
 -- no network
 pub record MakesChange
-    (old : Published) (change : Change) (answer : Option (Result Report RouteFault)) (new : Published) : Type 0 where
+    (old : Published) (change : Change) (answer : Option (Result Report NotMade)) (new : Published) : Type 0 where
   pub none : IfNone answer ((old.session ≡ None) × (new ≡ old))
   pub made : IfSome answer (λ a. IfOk a (λ report. IsMade old change report new))
   pub fault : IfSome answer (λ a. IfErr a (IsNotMade old change))
@@ -65,17 +65,24 @@ pub record MakesChange
   pub ways : PublishesWaysTo old.ways new
 
 -- the pushes of both phases are those of a change that was made
-abbrev pub NotesPushes : Published → Option (Result Report RouteFault) → Published → Type 0
+abbrev pub NotesPushes : Published → Option (Result Report NotMade) → Published → Type 0
 NotesPushes old answer new =
     IfSome answer (λ a. IfOk a (λ _. LeadsBetween old.session new.session new.pushes))
 
+-- the noted pushes of both phases are those of a change that was made. Otherwise they are as before
+pub record Notes (old : Option State) (answer : Option (Result Report NotMade)) (new : Option State)
+    (before after : WayPushes) : Type 0 where
+  pub made : IfSome answer (λ a. IfOk a (λ _. LeadsBetween old new after))
+  pub fault : IfSome answer (λ a. OnErr a (after ≡ before))
+  pub none : IfNone answer (after ≡ before)
+
 -- a router is changed, with this report of its round
-pub record ChangesRouter (s : State) (change : Change) (answer : Result Report RouteFault) (next : State) : Type 0 where
+pub record ChangesRouter (s : State) (change : Change) (answer : Result Report NotMade) (next : State) : Type 0 where
   pub changed : IfOk answer (λ _. IsChanged s change next)
   pub report : IfOk answer (λ report. IsReport next report.turned report.cut)
-  pub fault : IfErr answer (IsRouteFault s change)
+  pub fault : IfErr answer (IsUndone s change)
   pub unchanged : OnErr answer (next ≡ s)
-  pub no_start : IfErr answer (λ fault. fault ≢ RouteStart)
+  pub no_start : IfErr answer (λ undone. undone.fault ≢ RouteStart)
 
 -- a router replaces the one before it, if there was one, and the nodes that it reroutes and the ways are published
 pub record PutsRouter (old : Published) (router : State) (answer : Result (Unit {0}) AllocError)

@@ -1,8 +1,8 @@
 -- The values of a `PublishedSession` and of its table of ways in contracts. For proofs only.
-use Rattle.std.specs.Prelude.{◌≡◌, IfSome, length, Option, Some, None}
+use Rattle.std.specs.Prelude.{◌≡◌, ◌+◌, ◌≤◌, IfSome, length, Option, Some, None, vec_capacity}
 use Rattle.fr_graph.specs.Limits.{most_nodes}
 use Rattle.fr_route.specs.Reroutes.{Rerouted}
-use Rattle.fr_shared_ways.specs.Knowledge.{Knowledge as WayKnowledge}
+use Rattle.fr_shared_ways.specs.Knowledge.{Knowledge as WayKnowledge, last_table as last_ways}
 use Rattle.fr_published.specs.declared.ways.WayTables.TheInside.{Inside as InTables}
 use Rattle.fr_published.specs.Published.{HasHopsOf, HasWaysOf, Published, WayPushes, no_pushes, published}
 use Rattle.fr_published.specs.declared.session.PublishedSession.TheInside.{Inside}
@@ -23,8 +23,9 @@ pub record IsInStep (p : Inside) : Type 0 where
 abbrev pub ways_known : InTables → WayKnowledge
 ways_known w = w.publisher
 
--- the table, the new table and the space are for the largest network
-pub record AreLargest (w : InTables) : Type 0 where
+-- the tables and the space are for the largest network, and the new table is the one that was pushed last
+pub record AreReady (w : InTables) : Type 0 where
   pub table : w.publisher.nodes ≡ most_nodes
-  pub wanted : length w.wanted ≡ most_nodes
+  pub wanted : w.wanted ≡ last_ways w.publisher
   pub space : length w.space.items ≡ most_nodes
+  pub listed : most_nodes + most_nodes ≤ vec_capacity w.listed

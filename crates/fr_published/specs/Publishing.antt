@@ -4,13 +4,14 @@ use Rattle.fr_graph.specs.Limits.{most_nodes}
 use Rattle.fr_route.specs.Reroutes.{AreHopsIn}
 use Rattle.fr_route.specs.Routes.{AreHops}
 use Rattle.fr_route.specs.States.{State, IsAfterRound}
+use Rattle.fr_route.specs.WayPushes.{AreWayChanges}
 use Rattle.fr_tables.specs.Pushes.{IsPushOrder}
 use Rattle.fr_tables.specs.declared.hop.Hop.{Hop}
 use Rattle.fr_shared.specs.Histories.{pushes_of}
 use Rattle.fr_shared.specs.Knowledge.{Knowledge, last_table}
 use Rattle.fr_shared_ways.specs.Histories.{pushes_of as way_pushes}
 use Rattle.fr_shared_ways.specs.Knowledge.{Knowledge as WayKnowledge, last_table as last_ways}
-use Rattle.fr_published.specs.Published.{HasHopsOf, HasWaysOf, Published}
+use Rattle.fr_published.specs.Published.{HasFirstWays, HasHopsOf, HasWaysOf, Published, WayPushes}
 
 -- the network of a session is the result of a round and within the limit
 pub record IsSettled (s : State) : Type 0 where
@@ -73,3 +74,11 @@ PublishesWaysIn (Some k) s ways = (k' : WayKnowledge) × (ways ≡ Some k') × P
 
 abbrev pub PublishesWaysTo : Option WayKnowledge → Published → Type 0
 PublishesWaysTo ways new = PublishesWaysIn ways new.session new.ways
+
+-- the table has the first ways of an earlier state, and these pushes lead from all ways of that state to those of this
+-- one
+pub record AlterWays (table : List (List ℕ)) (s : State) (p : WayPushes) : Type 0 where
+  pub before : State
+  pub had : HasFirstWays before table
+  pub nodes : s.nodes ≡ before.nodes
+  pub changes : AreWayChanges before s p.shrink p.grow

@@ -1,6 +1,6 @@
 //! What a change does to the ways of nodes, which a session keeps for questions.
 
-ghost use Rattle.std.specs.Prelude.{◌≡◌, ◌≢◌, ◌≤◌, ◌↔◌, [], IfOk, IsTrue, None, OnErr, OnOk, length, vec_capacity};
+ghost use Rattle.std.specs.Prelude.{◌≡◌, ◌≢◌, ◌≤◌, ◌↔◌, ◌+◌, ◌++◌, [], IfOk, IsTrue, None, OnErr, OnOk, length, vec_capacity};
 ghost use Rattle.fr_published.specs.Answers.{ChangesRouter};
 ghost use Rattle.fr_published.specs.Inside.{pushes_in};
 ghost use Rattle.fr_route.specs.Changes.{MayLackMemory};
@@ -9,7 +9,7 @@ ghost use Rattle.fr_route.specs.WayPushes.{AreWayChanges};
 ghost use Rattle.fr_ways.specs.PushLists.{AreListed};
 
 use fr_graph::MAX_EDITS;
-use fr_route::{Change, Report, Reroutes, RouteFault, Router};
+use fr_route::{Change, NotMade, Report, Reroutes, Router};
 use fr_ways::PushList;
 use std::alloc::{AllocError, Global};
 
@@ -46,25 +46,45 @@ fn make_room(
     Ok(())
 }
 
-/// Puts these nodes into a list, which has room for them.
-fn put_nodes(list: &mut Vec<u32>, nodes: &[u32])
-    requires { length nodes.now ≤ vec_capacity list.old }
-    ensures { list.new.items ≡ nodes.now }
+/// Appends these nodes to a list, which has room for them.
+pub(crate) fn push_nodes(list: &mut Vec<u32>, nodes: &[u32])
+    requires { length list.old.items + length nodes.now ≤ vec_capacity list.old }
+    ensures items { list.new.items ≡ list.old.items ++ nodes.now }
+    ensures room { vec_capacity list.new ≡ vec_capacity list.old }
 {
-    list.clear();
     for x in nodes {
         list.push_reserved(*x);
     }
 }
 
 /// No pushes.
-pub(crate) fn nothing() -> PushList<'static>
+fn nothing() -> PushList<'static>
     ensures { AreListed [] result }
 {
     PushList {
         nodes: &[],
         starts: &[0],
         list: &[],
+    }
+}
+
+/// The first phase of these reroutes; nothing if there are none.
+pub(crate) fn shrink_in(reroutes: &Option<Reroutes>) -> PushList<'_>
+    ensures { AreListed (pushes_in reroutes.now).shrink result }
+{
+    match reroutes {
+        Some(reroutes) => reroutes.shrink(),
+        None => nothing(),
+    }
+}
+
+/// Their second phase.
+pub(crate) fn grow_in(reroutes: &Option<Reroutes>) -> PushList<'_>
+    ensures { AreListed (pushes_in reroutes.now).grow result }
+{
+    match reroutes {
+        Some(reroutes) => reroutes.grow(),
+        None => nothing(),
     }
 }
 
@@ -75,7 +95,7 @@ pub(crate) fn change_noting(
     change: Change,
     rerouted: &mut Vec<u32>,
     reroutes: &mut Option<Reroutes>,
-) -> Result<Report, RouteFault>
+) -> Result<Report, NotMade>
     ensures changes { ChangesRouter router.old change result router.new }
     ensures told { TellsRerouted router.old result router.new rerouted.old.items rerouted.new.items }
     ensures ways { IfOk result (λ _. AreWayChanges router.old router.new
@@ -91,6 +111,7 @@ pub(crate) fn change_noting(
         unreachable!()
     };
     let report = router.change_telling_ways_alone(alloc, change, noted)?;
-    put_nodes(rerouted, noted.nodes());
+    rerouted.clear();
+    push_nodes(rerouted, noted.nodes());
     Ok(report)
 }

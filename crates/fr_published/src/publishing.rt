@@ -5,7 +5,7 @@ ghost use Rattle.std.specs.Option.{option_copied};
 ghost use Rattle.fr_route.specs.Reroutes.{AreReplaced};
 ghost use Rattle.fr_published.specs.Published.{HasHopsOf};
 ghost use Rattle.fr_published.specs.Publishing.{AreHopsOf, CanPublish, HasHopAt};
-ghost use Rattle.fr_published.specs.Publishing.{IsSettledSession, Publishes, PublishesIn};
+ghost use Rattle.fr_published.specs.Publishing.{IsSettled, IsSettledSession, Publishes, PublishesIn};
 ghost use Rattle.fr_shared.specs.Histories.{padded};
 ghost use Rattle.fr_shared.specs.Knowledge.{last_table};
 ghost use Rattle.fr_tables.specs.declared.hop.Hop.TheVariants.{CutOff};
@@ -15,13 +15,20 @@ use fr_route::{Hop, Router, Session};
 use fr_shared::{Publisher, open};
 use std::alloc::{AllocError, Global};
 
-/// The network of a session is the result of a round. The function does nothing.
+/// The network of a router is the result of a round. The function does nothing.
+pub(crate) fn router_law(router: &Router)
+    ensures { IsSettled router.now }
+{
+    router.state_law();
+    router.net().network_law();
+}
+
+/// The same for the network of a session, if it has one. The function does nothing.
 pub(crate) fn session_law(session: &Session)
     ensures { IsSettledSession session.now }
 {
     if let Some(router) = session.router() {
-        router.state_law();
-        router.net().network_law();
+        router_law(router);
     }
 }
 

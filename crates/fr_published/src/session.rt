@@ -1,7 +1,8 @@
 //! A session whose next hops and ways other threads read.
 
 ghost use Rattle.std.specs.Prelude.{◌≡◌, ◌↔◌, ◌<◌, [], None, Some, IfErr, IfOk, IfSome, OnErr, OnOk};
-ghost use Rattle.fr_published.specs.Answers.{AnswersLine, MakesChange, NotesPushes, PutsRouter};
+ghost use Rattle.fr_published.specs.Answers.{AnswersLine, MakesChange, Notes, NotesPushes, PutsRouter};
+ghost use Rattle.fr_published.specs.Inside.{pushes_in};
 ghost use Rattle.fr_published.specs.Published.{HasHopsOf, HasWaysOf, no_pushes, published};
 ghost use Rattle.std.specs.Option.{option_map};
 ghost use Rattle.fr_shared.specs.Knowledge.{past_of};
@@ -10,10 +11,10 @@ ghost use Rattle.fr_ways.specs.PushLists.{AreListed};
 ghost use Rattle.fr_route.specs.NodeWays.{AreNodeWays, HasDistance, IsNearest};
 ghost use Rattle.fr_route.specs.declared.fault.RouteFault.TheVariants.{Memory};
 
-use crate::noting::{change_noting, nothing};
+use crate::noting::{change_noting, grow_in, shrink_in};
 use crate::publishing::{opened, publish, replaced, session_law};
-use crate::ways::{WayTables, publish_ways};
-use fr_route::{AnswerFault, Change, Report, Reroutes, RouteFault, Router, Session, Walked};
+use crate::ways::{WayTables, publish_changes, publish_ways};
+use fr_route::{AnswerFault, Change, NotMade, Report, Reroutes, RouteFault, Router, Session, Walked};
 use fr_shared::{Past, Publisher, Reader};
 use fr_shared_ways as shared_ways;
 use fr_ways::PushList;
@@ -31,6 +32,8 @@ pub struct PublishedSession {
     publisher: Option<Publisher>,
     ways: Option<WayTables>,
     reroutes: Option<Reroutes>,
+    // What `change` notes for the readers of ways.
+    noted: Option<Reroutes>,
 }
 
 impl Model for PublishedSession {
@@ -56,6 +59,7 @@ impl PublishedSession {
             publisher: None,
             ways: None,
             reroutes: None,
+            noted: None,
         }
     }
 
@@ -80,10 +84,7 @@ impl PublishedSession {
     pub fn shrink(&self) -> PushList<'_>
         ensures { AreListed self.now.pushes.shrink result }
     {
-        match &self.reroutes {
-            Some(reroutes) => reroutes.shrink(),
-            None => nothing(),
-        }
+        shrink_in(&self.reroutes)
     }
 
     /// What to push once routers have confirmed all pushes of [`shrink`](PublishedSession::shrink): the nodes whose list
@@ -92,10 +93,7 @@ impl PublishedSession {
     pub fn grow(&self) -> PushList<'_>
         ensures { AreListed self.now.pushes.grow result }
     {
-        match &self.reroutes {
-            Some(reroutes) => reroutes.grow(),
-            None => nothing(),
-        }
+        grow_in(&self.reroutes)
     }
 
     /// Between two calls, the tables of the readers have the hops and the ways of the session. The function does
@@ -245,18 +243,21 @@ impl PublishedSession {
 
     /// Changes the network, and lists and publishes the nodes that this reroutes. The report, the faults and the cost
     /// are those of [`change_telling_alone`](fr_route::Router::change_telling_alone). Returns `None` if there is no
-    /// network yet. It publishes the ways as [`answer_line`](PublishedSession::answer_line) does, at the same cost.
-    pub fn change(&mut self, alloc: Global, change: Change) -> Option<Result<Report, RouteFault>>
+    /// network yet.
+    ///
+    /// It also publishes the ways, once there is a reader of them. Then the cost is that of
+    /// [`change_with_ways`](PublishedSession::change_with_ways).
+    pub fn change(&mut self, alloc: Global, change: Change) -> Option<Result<Report, NotMade>>
         ensures changes { MakesChange self.old change result self.new }
         ensures pushes { self.new.pushes ≡ self.old.pushes }
     {
-        session_law(&self.session);
-        let router = self.session.router_mut()?;
-        let answer = router.change_telling_alone(alloc, change, &mut self.rerouted);
-        session_law(&self.session);
-        publish(&mut self.publisher, &self.session, &self.rerouted);
-        publish_ways(&mut self.ways, &mut self.session);
-        Some(answer)
+        if self.ways.is_none() {
+            return self.change_hops(alloc, change);
+        }
+        let mut noted = self.noted.take();
+        let answer = self.change_ways(alloc, change, &mut noted);
+        self.noted = noted;
+        answer
     }
 
     /// Changes the network as [`change`](PublishedSession::change) does, and keeps what has to be pushed to routers that
@@ -266,28 +267,54 @@ impl PublishedSession {
     ///
     /// The cost is that of
     /// [`change_telling_ways_alone`](fr_route::Router::change_telling_ways_alone), and one step for each rerouted node.
-    /// The first call takes the memory for the notes, and all later ones use it again. It publishes the ways to readers
-    /// as [`answer_line`](PublishedSession::answer_line) does, at the same cost.
+    /// The first call takes the memory for the notes, and all later ones use it again. Publishing the ways to readers
+    /// costs O(k (log k + d log d)) more, for the k nodes whose ways the change has altered and at most d links of each:
+    /// no other node is looked at.
     pub fn change_with_ways(
         &mut self,
         alloc: Global,
         change: Change,
-    ) -> Option<Result<Report, RouteFault>>
+    ) -> Option<Result<Report, NotMade>>
         ensures changes { MakesChange self.old change result self.new }
         ensures pushes { NotesPushes self.old result self.new }
     {
+        let mut reroutes = self.reroutes.take();
+        let answer = self.change_ways(alloc, change, &mut reroutes);
+        self.reroutes = reroutes;
+        answer
+    }
+
+    /// Makes a change while there is no reader of ways.
+    fn change_hops(&mut self, alloc: Global, change: Change) -> Option<Result<Report, NotMade>>
+        requires { self.old.ways ≡ None }
+        ensures changes { MakesChange self.old change result self.new }
+        ensures pushes { self.new.pushes ≡ self.old.pushes }
+    {
         session_law(&self.session);
         let router = self.session.router_mut()?;
-        let answer = change_noting(
-            alloc,
-            router,
-            change,
-            &mut self.rerouted,
-            &mut self.reroutes,
-        );
+        let answer = router.change_telling_alone(alloc, change, &mut self.rerouted);
         session_law(&self.session);
         publish(&mut self.publisher, &self.session, &self.rerouted);
-        publish_ways(&mut self.ways, &mut self.session);
+        Some(answer)
+    }
+
+    /// Makes a change, and notes what it does to the ways of nodes. If there is a reader of ways, it publishes them.
+    fn change_ways(
+        &mut self,
+        alloc: Global,
+        change: Change,
+        reroutes: &mut Option<Reroutes>,
+    ) -> Option<Result<Report, NotMade>>
+        ensures changes { MakesChange self.old change result self.new }
+        ensures pushes { self.new.pushes ≡ self.old.pushes }
+        ensures noted { Notes self.old.session result self.new.session (pushes_in reroutes.old) (pushes_in reroutes.new) }
+    {
+        session_law(&self.session);
+        let router = self.session.router_mut()?;
+        let answer = change_noting(alloc, router, change, &mut self.rerouted, reroutes);
+        publish_changes(&mut self.ways, router, reroutes, answer.is_ok());
+        session_law(&self.session);
+        publish(&mut self.publisher, &self.session, &self.rerouted);
         Some(answer)
     }
 

@@ -1,15 +1,22 @@
 //! Pushing the ways of a session into a table.
 
-ghost use Rattle.std.specs.Prelude.{◌≡◌, ℕ, ◌<◌, ◌≤◌, List, [], IfOk, length, take};
+ghost use Rattle.std.specs.Prelude.{◌≡◌, ℕ, ◌+◌, ◌<◌, ◌≤◌, ◌⊎◌, ◌++◌, List, [], Some};
+ghost use Rattle.std.specs.Prelude.{All, Contains, IfOk, IfSome, MatchBool, length, take, vec_capacity};
+ghost use Rattle.std.specs.List.Sorted.{IsNonDecreasing, IsPermutation};
 ghost use Rattle.fr_graph.specs.Limits.{most_nodes};
 ghost use Rattle.fr_route.specs.NodeWays.{AreNodeWays};
 ghost use Rattle.fr_ways.specs.Ways.{ways};
-ghost use Rattle.fr_shared_ways.specs.Knowledge.{past_of};
-ghost use Rattle.fr_published.specs.Published.{AreFirstWays};
-ghost use Rattle.fr_published.specs.Publishing.{IsSettled, IsSettledSession, PublishesWays, PublishesWaysIn};
+ghost use Rattle.fr_shared_ways.specs.Histories.{IsTable, ListsChanges};
+ghost use Rattle.fr_shared_ways.specs.Knowledge.{last_table, past_of};
+ghost use Rattle.fr_published.specs.Inside.{pushes_in};
+ghost use Rattle.fr_published.specs.Published.{AreFirstWays, HasWaysOf};
+ghost use Rattle.fr_published.specs.Publishing.{AlterWays, IsSettled, IsSettledSession, PublishesWays};
+ghost use Rattle.fr_published.specs.Publishing.{PublishesWaysIn};
 
+use crate::noting::{grow_in, push_nodes, shrink_in};
+use crate::publishing::router_law;
 use fr_graph::MAX_NODES;
-use fr_route::{Router, Session};
+use fr_route::{Reroutes, Router, Session};
 use fr_shared_ways::{FirstWays, Past, Publisher, Reader, open};
 use std::alloc::{AllocError, Global};
 use std::marker::Model;
@@ -18,10 +25,12 @@ use std::marker::Model;
 #[derive(Drop)]
 pub(crate) struct WayTables {
     publisher: Publisher,
-    // The ways that are to be pushed.
+    // The ways that are to be pushed. Between two calls they are those of the table.
     wanted: FirstWays,
     // Space for the ways of one node.
     space: Vec<u32>,
+    // Space for the nodes of a change: those that shrink, and those that grow.
+    listed: Vec<u32>,
 }
 
 impl Model for WayTables {
@@ -29,11 +38,11 @@ impl Model for WayTables {
 
     ghost Value = { Knowledge };
 
-    ghost use Rattle.fr_published.specs.Inside.{AreLargest, ways_known};
+    ghost use Rattle.fr_published.specs.Inside.{AreReady, ways_known};
 
     ghost view = { ways_known };
 
-    ghost invariant = { AreLargest };
+    ghost invariant = { AreReady };
 }
 
 impl WayTables {
@@ -47,6 +56,7 @@ impl WayTables {
             publisher,
             wanted: FirstWays::new(alloc, MAX_NODES)?,
             space: vec![in alloc; 0u32; MAX_NODES as usize]?,
+            listed: Vec::with_capacity(alloc, 2 * MAX_NODES as usize)?,
         })
     }
 
@@ -58,6 +68,22 @@ impl WayTables {
     {
         want(&mut self.wanted, &mut self.space, session);
         self.publisher.push_all(&self.wanted);
+    }
+
+    /// Pushes the ways of a router that a change has altered, which these reroutes note. It looks at no other node.
+    fn bring_changes(&mut self, router: &mut Router, reroutes: &Option<Reroutes>)
+        requires { AlterWays (last_table self.old) router.old (pushes_in reroutes.now) }
+        ensures same { router.new ≡ router.old }
+        ensures published { PublishesWays self.old (Some router.old) self.new }
+    {
+        want_changes(
+            &mut self.wanted,
+            &mut self.space,
+            &mut self.listed,
+            router,
+            reroutes,
+        );
+        self.publisher.push_listed(&self.wanted, &self.listed);
     }
 
     /// Makes a reader, which knows all pushes made so far.
@@ -113,6 +139,57 @@ fn want_ways(wanted: &mut FirstWays, space: &mut [u32], router: &mut Router)
     }
 }
 
+/// Puts the first ways after a change into the table of those before it, and lists the nodes that these reroutes note.
+fn want_changes(
+    wanted: &mut FirstWays,
+    space: &mut [u32],
+    listed: &mut Vec<u32>,
+    router: &mut Router,
+    reroutes: &Option<Reroutes>,
+)
+    requires altered { AlterWays wanted.old router.old (pushes_in reroutes.now) }
+    requires space { length space.old ≡ most_nodes }
+    requires room { most_nodes + most_nodes ≤ vec_capacity listed.old }
+    ensures same { (router.new ≡ router.old) × (length space.new ≡ most_nodes)
+        × (most_nodes + most_nodes ≤ vec_capacity listed.new) }
+    ensures first { AreFirstWays (Some router.old) wanted.new × IsTable most_nodes wanted.new }
+    ensures listed { ListsChanges listed.new.items wanted.old wanted.new }
+{
+    router_law(router);
+    list_nodes(listed, shrink_in(reroutes).nodes, grow_in(reroutes).nodes);
+    want_listed(wanted, space, router, listed);
+}
+
+/// Lists the nodes of two lists by number. A node that is in both is listed twice.
+fn list_nodes(list: &mut Vec<u32>, some: &[u32], others: &[u32])
+    requires { length some.now + length others.now ≤ vec_capacity list.old }
+    ensures these { IsPermutation (some.now ++ others.now) list.new.items }
+    ensures by_number { IsNonDecreasing list.new.items }
+    ensures room { vec_capacity list.new ≡ vec_capacity list.old }
+{
+    list.clear();
+    push_nodes(list, some);
+    push_nodes(list, others);
+    list.sort_unstable();
+}
+
+/// Puts the first ways of these nodes of a router into a table.
+fn want_listed(wanted: &mut FirstWays, space: &mut [u32], router: &mut Router, nodes: &[u32])
+    requires settled { IsSettled router.old }
+    requires long { length wanted.old ≡ most_nodes }
+    requires space { length space.old ≡ most_nodes }
+    requires nodes { All (λ (x : ℕ). x < router.old.nodes) nodes.now }
+    ensures same { (router.new ≡ router.old) × (length wanted.new ≡ most_nodes) × (length space.new ≡ most_nodes) }
+    ensures listed { (x : ℕ) → Contains nodes.now x
+        → (list : List ℕ) × AreNodeWays router.old x list × (ways wanted.new x ≡ take 5 list) }
+    ensures others { (x : ℕ) → Contains nodes.now x ⊎ (ways wanted.new x ≡ ways wanted.old x) }
+{
+    for x in nodes {
+        let count = router.ways_in(*x, space);
+        wanted.set(*x, &space[..count]);
+    }
+}
+
 /// Takes the ways of all numbers from this one on out of a table.
 fn want_none(wanted: &mut FirstWays, from: u32)
     requires { length wanted.old ≡ most_nodes }
@@ -133,5 +210,26 @@ pub(crate) fn publish_ways(tables: &mut Option<WayTables>, session: &mut Session
 {
     if let Some(tables) = tables {
         tables.bring(session);
+    }
+}
+
+/// Pushes the ways that a change has altered, which these reroutes note, if there is a table of ways. If the change was
+/// not made, nothing is pushed.
+pub(crate) fn publish_changes(
+    tables: &mut Option<WayTables>,
+    router: &mut Router,
+    reroutes: &Option<Reroutes>,
+    is_made: bool,
+)
+    requires { IfSome tables.old (λ k. MatchBool is_made
+        (AlterWays (last_table k) router.old (pushes_in reroutes.now)) (HasWaysOf (Some router.old) k)) }
+    ensures same { router.new ≡ router.old }
+    ensures published { PublishesWaysIn tables.old (Some router.old) tables.new }
+{
+    if !is_made {
+        return;
+    }
+    if let Some(tables) = tables {
+        tables.bring_changes(router, reroutes);
     }
 }

@@ -11,13 +11,14 @@ use Rattle.fr_graph.specs.declared.fault.NetFault.TheVariants as net
 use Rattle.fr_graph.specs.Network.{Network}
 use Rattle.fr_graph.specs.declared.edit.Edit.{Edit}
 use Rattle.fr_graph.specs.declared.edit.Edit.TheVariants as edit
-use Rattle.fr_route.specs.Changes.{IsChanged, IsOpenFault, IsRouteFault, IsStill}
+use Rattle.fr_route.specs.Changes.{IsChanged, IsOpenFault, IsPlaced, IsPlacedFault, IsRouteFault, IsStill, IsUndone}
 use Rattle.fr_route.specs.Faults.{of_net_fault}
-use Rattle.fr_route.specs.Outcomes.{IsEdited, IsEditingFault, IsPlacedFault}
+use Rattle.fr_route.specs.Outcomes.{IsEdited}
 use Rattle.fr_graph.specs.Evidence.{NamesInBatch, NamesOfEdit}
 use Rattle.fr_route.specs.States.{State, IsRound, net_at}
 use Rattle.fr_route.specs.declared.change.Change.{Change}
-use Rattle.fr_route.specs.declared.change.Change.TheVariants.{Add, Cut, Join}
+use Rattle.fr_route.specs.declared.change.Change.TheVariants.{Add, Batch, Cut, Destination, Join}
+use Rattle.fr_route.specs.declared.fault.NotMade.{NotMade}
 use Rattle.fr_route.specs.declared.fault.RouteFault.{RouteFault}
 use Rattle.fr_route.specs.declared.fault.RouteFault.TheVariants.{Memory, Net, Range, Start}
 use Rattle.fr_route.proofs.RoundEnds.{round_listed}
@@ -76,7 +77,7 @@ round_fault s edits net d at Memory below few made why moves = few
 -- the change makes exactly this edit
 pub record IsBy (s : State) (change : Change) (e : Edit) : Type 0 where
   pub done : (new : State) → IsEdited s (e ∷ []) s.dest new → IsChanged s change new
-  pub undone : (fault : RouteFault) → IsEditingFault s (e ∷ []) s.dest fault → IsRouteFault s change fault
+  pub undone : (why : NotMade) → IsPlaced s (e ∷ []) s.dest why → IsUndone s change why
 
 -- the only edit of a change is refused
 pub refused_edit : (s : State) (e : Edit) (refused : EditFault) → IsBatchFault (net_at s) (e ∷ []) refused → IsEditFault (net_at s) e refused.fault
@@ -100,20 +101,20 @@ named_edit s e refused (inr (few, at)) names =
     (names (net_at s) made) e
 
 pub cut_by : (s : State) (u v : ℕ) → IsBy s (Cut u v) (edit.Cut u v)
-cut_by s u v = record { done = done; undone = undone }
+cut_by s u v = record { done = done; undone = λ why h. by_place why.at why.fault h }
   where
     done : (new : State) → IsEdited s (edit.Cut u v ∷ []) s.dest new → IsChanged s (Cut u v) new
     done new (few, (net, ((next, (made, is)), round))) =
         (made.0, round_listed s.nodes s.dest (without u v s.links) next new made.1 (subst (λ (m : Network). IsRound m.nodes s.dest m.links new) is round))
 
-    undone : (fault : RouteFault) → IsEditingFault s (edit.Cut u v ∷ []) s.dest fault → IsRouteFault s (Cut u v) fault
-    undone (Net fault) (at, (why, names)) = refused_edit s (edit.Cut u v) (record { at = at; fault = fault }) why
-    undone Range (at, h) = h
-    undone Start (at, h) = h
-    undone Memory (at, h) = tt
+    by_place : (at : ℕ) (fault : RouteFault) → IsPlacedFault s (edit.Cut u v ∷ []) s.dest at fault → IsRouteFault s (Cut u v) fault
+    by_place at (Net fault) (why, names) = refused_edit s (edit.Cut u v) (record { at = at; fault = fault }) why
+    by_place at Range h = h
+    by_place at Start h = h
+    by_place at Memory h = tt
 
 pub add_by : (s : State) (u v : ℕ) → IsBy s (Add u v) (edit.Add u v)
-add_by s u v = record { done = done; undone = undone }
+add_by s u v = record { done = done; undone = λ why h. by_place why.at why.fault h }
   where
     done : (new : State) → IsEdited s (edit.Add u v ∷ []) s.dest new → IsChanged s (Add u v) new
     done new (few, (net, ((next, (made, is)), round))) = (
@@ -122,24 +123,38 @@ add_by s u v = record { done = done; undone = undone }
           (subst (λ (m : Network). IsRound m.nodes s.dest m.links new) is round),
     )
 
-    undone : (fault : RouteFault) → IsEditingFault s (edit.Add u v ∷ []) s.dest fault → IsRouteFault s (Add u v) fault
-    undone (Net fault) (at, (why, names)) =
+    by_place : (at : ℕ) (fault : RouteFault) → IsPlacedFault s (edit.Add u v ∷ []) s.dest at fault → IsRouteFault s (Add u v) fault
+    by_place at (Net fault) (why, names) =
         let refused : EditFault = record { at = at; fault = fault } in
         (refused_edit s (edit.Add u v) refused why, named_edit s (edit.Add u v) refused why names)
-    undone Range (at, h) = h
-    undone Start (at, h) = h
-    undone Memory (at, h) = tt
+    by_place at Range h = h
+    by_place at Start h = h
+    by_place at Memory h = tt
 
 pub join_by : (s : State) (u v : ℕ) → IsBy s (Join u v) (edit.Join u v)
-join_by s u v = record { done = done; undone = undone }
+join_by s u v = record { done = done; undone = λ why h. by_place why.at why.fault h }
   where
     done : (new : State) → IsEdited s (edit.Join u v ∷ []) s.dest new → IsChanged s (Join u v) new
     done new (few, (net, ((next, (made, is)), round))) = (next, (made, subst (λ (m : Network). IsRound m.nodes s.dest m.links new) is round))
 
-    undone : (fault : RouteFault) → IsEditingFault s (edit.Join u v ∷ []) s.dest fault → IsRouteFault s (Join u v) fault
-    undone (Net fault) (at, (why, names)) =
+    by_place : (at : ℕ) (fault : RouteFault) → IsPlacedFault s (edit.Join u v ∷ []) s.dest at fault → IsRouteFault s (Join u v) fault
+    by_place at (Net fault) (why, names) =
         let refused : EditFault = record { at = at; fault = fault } in
         (refused_edit s (edit.Join u v) refused why, named_edit s (edit.Join u v) refused why names)
-    undone Range (at, h) = h
-    undone Start (at, h) = h
-    undone Memory (at, h) = tt
+    by_place at Range h = h
+    by_place at Start h = h
+    by_place at Memory h = tt
+
+-- why a change is not made, without the place
+pub placeless_fault : (s : State) (change : Change) (why : NotMade) → IsUndone s change why → IsRouteFault s change why.fault
+placeless_fault s (Cut u v) why h = h
+placeless_fault s (Add u v) why h = h
+placeless_fault s (Join u v) why h = h
+placeless_fault s (Destination d) why h = h
+placeless_fault s (Batch edits) why h = by_place why.at why.fault h
+  where
+    by_place : (at : ℕ) (fault : RouteFault) → IsPlacedFault s edits.items s.dest at fault → IsRouteFault s (Batch edits) fault
+    by_place at (Net fault) h = (at, h)
+    by_place at Range h = h
+    by_place at Start h = h
+    by_place at Memory h = h

@@ -19,7 +19,8 @@ use Rattle.fr_route.specs.Answers.{IsAccepted, IsRefused, MayStartFor, MayStartF
 use Rattle.fr_route.specs.Forms.{IsAnswerIn, IsLineRefused}
 use Rattle.fr_route.specs.Json.{IsBatchRefusal, IsEditRefusal, IsNewRefusal, IsRefusal, PlainRefusal, bare_refusal, ends, ends_in, phases_json, refusal_for, refusal_json}
 use Rattle.fr_route.specs.Listing.{AsksWays, IsListing, nodes_told}
-use Rattle.fr_route.specs.Outcomes.{IsEdited, IsPlacedFault}
+use Rattle.fr_route.specs.Changes.{IsPlacedFault}
+use Rattle.fr_route.specs.Outcomes.{IsEdited}
 use Rattle.fr_route.specs.Pushing.{IsPushesRefused, padded}
 use Rattle.fr_route.specs.Refusals.{IsNewFault, IsRefusalOf}
 use Rattle.fr_route.specs.Replies.{HasList, IsFromReply, IsLineRefusal, IsLineAnsweredIn, IsLineReplied, IsReplied, IsReply, IsReportIn, IsRevised, IsStillReply, IsTextIn, Refuses, RefusesBy, request_of_edit}
@@ -37,7 +38,7 @@ use Rattle.fr_route.specs.declared.fault.RouteFault.TheVariants as route
 use Rattle.fr_route.specs.declared.form.Answer.{Answer}
 use Rattle.fr_route.specs.declared.form.Form.{Form}
 use Rattle.fr_route.specs.declared.form.Form.TheVariants.{Text, Json, JsonWithWays}
-use Rattle.fr_route.specs.declared.form.Manner.{Manner}
+use Rattle.fr_route.specs.declared.form.AnswerForm.{AnswerForm}
 use Rattle.fr_route.specs.declared.revision.Revision.{Revision}
 use Rattle.fr_route.specs.declared.told.Told.{Told}
 use Rattle.fr_route.specs.declared.told.Told.TheVariants.{Nobody, Nodes}
@@ -48,12 +49,12 @@ use Rattle.fr_route.proofs.Determined.{asked_not_refused, not_both}
 use Rattle.fr_route.specs.WayPushes.{AreWayPushesRefused, IsPhasesText}
 
 -- a refusal is a reply
-refused_reply : (manner : Manner) (s : Option State) (asked : Result PlainRequest LineFault) (told : Told) (a : Answer) (next : Option State) (more : Told)
+refused_reply : (manner : AnswerForm) (s : Option State) (asked : Result PlainRequest LineFault) (told : Told) (a : Answer) (next : Option State) (more : Told)
     → Refuses manner s asked told a next more → IsReply manner s asked told a next more
 refused_reply manner s (Ok r) told a next more is = inl is
 refused_reply manner s (Err fault) told a next more is = is
 
-module _ (never : Type 0) (manner : Manner) (s : Option State) (asked : Result PlainRequest LineFault) (told : Told) where
+module _ (never : Type 0) (manner : AnswerForm) (s : Option State) (asked : Result PlainRequest LineFault) (told : Told) where
   -- missing memory changes nothing
   pub no_memory : (fault : AnswerFault) (next : Option State) (more : Told) → fault ≡ Memory → next ≡ s → nodes_told more ≡ nodes_told told
       → IsReplied never manner s asked told (Err fault) next more
@@ -87,7 +88,7 @@ module _ (never : Type 0) (manner : Manner) (s : Option State) (asked : Result P
       record { reply = tt; unchanged = (n, t); start = λ e. may (why.0 e); no_start = λ h e. starts h (why.0 e) }
 
 -- the answer to an accepted request that begins a round
-pub done : (never : Type 0) (manner : Manner) (s : Option State) (request : PlainRequest) (told : Told) (new : State)
+pub done : (never : Type 0) (manner : AnswerForm) (s : Option State) (request : PlainRequest) (told : Told) (new : State)
     (answer : Answer) (next : Option State) (more : Told) → IsAccepted s request new
     → (HasList manner.form told → IsTextIn manner.form s request new (string_bytes answer.text)) → answer.refused ≡ false
     → next ≡ Some new → (IsListing told → TellsOf s request new (nodes_told told) (nodes_told more))
@@ -109,7 +110,7 @@ done never manner s request told new answer next more accepted text by n tells s
 }
 
 -- the answer to edits that are made
-pub revised : (never : Type 0) (manner : Manner) (s : State) (request : PlainRequest) (revision : Revision) (told : Told) (text : String Global)
+pub revised : (never : Type 0) (manner : AnswerForm) (s : State) (request : PlainRequest) (revision : Revision) (told : Told) (text : String Global)
     (a : Answer) (new : State) (more : Told) → (a.text ≡ text) × (a.refused ≡ false)
     → IsRevised never manner.form s revision told (Ok text) new more
     → (IsEdited s revision.edits.now revision.dest new → IsAccepted (Some s) request new)
@@ -124,7 +125,7 @@ revised never manner s request revision told text a new more is made accepted te
     (λ e. subst (λ (bytes : List ℕ). length bytes ≤ longest_report) same (made.short e))
 
 -- a request that needs a network is refused while there is none
-pub none_yet : (never : Type 0) (manner : Manner) (s : Option State) (request : PlainRequest) (told : Told) (answer : Result Answer AnswerFault) (next : Option State)
+pub none_yet : (never : Type 0) (manner : AnswerForm) (s : Option State) (request : PlainRequest) (told : Told) (answer : Result Answer AnswerFault) (next : Option State)
     → s ≡ None → next ≡ None → IsRefusal None request (bare_refusal 3) → IfOk answer (RefusesBy manner (bare_refusal 3))
     → IfErr answer (λ fault. fault ≡ Memory) → IsReplied never manner s (Ok request) told answer next told
 none_yet never manner s request told answer next here n refused by memory =
@@ -132,7 +133,7 @@ none_yet never manner s request told answer next here n refused by memory =
     (subst (λ (z : Option State). IsRefusal z request (bare_refusal 3)) (sym here) refused) (n ∙ sym here) refl by memory
 
 -- what changes nothing leaves the list unchanged
-pub still : (never : Type 0) (manner : Manner) (s : Option State) (request : PlainRequest) (told : Told) (answer : Result Answer AnswerFault)
+pub still : (never : Type 0) (manner : AnswerForm) (s : Option State) (request : PlainRequest) (told : Told) (answer : Result Answer AnswerFault)
     → ((new : State) → IsAccepted s request new → s ≡ Some new → TellsOf s request new (nodes_told told) (nodes_told told))
     → IfOk answer (IsStillReply manner s request) → IfErr answer (λ fault. fault ≡ Memory)
     → IsReplied never manner s (Ok request) told answer s told
@@ -165,12 +166,12 @@ still never manner s request told (Ok a) tells (inr (inr (pushes, asked, text, b
 still never manner s request told (Err fault) tells is memory = no_memory never manner s (Ok request) told fault s told memory refl refl
 
 -- the answer to a request for pushes, from that for two tables
-pub between_reply : (manner : Manner) (table wanted : List Hop) (a : Answer) (s : Option State)
+pub between_reply : (manner : AnswerForm) (table wanted : List Hop) (a : Answer) (s : Option State)
     → IsFromReply manner table (padded (max (length table) (length wanted)) wanted) a → IsStillReply manner s (order_pushes table (Some wanted)) a
 between_reply manner table wanted a s (inl (k, nodes, fault, by)) = inl (record { number = k; nodes = nodes; edit = None }, (k, nodes, fault, refl), by)
 between_reply manner table wanted a s (inr (pushes, lead, text, by)) = inr (inr (pushes, lead, text, by))
 
-pub settled_reply : (manner : Manner) (s : State) (table hops : List Hop) (a : Answer) → AreHops s s.nodes hops
+pub settled_reply : (manner : AnswerForm) (s : State) (table hops : List Hop) (a : Answer) → AreHops s s.nodes hops
     → IsFromReply manner table hops a → IsStillReply manner (Some s) (order_pushes table None) a
 settled_reply manner s table hops a are (inl (k, nodes, fault, by)) =
     inl (record { number = k; nodes = nodes; edit = None }, (k, nodes, (hops, are, fault), refl), by)

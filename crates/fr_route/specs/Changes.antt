@@ -15,6 +15,7 @@ use Rattle.fr_core.specs.Settled.{AreSettled}
 use Rattle.fr_route.specs.States.{State, IsRound, net_at}
 use Rattle.fr_route.specs.declared.change.Change.{Change}
 use Rattle.fr_route.specs.declared.change.Change.TheVariants.{Cut, Add, Join, Batch, Destination}
+use Rattle.fr_route.specs.declared.fault.NotMade.{NotMade}
 use Rattle.fr_route.specs.declared.fault.RouteFault.{RouteFault}
 use Rattle.fr_route.specs.declared.fault.RouteFault.TheVariants.{Net, Range, Start, Memory}
 
@@ -98,6 +99,25 @@ IsRouteFault s change (Net fault) = IsChangeFault s change fault
 IsRouteFault s change Range = NamesNoNode s change
 IsRouteFault s change Start = MayStart s change
 IsRouteFault s change Memory = MayLackMemory s change
+
+-- why edits are not made, with destination d after them: they are refused at this place, or a thread is missing, or
+-- memory for edits within the limit
+abbrev pub IsPlacedFault : State → List Edit → ℕ → ℕ → RouteFault → Type 0
+IsPlacedFault s edits d at (Net fault) = AreRefused (net_at s) edits at fault
+IsPlacedFault s edits d at Range = ⊥
+IsPlacedFault s edits d at Start = CanTurnAfter s edits d
+IsPlacedFault s edits d at Memory = length edits ≤ most_edits
+
+abbrev pub IsPlaced : State → List Edit → ℕ → NotMade → Type 0
+IsPlaced s edits d undone = IsPlacedFault s edits d undone.at undone.fault
+
+-- why a change is not made, with the place of the refused edit of a batch
+abbrev pub IsUndone : State → Change → NotMade → Type 0
+IsUndone s (Cut u v) undone = IsRouteFault s (Cut u v) undone.fault
+IsUndone s (Add u v) undone = IsRouteFault s (Add u v) undone.fault
+IsUndone s (Join u v) undone = IsRouteFault s (Join u v) undone.fault
+IsUndone s (Batch edits) undone = IsPlaced s edits.items s.dest undone
+IsUndone s (Destination d) undone = IsRouteFault s (Destination d) undone.fault
 
 -- why no router is opened: the destination is not a node, or a thread or memory is missing
 abbrev pub IsOpenFault : ℕ → ℕ → RouteFault → Type 0

@@ -12,11 +12,11 @@ use Rattle.fr_graph.specs.declared.edit.Edit.{Edit}
 use Rattle.fr_crew.specs.Settlements.{IsCounted}
 use Rattle.fr_route.specs.Routes.{AreHops, IsHop}
 use Rattle.fr_route.specs.Ends.{ends_of}
-use Rattle.fr_route.specs.Changes.{AreRefused, CanTurnAfter, IsOpenFault, IsStill}
+use Rattle.fr_route.specs.Changes.{IsOpenFault, IsStill}
 use Rattle.fr_route.specs.Listing.{HasPlaces, KeepsPlaces, nodes_told}
 use Rattle.fr_route.specs.States.{State, IsReport, IsRound, net_at, state_with}
 use Rattle.fr_route.specs.declared.fault.RouteFault.{RouteFault}
-use Rattle.fr_route.specs.declared.fault.RouteFault.TheVariants.{Net, Range, Start, Memory}
+use Rattle.fr_route.specs.declared.fault.RouteFault.TheVariants.{Start}
 use Rattle.fr_tables.specs.Pushes.{DifferAt}
 use Rattle.fr_tables.specs.Tables.{IsInRange, IsLoopFree}
 use Rattle.fr_tables.specs.declared.hop.Hop.{Hop}
@@ -117,14 +117,3 @@ pub record IsSettledTable (s : State) (n : ℕ) (hops : List Hop) : Type 0 where
 abbrev pub IsEdited : State → List Edit → ℕ → State → Type 0
 IsEdited s edits d new =
     (length edits ≤ most_edits) × ((net : Network) × (AreMade (net_at s) edits net × IsRound net.nodes d net.links new))
-
--- why this fails: the edits are refused at this place, or a thread is missing, or memory for edits within the limit
-abbrev pub IsPlacedFault : State → List Edit → ℕ → ℕ → RouteFault → Type 0
-IsPlacedFault s edits d at (Net fault) = AreRefused (net_at s) edits at fault
-IsPlacedFault s edits d at Range = ⊥
-IsPlacedFault s edits d at Start = CanTurnAfter s edits d
-IsPlacedFault s edits d at Memory = length edits ≤ most_edits
-
--- the same at any place
-abbrev pub IsEditingFault : State → List Edit → ℕ → RouteFault → Type 0
-IsEditingFault s edits d fault = (at : ℕ) × IsPlacedFault s edits d at fault

@@ -9,6 +9,7 @@ use Rattle.fr_graph.specs.declared.edit.Edit.{Edit}
 use Rattle.fr_graph.specs.declared.edit.Edit.TheVariants.{Cut, Add, Join}
 use Rattle.fr_route.specs.Answers.{IsAccepted, IsReportLine, IsText, MayStartForLine}
 use Rattle.fr_route.specs.Blank.{is_blank}
+use Rattle.fr_route.specs.Changes.{IsPlaced}
 use Rattle.fr_route.specs.Forms.{IsAnswerIn, IsLineRefused}
 use Rattle.fr_route.specs.Json.{EndsHere, EndsWithWays, IsJsonReport, IsJsonText, IsRefusal}
 use Rattle.fr_route.specs.Json.{PlainRefusal, bare_refusal, pushes_json, refusal_json}
@@ -19,7 +20,6 @@ use Rattle.fr_route.specs.Reroutes.{AreRerouted}
 use Rattle.fr_route.specs.States.{State}
 use Rattle.fr_route.specs.Texts.{longest_report, pushes_text, refusal_text}
 use Rattle.fr_route.specs.Told.{TellsOf}
-use Rattle.fr_route.specs.Tries.{IsPlaced}
 use Rattle.fr_route.specs.declared.fault.AnswerFault.{AnswerFault}
 use Rattle.fr_route.specs.declared.fault.AnswerFault.TheVariants.{Start}
 use Rattle.fr_route.specs.declared.fault.NotMade.{NotMade}
@@ -27,7 +27,7 @@ use Rattle.fr_route.specs.declared.fault.RouteFault.TheVariants as route
 use Rattle.fr_route.specs.declared.form.Answer.{Answer}
 use Rattle.fr_route.specs.declared.form.Form.{Form}
 use Rattle.fr_route.specs.declared.form.Form.TheVariants.{Text, Json, JsonWithWays}
-use Rattle.fr_route.specs.declared.form.Manner.{Manner}
+use Rattle.fr_route.specs.declared.form.AnswerForm.{AnswerForm}
 use Rattle.fr_route.specs.declared.revision.Revision.{Revision}
 use Rattle.fr_route.specs.declared.told.Told.{Told}
 use Rattle.fr_tables.specs.declared.hop.Hop.{Hop}
@@ -44,7 +44,7 @@ refused_in Json line refusal = refusal_json refusal line
 refused_in JsonWithWays line refusal = refusal_json refusal line
 
 -- the answer refuses the line so
-abbrev pub RefusesBy : Manner → PlainRefusal → Answer → Type 0
+abbrev pub RefusesBy : AnswerForm → PlainRefusal → Answer → Type 0
 RefusesBy manner refusal answer = (string_bytes answer.text ≡ refused_in manner.form manner.number refusal)
     × (answer.refused ≡ true)
 
@@ -80,7 +80,7 @@ IsLineRefusal s (Err NotRequest) refusal = refusal ≡ bare_refusal 2
 IsLineRefusal s (Err Memory) refusal = ⊥
 
 -- the answer refuses what was read, and nothing changes
-pub record Refuses (manner : Manner) (s : Option State) (asked : Result PlainRequest LineFault) (told : Told)
+pub record Refuses (manner : AnswerForm) (s : Option State) (asked : Result PlainRequest LineFault) (told : Told)
     (answer : Answer) (next : Option State) (more : Told) : Type 0 where
   pub refusal : PlainRefusal
   pub why : IsLineRefusal s asked refusal
@@ -89,7 +89,7 @@ pub record Refuses (manner : Manner) (s : Option State) (asked : Result PlainReq
   pub untold : nodes_told more ≡ nodes_told told
 
 -- the answer is that to an accepted request
-pub record Accepts (manner : Manner) (s : Option State) (request : PlainRequest) (told : Told) (answer : Answer)
+pub record Accepts (manner : AnswerForm) (s : Option State) (request : PlainRequest) (told : Told) (answer : Answer)
     (next : Option State) (more : Told) : Type 0 where
   pub new : State
   pub accepted : IsAccepted s request new
@@ -101,7 +101,7 @@ pub record Accepts (manner : Manner) (s : Option State) (request : PlainRequest)
       → ((next ≡ s) × (nodes_told more ≡ nodes_told told)) ⊎ (length (string_bytes answer.text) ≤ longest_report)
 
 -- the answer is that to a request for pushes between tables, and nothing changes
-pub record Orders (manner : Manner) (s : Option State) (request : PlainRequest) (told : Told) (answer : Answer)
+pub record Orders (manner : AnswerForm) (s : Option State) (request : PlainRequest) (told : Told) (answer : Answer)
     (next : Option State) (more : Told) : Type 0 where
   pub pushes : List (ℕ × Hop)
   pub asked : AreAsked s request pushes
@@ -110,14 +110,14 @@ pub record Orders (manner : Manner) (s : Option State) (request : PlainRequest) 
   pub same : next ≡ s
   pub untold : nodes_told more ≡ nodes_told told
 
-abbrev pub IsReply : Manner → Option State → Result PlainRequest LineFault → Told → Answer → Option State → Told
+abbrev pub IsReply : AnswerForm → Option State → Result PlainRequest LineFault → Told → Answer → Option State → Told
     → Type 0
 IsReply manner s (Ok request) told answer next more = Refuses manner s (Ok request) told answer next more
     ⊎ (Accepts manner s request told answer next more ⊎ Orders manner s request told answer next more)
 IsReply manner s (Err fault) told answer next more = Refuses manner s (Err fault) told answer next more
 
 -- the answer to a request that changes nothing, in this state
-abbrev pub IsStillReply : Manner → Option State → PlainRequest → Answer → Type 0
+abbrev pub IsStillReply : AnswerForm → Option State → PlainRequest → Answer → Type 0
 IsStillReply manner s request answer =
     ((refusal : PlainRefusal) × IsRefusal s request refusal × RefusesBy manner refusal answer)
     ⊎ (((new : State) × IsAccepted s request new × IsTextIn manner.form s request new (string_bytes answer.text)
@@ -126,7 +126,7 @@ IsStillReply manner s request answer =
     × (string_bytes answer.text ≡ pushes_in manner.form pushes) × (answer.refused ≡ false)))
 
 -- the answer to a request for the pushes from a table to these hops
-abbrev pub IsFromReply : Manner → List Hop → List Hop → Answer → Type 0
+abbrev pub IsFromReply : AnswerForm → List Hop → List Hop → Answer → Type 0
 IsFromReply manner table hops answer =
     ((number : ℕ) × (nodes : List ℕ) × IsFaultFrom table hops number nodes
     × RefusesBy manner (record { number = number; nodes = nodes; edit = None }) answer)
@@ -135,7 +135,7 @@ IsFromReply manner table hops answer =
 
 -- The answer to what was read of a line, the state after it, and the list of rerouted nodes. With `never`, the way to
 -- settle starts no thread.
-pub record IsReplied (never : Type 0) (manner : Manner) (s : Option State) (asked : Result PlainRequest LineFault)
+pub record IsReplied (never : Type 0) (manner : AnswerForm) (s : Option State) (asked : Result PlainRequest LineFault)
     (told : Told) (answer : Result Answer AnswerFault) (next : Option State) (more : Told) : Type 0 where
   pub reply : IfOk answer (λ a. IsReply manner s asked told a next more)
   pub unchanged : OnErr answer ((next ≡ s) × (nodes_told more ≡ nodes_told told))
@@ -143,7 +143,7 @@ pub record IsReplied (never : Type 0) (manner : Manner) (s : Option State) (aske
   pub no_start : never → IfErr answer (λ fault. fault ≢ Start)
 
 -- the same for a line. A blank line has no answer and changes nothing
-pub record IsLineReplied (never : Type 0) (manner : Manner) (s : Option State) (line : List ℕ) (told : Told)
+pub record IsLineReplied (never : Type 0) (manner : AnswerForm) (s : Option State) (line : List ℕ) (told : Told)
     (answer : Result (Option Answer) AnswerFault) (next : Option State) (more : Told) : Type 0 where
   pub blank : IfOk answer (λ a. IfNone a ((is_blank line ≡ true) × (next ≡ s) × (nodes_told more ≡ nodes_told told)))
   pub reply : IfOk answer

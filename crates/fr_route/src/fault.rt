@@ -76,12 +76,15 @@ impl From<CrewFault> for RouteFault {
     }
 }
 
-/// Why edits are not made. If one of them is refused, it also has the index of this edit.
-#[derive(Debug, Drop)]
-pub(crate) struct NotMade {
-    /// The index of the refused edit. If there are too many edits, the limit of edits.
-    pub(crate) at: usize,
-    pub(crate) fault: RouteFault,
+/// Why a change is not made, and which edit of a batch is refused.
+#[derive(Debug, Drop, Error, PartialEq, Eq)]
+#[error("{fault}")]
+pub struct NotMade {
+    /// If an edit of a batch is refused, its index. If a batch has too many edits, the limit of edits. Otherwise it has no
+    /// meaning.
+    pub at: usize,
+    /// Why the change is not made.
+    pub fault: RouteFault,
 }
 
 impl From<AllocError> for NotMade {

@@ -33,13 +33,13 @@ pub struct Answer {
 
 /// How a line is answered: in which form, and as which line of its input.
 #[derive(Clone, Copy)]
-pub(crate) struct Manner {
+pub(crate) struct AnswerForm {
     pub(crate) form: Form,
     pub(crate) number: u64,
 }
 
 /// As text. No text depends on the number of the line.
-pub(crate) const AS_TEXT: Manner = Manner {
+pub(crate) const AS_TEXT: AnswerForm = AnswerForm {
     form: Form::Text,
     number: 0,
 };

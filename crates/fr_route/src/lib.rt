@@ -32,6 +32,7 @@ mod pushing;
 mod questions;
 mod refusals;
 mod refusing;
+mod replies;
 mod reports;
 mod reroutes;
 mod revision;
@@ -47,7 +48,7 @@ mod way_notes;
 
 pub use blank::is_blank;
 pub use change::{Change, Report};
-pub use fault::{AnswerFault, RouteFault};
+pub use fault::{AnswerFault, NotMade, RouteFault};
 pub use form::{Answer, Form, Line};
 pub use fr_tables::Hop;
 pub use hops::Walked;

@@ -10,7 +10,7 @@ ghost use Rattle.fr_route.specs.declared.fault.AnswerFault.TheVariants.{Memory};
 ghost use Rattle.fr_tables.specs.Faults.{IsFaultOf};
 
 use crate::fault::AnswerFault;
-use crate::form::{Answer, Form, Manner, accepted};
+use crate::form::{Answer, Form, AnswerForm, accepted};
 use crate::hops::resized;
 use crate::json::pushes_object;
 use crate::refusals::Reason;
@@ -24,7 +24,7 @@ use std::alloc::{AllocError, Global};
 /// cut off.
 pub(crate) fn pushes_between(
     alloc: Global,
-    manner: Manner,
+    manner: AnswerForm,
     table: &[Hop],
     wanted: &[Hop],
 ) -> Result<Answer, AnswerFault>
@@ -43,7 +43,7 @@ pub(crate) fn pushes_between(
 /// The answer to a request for the pushes from a table to these hops.
 pub(crate) fn pushes_from(
     alloc: Global,
-    manner: Manner,
+    manner: AnswerForm,
     table: &[Hop],
     hops: &[Hop],
 ) -> Result<Answer, AnswerFault>
@@ -77,7 +77,7 @@ fn pushes_text(alloc: Global, form: Form, nodes: &[u32], hops: &[Hop]) -> Result
 /// The answer that refuses these tables. They have one length, so this is not the fault.
 fn refuse_tables(
     alloc: Global,
-    manner: Manner,
+    manner: AnswerForm,
     fault: TableFault,
     _old: &[Hop],
     _new: &[Hop],

@@ -9,7 +9,7 @@ ghost use Rattle.fr_route.specs.declared.fault.AnswerFault.TheVariants.{Memory, 
 ghost use Rattle.fr_route.specs.declared.fault.RouteFault.TheVariants.{Start as RouteStart};
 
 use crate::fault::{AnswerFault, RouteFault};
-use crate::form::{Answer, Form, Manner};
+use crate::form::{Answer, Form, AnswerForm};
 use crate::json::refusal_object;
 use crate::refusals::{Reason, Refusal};
 use crate::texts::refusal_line;
@@ -20,7 +20,7 @@ use std::alloc::{AllocError, Global};
 /// batch.
 pub(crate) fn refuse(
     alloc: Global,
-    manner: Manner,
+    manner: AnswerForm,
     reason: Reason,
     nodes: &[u32],
     edit: Option<usize>,
@@ -40,7 +40,7 @@ pub(crate) fn refuse(
 }
 
 /// The text of the answer that refuses a line.
-fn refused_text(alloc: Global, manner: Manner, refusal: &Refusal<'_>) -> Result<String, AllocError>
+fn refused_text(alloc: Global, manner: AnswerForm, refusal: &Refusal<'_>) -> Result<String, AllocError>
     ensures { IfOk result
         (λ text. string_bytes text ≡ refused_in manner.form manner.number (plain_refusal refusal.now)) }
 {
@@ -54,7 +54,7 @@ fn refused_text(alloc: Global, manner: Manner, refusal: &Refusal<'_>) -> Result<
 /// the one that is not a node. A fault that is not a refusal is returned.
 fn refuse_fault(
     alloc: Global,
-    manner: Manner,
+    manner: AnswerForm,
     fault: &RouteFault,
     named: &[u32],
     edit: Option<usize>,
@@ -74,7 +74,7 @@ fn refuse_fault(
 /// The same, and drops the fault.
 pub(crate) fn refuse_for(
     alloc: Global,
-    manner: Manner,
+    manner: AnswerForm,
     fault: RouteFault,
     named: &[u32],
     edit: Option<usize>,
@@ -89,7 +89,7 @@ pub(crate) fn refuse_for(
 /// The same for a fault of links or of an edit.
 fn refuse_net_fault(
     alloc: Global,
-    manner: Manner,
+    manner: AnswerForm,
     fault: &NetFault,
     named: &[u32],
     edit: Option<usize>,

@@ -1,7 +1,7 @@
 //! A router: a settled network with its next hops and routes, and the changes after which it settles again.
 
 ghost use Rattle.std.specs.Prelude.{◌≡◌, ◌≢◌, ◌<◌, ◌≤◌, [], ◌∷◌, length, replicate, take};
-ghost use Rattle.std.specs.Prelude.{Ok, Some, IfOk, IfErr, IfSome, MatchOption, OnErr, OnOk};
+ghost use Rattle.std.specs.Prelude.{Some, IfOk, IfErr, IfSome, MatchOption, OnErr, OnOk};
 ghost use Rattle.std.specs.Option.{option_copied};
 ghost use Rattle.fr_graph.specs.Limits.{most_edits};
 ghost use Rattle.fr_crew.specs.Settlements.{CanBegin, HoldsSinks, IsCounted};
@@ -11,11 +11,11 @@ ghost use Rattle.fr_route.specs.Listing.{nodes_told};
 ghost use Rattle.fr_route.specs.NodeWays.{AreAllWays, AreNodeWays, AreWaysBelow, HasDistance, IsNearest};
 ghost use Rattle.fr_route.specs.States.{IsAfterRound, IsCutOff, IsRound, IsReport};
 ghost use Rattle.fr_route.specs.Routes.{IsHop, AreHops, IsWalked};
-ghost use Rattle.fr_route.specs.Changes.{IsOpenFault, IsChanged, IsRouteFault, IsStill};
+ghost use Rattle.fr_route.specs.Changes.{IsChanged, IsOpenFault, IsPlaced, IsRouteFault, IsStill, IsUndone};
 ghost use Rattle.fr_route.specs.Reroutes.{ArePushes, AreReplaced, IsPushesFault, LeadFromWays};
 ghost use Rattle.fr_route.specs.Reroutes.{TellsRerouted, TellsReroutes};
 ghost use Rattle.fr_route.specs.WayPushes.{IsPhasesFault, LeadToWays};
-ghost use Rattle.fr_route.specs.Tries.{IsPlaced, IsTried, change_of, edit_of, revision_of, without_place};
+ghost use Rattle.fr_route.specs.Tries.{IsTried, change_of, edit_of, revision_of};
 ghost use Rattle.fr_route.specs.Outcomes.{IsOutcome, IsRoundFault};
 ghost use Rattle.fr_ways.specs.Ways.{IsInRange};
 ghost use Rattle.fr_route.specs.Outcomes.{IsSettledTable, cut_off_nodes, movable};
@@ -27,7 +27,7 @@ use crate::kept_distances::{KeptDistances, table_of_ways};
 use crate::outcome::{alone_nodes, push_capped, put_in_place, report_of, touched_nodes};
 use crate::reroutes::Reroutes;
 use crate::revision::Revision;
-use crate::settling::Asking;
+use crate::settling::Settler;
 use crate::spare::Spare;
 use crate::told::Told;
 use fr_crew::{Crew, CrewFault, Gate, Plan, settled_counts, settled_counts_alone};
@@ -99,7 +99,7 @@ fn keep_turns(last: &mut Turns, spare: &mut Spare, turns: Turns)
     spare.keep(mem::replace(last, turns));
 }
 
-impl<'a, F: Fn(&Net, u32, Option<&[u32]>, Turns) -> Result<Turns, CrewFault>> Asking<'a, F> {
+impl<'a, F: Fn(&Net, u32, Option<&[u32]>, Turns) -> Result<Turns, CrewFault>> Settler<'a, F> {
     /// Settles a network.
     pub(crate) fn open(&self, net: Net, dest: u32) -> Result<Router, RouteFault>
         requires { Settles F.pre F.post self.now.settle.now }
@@ -110,78 +110,60 @@ impl<'a, F: Fn(&Net, u32, Option<&[u32]>, Turns) -> Result<Turns, CrewFault>> As
         Router::settled(self.alloc, net, dest, turns)
     }
 
-    /// Changes the network or its destination in place, settles it again, and returns what `tell` makes of the report.
-    /// All that the change needs is allocated and computed before anything is put in place.
-    pub(crate) fn change<T, K: Fn(Report) -> Result<T, AllocError>>(
+    /// Changes the network or its destination in place, settles it again, and returns the report. All that the change needs
+    /// is allocated and computed before anything is put in place.
+    pub(crate) fn change(
         &self,
         router: &mut Router,
         change: &Change,
-        tell: &K,
         told: &mut Told,
-    ) -> Result<T, RouteFault>
-        requires settles { Settles F.pre F.post self.now.settle.now }
-        requires tells { K.IsAlwaysCallable tell.now }
+    ) -> Result<Report, NotMade>
+        requires { Settles F.pre F.post self.now.settle.now }
         ensures { IsTried (NeverStarts F.post self.now.settle.now) (change_of router.old change.now)
-            (λ report told. K.post tell.now report (Ok told)) router.old told.old result router.new told.new }
+            router.old told.old result router.new told.new }
     {
         let dest = router.dest();
         match change {
-            Change::Cut { u, v } => {
-                self.edit_one(router, Edit::Cut { u: *u, v: *v }, tell, told)
-            }
-            Change::Add { u, v } => {
-                self.edit_one(router, Edit::Add { u: *u, v: *v }, tell, told)
-            }
-            Change::Join { u, v } => {
-                self.edit_one(router, Edit::Join { u: *u, v: *v }, tell, told)
-            }
-            Change::Batch(edits) => {
-                placeless(self.edit(router, &Revision { edits, dest }, tell, told))
-            }
+            Change::Cut { u, v } => self.edit_one(router, Edit::Cut { u: *u, v: *v }, told),
+            Change::Add { u, v } => self.edit_one(router, Edit::Add { u: *u, v: *v }, told),
+            Change::Join { u, v } => self.edit_one(router, Edit::Join { u: *u, v: *v }, told),
+            Change::Batch(edits) => self.edit(router, &Revision { edits, dest }, told),
             Change::Destination { dest } => {
                 if *dest >= router.net.nodes() {
-                    return Err(RouteFault::Range);
+                    return Err(NotMade {
+                        at: 0,
+                        fault: RouteFault::Range,
+                    });
                 }
                 let edits = &[];
                 let dest = *dest;
-                placeless(self.edit(router, &Revision { edits, dest }, tell, told))
+                self.edit(router, &Revision { edits, dest }, told)
             }
         }
     }
 
     /// Makes one edit in place, and settles the network again.
-    fn edit_one<T, K: Fn(Report) -> Result<T, AllocError>>(
-        &self,
-        router: &mut Router,
-        edit: Edit,
-        tell: &K,
-        told: &mut Told,
-    ) -> Result<T, RouteFault>
-        requires settles { Settles F.pre F.post self.now.settle.now }
-        requires tells { K.IsAlwaysCallable tell.now }
+    fn edit_one(&self, router: &mut Router, edit: Edit, told: &mut Told) -> Result<Report, NotMade>
+        requires { Settles F.pre F.post self.now.settle.now }
         ensures { IsTried (NeverStarts F.post self.now.settle.now) (edit_of router.old edit router.old.dest)
-            (λ report told. K.post tell.now report (Ok told)) router.old told.old result router.new told.new }
+            router.old told.old result router.new told.new }
     {
         let dest = router.dest();
         let edits = &[edit];
-        placeless(self.edit(router, &Revision { edits, dest }, tell, told))
+        self.edit(router, &Revision { edits, dest }, told)
     }
 
     /// Makes these edits in place, and settles the network again, with the destination after them.
-    pub(crate) fn edit<T, K: Fn(Report) -> Result<T, AllocError>>(
+    pub(crate) fn edit(
         &self,
         router: &mut Router,
         revision: &Revision<'_>,
-        tell: &K,
         told: &mut Told,
-    ) -> Result<T, NotMade>
+    ) -> Result<Report, NotMade>
         requires settles { Settles F.pre F.post self.now.settle.now }
-        requires tells { K.IsAlwaysCallable tell.now }
         requires node { revision.now.dest < router.old.nodes }
-        ensures tried { IsTried (NeverStarts F.post self.now.settle.now) (revision_of router.old revision.now)
-            (λ report told. K.post tell.now report (Ok told)) router.old told.old
-            (without_place result) router.new told.new }
-        ensures place { IfErr result (IsPlaced router.old revision.now.edits.now revision.now.dest) }
+        ensures { IsTried (NeverStarts F.post self.now.settle.now) (revision_of router.old revision.now)
+            router.old told.old result router.new told.new }
     {
         let movable = router.movable(self.alloc, revision)?;
         told.make_room(router.net.nodes())?;
@@ -191,23 +173,19 @@ impl<'a, F: Fn(&Net, u32, Option<&[u32]>, Turns) -> Result<Turns, CrewFault>> As
         let from = movable.as_slice();
         let dest = revision.dest;
         let spare = &mut router.spare;
-        let (outcome, answer) = router.net.edit_if(
+        let outcome = router.net.edit_if(
             self.alloc,
             revision.edits,
             |net|
                 requires settles { Settles F.pre F.post self.now.settle.now }
-                requires tells { K.IsAlwaysCallable tell.now }
                 requires from { (dest < net.now.nodes) × HoldsSinks net.now dest from.now }
-                ensures outcome { IfOk result (λ made. IsOutcome net.entry.now dest made.0) }
-                ensures told { IfOk result (λ made. K.post tell.entry.now made.0.report (Ok made.1)) }
+                ensures outcome { IfOk result (IsOutcome net.entry.now dest) }
                 ensures fault { IfErr result
                     (IsRoundFault (NeverStarts F.post self.entry.now.settle.now) net.entry.now dest) }
             {
                 net.network_law();
                 let turns = spare.take(self.alloc, net.nodes())?;
-                let outcome = self.outcome(net, dest, from, turns)?;
-                let answer = tell(outcome.report)?;
-                Ok((outcome, answer))
+                self.outcome(net, dest, from, turns)
             },
         )?;
         put_in_place(&mut router.net, &mut router.hops, &outcome, from, told);
@@ -223,7 +201,7 @@ impl<'a, F: Fn(&Net, u32, Option<&[u32]>, Turns) -> Result<Turns, CrewFault>> As
         keep_turns(&mut router.turns, &mut router.spare, outcome.turns);
         router.dest = dest;
         router.report = outcome.report;
-        Ok(answer)
+        Ok(outcome.report)
     }
 }
 
@@ -256,7 +234,7 @@ impl Router {
             plan,
             gate,
         };
-        Asking::new(
+        Settler::new(
             alloc,
             &|net, dest, from, turns|
                 requires { CanBegin net.now dest from turns }
@@ -272,7 +250,7 @@ impl Router {
         ensures fault { IfErr result (IsOpenFault net.nodes dest) }
         ensures no_start { IfErr result (λ fault. fault ≢ Start) }
     {
-        Asking::new(
+        Settler::new(
             alloc,
             &|net, dest, from, turns| settled_counts_alone(net, dest, from, turns),
         )
@@ -350,13 +328,15 @@ impl Router {
             plan,
             gate,
         };
-        Asking::new(
-            alloc,
-            &|net, dest, from, turns|
-                requires { CanBegin net.now dest from turns }
-            { settled_counts(&crew, net, dest, from, turns) },
+        placeless(
+            Settler::new(
+                alloc,
+                &|net, dest, from, turns|
+                    requires { CanBegin net.now dest from turns }
+                { settled_counts(&crew, net, dest, from, turns) },
+            )
+            .change(self, &change, &mut Told::Nobody),
         )
-        .change(self, &change, &|report| Ok(report), &mut Told::Nobody)
     }
 
     /// Does the same on the calling thread. It starts no thread, does not wait, and never fails with `Start`. The cost
@@ -368,11 +348,13 @@ impl Router {
         ensures unchanged { OnErr result (self.new ≡ self.old) }
         ensures no_start { IfErr result (λ fault. fault ≢ Start) }
     {
-        Asking::new(
-            alloc,
-            &|net, dest, from, turns| settled_counts_alone(net, dest, from, turns),
+        placeless(
+            Settler::new(
+                alloc,
+                &|net, dest, from, turns| settled_counts_alone(net, dest, from, turns),
+            )
+            .change(self, &change, &mut Told::Nobody),
         )
-        .change(self, &change, &|report| Ok(report), &mut Told::Nobody)
     }
 
     /// Changes the network as `change_alone` does, and lists the rerouted nodes in the caller's list: those that now send on
@@ -389,20 +371,20 @@ impl Router {
         alloc: Global,
         change: Change,
         rerouted: &mut Vec<u32>,
-    ) -> Result<Report, RouteFault>
+    ) -> Result<Report, NotMade>
         ensures changed { IfOk result (λ _. IsChanged self.old change self.new) }
         ensures report { IfOk result (λ report. IsReport self.new report.turned report.cut) }
         ensures told { TellsRerouted self.old result self.new rerouted.old.items rerouted.new.items }
-        ensures fault { IfErr result (IsRouteFault self.old change) }
+        ensures fault { IfErr result (IsUndone self.old change) }
         ensures unchanged { OnErr result (self.new ≡ self.old) }
-        ensures no_start { IfErr result (λ fault. fault ≢ Start) }
+        ensures no_start { IfErr result (λ undone. undone.fault ≢ Start) }
     {
         let mut told = Told::taken(rerouted, alloc);
-        let report = Asking::new(
+        let report = Settler::new(
             alloc,
             &|net, dest, from, turns| settled_counts_alone(net, dest, from, turns),
         )
-        .change(self, &change, &|report| Ok(report), &mut told);
+        .change(self, &change, &mut told);
         *rerouted = told.into_list(alloc);
         report
     }
@@ -421,19 +403,19 @@ impl Router {
         alloc: Global,
         change: Change,
         reroutes: &mut Reroutes,
-    ) -> Result<Report, RouteFault>
+    ) -> Result<Report, NotMade>
         ensures changed { IfOk result (λ _. IsChanged self.old change self.new) }
         ensures report { IfOk result (λ report. IsReport self.new report.turned report.cut) }
         ensures told { TellsReroutes self.old result self.new reroutes.old reroutes.new }
-        ensures fault { IfErr result (IsRouteFault self.old change) }
+        ensures fault { IfErr result (IsUndone self.old change) }
         ensures unchanged { OnErr result (self.new ≡ self.old) }
-        ensures no_start { IfErr result (λ fault. fault ≢ Start) }
+        ensures no_start { IfErr result (λ undone. undone.fault ≢ Start) }
     {
-        Asking::new(
+        Settler::new(
             alloc,
             &|net, dest, from, turns| settled_counts_alone(net, dest, from, turns),
         )
-        .change(self, &change, &|report| Ok(report), &mut reroutes.told)
+        .change(self, &change, &mut reroutes.told)
     }
 
     /// The nodes that can be sinks after these edits and the move of the destination, and whose hops can be wrong even

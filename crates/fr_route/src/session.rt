@@ -1,51 +1,29 @@
 //! The state that the requests so far have made, and the answer to the next request.
 
-ghost use Rattle.std.specs.Prelude.{◌≡◌, ◌≢◌, ◌<◌, ◌≤◌, ◌⊎◌, ◌↔◌, length, true, false, slice_get, Ok, Some, None};
-ghost use Rattle.std.specs.Prelude.{IfOk, IfErr, OnErr, OnOk, IfSome, IfNone, IsTrue, MatchOption, string_bytes};
+ghost use Rattle.std.specs.Prelude.{◌≡◌, ◌≢◌, ◌≤◌, ◌⊎◌, ◌↔◌, length, true, false, Ok, Some, None};
+ghost use Rattle.std.specs.Prelude.{IfOk, IfErr, OnErr, IfSome, IfNone, IsTrue, MatchOption, string_bytes};
 ghost use Rattle.std.specs.Option.{option_copied};
-ghost use Rattle.std.specs.Prelude.{option_map};
 ghost use Rattle.std.specs.declared.alloc.Global.{Global};
 ghost use Rattle.std.specs.declared.vec.Vec.{Vec};
-ghost use Rattle.fr_tables.specs.declared.hop.Hop.{Hop};
-ghost use Rattle.fr_lines.specs.Requests.{ask, ask_node, make_edits, move_dest, new_network, order_pushes, push_ways};
-ghost use Rattle.fr_lines.specs.Requests.{plain, reading, walk_from};
+ghost use Rattle.fr_lines.specs.Requests.{ask};
+ghost use Rattle.fr_lines.specs.Requests.{plain, reading};
 ghost use Rattle.fr_crew.specs.Settlements.{CanBegin};
-ghost use Rattle.fr_route.specs.Ways.{Settles, NeverStarts};
 ghost use Rattle.fr_route.specs.Blank.{is_blank as is_blank_line};
-ghost use Rattle.fr_route.specs.Answers.{IsAccepted, IsAnswer, IsLineAnswer, MayStartFor, MayStartForLine};
+ghost use Rattle.fr_route.specs.Answers.{IsAnswer, IsLineAnswer, MayStartFor, MayStartForLine};
 ghost use Rattle.fr_route.specs.Forms.{IsAnswerIn, IsLineRefused};
-ghost use Rattle.fr_route.specs.Json.{ends};
-ghost use Rattle.fr_route.specs.Listing.{IsListing, nodes_told};
-ghost use Rattle.fr_route.specs.Replies.{HasList, IsLineAnsweredIn, IsLineReplied, IsReplied};
-ghost use Rattle.fr_route.specs.Replies.{IsReportIn, IsRevised, IsStillReply, request_of_edit};
-ghost use Rattle.fr_route.specs.Sessions.{IsAnswered, IsLineAnswered};
 ghost use Rattle.fr_route.specs.Told.{IsTold, TellsOfLine};
-ghost use Rattle.fr_route.specs.Reroutes.{AreReplaced};
 ghost use Rattle.fr_route.specs.Texts.{longest_report};
-ghost use Rattle.fr_route.specs.Refusals.{IsNewFault};
 ghost use Rattle.fr_route.specs.declared.fault.AnswerFault.TheVariants.{Start, Memory};
-ghost use Rattle.fr_route.specs.declared.fault.RouteFault.TheVariants.{Start as RouteStart};
-ghost use Rattle.fr_route.specs.declared.form.Form.TheVariants.{JsonWithWays, Text};
 
-use crate::blank::is_blank;
-use crate::fault::{AnswerFault, NotMade, RouteFault};
-use crate::form::{AS_TEXT, Answer, Form, Line, Manner, accepted};
-use crate::outcome::ends as ends_of;
-use crate::pushing::{pushes_between, pushes_from};
-use crate::questions::{node_question_in, phases_in, question_in, walk_in};
-use crate::refusals::Reason;
-use crate::refusing::{refuse, refuse_for};
-use crate::reports::{new_report, push_report_in, report_begun};
-use crate::revision::Revision;
+use crate::fault::AnswerFault;
+use crate::form::{AS_TEXT, Answer, Form, Line, accepted};
 use crate::router::Router;
-use crate::settling::Asking;
+use crate::settling::Settler;
 use crate::space::AnswerSpace;
 use crate::told::Told;
-use fr_crew::{Crew, CrewFault, Gate, Plan, settled_counts, settled_counts_alone};
-use fr_graph::{Edit, MAX_EDITS, MAX_NODES, Net, NetFault, Turns};
-use fr_lines::{LineFault, NodeQuestion, Question, Request, read_line};
-use fr_tables::Hop;
-use fr_ways::WayTable;
+use fr_crew::{Crew, Gate, Plan, settled_counts, settled_counts_alone};
+use fr_graph::Net;
+use fr_lines::{Question, Request, read_line};
 use std::alloc::Global;
 use std::marker::Model;
 use std::sync::Wait;
@@ -55,7 +33,7 @@ use std::thread::Threads;
 /// router.
 #[derive(Debug)]
 pub struct Session {
-    router: Option<Router>,
+    pub(crate) router: Option<Router>,
 }
 
 // Written by hand: code that drops a session proves this one call. With a derived Drop it proves how each part is dropped.
@@ -144,7 +122,7 @@ impl Session {
             plan,
             gate,
         };
-        Asking::new(
+        Settler::new(
             alloc,
             &|net, dest, from, turns|
                 requires { CanBegin net.now dest from turns }
@@ -169,7 +147,7 @@ impl Session {
             (λ answer. IfSome answer (λ text. (self.new ≡ self.old) ⊎ (length (string_bytes text) ≤ longest_report))) }
         ensures no_start { IfErr result (λ fault. fault ≢ Start) }
     {
-        Asking::new(
+        Settler::new(
             alloc,
             &|net, dest, from, turns| settled_counts_alone(net, dest, from, turns),
         )
@@ -198,7 +176,7 @@ impl Session {
         ensures no_start { IfErr result (λ fault. fault ≢ Start) }
     {
         let mut told = Told::taken(rerouted, alloc);
-        let answer = Asking::new(
+        let answer = Settler::new(
             alloc,
             &|net, dest, from, turns| settled_counts_alone(net, dest, from, turns),
         )
@@ -230,7 +208,7 @@ impl Session {
             plan,
             gate,
         };
-        Asking::new(
+        Settler::new(
             alloc,
             &|net, dest, from, turns|
                 requires { CanBegin net.now dest from turns }
@@ -247,7 +225,7 @@ impl Session {
         ensures short { IfOk result (λ text. (self.new ≡ self.old) ⊎ (length (string_bytes text) ≤ longest_report)) }
         ensures no_start { IfErr result (λ fault. fault ≢ Start) }
     {
-        Asking::new(
+        Settler::new(
             alloc,
             &|net, dest, from, turns| settled_counts_alone(net, dest, from, turns),
         )
@@ -272,7 +250,7 @@ impl Session {
         ensures no_start { IfErr result (λ fault. fault ≢ Start) }
     {
         let mut told = Told::taken(rerouted, alloc);
-        let answer = Asking::new(
+        let answer = Settler::new(
             alloc,
             &|net, dest, from, turns| settled_counts_alone(net, dest, from, turns),
         )
@@ -309,7 +287,7 @@ impl Session {
         ensures one_worker { crew.now.plan.now.workers ≡ 1 → IfErr result (λ fault. fault ≢ Start) }
         ensures no_start { crew.now.plan.now.budget ≡ 0 → IfErr result (λ fault. fault ≢ Start) }
     {
-        Asking::new(
+        Settler::new(
             crew.alloc,
             &|net, dest, from, turns|
                 requires { CanBegin net.now dest from turns }
@@ -338,144 +316,11 @@ impl Session {
         ensures unchanged { OnErr result ((is_blank_line line.entry.bytes.now ≡ false) × (self.new ≡ self.old)) }
         ensures no_start { IfErr result (λ fault. fault ≢ Start) }
     {
-        Asking::new(
+        Settler::new(
             alloc,
             &|net, dest, from, turns| settled_counts_alone(net, dest, from, turns),
         )
         .reply_line_in(self, form, line, space)
-    }
-
-    /// Puts a router in place once its answer is made, and lists the nodes whose hop has changed if the caller asks for
-    /// them.
-    fn put(
-        &mut self,
-        alloc: Global,
-        form: Form,
-        router: Router,
-        told: &mut Told,
-    ) -> Result<String, AnswerFault>
-        ensures report { HasList form told.old
-            → IfOk result (λ text. IsReportIn form (AreReplaced self.old router) self.old router (string_bytes text)) }
-        ensures put { OnOk result (self.new ≡ Some router) }
-        ensures told { IsListing told.old → OnOk result (AreReplaced self.old router (nodes_told told.new)) }
-        ensures unchanged { OnErr result ((self.new ≡ self.old) × (nodes_told told.new ≡ nodes_told told.old)) }
-        ensures short { form ≡ Text → IfOk result (λ text. length (string_bytes text) ≤ longest_report) }
-        ensures memory { IfErr result (λ fault. fault ≡ Memory) }
-    {
-        router.state_law();
-        let replaced = replaced_nodes(alloc, self.router.as_ref(), &router, told)?;
-        let text = new_report(alloc, form, self.router.as_ref(), &router, &replaced)?;
-        told.put_list(replaced);
-        self.put_router(router);
-        Ok(text)
-    }
-
-    /// The answer to a request for the route from a node.
-    fn walk(&self, alloc: Global, manner: Manner, x: u32) -> Result<Answer, AnswerFault>
-        ensures reply { IfOk result (λ answer. IsStillReply manner self.now (walk_from x) answer) }
-        ensures memory { IfErr result (λ fault. fault ≡ Memory) }
-    {
-        let Some(router) = &self.router else {
-            return refuse(alloc, manner, Reason::NoNetwork, &[], None);
-        };
-        if x >= router.net().nodes() {
-            return refuse(alloc, manner, Reason::NoNode, &[x], None);
-        }
-        Ok(accepted(walk_in(alloc, manner.form, router, x)?))
-    }
-
-    /// The answer to a question.
-    fn question(
-        &self,
-        alloc: Global,
-        manner: Manner,
-        question: Question,
-    ) -> Result<Answer, AnswerFault>
-        ensures reply { IfOk result (λ answer. IsStillReply manner self.now (ask question) answer) }
-        ensures memory { IfErr result (λ fault. fault ≡ Memory) }
-    {
-        let Some(router) = &self.router else {
-            return refuse(alloc, manner, Reason::NoNetwork, &[], None);
-        };
-        Ok(accepted(question_in(alloc, manner.form, router, question)?))
-    }
-
-    /// The answer to a question about one node.
-    fn node_question(
-        &mut self,
-        alloc: Global,
-        manner: Manner,
-        question: NodeQuestion,
-        x: u32,
-    ) -> Result<Answer, AnswerFault>
-        ensures same { self.new ≡ self.old }
-        ensures reply { IfOk result (λ answer. IsStillReply manner self.old (ask_node question x) answer) }
-        ensures memory { IfErr result (λ fault. fault ≡ Memory) }
-    {
-        let Some(router) = &mut self.router else {
-            return refuse(alloc, manner, Reason::NoNetwork, &[], None);
-        };
-        if x >= router.net().nodes() {
-            return refuse(alloc, manner, Reason::NoNode, &[x], None);
-        }
-        Ok(accepted(node_question_in(alloc, manner.form, router, question, x)?))
-    }
-
-    /// The answer to a request for the pushes from a table to the wanted one, or to the next hops if none is given.
-    fn pushes(
-        &self,
-        alloc: Global,
-        manner: Manner,
-        table: &[Hop],
-        wanted: &Option<Vec<Hop>>,
-    ) -> Result<Answer, AnswerFault>
-        ensures reply { IfOk result (IsStillReply manner self.now
-            (order_pushes table.now (option_map (λ (t : Vec Hop Global). t.items) wanted.now))) }
-        ensures memory { IfErr result (λ fault. fault ≡ Memory) }
-    {
-        match wanted {
-            Some(wanted) => pushes_between(alloc, manner, table, wanted),
-            None => self.pushes_to_hops(alloc, manner, table),
-        }
-    }
-
-    /// The answer to a request for the pushes from a table to the next hops.
-    fn pushes_to_hops(
-        &self,
-        alloc: Global,
-        manner: Manner,
-        table: &[Hop],
-    ) -> Result<Answer, AnswerFault>
-        ensures reply { IfOk result (λ answer. IsStillReply manner self.now (order_pushes table.now None) answer) }
-        ensures memory { IfErr result (λ fault. fault ≡ Memory) }
-    {
-        let Some(router) = &self.router else {
-            return refuse(alloc, manner, Reason::NoNetwork, &[], None);
-        };
-        pushes_from(alloc, manner, table, router.hops())
-    }
-
-    /// The answer to a request for the pushes from a table of ways to the ways of each node.
-    fn way_pushes(
-        &self,
-        alloc: Global,
-        manner: Manner,
-        table: &WayTable,
-    ) -> Result<Answer, AnswerFault>
-        ensures reply { IfOk result (λ answer. IsStillReply manner self.now (push_ways table.now) answer) }
-        ensures memory { IfErr result (λ fault. fault ≡ Memory) }
-    {
-        let Some(router) = &self.router else {
-            return refuse(alloc, manner, Reason::NoNetwork, &[], None);
-        };
-        if table.len() > MAX_NODES as usize {
-            return refuse(alloc, manner, Reason::TooMany, &[], None);
-        }
-        let nodes = router.net().nodes();
-        if table.len() > nodes as usize {
-            return refuse(alloc, manner, Reason::NoNode, &[nodes], None);
-        }
-        Ok(accepted(phases_in(alloc, manner.form, router, table)?))
     }
 
     /// Answers a question, as [`Session::answer`] does. This changes nothing. Fails only with `Memory`. O(b) for b
@@ -485,369 +330,5 @@ impl Session {
         ensures memory { IfErr result (λ fault. fault ≡ Memory) }
     {
         Ok(self.question(alloc, AS_TEXT, question)?.text)
-    }
-}
-
-/// The parts of a request for a network.
-#[derive(Clone, Copy)]
-struct Parts<'a> {
-    nodes: u32,
-    dest: u32,
-    links: &'a [(u32, u32)],
-}
-
-/// The nodes that a new router reroutes when it replaces the one before it, if there was one, and if the caller asks for
-/// them.
-fn replaced_nodes(
-    alloc: Global,
-    before: Option<&Router>,
-    router: &Router,
-    told: &Told,
-) -> Result<Vec<u32>, AnswerFault>
-    ensures told { IsListing told.now
-        → IfOk result (λ nodes. AreReplaced (option_copied before.entry) router.now nodes.items) }
-    ensures memory { IfErr result (λ fault. fault ≡ Memory) }
-{
-    match told {
-        Told::Nobody => Ok(Vec::new(alloc)),
-        Told::Nodes(_, _) => match router.changed_since(alloc, before) {
-            Ok(nodes) => Ok(nodes),
-            Err(_) => Err(AnswerFault::Memory),
-        },
-    }
-}
-
-/// The ends of the edit at a place.
-fn ends_at(edits: &[Edit], at: usize) -> [u32; 2]
-    ensures { IfSome (slice_get edits.now at) (λ edit. result ≡ ends edit) }
-{
-    match edits.get(at) {
-        Some(edit) => {
-            let (u, v) = ends_of(*edit);
-            [u, v]
-        }
-        None => [0, 0],
-    }
-}
-
-impl<'a, F: Fn(&Net, u32, Option<&[u32]>, Turns) -> Result<Turns, CrewFault>> Asking<'a, F> {
-    /// The answer to a line as text, or `None` for a blank one.
-    fn answer_line(
-        &self,
-        session: &mut Session,
-        line: &[u8],
-        told: &mut Told,
-    ) -> Result<Option<String>, AnswerFault>
-        requires { Settles F.pre F.post self.now.settle.now }
-        ensures { IsLineAnswered
-            (NeverStarts F.post self.now.settle.now) session.old line.now told.old result session.new told.new }
-    {
-        match self.reply_line(session, AS_TEXT, line, told)? {
-            Some(answer) => Ok(Some(answer.text)),
-            None => Ok(None),
-        }
-    }
-
-    /// The answer to a request as text.
-    fn answer(
-        &self,
-        session: &mut Session,
-        request: &Request,
-        told: &mut Told,
-    ) -> Result<String, AnswerFault>
-        requires { Settles F.pre F.post self.now.settle.now }
-        ensures { IsAnswered (NeverStarts F.post self.now.settle.now) session.old
-            (Ok (plain request.now)) told.old result session.new told.new }
-    {
-        Ok(self.reply(session, AS_TEXT, request, told)?.text)
-    }
-
-    /// The answer to a line in this form, or `None` for a blank one. Lists rerouted nodes only for JSON, and notes ways
-    /// only for JSON with ways.
-    fn reply_line_in(
-        &self,
-        session: &mut Session,
-        form: Form,
-        line: Line<'_>,
-        space: &mut AnswerSpace,
-    ) -> Result<Option<Answer>, AnswerFault>
-        requires { Settles F.pre F.post self.now.settle.now }
-        ensures { IsLineAnsweredIn (NeverStarts F.post self.now.settle.now) form line.entry.number session.old line.entry.bytes.now result session.new }
-    {
-        let number = line.number;
-        let manner = Manner { form, number };
-        match form {
-            Form::Text => self.reply_line(session, manner, line.bytes, &mut Told::Nobody),
-            Form::Json => {
-                let mut told = space.listing(self.alloc);
-                let answer = self.reply_line(session, manner, line.bytes, &mut told);
-                space.keep(told);
-                answer
-            }
-            Form::JsonWithWays => self.reply_with_ways(session, line, space),
-        }
-    }
-
-    /// The answer to a line in JSON with ways, or `None` for a blank one. It is not inlined, so that other answers do
-    /// not pay for its local variables.
-    #[inline(never)]
-    fn reply_with_ways(
-        &self,
-        session: &mut Session,
-        line: Line<'_>,
-        space: &mut AnswerSpace,
-    ) -> Result<Option<Answer>, AnswerFault>
-        requires { Settles F.pre F.post self.now.settle.now }
-        ensures { IsLineAnsweredIn (NeverStarts F.post self.now.settle.now) JsonWithWays line.entry.number session.old
-            line.entry.bytes.now result session.new }
-    {
-        if is_blank(line.bytes) {
-            return Ok(None);
-        }
-        let form = Form::JsonWithWays;
-        let number = line.number;
-        let mut told = space.asking(self.alloc)?;
-        let answer = self.reply_line(session, Manner { form, number }, line.bytes, &mut told);
-        space.keep(told);
-        answer
-    }
-
-    /// The answer to a line, or `None` for a blank one.
-    fn reply_line(
-        &self,
-        session: &mut Session,
-        manner: Manner,
-        line: &[u8],
-        told: &mut Told,
-    ) -> Result<Option<Answer>, AnswerFault>
-        requires settles { Settles F.pre F.post self.now.settle.now }
-        requires lists { HasList manner.form told.old }
-        ensures { IsLineReplied
-            (NeverStarts F.post self.now.settle.now) manner session.old line.now told.old result session.new told.new }
-    {
-        if is_blank(line) {
-            return Ok(None);
-        }
-        Ok(Some(self.reply_read(session, manner, line, told)?))
-    }
-
-    /// The answer to a line that is not blank.
-    fn reply_read(
-        &self,
-        session: &mut Session,
-        manner: Manner,
-        line: &[u8],
-        told: &mut Told,
-    ) -> Result<Answer, AnswerFault>
-        requires settles { Settles F.pre F.post self.now.settle.now }
-        requires lists { HasList manner.form told.old }
-        ensures { IsReplied (NeverStarts F.post self.now.settle.now) manner session.old
-            (reading line.now) told.old result session.new told.new }
-    {
-        match read_line(self.alloc, line) {
-            Ok(request) => self.reply(session, manner, &request, told),
-            Err(LineFault::NotJson) => refuse(self.alloc, manner, Reason::NotJson, &[], None),
-            Err(LineFault::NotRequest) => refuse(self.alloc, manner, Reason::NotRequest, &[], None),
-            Err(LineFault::Memory) => Err(AnswerFault::Memory),
-        }
-    }
-
-    /// The answer to a request.
-    fn reply(
-        &self,
-        session: &mut Session,
-        manner: Manner,
-        request: &Request,
-        told: &mut Told,
-    ) -> Result<Answer, AnswerFault>
-        requires settles { Settles F.pre F.post self.now.settle.now }
-        requires lists { HasList manner.form told.old }
-        ensures { IsReplied (NeverStarts F.post self.now.settle.now) manner session.old
-            (Ok (plain request.now)) told.old result session.new told.new }
-    {
-        match request {
-            Request::Network { nodes, dest, links } => {
-                let parts = Parts {
-                    nodes: *nodes,
-                    dest: *dest,
-                    links,
-                };
-                self.reply_network(session, manner, parts, told)
-            }
-            Request::Cut { u, v } => {
-                self.reply_edit(session, manner, Edit::Cut { u: *u, v: *v }, told)
-            }
-            Request::Add { u, v } => {
-                self.reply_edit(session, manner, Edit::Add { u: *u, v: *v }, told)
-            }
-            Request::Join { u, v } => {
-                self.reply_edit(session, manner, Edit::Join { u: *u, v: *v }, told)
-            }
-            Request::Batch { edits } => self.reply_batch(session, manner, edits, told),
-            Request::Destination { dest } => self.reply_move(session, manner, *dest, told),
-            Request::Walk { x } => session.walk(self.alloc, manner, *x),
-            Request::Ask(question) => session.question(self.alloc, manner, *question),
-            Request::AskNode { question, x } => {
-                session.node_question(self.alloc, manner, *question, *x)
-            }
-            Request::Pushes { table, wanted } => session.pushes(self.alloc, manner, table, wanted),
-            Request::WayPushes { table } => session.way_pushes(self.alloc, manner, table),
-        }
-    }
-
-    /// The answer to a request for a network. It is not inlined, so that other requests do not pay for the router that
-    /// is a local variable here.
-    #[inline(never)]
-    fn reply_network(
-        &self,
-        session: &mut Session,
-        manner: Manner,
-        parts: Parts<'_>,
-        told: &mut Told,
-    ) -> Result<Answer, AnswerFault>
-        requires settles { Settles F.pre F.post self.now.settle.now }
-        requires lists { HasList manner.form told.old }
-        ensures { IsReplied (NeverStarts F.post self.now.settle.now) manner session.old
-            (Ok (new_network parts.entry.nodes parts.entry.dest parts.entry.links.now)) told.old result session.new
-            told.new }
-    {
-        let Parts { nodes, dest, links } = parts;
-        match self.open_network(nodes, dest, links) {
-            Ok(router) => Ok(accepted(session.put(self.alloc, manner.form, router, told)?)),
-            Err(fault) => refuse_for(self.alloc, manner, fault, &[dest], None),
-        }
-    }
-
-    /// The router of a network of these links.
-    fn open_network(
-        &self,
-        nodes: u32,
-        dest: u32,
-        links: &[(u32, u32)],
-    ) -> Result<Router, RouteFault>
-        requires { Settles F.pre F.post self.now.settle.now }
-        ensures accepted { IfOk result (IsAccepted None (new_network nodes dest links.now)) }
-        ensures refused { IfErr result (IsNewFault nodes dest links.now) }
-        ensures no_start { NeverStarts F.post self.now.settle.now → IfErr result (λ fault. fault ≢ RouteStart) }
-    {
-        let net = Net::new(self.alloc, nodes, links)?;
-        self.open(net, dest)
-    }
-
-    /// The answer to an edit.
-    fn reply_edit(
-        &self,
-        session: &mut Session,
-        manner: Manner,
-        edit: Edit,
-        told: &mut Told,
-    ) -> Result<Answer, AnswerFault>
-        requires settles { Settles F.pre F.post self.now.settle.now }
-        requires lists { HasList manner.form told.old }
-        ensures { IsReplied (NeverStarts F.post self.now.settle.now) manner session.old
-            (Ok (request_of_edit edit)) told.old result session.new told.new }
-    {
-        let Some(router) = &mut session.router else {
-            return refuse(self.alloc, manner, Reason::NoNetwork, &[], None);
-        };
-        let dest = router.dest();
-        let edits = &[edit];
-        match self.revise(router, &Revision { edits, dest }, manner.form, told) {
-            Ok(text) => Ok(accepted(text)),
-            Err(undone) => {
-                refuse_for(self.alloc, manner, undone.fault, &ends_at(edits, 0), None)
-            }
-        }
-    }
-
-    /// The answer to a batch of edits.
-    #[inline(never)]
-    fn reply_batch(
-        &self,
-        session: &mut Session,
-        manner: Manner,
-        edits: &[Edit],
-        told: &mut Told,
-    ) -> Result<Answer, AnswerFault>
-        requires settles { Settles F.pre F.post self.now.settle.now }
-        requires lists { HasList manner.form told.old }
-        ensures { IsReplied (NeverStarts F.post self.now.settle.now) manner session.old
-            (Ok (make_edits edits.now)) told.old result session.new told.new }
-    {
-        let Some(router) = &mut session.router else {
-            return refuse(self.alloc, manner, Reason::NoNetwork, &[], None);
-        };
-        let dest = router.dest();
-        match self.revise(router, &Revision { edits, dest }, manner.form, told) {
-            Ok(text) => Ok(accepted(text)),
-            Err(undone) => {
-                let at = undone.at;
-                refuse_for(
-                    self.alloc,
-                    manner,
-                    undone.fault,
-                    &ends_at(edits, at),
-                    Some(at),
-                )
-            }
-        }
-    }
-
-    /// The answer to a request to move the destination.
-    #[inline(never)]
-    fn reply_move(
-        &self,
-        session: &mut Session,
-        manner: Manner,
-        dest: u32,
-        told: &mut Told,
-    ) -> Result<Answer, AnswerFault>
-        requires settles { Settles F.pre F.post self.now.settle.now }
-        requires lists { HasList manner.form told.old }
-        ensures { IsReplied (NeverStarts F.post self.now.settle.now) manner session.old
-            (Ok (move_dest dest)) told.old result session.new told.new }
-    {
-        let Some(router) = &mut session.router else {
-            return refuse(self.alloc, manner, Reason::NoNetwork, &[], None);
-        };
-        if dest >= router.net().nodes() {
-            return refuse(self.alloc, manner, Reason::NoNode, &[dest], None);
-        }
-        let edits = &[];
-        match self.revise(router, &Revision { edits, dest }, manner.form, told) {
-            Ok(text) => Ok(accepted(text)),
-            Err(undone) => refuse_for(self.alloc, manner, undone.fault, &[], None),
-        }
-    }
-
-    /// Makes these edits, and returns the report of the round. Room for the report is taken before anything is changed,
-    /// but only for edits within the limit.
-    fn revise(
-        &self,
-        router: &mut Router,
-        revision: &Revision<'_>,
-        form: Form,
-        told: &mut Told,
-    ) -> Result<String, NotMade>
-        requires settles { Settles F.pre F.post self.now.settle.now }
-        requires lists { HasList form told.old }
-        requires node { revision.now.dest < router.old.nodes }
-        ensures { IsRevised (NeverStarts F.post self.now.settle.now) form router.old revision.now told.old result router.new told.new }
-    {
-        if revision.edits.len() > MAX_EDITS {
-            return Err(NotMade {
-                at: MAX_EDITS,
-                fault: RouteFault::Net(NetFault::TooMany),
-            });
-        }
-        let net = router.net();
-        net.network_law();
-        let links = net.link_count() + revision.edits.len();
-        let mut text = report_begun(self.alloc, form, net.nodes(), links)?;
-        let report = self.edit(router, revision, &|report| Ok(report), told)?;
-        router.state_law();
-        // There is room, so this does not fail.
-        push_report_in(&mut text, form, report, told, router.hops())?;
-        Ok(text)
     }
 }

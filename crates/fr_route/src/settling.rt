@@ -1,4 +1,4 @@
-//! How a request is settled.
+//! The two ways in which networks are settled: by a crew, or on the calling thread.
 
 ghost use Rattle.std.specs.Prelude.{◌≡◌, ◌≢◌, ℕ, ◌<◌, ◌≤◌, IfOk, IfErr, OnOk, Some, replicate};
 ghost use Rattle.fr_crew.specs.Settlements.{CanBegin, HoldsSinks, IsCounted};
@@ -13,21 +13,21 @@ use fr_crew::CrewFault;
 use fr_graph::{Net, Turns};
 use std::alloc::Global;
 
-/// How a request is settled: the allocator, and the way to get settled counts, which is a closure over
-/// [`settled_counts`](fr_crew::settled_counts) or [`settled_counts_alone`](fr_crew::settled_counts_alone). All that
-/// does not depend on the way is a method of this type.
+/// Settles networks by a crew, or on the calling thread: a closure over [`settled_counts`](fr_crew::settled_counts) or
+/// [`settled_counts_alone`](fr_crew::settled_counts_alone), with an allocator. Everything that is the same in both ways is
+/// a method of this type.
 #[derive(Drop)]
-pub(crate) struct Asking<'a, F> {
+pub(crate) struct Settler<'a, F> {
     pub(crate) alloc: Global,
     settle: &'a F,
 }
 
-impl<'a, F: Fn(&Net, u32, Option<&[u32]>, Turns) -> Result<Turns, CrewFault>> Asking<'a, F> {
-    /// Requests with this allocator and this way to get settled counts.
-    pub(crate) fn new(alloc: Global, settle: &'a F) -> Asking<'a, F>
+impl<'a, F: Fn(&Net, u32, Option<&[u32]>, Turns) -> Result<Turns, CrewFault>> Settler<'a, F> {
+    /// A settler with this allocator and this way to get settled counts.
+    pub(crate) fn new(alloc: Global, settle: &'a F) -> Settler<'a, F>
         ensures { result.settle.now ≡ settle.now }
     {
-        Asking { alloc, settle }
+        Settler { alloc, settle }
     }
 
     /// The settled counts of a network, by this way.

@@ -1,7 +1,7 @@
 -- What the publisher pushes, and the tables meanwhile.
 use Rattle.std.proofs.Common.{append-nil, append_assoc, Bool, Contains, List, [], ap, arith, cond, false, inl, inr}
 use Rattle.std.proofs.Common.{length, length-set}
-use Rattle.std.proofs.Common.{map, refl, set, subst, sym, true, ℕ, ⊎_elim, ◌++◌, ◌+◌, ◌<◌, ◌≤◌, ◌∙◌, ◌∷◌, ◌≡◌, ◌≢◌, ◌⊎◌}
+use Rattle.std.proofs.Common.{map, refl, set, subst, sym, true, ℕ, ⊎_elim, ◌++◌, ◌+◌, ◌<◌, ◌≤◌, ◌∙◌, ◌∷◌, ◌≡◌}
 use Rattle.std.specs.List.{filter, list_any, range_with_len}
 use Rattle.std.specs.Prelude.{bytes_eq, not, ◌&&◌}
 use Rattle.std.proofs.lemmas.Bool.{cases_Bool, cases_eq, cases_lt, false≢true}
@@ -14,7 +14,7 @@ use Rattle.fr_ways.specs.Ways.{IsPartOf, Sends, ways}
 use Rattle.fr_ways.proofs.Parts.{part_free}
 use Rattle.fr_ways.proofs.Shrinking.{any_true, filter_from, growing_new, shrunk_loser, shrunk_other, way_true, way_yes}
 use Rattle.fr_shared_ways.specs.declared.view.Push.{Push}
-use Rattle.fr_shared_ways.specs.Histories.{IsTable, blank, grows, push, pushes_of, shrinks, table_after}
+use Rattle.fr_shared_ways.specs.Histories.{IsTable, blank, push, pushes_of, shrinks, table_after}
 use Rattle.fr_shared_ways.specs.Knowledge.{Knowledge, last_table}
 use Rattle.fr_shared_ways.specs.Parts.{changes, drops, push_if, pushes_below}
 use Rattle.fr_shared_ways.proofs.Histories.{after_append, length_table}
@@ -71,7 +71,7 @@ push_one : (f : ℕ → List ℕ) (x : ℕ) (b : Bool)
 push_one f x true = refl
 push_one f x false = refl
 
-below_more : (p : ℕ → Bool) (f : ℕ → List ℕ) (x : ℕ)
+pub below_more : (p : ℕ → Bool) (f : ℕ → List ℕ) (x : ℕ)
     → pushes_below p f (x + 1) ≡ pushes_below p f x ++ push_if (p x) x (f x)
 below_more p f x =
     let g : ℕ → Push = λ y. push y (f y) in
@@ -179,7 +179,7 @@ module _ (old new : List (List ℕ)) (x : ℕ) where
 
 -- After the first nodes have shrunk, the others are those that keep no way
 
-loses_none : (p : ℕ → Bool) (xs : List ℕ) → ((y : ℕ) → Contains xs y → p y ≡ false) → list_any p xs ≡ false
+pub loses_none : (p : ℕ → Bool) (xs : List ℕ) → ((y : ℕ) → Contains xs y → p y ≡ false) → list_any p xs ≡ false
 loses_none p xs none = elim (cases_Bool (list_any p xs)) [
   | inl t ↦ let (y, found, passes) = any_true p xs t in absurd (false≢true (sym (none y found) ∙ passes))
   | inr f ↦ f

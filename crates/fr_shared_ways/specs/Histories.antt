@@ -1,6 +1,7 @@
 -- Histories of pushes, and the tables that they make. This project's own; tables, cycles and phases are those of
 -- fr_ways.
-use Rattle.std.specs.Prelude.{◌≡◌, ◌≤◌, ℕ, List, [], ◌∷◌, ◌++◌, map, length, replicate, slice_set}
+use Rattle.std.specs.Prelude.{◌≡◌, ◌<◌, ◌≤◌, ◌⊎◌, ℕ, List, [], ◌∷◌, ◌++◌, All, Contains, map, length, replicate, slice_set}
+use Rattle.std.specs.List.Sorted.{IsNonDecreasing}
 use Rattle.fr_ways.specs.Phases.{growing_nodes, kept, shrinking_nodes}
 use Rattle.fr_ways.specs.Ways.{HasNoCycle, IsInRange, ways}
 use Rattle.fr_shared_ways.specs.declared.view.Push.{Push}
@@ -26,6 +27,12 @@ grows old new = map (λ (x : ℕ). push x (ways new x)) (growing_nodes old new)
 -- all pushes from one table to another: first the shrinks, then the grows
 abbrev pub pushes_of : List (List ℕ) → List (List ℕ) → List Push
 pushes_of old new = shrinks old new ++ grows old new
+
+-- each node whose ways differ in the two tables is one of these, which are sorted by number. Others may be too
+pub record ListsChanges (nodes : List ℕ) (old new : List (List ℕ)) : Type 0 where
+  pub by_number : IsNonDecreasing nodes
+  pub in_table : All (λ (x : ℕ). x < length new) nodes
+  pub others : (x : ℕ) → Contains nodes x ⊎ (ways old x ≡ ways new x)
 
 -- no node has a way at first
 abbrev pub blank : ℕ → List (List ℕ)

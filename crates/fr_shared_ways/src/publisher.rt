@@ -3,7 +3,7 @@
 ghost use Rattle.std.specs.Prelude.{◌≡◌, ◌<◌, ℕ, ◌++◌, [], ◌∷◌, Bool, IfOk, cond, length, slice_set, true};
 ghost use Rattle.fr_ways.specs.Phases.{kept};
 ghost use Rattle.fr_ways.specs.Ways.{IsPartOf, ways};
-ghost use Rattle.fr_shared_ways.specs.Histories.{IsHistory, IsTable, StartsWith, push, pushes_of};
+ghost use Rattle.fr_shared_ways.specs.Histories.{IsHistory, IsTable, ListsChanges, StartsWith, push, pushes_of};
 ghost use Rattle.fr_shared_ways.specs.Knowledge.{last_table, past_of};
 ghost use Rattle.fr_shared_ways.specs.Inside.{IsSoundPlace};
 ghost use Rattle.fr_shared_ways.specs.Parts.{changes, drops, push_if, pushes_below};
@@ -85,6 +85,24 @@ impl Publisher {
         self.grow(new);
     }
 
+    /// Does the same, but looks only at these nodes. Each other node must have the same ways in the new table as in this
+    /// one. The nodes must be sorted by number. A node may be listed more than once: it gets its pushes once.
+    ///
+    /// It makes three loads for each listed node, and one store for each push. It does not allocate or wait. O(k) for k
+    /// listed nodes.
+    pub fn push_listed(&mut self, new: &FirstWays, nodes: &[u32])
+        requires new { IsTable self.old.nodes new.now }
+        requires listed { ListsChanges nodes.now (last_table self.old) new.now }
+        ensures history { self.new
+            ≡ record self.old { known = self.old.known ++ pushes_of (last_table self.old) new.now } }
+        ensures table { last_table self.new ≡ new.now }
+    {
+        self.history_law();
+        self.shrink_listed(new, nodes, false);
+        self.shrink_listed(new, nodes, true);
+        self.grow_listed(new, nodes);
+    }
+
     /// Pushes to each node that loses a way those that it keeps: if `emptied`, to the nodes that keep none, and
     /// otherwise to the others.
     fn shrink(&mut self, new: &FirstWays, emptied: bool)
@@ -99,6 +117,23 @@ impl Publisher {
     {
         for x in 0..self.nodes {
             self.shrink_node(new, x, emptied);
+        }
+    }
+
+    /// Does the same, but looks only at these nodes.
+    fn shrink_listed(&mut self, new: &FirstWays, nodes: &[u32], emptied: bool)
+        requires one_each { length new.now ≡ self.old.nodes }
+        requires listed { ListsChanges nodes.now (last_table self.old) new.now }
+        ensures history { self.new ≡ record self.old {
+          known = self.old.known
+              ++ pushes_below (drops emptied (last_table self.old) new.now) (kept (last_table self.old) new.now)
+              self.old.nodes;
+        } }
+        ensures ways { (y : ℕ) → ways (last_table self.new) y ≡ cond (drops emptied (last_table self.old) new.now y)
+            (kept (last_table self.old) new.now y) (ways (last_table self.old) y) }
+    {
+        for x in nodes {
+            self.shrink_node(new, *x, emptied);
         }
     }
 
@@ -133,6 +168,22 @@ impl Publisher {
     {
         for x in 0..self.nodes {
             self.grow_node(new, x);
+        }
+    }
+
+    /// Does the same, but looks only at these nodes.
+    fn grow_listed(&mut self, new: &FirstWays, nodes: &[u32])
+        requires new { IsTable self.old.nodes new.now }
+        requires part { IsPartOf (last_table self.old) new.now }
+        requires listed { ListsChanges nodes.now (last_table self.old) new.now }
+        ensures history { self.new ≡ record self.old {
+          known = self.old.known
+              ++ pushes_below (changes (last_table self.old) new.now) (ways new.now) self.old.nodes;
+        } }
+        ensures table { last_table self.new ≡ new.now }
+    {
+        for x in nodes {
+            self.grow_node(new, *x);
         }
     }
 

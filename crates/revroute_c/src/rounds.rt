@@ -10,6 +10,9 @@ ghost use Rattle.fr_graph.specs.declared.fault.EditFault.{EditFault};
 ghost use Rattle.fr_graph.specs.declared.fault.NetFault.TheVariants.{Memory};
 ghost use Rattle.fr_published.specs.Answers.{MakesChange, NotesPushes};
 ghost use Rattle.fr_route.specs.Answers.{IsAccepted};
+ghost use Rattle.fr_route.specs.Changes.{IsPlaced};
+ghost use Rattle.fr_route.specs.States.{State, net_at};
+ghost use Rattle.fr_route.specs.declared.fault.RouteFault.TheVariants.{Start};
 ghost use Rattle.revroute_c.specs.Lending.{held_by, IsNull};
 ghost use Rattle.revroute_c.specs.Records.{AreKnown, edit_of, link_of};
 ghost use Rattle.revroute_c.specs.Rounds.{round_outcome, BeginsRound, IsChangeRefused, IsEditRefused, IsMoveRefused};
@@ -22,7 +25,7 @@ use crate::records::{Link, LinkEdit, Refusal, Round, edits_of, pairs_of, round_o
 use crate::statuses::{ANSWERED, NO_MEMORY, NO_NETWORK, REFUSED};
 use fr_graph::{EditFault, MAX_EDITS, Net, NetFault};
 use fr_published::PublishedSession;
-use fr_route::{Change, Report, RouteFault, Router, fault_number};
+use fr_route::{Change, NotMade, Report, RouteFault, Router, fault_number};
 use std::alloc::Global;
 
 /// The first step along a cycle.
@@ -182,26 +185,23 @@ pub(crate) fn edited(net: &Net, alloc: Global, edits: &[LinkEdit]) -> Result<Net
     net.with_edits(alloc, &made)
 }
 
-/// Writes which of these edits is refused first, and why. One of them must be refused.
-fn tell_refused(net: &Net, alloc: Global, edits: &[LinkEdit], refusal: &mut Refusal) -> u32
+/// Writes why edits of a network are not made, and which of them is refused.
+fn tell_undone(edits: &[LinkEdit], undone: NotMade, refusal: &mut Refusal) -> u32
     requires few { length edits.now ≤ most_edits }
-    requires refused { (refused : EditFault) × IsBatchFault net.now (map edit_of edits.now) refused }
-    ensures refused { result ≡ REFUSED → IsEditRefused net.now edits.now refusal.new }
+    requires undone { (s : State) × IsPlaced s (map edit_of edits.now) s.dest undone × (undone.fault ≢ Start) }
+    ensures refused { result ≡ REFUSED → (s : State) → IsPlaced s (map edit_of edits.now) s.dest undone
+        → IsEditRefused (net_at s) edits.now refusal.new }
     ensures unrefused { ¬ (result ≡ REFUSED) → refusal.new ≡ refusal.old }
     ensures status { (result ≡ NO_MEMORY) ⊎ (result ≡ REFUSED) }
 {
-    match edited(net, alloc, edits) {
-        Ok(_edited) => unreachable!(),
-        Err(
-            EditFault {
-                at: _,
-                fault: NetFault::Memory,
-            },
-        ) => NO_MEMORY,
-        Err(EditFault { at, fault }) => {
+    let NotMade { at, fault } = undone;
+    match fault {
+        RouteFault::Net(fault) => {
             *refusal = refusal_for(at, &fault, edited_nodes(edits[at], &fault));
             REFUSED
         }
+        RouteFault::Memory => NO_MEMORY,
+        RouteFault::Range | RouteFault::Start => unreachable!(),
     }
 }
 
@@ -218,7 +218,7 @@ fn change_published(
     alloc: Global,
     change: Change,
     with_ways: bool,
-) -> Option<Result<Report, RouteFault>>
+) -> Option<Result<Report, NotMade>>
     ensures changes { MakesChange published.old change result published.new }
     ensures noted { with_ways ≡ true → NotesPushes published.old result published.new }
     ensures kept { with_ways ≡ false → published.new.pushes ≡ published.old.pushes }
@@ -264,12 +264,8 @@ pub(crate) fn change_in(
             *round = round_of(report);
             ANSWERED
         }
-        Some(Err(RouteFault::Net(_))) => {
-            let router = engine.session().router().unwrap();
-            tell_refused(router.net(), alloc, edits, refusal)
-        }
-        Some(Err(RouteFault::Memory)) => NO_MEMORY,
-        None | Some(Err(RouteFault::Range | RouteFault::Start)) => unreachable!(),
+        Some(Err(undone)) => tell_undone(edits, undone, refusal),
+        None => unreachable!(),
     }
 }
 
@@ -300,8 +296,10 @@ pub(crate) fn move_dest_in(
             *round = round_of(report);
             ANSWERED
         }
-        Some(Err(RouteFault::Memory)) => NO_MEMORY,
-        None | Some(Err(RouteFault::Net(_) | RouteFault::Range | RouteFault::Start)) =>
-            unreachable!(),
+        Some(Err(undone)) => match undone.fault {
+            RouteFault::Memory => NO_MEMORY,
+            RouteFault::Net(_) | RouteFault::Range | RouteFault::Start => unreachable!(),
+        },
+        None => unreachable!(),
     }
 }

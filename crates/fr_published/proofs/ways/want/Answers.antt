@@ -1,4 +1,4 @@
-use Rattle.std.proofs.Common.{Option, ap, arith, subst, sym, ℕ, ◌∙◌, ◌≡◌}
+use Rattle.std.proofs.Common.{Option, ap, arith, subst, sym, ◌∙◌, ◌≡◌}
 use Rattle.fr_route.specs.States.{State}
 use Rattle.fr_published.specs.Published.{AreFirstWays}
 use Rattle.fr_published.proofs.FirstWays.{all_blank}

@@ -1,5 +1,4 @@
 use Rattle.std.proofs.Common.{List, ap, arith, length, length-set, subst, sym, take, ℕ, ◌+◌, ◌<◌, ◌∙◌, ◌≡◌}
-use Rattle.fr_graph.specs.Limits.{most_nodes}
 use Rattle.fr_route.specs.NodeWays.{AreNodeWays}
 use Rattle.fr_route.specs.States.{State}
 use Rattle.fr_ways.specs.Ways.{ways}
@@ -32,7 +31,7 @@ loop-x-preserved c =
       low = omega (arith, below);
       each = subst
           (λ (t : List (List ℕ)). (y : ℕ) → y < x + 1 → (l : List ℕ) × AreNodeWays s y l × (ways t y ≡ take 5 l))
-          (sym c.set.ensures) (set_each (AreNodeWays s) wanted x list low inv.each are);
+          (sym c.set.ensures) (set_each (AreNodeWays s) (λ (y : ℕ). y) x wanted list low inv.each are);
     }
 
 pub returns-clause-each : goal.returns-clause-each

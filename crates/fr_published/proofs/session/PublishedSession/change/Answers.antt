@@ -1,48 +1,18 @@
-use Rattle.std.proofs.Common.{IfSome, List, Option, Some, subst, sym, ℕ}
-use Rattle.std.proofs.lemmas.Option.{IfSome_then}
-use Rattle.fr_route.specs.States.{State}
+use Rattle.std.proofs.Common.{ap, subst, sym, ◌∙◌}
 use Rattle.fr_published.specs.Answers.{MakesChange}
-use Rattle.fr_published.specs.Inside.{pushes_in}
-use Rattle.fr_published.specs.Published.{HasHopsOf, HasWaysOf, Published, WayPushes, published}
-use Rattle.fr_published.specs.Publishing.{CanPublish, IsSettledSession, PublishesIn}
-use Rattle.fr_published.proofs.Leading.{can_publish}
-use Rattle.fr_published.proofs.Telling.{change_leads, change_made, router_changed, same_pushes}
+use Rattle.fr_published.specs.Inside.{published_in}
+use Rattle.fr_published.specs.Published.{Published, WayPushes}
 use Rattle.fr_published.proofs.session.PublishedSession.change.Goals as goal
-
-pub publish-requires-clause-can : goal.publish-requires-clause-can
-publish-requires-clause-can c =
-    let p = c.self.inside in
-    let r = c.in_ok-router.router.now in
-    let a = c.change_telling_alone-answer in
-    let is = c.in_ok-router.ensures.value in
-    let settled = subst IsSettledSession is c.session_law.ensures in
-    let by = change_leads r a.new.self settled c.args.change a.result p.rerouted.items a.new.rerouted.items
-    (router_changed a.ensures.changed a.ensures.report a.ensures.fault a.ensures.unchanged a.ensures.no_start) a.ensures.told in
-    let has = subst (λ (s : Option State). IfSome p.publisher (HasHopsOf s)) is c.self.invariant.hops in
-    subst (λ (nodes : List ℕ). IfSome p.publisher (λ k. CanPublish k (Some a.new.self) nodes))
-    (sym c.deref.ensures.value)
-    (IfSome_then p.publisher has
-    (can_publish (Some r) (Some a.new.self) settled c.session_law-2.ensures a.new.rerouted.items by))
 
 pub returns-clause-changes : goal.returns-clause-changes
 returns-clause-changes c =
-    let p = c.self.inside in
-    let r = c.in_ok-router.router.now in
-    let a = c.change_telling_alone-answer in
-    let t = c.publish.new.publisher in
-    let is = c.in_ok-router.ensures.value in
-    let has = subst (λ (s : Option State). IfSome p.publisher (HasHopsOf s)) is c.self.invariant.hops in
-    let table = subst (λ (nodes : List ℕ). PublishesIn p.publisher
-    (Some a.new.self) nodes t) c.deref.ensures.value c.publish.ensures in
-    let w = c.publish_ways.new.tables in
-    let had = subst (λ (s : Option State). IfSome p.ways (HasWaysOf s)) is c.self.invariant.ways in
-    let ps : WayPushes = pushes_in p.reroutes in
-    let new : Published = published (Some a.new.self) a.new.rerouted.items t w ps in
-    rw c.publish_ways.ensures.same (subst (λ (old : Published). MakesChange old c.args.change
-    (Some a.result) new) c.self.view_is
-    (subst (λ (s : Option State). MakesChange (published s p.rerouted.items p.publisher p.ways ps) c.args.change
-    (Some a.result) new) (sym is)
-    (change_made r a.new.self p.rerouted.items a.new.rerouted.items p.publisher t p.ways w ps ps has table had
-    c.publish_ways.ensures.published c.args.change a.result
-    (router_changed a.ensures.changed a.ensures.report a.ensures.fault a.ensures.unchanged a.ensures.no_start)
-    a.ensures.told (same_pushes a.result ps))))
+    let p : Published = published_in c.self.inside in
+    let answer = c.change_ways-answer.result in
+    subst (λ (new : Published). MakesChange c.args.self.now c.args.change answer new) (sym c.self-2.view_is)
+    (subst (λ (old : Published). MakesChange old c.args.change answer c.change_ways-answer.new.self) c.self.view_is
+    c.change_ways-answer.ensures.changes)
+
+pub returns-clause-pushes : goal.returns-clause-pushes
+returns-clause-pushes c =
+    let pushes : Published → WayPushes = λ p. p.pushes in
+    ap pushes c.self-2.view_is ∙ (c.change_ways-answer.ensures.pushes ∙ ap pushes c.self.view_is)

@@ -1,47 +1,33 @@
-use Rattle.std.proofs.Common.{IfSome, List, Option, Some, subst, sym, ℕ}
-use Rattle.std.proofs.lemmas.Option.{IfSome_then}
+use Rattle.std.proofs.Common.{IfOk, IfSome, Option, ap, subst, sym}
 use Rattle.fr_route.specs.States.{State}
-use Rattle.fr_published.specs.Answers.{MakesChange}
-use Rattle.fr_published.specs.Inside.{pushes_in}
-use Rattle.fr_published.specs.Published.{HasHopsOf, HasWaysOf, Published, WayPushes, published}
-use Rattle.fr_published.specs.Publishing.{CanPublish, IsSettledSession, PublishesIn}
-use Rattle.fr_published.proofs.Leading.{can_publish}
-use Rattle.fr_published.proofs.Telling.{change_leads, change_made}
+use Rattle.fr_published.specs.Answers.{MakesChange, Notes}
+use Rattle.fr_published.specs.Inside.{published_in, pushes_in}
+use Rattle.fr_published.specs.Published.{LeadsBetween, Published, WayPushes}
+use Rattle.fr_published.proofs.Telling.{with_pushes}
 use Rattle.fr_published.proofs.session.PublishedSession.change_with_ways.Goals as goal
-
-pub publish-requires-clause-can : goal.publish-requires-clause-can
-publish-requires-clause-can c =
-    let p = c.self.inside in
-    let r = c.in_ok-router.router.now in
-    let a = c.change_noting-answer in
-    let is = c.in_ok-router.ensures.value in
-    let settled = subst IsSettledSession is c.session_law.ensures in
-    let by = change_leads r a.new.router settled c.args.change a.result p.rerouted.items a.new.rerouted.items
-    a.ensures.changes a.ensures.told in
-    let has = subst (λ (s : Option State). IfSome p.publisher (HasHopsOf s)) is c.self.invariant.hops in
-    subst (λ (nodes : List ℕ). IfSome p.publisher (λ k. CanPublish k (Some a.new.router) nodes))
-    (sym c.deref.ensures.value)
-    (IfSome_then p.publisher has
-    (can_publish (Some r) (Some a.new.router) settled c.session_law-2.ensures a.new.rerouted.items by))
 
 pub returns-clause-changes : goal.returns-clause-changes
 returns-clause-changes c =
     let p = c.self.inside in
-    let r = c.in_ok-router.router.now in
-    let a = c.change_noting-answer in
-    let t = c.publish.new.publisher in
-    let is = c.in_ok-router.ensures.value in
-    let has = subst (λ (s : Option State). IfSome p.publisher (HasHopsOf s)) is c.self.invariant.hops in
-    let table = subst (λ (nodes : List ℕ). PublishesIn p.publisher
-    (Some a.new.router) nodes t) c.deref.ensures.value c.publish.ensures in
-    let w = c.publish_ways.new.tables in
-    let had = subst (λ (s : Option State). IfSome p.ways (HasWaysOf s)) is c.self.invariant.ways in
-    let ps : WayPushes = pushes_in p.reroutes in
-    let ps' : WayPushes = pushes_in a.new.reroutes in
-    let new : Published = published (Some a.new.router) a.new.rerouted.items t w ps' in
-    rw c.publish_ways.ensures.same (subst (λ (old : Published). MakesChange old c.args.change
-    (Some a.result) new) c.self.view_is
-    (subst (λ (s : Option State). MakesChange (published s p.rerouted.items p.publisher p.ways ps) c.args.change
-    (Some a.result) new) (sym is)
-    (change_made r a.new.router p.rerouted.items a.new.rerouted.items p.publisher t p.ways w ps ps' has table had
-    c.publish_ways.ensures.published c.args.change a.result a.ensures.changes a.ensures.told a.ensures.kept)))
+    let q = c.self-2.inside in
+    let a = c.change_ways-answer in
+    let before : WayPushes = pushes_in p.reroutes in
+    let after : WayPushes = pushes_in a.new.reroutes in
+    let old : Published = published_in (record p { reroutes = c.take-reroutes.new.self }) in
+    let made = subst (λ (new : Published). MakesChange old c.args.change a.result new) (sym c.self-2.view_is)
+    a.ensures.changes in
+    let noted = subst (λ (ps : WayPushes). Notes p.session a.result a.new.self.session ps after)
+    (ap (λ r. pushes_in r) c.take-reroutes.ensures.value) a.ensures.noted in
+    subst (λ (o : Published). MakesChange o c.args.change a.result (record (published_in q) { pushes = after }))
+    c.self.view_is
+    (with_pushes old (published_in q) c.args.change a.result before after made noted.none noted.fault)
+
+pub returns-clause-pushes : goal.returns-clause-pushes
+returns-clause-pushes c =
+    let a = c.change_ways-answer in
+    let session : Published → Option State = λ p. p.session in
+    let after : WayPushes = pushes_in a.new.reroutes in
+    subst (λ (s : Option State). IfSome a.result (λ made. IfOk made (λ _. LeadsBetween c.args.self.now.session s after)))
+    (sym (ap session c.self-2.view_is))
+    (subst (λ (s : Option State). IfSome a.result (λ made. IfOk made (λ _. LeadsBetween s a.new.self.session after)))
+    (ap session c.self.view_is) a.ensures.noted.made)

@@ -1,10 +1,16 @@
-use Rattle.std.proofs.Common.{List, ap, inr, subst, sym, ℕ, ◌++◌, ◌∙◌, ◌≡◌}
+use Rattle.std.proofs.Common.{List, ap, inr, length, subst, sym, ℕ, ◌++◌, ◌∙◌}
 use Rattle.fr_shared_ways.specs.Histories.{pushes_of}
 use Rattle.fr_shared_ways.specs.Knowledge.{Knowledge, last_table}
 use Rattle.fr_published.specs.Published.{AreFirstWays}
 use Rattle.fr_published.specs.Publishing.{PublishesWays}
 use Rattle.fr_published.proofs.FirstWays.{first_table}
+use Rattle.fr_shared_ways.proofs.Histories.{length_table}
 use Rattle.fr_published.proofs.ways.WayTables.bring.Goals as goal
+
+pub want-requires-clause-long : goal.want-requires-clause-long
+want-requires-clause-long c =
+    let k = c.self.inside.publisher in
+    ap length c.self.invariant.wanted ∙ (length_table k.nodes k.known ∙ c.self.invariant.table)
 
 pub push_all-requires : goal.push_all-requires
 push_all-requires c =

@@ -1,9 +1,0 @@
-use Rattle.fr_route.specs.declared.form.Form.TheVariants.{JsonWithWays}
-use Rattle.fr_route.proofs.Replying.{line_in, list_with_notes}
-use Rattle.fr_route.proofs.settling.Asking.reply_with_ways.Goals as goal
-
-pub returns : goal.returns
-returns g c =
-    line_in _ JsonWithWays c.args.line.number c.args.session.now c.args.line.bytes.now c.in_ok-told.told c.reply_line-answer.result
-    c.reply_line-answer.new.session c.reply_line-answer.new.told
-    (list_with_notes c.in_ok-told.told c.in_ok-told.ensures) c.reply_line-answer.ensures

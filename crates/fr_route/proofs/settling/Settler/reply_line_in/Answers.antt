@@ -1,0 +1,13 @@
+use Rattle.fr_route.proofs.Replying.{line_in, list_alone, no_list}
+use Rattle.fr_route.specs.declared.told.Told.TheVariants.{Nobody}
+use Rattle.fr_route.proofs.settling.Settler.reply_line_in.Goals as goal
+
+pub returns-in-Text : goal.returns-in-Text
+returns-in-Text g c =
+    line_in _ c.args.form c.args.line.number c.args.session.now c.args.line.bytes.now Nobody c.reply_line.result c.reply_line.new.session c.reply_line.new.told
+    (rw c.in-Text.is (no_list Nobody)) c.reply_line.ensures
+
+pub returns-in-Json : goal.returns-in-Json
+returns-in-Json g c =
+    line_in _ c.args.form c.args.line.number c.args.session.now c.args.line.bytes.now c.listing-told.result c.reply_line-answer.result c.reply_line-answer.new.session c.reply_line-answer.new.told
+    (rw c.in-Json.is (list_alone c.listing-told.result c.listing-told.ensures)) c.reply_line-answer.ensures
