@@ -295,9 +295,9 @@ impl Network {
 
     /// A reader of the first ways of nodes, for another thread.
     ///
-    /// Once a network has had such a reader, each change lists the ways of all nodes again, and stores those that it
-    /// has changed for the readers. The first reader and each change then cost `O(4,096 + m log d)`, and each later
-    /// reader `O(1)`.
+    /// Once a network has had such a reader, each change costs what [`batch_with_ways`](Network::batch_with_ways)
+    /// costs, and stores the ways that it has changed for the readers: `O(k (log k + d log d))` for those of k nodes.
+    /// The first reader costs `O(4,096 + m log d)`, and each later one `O(1)`.
     ///
     /// ```
     /// use revroute::Network;

@@ -98,7 +98,8 @@ class Network(Generic[Name]):
 
     - `next_hop`, `distance`, `dest`, `size` and `report`: O(1).
     - `reader`: O(4,096) for the first reader, and O(1) for each later one.
-    - `way_reader`: O(4,096 + m log d) for the first reader, and O(1) for each later one. Each change then costs that too.
+    - `way_reader`: O(4,096 + m log d) for the first reader, and O(1) for each later one. Each change then costs what
+      `batch_with_ways` costs.
     - `walk` and `changed`: linear in the length of the result.
     - `ways`: O(d log d) for d links at the node. `nearest`: O(k d) for a route of k nodes.
     - `hops`, `hops_into`, `table`, `pushes` and `counts`: O(n).
@@ -244,7 +245,7 @@ class Network(Generic[Name]):
 
     def way_reader(self) -> WayReader[Name]:
         """A reader of the first ways of nodes, for another thread. Once a network has had such a reader, each change
-        also lists the ways of all nodes again, and stores those that it has changed for the readers."""
+        stores the ways that it has changed for the readers."""
         session = self._session
         return WayReader(session._open_way_reader, session._reader_table, self._names, self._numbers, len(self._nodes))
 
