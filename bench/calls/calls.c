@@ -226,6 +226,24 @@ static void change_by_lines(revroute *session) {
     }
 }
 
+/* The reader of ways, of the network that was made last. */
+static revroute_way_reader way_reader;
+
+/* Opens a reader of ways before the time counts. */
+static void read_ways_by_one(revroute *session, revroute_reader *reader) {
+    (void)reader;
+    if (revroute_way_reader_open(session, &way_reader) != REVROUTE_ANSWERED) stop("there is no reader of ways");
+}
+
+/* Reads a way of each node, with another choice each time. */
+static void read_ways(revroute *session) {
+    uint32_t sum = 0, choice = 0;
+    (void)session;
+    for (int round = 0; round < ROUNDS; round++)
+        for (uint32_t at = 0; at < nodes; at++) sum += revroute_way_reader_way(&way_reader, order[at], choice += 0x9e3779b9u);
+    kept = sum;
+}
+
 /* Opens a reader of the session before the time counts. */
 static void read_by_one(revroute *session, revroute_reader *reader) {
     if (revroute_reader_open(session, reader) != REVROUTE_ANSWERED) stop("there is no reader");
@@ -318,6 +336,7 @@ int main(void) {
     printf("reader4 %.3f\n", best_read(THREADS, false));
     printf("reader-busy %.3f\n", best_read(1, true));
     printf("reader3-busy %.3f\n", best_read(THREADS - 1, true));
+    printf("way-reader %.3f\n", best_after(read_ways_by_one, read_ways) / count);
     printf("hops %.0f\n", best(tell_tables) / TABLES);
     printf("ways %.3f\n", best(ask_ways) / count);
     printf("all-ways %.0f\n", best(tell_all_ways) / TABLES);
@@ -329,6 +348,8 @@ int main(void) {
     printf("pushes-quarter %.0f\n", best_pushes(nodes / 4, true));
     printf("change %.0f\n", best(change) / (double)change_count);
     printf("change-read %.0f\n", best_after(read_by_one, change) / (double)change_count);
+    printf("change-way-read %.0f\n", best_after(read_ways_by_one, change) / (double)change_count);
+    revroute_way_reader_close(&way_reader);
     printf("change-ways %.0f\n", best_after(ask_distance, change) / (double)change_count);
     printf("line %.0f\n", best(change_by_lines) / (double)change_count);
     printf("table %u\n", summed());

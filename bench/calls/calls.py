@@ -36,7 +36,7 @@ def read_input():
 
 def tell_hops(nodes, dest, links):
     network = revroute.Network(nodes, dest, links)
-    reader = network.reader()
+    reader, way_reader = network.reader(), network.way_reader()
     order = random.Random(1).sample(range(nodes), nodes)
     library = ctypes.CDLL(str(Path(revroute.__file__).with_name("librevroute.so")))
     # any call of one number: it is given one that the library takes for a session with no network
@@ -59,6 +59,11 @@ def tell_hops(nodes, dest, links):
             for node in order:
                 reader.next_hop(node)
 
+    def read_ways():
+        for choice in range(ROUNDS):
+            for node in order:
+                way_reader.way(node, choice)
+
     def pass_by():
         for _ in range(ROUNDS):
             for _ in order:
@@ -72,6 +77,7 @@ def tell_hops(nodes, dest, links):
     loop = best(pass_by)
     tell("hop", best(ask) - loop, nodes * ROUNDS)
     tell("reader", best(read) - loop, nodes * ROUNDS)
+    tell("way-reader", best(read_ways) - loop, nodes * ROUNDS)
     tell("ways", best(ask_ways) - loop, nodes * ROUNDS)
     tell("ctypes", best(call_numbers) - loop, nodes * ROUNDS)
     buffer = array("I", bytes(4 * nodes))

@@ -65,6 +65,7 @@ int main(int count, char **words) {
     most = held;
     revroute session = REVROUTE_NEW;
     revroute_reader first = REVROUTE_NO_READER, later = REVROUTE_NO_READER;
+    revroute_way_reader of_ways = REVROUTE_NO_WAY_READER;
     revroute_round round;
     revroute_refusal why;
     wanted(revroute_open(&session, nodes, 0, links, link_count, &round, &why), "open");
@@ -79,10 +80,14 @@ int main(int count, char **words) {
     printf(" %zu", held - before);
     before = held;
     wanted(revroute_reader_open(&session, &later), "later reader");
+    printf(" %zu", held - before);
+    before = held;
+    wanted(revroute_way_reader_open(&session, &of_ways), "reader of ways");
     printf(" %zu\n", held - before);
     revroute_close(&session);
     revroute_reader_close(&first);
     revroute_reader_close(&later);
+    revroute_way_reader_close(&of_ways);
     __real_free(links);
     if (held) return fprintf(stderr, "%zu bytes are left\n", held), 1;
 }

@@ -16,7 +16,7 @@ links    | revroute_links | Network::links Session::links | Network.links Sessio
 counts   | revroute_counts | Network::counts Session::counts | Network.counts Session.counts
 hops     | revroute_hops | Network::hops Session::hops | Network.hops Network.hops_into Session.hops
 walk     | revroute_walk revroute_reader_walk | Network::walk Session::walk Reader::walk | Network.walk Session.walk Reader.walk
-ways     | revroute_ways revroute_all_ways revroute_node_ways | Network::ways Network::all_ways Session::ways Session::all_ways NodeTable::ways | Network.ways Network.all_ways Session.ways Session.all_ways Node.ways
+ways     | revroute_ways revroute_all_ways revroute_way_reader_ways revroute_node_ways | Network::ways Network::all_ways Session::ways Session::all_ways WayReader::ways NodeTable::ways | Network.ways Network.all_ways Session.ways Session.all_ways WayReader.ways Node.ways
 nearest  | revroute_nearest | Network::nearest Session::nearest | Network.nearest Session.nearest
 net      | revroute_open | Network::new | Network
 pushes   | revroute_pushes | Network::pushes Session::pushes | Network.pushes Session.pushes
@@ -32,12 +32,14 @@ push_order | revroute_push_order | push_order | push_order
 report   | revroute_report | Network::report Session::report | Network.report Session.report
 size     | revroute_size | Network::size Session::size | Network.size Session.size
 reader   | revroute_reader_open | Network::reader Session::reader | Network.reader Session.reader
-copy     | revroute_reader_copy | Network::try_clone Reader::try_clone | Network.copy Reader.copy
-learn    | revroute_reader_learn | Reader::learn | Reader.learn
+way_reader | revroute_way_reader_open | Network::way_reader Session::way_reader | Network.way_reader Session.way_reader
+way      | revroute_way_reader_way | WayReader::way | WayReader.way
+copy     | revroute_reader_copy revroute_way_reader_copy | Network::try_clone Reader::try_clone WayReader::try_clone | Network.copy Reader.copy WayReader.copy
+learn    | revroute_reader_learn revroute_way_reader_learn | Reader::learn WayReader::learn | Reader.learn WayReader.learn
 answer   | revroute_answer | Session::answer | Session.answer Session.last_answer
 take     | revroute_take | Session::take | Session.take
 finish   | revroute_finish | Session::finish | Session.finish
-close    | revroute_close revroute_reader_close revroute_node_close | | Network.close Session.close Reader.close Node.close
+close    | revroute_close revroute_reader_close revroute_way_reader_close revroute_node_close | | Network.close Session.close Reader.close WayReader.close Node.close
 version  | revroute_version | version | version
 cycle    | revroute_closed_walk revroute_closed_walk_of | Refused::ClosedWalk | 
 session  | | Session::new | Session
@@ -58,9 +60,11 @@ sends_to | revroute_node_sends_to | NodeTable::sends_to | Node.sends_to
 """
 # Names that do not have the word of their row.
 OF_THEIR_OWN = {"revroute_change", "revroute_open", "Network::new", "Session::new", "Network", "Network::try_clone", "Reader::try_clone"}
+OF_THEIR_OWN |= {"WayReader::try_clone"}
 OF_THEIR_OWN |= {"revroute_closed_walk", "revroute_closed_walk_of", "Refused::ClosedWalk"}
 WORDS_OF_LINES = 13
-RUST_TYPES = ("Network", "Session", "Reader", "Node", "NodeTable", "Unwritten")
+RUST_TYPES = ("Network", "Session", "Reader", "WayReader", "Node", "NodeTable", "Unwritten")
+PYTHON_TYPES = ("Network", "Session", "Reader", "WayReader", "Node")
 
 
 def rows():
@@ -101,11 +105,15 @@ def names_of_rust():
 
 def classes_of_python():
     """The public classes with calls, and each public method or property that is not deprecated, with its kind."""
-    found = {}
-    for name in ("network", "session", "reader", "node"):
+    found, classes = {}, {}
+    for name in ("network", "session", "reader", "way_reader", "node"):
         tree = ast.parse((TOP / "embed" / "python" / "src" / "revroute" / f"{name}.py").read_text())
-        for owner in (it for it in tree.body if isinstance(it, ast.ClassDef) and it.name in ("Network", "Session", "Reader", "Node")):
-            for call in (it for it in owner.body if isinstance(it, ast.FunctionDef) and not it.name.startswith("_")):
+        classes |= {it.name: it for it in tree.body if isinstance(it, ast.ClassDef)}
+    for owner in (classes[name] for name in PYTHON_TYPES):
+        # (a base class is written with the kind of names that it has, as TableReader[Name])
+        bases = [classes[it.value.id] for it in owner.bases if isinstance(it, ast.Subscript) and it.value.id in classes]
+        for body in (it.body for it in (owner, *bases)):
+            for call in (it for it in body if isinstance(it, ast.FunctionDef) and not it.name.startswith("_")):
                 if "_deprecate(" not in ast.unparse(call):
                     is_property = any(isinstance(it, ast.Name) and it.id == "property" for it in call.decorator_list)
                     found[owner.name, call.name] = "property" if is_property else "method"

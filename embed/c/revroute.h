@@ -26,6 +26,9 @@
  *     ..
  *     revroute_reader_close(&copy);
  *
+ * A reader of ways, revroute_way_reader below, does the same for the first ways of nodes, up to five. A thread that
+ * spreads packets over the ways of a node asks it for one of them.
+ *
  * A router that needs no controller has a node instead of a session: see revroute_node below, and docs/NODES.md.
  *
  * The caller must ensure the following. No call tests it.
@@ -33,9 +36,9 @@
  * - Pointers. A pointer to bytes or to an array covers as many elements as the length beside it says; no length means
  *   'unbounded'. If that length is 0, the pointer may be null. If a pointer to bytes or to an array is null although
  *   its length is not 0, for example after a malloc that failed, the call returns REVROUTE_NULL_ARRAY. No other
- *   pointer is null. (The `at` of a session, a reader or a node may be.) Lines and buffers can have any address. Everything
- *   else has the alignment of its type. This header tests the arrays, and the exported symbols do not: a program that
- *   calls the symbols without this header passes no null pointer, also if the length is 0.
+ *   pointer is null. (The `at` of a session, of a reader of either kind or of a node may be.) Lines and buffers can have
+ *   any address. Everything else has the alignment of its type. This header tests the arrays, and the exported symbols
+ *   do not: a program that calls the symbols without this header passes no null pointer, also if the length is 0.
  * - Arguments. The memory that the arguments point to does not overlap. Until the call returns, nobody else uses it.
  *   Others may read what is const.
  * - One call at a time on a session. Each call has the session for itself, also a question. (So questions do not take
@@ -45,16 +48,16 @@
  * - One call at a time on a reader. A reader may move to another thread in the same way. Different readers of one
  *   session, and the session itself, may be used by different threads at the same time. revroute_reader_open is a
  *   call on the session and on the reader. revroute_reader_copy and revroute_reader_learn are calls on both of their
- *   readers.
+ *   readers. All this holds for readers of ways too.
  * - One call at a time on a node, also a question. A node may move to another thread as a session may. Different nodes
  *   share nothing.
  * - Readers of one session. Both readers of revroute_reader_learn were opened from the same session, or are copies of
- *   such readers.
+ *   such readers. The same holds for both readers of revroute_way_reader_learn.
  * - Copies. A session starts as REVROUTE_NEW, and from then on only these calls read or write it. Do not copy it:
  *   closing two copies would free the same memory twice. You may move it in memory, for example by realloc or an
- *   assignment, if you no longer use the old place. The same holds for a reader, which starts as REVROUTE_NO_READER,
- *   and for a node, which starts as REVROUTE_NO_NODE. Memory that is all zeros is a new session, or a null reader or
- *   node.
+ *   assignment, if you no longer use the old place. The same holds for a reader, which starts as REVROUTE_NO_READER or
+ *   REVROUTE_NO_WAY_READER, and for a node, which starts as REVROUTE_NO_NODE. Memory that is all zeros is a new
+ *   session, or a null reader or node.
  * - Allocator. The library calls malloc, realloc and free of the process. They must belong to the same allocator for
  *   as long as a session or a reader is open. So make no call from a signal handler, nor in the child after a process
  *   with threads has forked.
@@ -570,6 +573,90 @@ revroute_status revroute_reader_walk(revroute_reader *reader, uint32_t node, uin
  * readers are closed. O(1), or O(4,096) if the table is freed. */
 void revroute_reader_close(revroute_reader *reader);
 
+/* Readers of ways. They are to the ways of nodes what readers are to next hops: a reader of ways returns ways while
+ * other threads use the session and other readers. It waits for nobody and takes no lock: the ways of a node are one
+ * load.
+ *
+ * All readers of ways of a session read one table. It has the first five ways of each node, as revroute_ways orders
+ * them, or all if there are fewer. A number below 4,096 has none if it is the destination, if it is cut off, or if it
+ * is not a node of the network. Once a session has a reader of ways, each accepted line or round pushes the ways that
+ * it has changed to this table before its call returns. Nodes that lose ways come first, and then those whose ways
+ * still differ, as for revroute_shrink and revroute_grow. So:
+ *
+ * - At every moment the table has no cycle, whichever of its ways each node uses.
+ * - If a reader is used after a call on the session, ordered by a lock or a join, it reads the ways that this call
+ *   left, or later ones. As for next hops, this is proved for a reader that was opened after the call, or that has
+ *   learned from such a reader, and for others it is only tested. A reader never goes back to an earlier table.
+ * - One read is of one moment, and two reads can be of different tables. So while ways are pushed, a packet that goes on
+ *   by one read at each node can visit a node again, or meet a node without a way although its first node has a route
+ *   before and after.
+ *
+ * Readers of ways outlive their session. After its end they read its last ways. */
+
+/* A reader of ways. Whoever creates it owns it, and closes it when it is no longer needed. */
+typedef struct revroute_way_reader {
+    void *at;
+} revroute_way_reader;
+
+/* The null reader of ways. It reads nothing and holds no memory. Initialize or assign a reader with it:
+ * revroute_way_reader reader = REVROUTE_NO_WAY_READER; */
+#ifdef __cplusplus
+#define REVROUTE_NO_WAY_READER (revroute_way_reader{NULL})
+#else
+#define REVROUTE_NO_WAY_READER (__extension__(revroute_way_reader){NULL})
+#endif
+
+/* Opens a reader of the session's ways in *reader. A reader that was there is closed. The session may be without a
+ * network: then no node has a way.
+ *
+ * REVROUTE_ANSWERED or REVROUTE_NO_MEMORY. After REVROUTE_NO_MEMORY *reader is unchanged and the session answers as
+ * before, although it may have its table now.
+ *
+ * The first reader of ways of a session takes 80 KiB of memory, and O(4,096 + m log d) if no node has more than d
+ * links; each later one O(1). However many readers of ways a session has had, revroute_change and revroute_move_dest
+ * then cost what revroute_change_with_ways costs. To push the ways of k nodes that a change has altered costs
+ * O(k (log k + d log d)) more. revroute_open and each line, also a question, cost O(4,096 + m log d) more. */
+revroute_status revroute_way_reader_open(revroute *session, revroute_way_reader *reader);
+
+/* Opens one more reader of the same table in *other, which must be another handle. A reader that was there is closed.
+ *
+ * REVROUTE_ANSWERED; REVROUTE_NO_NETWORK if `reader` is null; REVROUTE_NO_MEMORY if memory ran out. After the last two
+ * *other is unchanged. O(1). */
+revroute_status revroute_way_reader_copy(revroute_way_reader *reader, revroute_way_reader *other);
+
+/* Lets `reader` learn what `other` knows. From then on it reads the last table that `other` knew, or a later one. A
+ * reader that is opened knows the ways that the session has then. *other does not change. Use it to hand on a change,
+ * as revroute_reader_learn says.
+ *
+ * REVROUTE_ANSWERED, or REVROUTE_NO_NETWORK if one of the readers is null. Then both are unchanged. Both must be readers
+ * of one session, which no call tests. It needs no memory. O(1). */
+revroute_status revroute_way_reader_learn(revroute_way_reader *reader, revroute_way_reader *other);
+
+/* Writes the first ways of a node, nearest first, to the front of an array of `room` places. They are at most five, and
+ * all of one moment.
+ *
+ * - REVROUTE_ANSWERED: the node has *length ways. A node without a way has 0.
+ * - REVROUTE_TOO_SHORT: there are more than `room`, and *length is how many. Room for five is always enough.
+ * - REVROUTE_NO_ROUTE: `node` is 4,096 or more. *length is 0. (A node that is cut off has 0 ways instead, as the
+ *   destination has: the table does not tell the two apart.)
+ * - REVROUTE_NO_NETWORK: the reader is null. *length is 0.
+ *
+ * After any result but REVROUTE_ANSWERED the array is unchanged. It needs no memory. O(1). */
+revroute_status revroute_way_reader_ways(revroute_way_reader *reader, uint32_t node, uint32_t *ways, size_t room,
+                                         size_t *length);
+
+/* Returns one of the first ways of a node: the one at the index `choice` modulo their number. `choice` can be a hash of
+ * what the packets of a flow have in common, so that a flow keeps its way as long as the ways of the node are the same.
+ *
+ * If the node has no way, returns REVROUTE_CUT_OFF, also for the destination and for a number below 4,096 that is not a
+ * node of the network. For a number from 4,096 on returns REVROUTE_NO_SUCH_NODE, and for a null reader REVROUTE_NO_HOP.
+ * It needs no memory. O(1). */
+uint32_t revroute_way_reader_way(revroute_way_reader *reader, uint32_t node, uint32_t choice);
+
+/* Closes a reader of ways, which is then as REVROUTE_NO_WAY_READER made it. The table is freed once its session and all
+ * its readers are closed. O(1), or O(4,096) if the table is freed. */
+void revroute_way_reader_close(revroute_way_reader *reader);
+
 /* Nodes. A node is the state machine of one router, for one destination, in a network without a controller. Each router
  * runs its own, and they exchange messages. docs/NODES.md says what they promise, and has a whole daemon.
  *
@@ -898,6 +985,13 @@ static inline revroute_status revroute_reader_walk_(revroute_reader *reader_, ui
     return revroute_reader_walk(reader_, node_, REVROUTE_SOME(uint32_t, nodes_, length_), room_, length_);
 }
 #define revroute_reader_walk revroute_reader_walk_
+
+static inline revroute_status revroute_way_reader_ways_(revroute_way_reader *reader_, uint32_t node_, uint32_t *ways_,
+                                                        size_t room_, size_t *length_) {
+    if (REVROUTE_IS_MISSING(ways_, room_)) return REVROUTE_NULL_ARRAY;
+    return revroute_way_reader_ways(reader_, node_, REVROUTE_SOME(uint32_t, ways_, length_), room_, length_);
+}
+#define revroute_way_reader_ways revroute_way_reader_ways_
 
 static inline revroute_status revroute_node_hear_(revroute_node *node_, const uint8_t *bytes_, size_t count_) {
     if (REVROUTE_IS_MISSING(bytes_, count_)) return REVROUTE_NULL_ARRAY;

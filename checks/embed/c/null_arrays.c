@@ -16,6 +16,7 @@ typedef struct places {
 
 static revroute session;
 static revroute_reader reader;
+static revroute_way_reader way_reader;
 static revroute_node node;
 static places *at;
 
@@ -74,6 +75,7 @@ static void pass_null(void) {
     LOOK(change_grow(&session, NULL, 8, &at->length));
     LOOK(links(&session, NULL, 8, &at->length));
     LOOK(reader_walk(&reader, 2, NULL, 8, &at->length));
+    LOOK(way_reader_ways(&way_reader, 2, NULL, 8, &at->length));
     LOOK(node_hear(&node, NULL, REVROUTE_MESSAGE_LENGTH));
     LOOK(node_say(&node, 1, NULL, REVROUTE_MESSAGE_LENGTH, &at->length));
     LOOK(node_ways(&node, NULL, 8, &at->length));
@@ -98,6 +100,7 @@ int main(void) {
     revroute_refusal why;
     if (revroute_open(&session, 3, 0, links, 2, &round, &why) != REVROUTE_ANSWERED) stop("there is no network");
     if (revroute_reader_open(&session, &reader) != REVROUTE_ANSWERED) stop("there is no reader");
+    if (revroute_way_reader_open(&session, &way_reader) != REVROUTE_ANSWERED) stop("there is no reader of ways");
     if (revroute_node_open_gateway(&node, 0, 1) != REVROUTE_ANSWERED) stop("there is no node");
     at = grown(NULL, sizeof *at);
     pass_null();
@@ -105,6 +108,7 @@ int main(void) {
     free(at);
     revroute_node_close(&node);
     revroute_reader_close(&reader);
+    revroute_way_reader_close(&way_reader);
     revroute_close(&session);
     puts("no call takes null for an array");
     return 0;

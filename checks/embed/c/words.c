@@ -1,6 +1,6 @@
-/* What the header adds to the library's calls, as a program in C and in C++: REVROUTE_NEW, REVROUTE_NO_READER and
- * REVROUTE_NO_NODE are assigned, arrays without elements are null, each status and each refusal has a text, and the names of the last version
- * do what the new ones do. */
+/* What the header adds to the library's calls, as a program in C and in C++: REVROUTE_NEW, REVROUTE_NO_READER,
+ * REVROUTE_NO_WAY_READER and REVROUTE_NO_NODE are assigned, arrays without elements are null, each status and each
+ * refusal has a text, and the names of the last version do what the new ones do. */
 #include <revroute.h>
 #include <stdio.h>
 #include <stdlib.h>
@@ -64,6 +64,24 @@ static void pass_null(revroute *session, revroute_reader *reader) {
     expect(revroute_dest(session) == 1, "the destination is another");
 }
 
+/* The call on a reader of ways that takes an array, with null for no elements. Node 0 has one way, and node 1 none. */
+static void pass_null_to_way_reader(void) {
+    revroute session = REVROUTE_NEW;
+    revroute_way_reader reader = REVROUTE_NO_WAY_READER;
+    revroute_link link = {0, 1};
+    revroute_round round;
+    revroute_refusal why;
+    size_t length;
+    expect(revroute_open(&session, 2, 1, &link, 1, &round, &why) == REVROUTE_ANSWERED, "there is no network");
+    expect(revroute_way_reader_open(&session, &reader) == REVROUTE_ANSWERED, "there is no reader of ways");
+    expect(revroute_way_reader_ways(&reader, 0, NULL, 0, &length) == REVROUTE_TOO_SHORT && length == 1, "a way fits into null");
+    expect(revroute_way_reader_ways(&reader, 1, NULL, 0, &length) == REVROUTE_ANSWERED && !length, "the destination has a way to read");
+    revroute_close(&session);
+    revroute_way_reader_close(&reader);
+    reader = REVROUTE_NO_WAY_READER;
+    expect(!reader.at, "what is new is not null");
+}
+
 /* The calls on a node that take an array, with null for no elements. */
 static void pass_null_to_node(void) {
     revroute_node node = REVROUTE_NO_NODE;
@@ -116,6 +134,7 @@ int main(void) {
     revroute_round round = {7, 7};
     look_at_texts();
     pass_null(&session, &reader);
+    pass_null_to_way_reader();
     pass_null_to_node();
     compare_names(&session, &reader);
     revroute_close(&session);

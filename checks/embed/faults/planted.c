@@ -35,6 +35,12 @@ revroute_status engine_reader_walk(revroute_reader *, uint32_t, uint32_t *, size
 revroute_status engine_report(revroute *, revroute_round *);
 revroute_status engine_changed(revroute *, uint32_t *, size_t, size_t *);
 revroute_status engine_walk(revroute *, uint32_t, uint32_t *, size_t, size_t *);
+void engine_way_reader_close(revroute_way_reader *);
+revroute_status engine_way_reader_copy(revroute_way_reader *, revroute_way_reader *);
+revroute_status engine_way_reader_learn(revroute_way_reader *, revroute_way_reader *);
+revroute_status engine_way_reader_open(revroute *, revroute_way_reader *);
+uint32_t engine_way_reader_way(revroute_way_reader *, uint32_t, uint32_t);
+revroute_status engine_way_reader_ways(revroute_way_reader *, uint32_t, uint32_t *, size_t, size_t *);
 revroute_status engine_ways(revroute *, uint32_t, uint32_t *, size_t, size_t *);
 revroute_status engine_change_with_ways(revroute *, const revroute_edit *, size_t, revroute_round *, revroute_refusal *);
 revroute_status engine_change_shrink(revroute *, uint32_t *, size_t, size_t *);
@@ -125,6 +131,15 @@ enum {
     a_walk_of_no_route_with_a_length,
     a_walk_that_wants_too_little_room,
     a_walk_that_leaves_its_last_place,
+    a_reader_of_ways_replaced_and_not_closed,
+    a_reader_of_ways_closed_that_keeps_its_memory,
+    a_copy_that_is_the_reader_of_ways,
+    a_null_reader_of_ways_learned_from,
+    ways_where_they_have_no_room_to_be_read,
+    ways_that_want_too_little_room,
+    ways_that_are_read_of_another_node,
+    a_way_whatever_the_choice,
+    no_reader_of_ways_told_as_cut_off,
     a_node_that_speaks_before_it_is_written,
     a_short_message_that_is_written,
     noise_told_as_heard,
@@ -486,6 +501,44 @@ revroute_status revroute_reader_walk(revroute_reader *reader, uint32_t node, uin
 void revroute_reader_close(revroute_reader *reader) {
     if (FAULT == a_reader_closed_that_keeps_its_memory) memset(reader, 0, sizeof *reader);
     else if (FAULT != a_copy_that_is_the_reader) engine_reader_close(reader);
+}
+
+revroute_status revroute_way_reader_open(revroute *session, revroute_way_reader *reader) {
+    if (FAULT == a_reader_of_ways_replaced_and_not_closed) reader->at = NULL;
+    return engine_way_reader_open(session, reader);
+}
+
+revroute_status revroute_way_reader_copy(revroute_way_reader *reader, revroute_way_reader *other) {
+    if (FAULT == a_copy_that_is_the_reader_of_ways && reader->at) {
+        engine_way_reader_close(other);
+        *other = *reader;
+        return REVROUTE_ANSWERED;
+    }
+    return engine_way_reader_copy(reader, other);
+}
+
+revroute_status revroute_way_reader_learn(revroute_way_reader *reader, revroute_way_reader *other) {
+    if (FAULT == a_null_reader_of_ways_learned_from && reader->at && !other->at) return REVROUTE_ANSWERED;
+    return engine_way_reader_learn(reader, other);
+}
+
+revroute_status revroute_way_reader_ways(revroute_way_reader *reader, uint32_t node, uint32_t *ways, size_t room,
+                                         size_t *length) {
+    if (FAULT == ways_that_are_read_of_another_node) node /= 2;
+    uint32_t status = engine_way_reader_ways(reader, node, ways, room, length);
+    if (FAULT == ways_that_want_too_little_room && status == REVROUTE_TOO_SHORT) *length = room;
+    if (FAULT == ways_where_they_have_no_room_to_be_read && status == REVROUTE_TOO_SHORT && room) ways[0] = 0;
+    return status;
+}
+
+uint32_t revroute_way_reader_way(revroute_way_reader *reader, uint32_t node, uint32_t choice) {
+    uint32_t way = engine_way_reader_way(reader, node, FAULT == a_way_whatever_the_choice ? 0 : choice);
+    return FAULT == no_reader_of_ways_told_as_cut_off && way == REVROUTE_NO_HOP ? REVROUTE_CUT_OFF : way;
+}
+
+void revroute_way_reader_close(revroute_way_reader *reader) {
+    if (FAULT == a_reader_of_ways_closed_that_keeps_its_memory) memset(reader, 0, sizeof *reader);
+    else if (FAULT != a_copy_that_is_the_reader_of_ways) engine_way_reader_close(reader);
 }
 
 void revroute_close(revroute *session) {

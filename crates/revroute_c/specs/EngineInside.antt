@@ -3,4 +3,4 @@ use Rattle.revroute_c.specs.Engines.{Held, held}
 use Rattle.revroute_c.specs.declared.engine.Engine.TheInside.{Inside}
 
 abbrev pub held_in : Inside → Held
-held_in e = held e.published.session e.published.rerouted e.published.table e.published.pushes e.begun.items
+held_in e = held e.published e.begun.items

@@ -3,6 +3,7 @@
 use Rattle.std.specs.Prelude.{◌≡◌, Option}
 use denote.RawPtr.{null_ptr}
 use Rattle.std.specs.Borrow.{Fml, MutBor, LendsIf}
+use Rattle.fr_published.specs.Published.{published}
 use Rattle.revroute_c.specs.Engines.{Held, held, no_engine}
 use Rattle.revroute_c.specs.contracts.engine.Engine.{the_row as engine_row}
 use Rattle.revroute_c.specs.declared.handle.Handle.{Handle}
@@ -10,7 +11,7 @@ use Rattle.revroute_c.specs.contracts.handle.Handle.{the_row}
 
 -- the value of a handle
 abbrev pub held_by : Handle → Held
-held_by h = held h.session h.rerouted h.table h.pushes h.begun
+held_by h = held (published h.session h.rerouted h.table h.ways h.pushes) h.begun
 
 -- the handle is null, and has the value of null
 pub record IsNull (h : Handle) : Type 0 where
@@ -25,7 +26,14 @@ pub record IsUnchanged (old new : Handle) : Type 0 where
 -- the same handle with this engine
 abbrev pub with_engine : Handle → Held → Handle
 with_engine h e =
-    record h { session = e.session; rerouted = e.rerouted; table = e.table; pushes = e.pushes; begun = e.begun }
+    record h {
+      session = e.session;
+      rerouted = e.rerouted;
+      table = e.table;
+      ways = e.ways;
+      pushes = e.pushes;
+      begun = e.begun;
+    }
 
 -- the handle ends with the last value of the lent engine, and is otherwise unchanged; it is unchanged if nothing was
 -- lent

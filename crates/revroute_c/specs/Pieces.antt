@@ -6,7 +6,7 @@ use Rattle.fr_lines.specs.Requests.{reading}
 use Rattle.fr_route.specs.Blank.{is_blank}
 use Rattle.fr_route.specs.States.{State}
 use Rattle.fr_route.specs.Told.{IsLineTold}
-use Rattle.fr_published.specs.Publishing.{PublishesTo}
+use Rattle.fr_published.specs.Publishing.{PublishesTo, PublishesWaysTo}
 use Rattle.revroute_c.specs.Engines.{Held, published_of}
 use Rattle.revroute_c.specs.Replies.{least_room, IsReplied, IsAnswerLength, Outcome}
 use Rattle.revroute_c.specs.Statuses.{REVROUTE_ANSWERED, REVROUTE_BLANK, REVROUTE_TOO_SHORT}
@@ -51,8 +51,9 @@ pub record AnswersEnd (piece : List ℕ) (old new : Held) (taken : ℕ) (o : Out
   pub answered : IsReplied old.session line new.session o
   -- the engine then has the nodes that the line reroutes
   pub told : IsLineTold old.session (reading line) new.session old.rerouted new.rerouted
-  -- they are pushed to the readers
+  -- they are pushed to the readers, and the ways to readers of ways
   pub published : PublishesTo old.table (published_of new)
+  pub ways : PublishesWaysTo old.ways (published_of new)
   pub pushes : new.pushes ≡ old.pushes
 
 -- a call takes `taken` bytes of the piece, and answers the line that ends there; the engine changes from `old` to `new`

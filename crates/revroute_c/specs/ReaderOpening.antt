@@ -1,13 +1,15 @@
--- Opening a reader of a session. This project's own.
+-- Opening readers of a session. This project's own.
 use Rattle.std.specs.Prelude.{◌≡◌, Some, IfSome}
 use Rattle.fr_shared.specs.Knowledge.{Knowledge}
-use Rattle.fr_published.specs.Published.{HasHopsOf}
+use Rattle.fr_shared_ways.specs.Knowledge.{Knowledge as WayKnowledge}
+use Rattle.fr_published.specs.Published.{HasHopsOf, HasWaysOf}
 use Rattle.revroute_c.specs.Engines.{Held}
 
--- the engine is unchanged, except that the table for its readers may be new
+-- the engine is unchanged, except that the table for its readers of hops may be new
 pub record OpensTable (old new : Held) : Type 0 where
   pub session : new.session ≡ old.session
   pub rerouted : new.rerouted ≡ old.rerouted
+  pub ways : new.ways ≡ old.ways
   pub pushes : new.pushes ≡ old.pushes
   pub begun : new.begun ≡ old.begun
   pub table : IfSome old.table (λ k. new.table ≡ Some k)
@@ -18,3 +20,19 @@ pub record OpensTable (old new : Held) : Type 0 where
 pub record ReadsTableOf (engine : Held) (reading : Knowledge) : Type 0 where
   pub table : engine.table ≡ Some reading
   pub hops : HasHopsOf engine.session reading
+
+-- the engine is unchanged, except that the table for its readers of ways may be new
+pub record OpensWays (old new : Held) : Type 0 where
+  pub session : new.session ≡ old.session
+  pub rerouted : new.rerouted ≡ old.rerouted
+  pub table : new.table ≡ old.table
+  pub pushes : new.pushes ≡ old.pushes
+  pub begun : new.begun ≡ old.begun
+  pub ways : IfSome old.ways (λ k. new.ways ≡ Some k)
+  -- if there is a table now, it has the first ways of the session
+  pub has : IfSome new.ways (HasWaysOf new.session)
+
+-- the reader reads the engine's table of ways, knows all pushes to it, and reads the first ways of the session
+pub record ReadsWaysOf (engine : Held) (reading : WayKnowledge) : Type 0 where
+  pub table : engine.ways ≡ Some reading
+  pub ways : HasWaysOf engine.session reading

@@ -3,8 +3,8 @@ use Rattle.std.specs.Prelude.{◌≡◌, ℕ, suc, ◌<◌, ◌≤◌, ◌⊎◌
 use Rattle.fr_tables.specs.Tables.{end_of}
 use Rattle.fr_tables.specs.declared.hop.Hop.{Hop}
 use Rattle.fr_shared.specs.Histories.{StartsWith}
-use Rattle.fr_shared.specs.Knowledge.{Knowledge, last_table, past_of}
-use Rattle.fr_shared.specs.Reading.{GoesBy, HasRead, IsEnd, LearnsPast}
+use Rattle.fr_shared.specs.Knowledge.{Knowledge, last_table}
+use Rattle.fr_shared.specs.Reading.{GoesBy, HasRead, IsEnd}
 use Rattle.fr_shared.specs.declared.walks.WalkEnd.{WalkEnd}
 use Rattle.fr_shared.specs.declared.walks.WalkEnd.TheVariants.{Arrived, CutOff, Longer}
 use Rattle.revroute_c.specs.Questions.{no_node, number_of}
@@ -24,9 +24,9 @@ pub record ReadsOn (old new : Knowledge) : Type 0 where
   pub same : new ≡ record old { known = new.known }
   pub grows : StartsWith new.known old.known
 
--- the result of a call by which a reader learns what another one knows
-pub record TellsLearned (old other new : Knowledge) (status : ℕ) : Type 0 where
-  pub learned : status ≡ REVROUTE_ANSWERED → LearnsPast old (past_of other) new
+-- the result of a call by which a reader of hops or of ways learns what another one knows
+pub record TellsLearned {K : Type 0} (Learns : Type 0) (old new : K) (status : ℕ) : Type 0 where
+  pub learned : status ≡ REVROUTE_ANSWERED → Learns
   pub unchanged : status ≡ REVROUTE_NO_NETWORK → new ≡ old
 
 -- the hop of a node as a number, as this reader has read it

@@ -5,7 +5,7 @@ use Rattle.fr_route.specs.Answers.{IsLineAnswer}
 use Rattle.fr_route.specs.Blank.{is_blank}
 use Rattle.fr_route.specs.States.{State}
 use Rattle.fr_route.specs.Told.{IsLineTold}
-use Rattle.fr_published.specs.Publishing.{PublishesTo}
+use Rattle.fr_published.specs.Publishing.{PublishesTo, PublishesWaysTo}
 use Rattle.revroute_c.specs.Engines.{Held, published_of}
 use Rattle.revroute_c.specs.Statuses.{REVROUTE_ANSWERED, REVROUTE_BLANK, REVROUTE_TOO_SHORT, REVROUTE_NO_MEMORY}
 
@@ -76,8 +76,9 @@ pub record AnswersLine (line : List ℕ) (old new : Held) (o : Outcome ℕ) : Ty
   pub too_short : o.status ≡ REVROUTE_TOO_SHORT → (length o.before < o.size)
       × IsWanted old.session line (length o.before) o.size
   pub no_memory : o.status ≡ REVROUTE_NO_MEMORY → o.size ≡ 0
-  -- they are pushed to the readers
+  -- they are pushed to the readers, and the ways to readers of ways
   pub published : o.status ≡ REVROUTE_ANSWERED → PublishesTo old.table (published_of new)
+  pub ways : o.status ≡ REVROUTE_ANSWERED → PublishesWaysTo old.ways (published_of new)
   pub pushes : new.pushes ≡ old.pushes
   pub unchanged : ¬ (o.status ≡ REVROUTE_ANSWERED) → (published_of new ≡ published_of old) × (o.after ≡ o.before)
   pub room : length o.before < least_room → o.status ≡ REVROUTE_TOO_SHORT

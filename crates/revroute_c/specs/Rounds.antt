@@ -14,7 +14,7 @@ use Rattle.fr_route.specs.Answers.{IsAccepted, fault_number}
 use Rattle.fr_route.specs.States.{State, IsReport, net_at}
 use Rattle.fr_route.specs.Told.{TellsOf}
 use Rattle.fr_published.specs.Published.{LeadsBetween}
-use Rattle.fr_published.specs.Publishing.{PublishesTo}
+use Rattle.fr_published.specs.Publishing.{PublishesTo, PublishesWaysTo}
 use Rattle.revroute_c.specs.Engines.{Held, published_of}
 use Rattle.revroute_c.specs.Records.{AreKnown, edit_of, is_unknown}
 use Rattle.revroute_c.specs.Statuses.{REVROUTE_ANSWERED, REVROUTE_REFUSED}
@@ -46,8 +46,9 @@ pub record IsNewRound (request : PlainRequest) (old new : Held) (round : Round) 
   pub accepted : IsAccepted old.session request after
   pub new_is : new.session ≡ Some after
   pub tells : TellsOf old.session request after old.rerouted new.rerouted
-  -- they are pushed to the readers
+  -- they are pushed to the readers, and the ways to readers of ways
   pub published : PublishesTo old.table (published_of new)
+  pub ways : PublishesWaysTo old.ways (published_of new)
   pub report : IsReport after round.turned round.cut_off
 
 -- a call makes the request, with one round after it, or refuses it for a reason; the engine changes from `old` to `new`

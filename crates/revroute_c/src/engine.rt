@@ -8,7 +8,7 @@ use fr_route::Session;
 use std::alloc::Global;
 use std::marker::Model;
 
-/// What the handle of a session points to: the session, the nodes that its last accepted round rerouted, the table of
+/// What the handle of a session points to: the session, the nodes that its last accepted round rerouted, the tables of
 /// its readers, the pushes of the last change that a caller asked for, and the bytes of a line that has begun. The list
 /// of ways belongs to no value: it is the room in which a question puts the ways of a node together, so that the next
 /// question does not allocate.

@@ -4,8 +4,9 @@ ghost use Rattle.std.specs.Prelude.{◌≡◌, ℕ, List, MatchOption, Option, N
 ghost use Rattle.std.specs.Borrow.{sem};
 ghost use denote.RawPtr.{null_ptr};
 ghost use Rattle.fr_route.specs.States.{State};
-ghost use Rattle.fr_published.specs.Published.{WayPushes};
+ghost use Rattle.fr_published.specs.Published.{WayPushes, published};
 ghost use Rattle.fr_shared.specs.Knowledge.{Knowledge};
+ghost use Rattle.fr_shared_ways.specs.Knowledge.{Knowledge as WayKnowledge};
 ghost use Rattle.revroute_c.specs.Engines.{no_engine, held};
 ghost use Rattle.revroute_c.specs.Holding.{holds};
 
@@ -25,13 +26,14 @@ pub struct Handle {
     pub ghost session: { Option State },
     pub ghost rerouted: { List ℕ },
     pub ghost table: { Option Knowledge },
+    pub ghost ways: { Option WayKnowledge },
     pub ghost pushes: { WayPushes },
     pub ghost begun: { List ℕ },
 }
 
 impl Model for Handle {
     ghost also_owns = { λ handle. holds handle.at
-        (held handle.session handle.rerouted handle.table handle.pushes handle.begun) };
+        (held (published handle.session handle.rerouted handle.table handle.ways handle.pushes) handle.begun) };
 }
 
 // A handle owns its engine, which may go to another thread.

@@ -11,9 +11,12 @@ ghost use Rattle.fr_graph.specs.Faults.{PassFirstTests};
 ghost use Rattle.fr_graph.specs.Limits.{most_edits};
 ghost use Rattle.fr_lines.specs.Requests.{make_edits, move_dest, new_network};
 ghost use Rattle.fr_route.specs.States.{IsReport};
-ghost use Rattle.fr_published.specs.Published.{LeadsBetween, no_pushes};
+ghost use Rattle.fr_published.specs.Published.{LeadsBetween};
+ghost use Rattle.fr_shared.specs.Knowledge.{past_of};
+ghost use Rattle.fr_shared.specs.Reading.{LearnsPast};
 ghost use Rattle.revroute_c.specs.ClosedWalks.{HasNoWalkOfChange, HasNoWalkOfNetwork};
 ghost use Rattle.revroute_c.specs.ClosedWalks.{IsWalkOfChange, IsWalkOfNetwork};
+ghost use Rattle.revroute_c.specs.Engines.{no_engine};
 ghost use Rattle.revroute_c.specs.Lending.{held_by, IsUnchanged};
 ghost use Rattle.revroute_c.specs.Phases.{AreGrowths, AreShrinks, HoldNoTable, numbers_of};
 ghost use Rattle.revroute_c.specs.Pieces.{TakesPiece};
@@ -52,6 +55,10 @@ mod replies;
 mod rounds;
 mod statuses;
 mod tables;
+mod way_reader_calls;
+mod way_reader_handle;
+mod way_reader_opening;
+mod way_readers;
 mod ways;
 
 use closed_walks::{walk_of_change, walk_of_network};
@@ -379,11 +386,7 @@ pub extern "C" fn revroute_closed_walk_of(
 /// Releases all memory of the session. The handle is then null. O(1).
 #[unsafe(no_mangle)]
 pub extern "C" fn revroute_close(alloc: Global, handle: &mut Handle)
-    ensures session { handle.new.session ≡ None }
-    ensures rerouted { handle.new.rerouted ≡ [] }
-    ensures pushes { handle.new.pushes ≡ no_pushes }
-    ensures begun { handle.new.begun ≡ [] }
-    ensures table { handle.new.table ≡ None }
+    ensures none { held_by handle.new ≡ no_engine }
     ensures null { handle.new.at ≡ null_ptr }
 {
     drop(Handle::taken(handle, alloc));
@@ -943,7 +946,8 @@ pub extern "C" fn revroute_reader_copy(
 pub extern "C" fn revroute_reader_learn(reader: &mut ReaderHandle, other: &mut ReaderHandle) -> u32
     requires one_table { reader.old.at ≢ null_ptr → other.old.at ≢ null_ptr
         → other.old.reading.table ≡ reader.old.reading.table }
-    ensures learns { TellsLearned reader.old.reading other.old.reading reader.new.reading result }
+    ensures learns { TellsLearned (LearnsPast reader.old.reading (past_of other.old.reading) reader.new.reading)
+        reader.old.reading reader.new.reading result }
     ensures same { IsSameReader other.old other.new }
     ensures same_handle { reader.new.at ≡ reader.old.at }
     ensures no_network { (result ≡ REVROUTE_NO_NETWORK) ↔ ((reader.old.at ≡ null_ptr) ⊎ (other.old.at ≡ null_ptr)) }

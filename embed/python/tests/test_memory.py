@@ -262,24 +262,25 @@ class MemoryTest(unittest.TestCase):
 
     def test_without_memory_there_is_no_reader(self):
         left = ctypes.c_long.in_dll(library, "refusing_left")
-        network, reader, number = revroute.Network(3, 0, [(0, 1), (1, 2)]), None, 0
-        while reader is None:
-            number += 1
-            left.value = number
-            try:
-                reader = network.reader()
-            except MemoryError:
-                self.assertEqual(left.value, 0)
+        for kind in ("reader", "way_reader"):
+            network, reader, number = revroute.Network(3, 0, [(0, 1), (1, 2)]), None, 0
+            while reader is None:
+                number += 1
+                left.value = number
+                try:
+                    reader = getattr(network, kind)()
+                except MemoryError:
+                    self.assertEqual(left.value, 0)
+                left.value = 0
+            self.assertGreater(number, 1)
+            left.value = 1
+            self.assertRaises(MemoryError, reader.copy)
             left.value = 0
-        self.assertGreater(number, 1)
-        left.value = 1
-        self.assertRaises(MemoryError, reader.copy)
-        left.value = 0
-        network.cut(1, 0)
-        self.assertEqual(reader.walk(2), None)
-        network.close()
-        reader.close()
-        self.assertEqual(ctypes.c_long.in_dll(library, "refusing_held").value, 0)
+            network.cut(1, 0)
+            self.assertFalse(reader.walk(2) if kind == "reader" else reader.ways(2))
+            network.close()
+            reader.close()
+            self.assertEqual(ctypes.c_long.in_dll(library, "refusing_held").value, 0)
 
     @unittest.skipUnless(set_nomemory, "Python has no heap that refuses")
     def test_where_python_has_no_memory_a_change_of_a_network_is_made_or_not(self):

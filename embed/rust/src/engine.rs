@@ -2,14 +2,14 @@
 
 use crate::reader::TableName;
 use crate::table::{self, WayPushes};
-use crate::{Hop, NoMemory, Reader, Report, Size, TableFault, listed, sys};
+use crate::{Hop, NoMemory, Reader, Report, Size, TableFault, WayReader, listed, sys};
 use std::cell::{OnceCell, UnsafeCell};
 
 /// The owner of a handle. A question changes nothing, but the library needs exclusive access to the handle for it. So
 /// the handle is in a cell, and no two threads can ask at once.
 pub struct Engine {
     handle: UnsafeCell<sys::Handle>,
-    /// The name of the table that its readers read, once it has had a reader.
+    /// The name of the tables that its readers read, once it has had a reader.
     table: OnceCell<TableName>,
 }
 
@@ -214,6 +214,14 @@ impl Engine {
         // SAFETY: the handle is new or the library's own, no other call has it, and the reader's is new.
         Reader::opened(table, |reader| unsafe {
             sys::revroute_reader_open(self.handle.get(), reader)
+        })
+    }
+
+    pub fn way_reader(&self) -> Result<WayReader, NoMemory> {
+        let table = *self.table.get_or_init(TableName::new);
+        // SAFETY: the handle is new or the library's own, no other call has it, and the reader's is new.
+        WayReader::opened(table, |reader| unsafe {
+            sys::revroute_way_reader_open(self.handle.get(), reader)
         })
     }
 

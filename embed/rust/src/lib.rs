@@ -15,7 +15,7 @@
 //! ```
 //!
 //! Other threads can read next hops without a lock while one thread changes the network. Each of them has a
-//! [`Reader`].
+//! [`Reader`], or a [`WayReader`] if it spreads packets over the ways of a node.
 //!
 //! A [`Session`] answers lines of text, as the program `revroute run` does.
 //!
@@ -42,6 +42,7 @@ mod refused;
 mod session;
 mod sys;
 mod table;
+mod way_reader;
 
 pub use hop::{Hop, Report, Size};
 pub use network::{Edit, Network, Walk};
@@ -52,6 +53,7 @@ pub use reader::{MAX_NODES, Reader, Walked};
 pub use refused::{Refused, RefusedEdit};
 pub use session::Session;
 pub use table::TableFault;
+pub use way_reader::{MAX_WAYS, WayReader};
 
 use std::fmt;
 use std::str;

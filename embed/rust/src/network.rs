@@ -1,7 +1,9 @@
 //! A network with typed calls.
 
 use crate::engine::{Engine, filled};
-use crate::{Hop, NoMemory, Reader, Refused, RefusedEdit, Report, Size, TableFault, listed, sys};
+use crate::{
+    Hop, NoMemory, Reader, Refused, RefusedEdit, Report, Size, TableFault, WayReader, listed, sys,
+};
 use std::fmt;
 use std::iter::FusedIterator;
 
@@ -289,6 +291,30 @@ impl Network {
     /// If memory runs out.
     pub fn reader(&self) -> Result<Reader, NoMemory> {
         self.engine.reader()
+    }
+
+    /// A reader of the first ways of nodes, for another thread.
+    ///
+    /// Once a network has had such a reader, each change costs what [`batch_with_ways`](Network::batch_with_ways)
+    /// costs, and stores the ways that it has changed for the readers: `O(k (log k + d log d))` for those of k nodes.
+    /// The first reader costs `O(4,096 + m log d)`, and each later one `O(1)`.
+    ///
+    /// ```
+    /// use revroute::Network;
+    ///
+    /// let mut network = Network::new(4, 0, &[(1, 0), (2, 1), (2, 3), (3, 0)])?;
+    /// let reader = network.way_reader()?;
+    /// let way = std::thread::spawn(move || reader.way(2, 7));
+    /// network.cut(1, 0)?;
+    /// assert!(matches!(way.join().unwrap(), Some(1 | 3)));
+    /// # Ok::<(), revroute::Refused>(())
+    /// ```
+    ///
+    /// # Errors
+    ///
+    /// If memory runs out.
+    pub fn way_reader(&self) -> Result<WayReader, NoMemory> {
+        self.engine.way_reader()
     }
 
     /// The next hop of each node, in the order of the nodes. `O(n)`.

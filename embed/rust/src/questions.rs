@@ -1,6 +1,6 @@
 //! Questions to a session that are answered by numbers, without text.
 
-use crate::{Hop, NoMemory, Reader, Report, Session, Size, TableFault, listed};
+use crate::{Hop, NoMemory, Reader, Report, Session, Size, TableFault, WayReader, listed};
 
 impl Session {
     /// The next hop of a node. `None` if there is no such node, and before the first network. `O(1)`, and needs no
@@ -38,6 +38,28 @@ impl Session {
     /// If memory runs out.
     pub fn reader(&mut self) -> Result<Reader, NoMemory> {
         self.engine.reader()
+    }
+
+    /// A reader of the first ways of nodes, for another thread, as for
+    /// [`Network::way_reader`](crate::Network::way_reader). Before the first network no node has a way. The reader keeps
+    /// working when a later network replaces this one.
+    ///
+    /// ```
+    /// use revroute::Session;
+    ///
+    /// let mut session = Session::new();
+    /// let reader = session.way_reader()?;
+    /// assert_eq!(reader.way(1, 0), None);
+    /// session.answer(r#"["net",2,0,[[0,1]]]"#)?;
+    /// assert_eq!(reader.way(1, 0), Some(0));
+    /// # Ok::<(), revroute::NoMemory>(())
+    /// ```
+    ///
+    /// # Errors
+    ///
+    /// If memory runs out.
+    pub fn way_reader(&mut self) -> Result<WayReader, NoMemory> {
+        self.engine.way_reader()
     }
 
     /// The next hop of each node, in the order of the nodes. Empty before the first network. `O(n)`.

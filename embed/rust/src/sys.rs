@@ -26,6 +26,17 @@ impl ReaderHandle {
     pub const NONE: ReaderHandle = ReaderHandle { at: null_mut() };
 }
 
+/// The handle of a reader of ways. Only the library reads it.
+#[repr(C)]
+pub struct WayReaderHandle {
+    at: *mut c_void,
+}
+
+impl WayReaderHandle {
+    /// The null reader of ways. It holds no memory.
+    pub const NONE: WayReaderHandle = WayReaderHandle { at: null_mut() };
+}
+
 /// The handle of a node. Only the library reads it.
 #[repr(C)]
 pub struct NodeHandle {
@@ -367,6 +378,30 @@ unsafe extern "C" {
     ) -> u32;
 
     pub fn revroute_reader_close(reader: *mut ReaderHandle);
+
+    pub fn revroute_way_reader_open(session: *mut Handle, reader: *mut WayReaderHandle) -> u32;
+
+    pub fn revroute_way_reader_copy(
+        reader: *mut WayReaderHandle,
+        other: *mut WayReaderHandle,
+    ) -> u32;
+
+    pub fn revroute_way_reader_learn(
+        reader: *mut WayReaderHandle,
+        other: *mut WayReaderHandle,
+    ) -> u32;
+
+    pub fn revroute_way_reader_ways(
+        reader: *mut WayReaderHandle,
+        node: u32,
+        ways: *mut u32,
+        room: usize,
+        length: *mut usize,
+    ) -> u32;
+
+    pub fn revroute_way_reader_way(reader: *mut WayReaderHandle, node: u32, choice: u32) -> u32;
+
+    pub fn revroute_way_reader_close(reader: *mut WayReaderHandle);
 
     pub fn revroute_node_open(
         node: *mut NodeHandle,

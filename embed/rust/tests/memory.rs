@@ -242,6 +242,25 @@ fn without_memory_there_is_no_reader_and_all_is_as_it_was() -> Result<(), Refuse
 }
 
 #[test]
+fn without_memory_there_is_no_reader_of_ways_and_all_is_as_it_was() -> Result<(), Refused> {
+    let _held = COUNTER.lock().unwrap_or_else(PoisonError::into_inner);
+    let mut network = Network::new(3, 0, &[(0, 1), (1, 2)])?;
+    let mut number = 1;
+    let reader = loop {
+        match poor(number, || network.way_reader()) {
+            Err(NoMemory) => number += 1,
+            Ok(reader) => break reader,
+        }
+    };
+    assert!(number > 1, "a reader takes memory");
+    assert!(matches!(poor(1, || reader.try_clone()), Err(NoMemory)));
+    assert_eq!(reader.way(2, 0), Some(1));
+    made_poor(&mut network, |it| it.cut(1, 0))?;
+    assert_eq!(reader.way(2, 0), None);
+    Ok(())
+}
+
+#[test]
 fn without_memory_there_is_no_node_and_no_neighbour() -> Result<(), NoMemory> {
     let _held = COUNTER.lock().unwrap_or_else(PoisonError::into_inner);
     let policy = Policy {

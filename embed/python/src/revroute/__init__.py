@@ -51,10 +51,11 @@ gives a router its hop, and returns once the router has confirmed it:
 
 `push_order(old, new)` has the pushes from a table of your own to another one, whatever method made them.
 
-While one thread changes the network, other threads can read next hops. Give each of them a reader. It never waits for
-a change:
+While one thread changes the network, other threads can read next hops or ways. Give each of them a reader. It never
+waits for a change:
 
     reader()          a Reader, with next_hop(node), walk(node), copy() and close()
+    way_reader()      a WayReader, with ways(node), way(node, choice), copy() and close()
 
 `copy()` makes another network, to try changes on. `Network.from_networkx(graph, dest)` makes a network from a networkx
 graph and keeps its names. `to_networkx()` makes a networkx graph.
@@ -69,6 +70,7 @@ from .node import MESSAGE_LENGTH, Node, NotAMessage, Unwritten
 from .reader import Reader, WalkTooLong
 from .session import AnswerLost, LineTooLong, NoHop, NoSuchNode, Report, Session, Size, version
 from .tables import push_order
+from .way_reader import WayReader
 
 __version__ = version()
 __all__ = [
@@ -87,6 +89,7 @@ __all__ = [
     "Size",
     "Unwritten",
     "WalkTooLong",
+    "WayReader",
     "__version__",
     "push_order",
     "version",

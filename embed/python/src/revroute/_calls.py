@@ -30,6 +30,12 @@ class ReaderHandle(ctypes.Structure):
     _fields_ = [("at", ctypes.c_void_p)]
 
 
+class WayReaderHandle(ctypes.Structure):
+    """The handle of a reader of ways. Only the library reads it, and it is never copied."""
+
+    _fields_ = [("at", ctypes.c_void_p)]
+
+
 class NodeHandle(ctypes.Structure):
     """The handle of a node. Only the library reads it, and it is never copied."""
 
@@ -63,7 +69,7 @@ class Refusal(ctypes.Structure):
 _number, _wide, _size = ctypes.c_uint32, ctypes.c_uint64, ctypes.c_size_t
 # Links, edits, hops and tables of ways are passed as bytes. The two numbers of a round are passed by their address.
 _given, _round, _handle = ctypes.c_char_p, ctypes.c_void_p, ctypes.POINTER(Handle)
-_reader, _node = ctypes.POINTER(ReaderHandle), ctypes.POINTER(NodeHandle)
+_reader, _way_reader, _node = ctypes.POINTER(ReaderHandle), ctypes.POINTER(WayReaderHandle), ctypes.POINTER(NodeHandle)
 _text, _length, _numbers = ctypes.POINTER(ctypes.c_char), ctypes.POINTER(_size), ctypes.POINTER(_number)
 _ended = [_round, ctypes.POINTER(Refusal)]
 _WORDS: dict[str, list[Any]] = {
@@ -101,6 +107,12 @@ _WORDS: dict[str, list[Any]] = {
     "reader_next_hop": [_reader, _number],
     "reader_walk": [_reader, _number, _numbers, _size, _length],
     "reader_close": [_reader],
+    "way_reader_open": [_handle, _way_reader],
+    "way_reader_copy": [_way_reader, _way_reader],
+    "way_reader_learn": [_way_reader, _way_reader],
+    "way_reader_ways": [_way_reader, _number, _numbers, _size, _length],
+    "way_reader_way": [_way_reader, _number, _number],
+    "way_reader_close": [_way_reader],
     "node_open": [_node, _number, _wide, _wide, ctypes.POINTER(Policy)],
     "node_open_gateway": [_node, _number, _wide],
     "node_know": [_node, _number],
@@ -131,14 +143,15 @@ def load(kind: Any = ctypes.CDLL) -> Any:
     for name, words in _WORDS.items():
         call = getattr(library, f"revroute_{name}")
         call.argtypes, call.restype = words, _number
-    library.revroute_close.restype = library.revroute_reader_close.restype = library.revroute_node_close.restype = None
+    for name in ("close", "reader_close", "way_reader_close", "node_close"):
+        getattr(library, f"revroute_{name}").restype = None
     return library
 
 
 library, questions = load(), load(ctypes.PyDLL)
-# These three have no types, since ctypes takes longer to check them than the calls take. `next_hop` and
-# `reader_next_hop` must get a c_void_p and a number below the number of nodes. `change` must get a handle, bytes, a
-# c_size_t, a c_void_p and a refusal.
+# These four have no types, since ctypes takes longer to check them than the calls take. `next_hop`, `reader_next_hop`
+# and `way_reader_way` must get a c_void_p and a number below the number of nodes, and the last one a choice below 2^32.
+# `change` must get a handle, bytes, a c_size_t, a c_void_p and a refusal.
 next_hop, change = load(ctypes.PyDLL).revroute_next_hop, load().revroute_change
-reader_next_hop = load(ctypes.PyDLL).revroute_reader_next_hop
-next_hop.argtypes = change.argtypes = reader_next_hop.argtypes = None
+reader_next_hop, way_reader_way = load(ctypes.PyDLL).revroute_reader_next_hop, load(ctypes.PyDLL).revroute_way_reader_way
+next_hop.argtypes = change.argtypes = reader_next_hop.argtypes = way_reader_way.argtypes = None

@@ -13,6 +13,7 @@ from . import _calls
 from ._calls import library, questions
 from .reader import Reader
 from .session import NoHop, NoSuchNode, Report, Session, Size, _deprecate, _hop, _packed_table, _packed_ways, _Why
+from .way_reader import WayReader
 
 if TYPE_CHECKING:
     import networkx
@@ -97,6 +98,8 @@ class Network(Generic[Name]):
 
     - `next_hop`, `distance`, `dest`, `size` and `report`: O(1).
     - `reader`: O(4,096) for the first reader, and O(1) for each later one.
+    - `way_reader`: O(4,096 + m log d) for the first reader, and O(1) for each later one. Each change then costs what
+      `batch_with_ways` costs.
     - `walk` and `changed`: linear in the length of the result.
     - `ways`: O(d log d) for d links at the node. `nearest`: O(k d) for a route of k nodes.
     - `hops`, `hops_into`, `table`, `pushes` and `counts`: O(n).
@@ -239,6 +242,12 @@ class Network(Generic[Name]):
         changed hop a second time, for the readers."""
         session = self._session
         return Reader(session._open_reader, session._reader_table, self._names, self._numbers, len(self._nodes))
+
+    def way_reader(self) -> WayReader[Name]:
+        """A reader of the first ways of nodes, for another thread. Once a network has had such a reader, each change
+        stores the ways that it has changed for the readers."""
+        session = self._session
+        return WayReader(session._open_way_reader, session._reader_table, self._names, self._numbers, len(self._nodes))
 
     def hops(self) -> list[Union[Name, NoHop]]:
         """The next hop of each node, in the order of the nodes."""

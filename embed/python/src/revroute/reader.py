@@ -7,13 +7,14 @@ import weakref
 from contextlib import nullcontext
 from operator import index
 from threading import RLock
-from typing import Any, ContextManager, Generic, Hashable, NoReturn, Optional, Sequence, TypeVar, Union
+from typing import Any, ClassVar, ContextManager, Generic, Hashable, NamedTuple, NoReturn, Optional, Sequence, TypeVar, Union
 
 from . import _calls
 from ._calls import questions
 from .session import _HAS_LOCK, NoHop, NoSuchNode, _hop
 
 Name = TypeVar("Name", bound=Hashable)
+Same = TypeVar("Same", bound="TableReader[Any]")
 
 # The most nodes that a network can have, and the most nodes of a reader's walk.
 _MOST = 4096
@@ -24,7 +25,113 @@ class WalkTooLong(Exception):
     """A reader's walk visited 4,096 nodes and did not end, because hops were pushed meanwhile. Walk again."""
 
 
-class Reader(Generic[Name]):
+class TableCalls(NamedTuple):
+    """The calls on one kind of readers, and the kind of their handles."""
+
+    handle: Any
+    copy: Any
+    learn: Any
+    close: Any
+
+
+class TableReader(Generic[Name]):
+    """What a `Reader` and a `WayReader` have in common."""
+
+    _table_calls: ClassVar[TableCalls]
+
+    def __init__(
+        self, opened: Any, table: object, names: Optional[Sequence[Name]] = None, numbers: Any = None, nodes: int = _MOST
+    ) -> None:
+        """Only for the package. `opened` opens the handle that it gets, as a reader of the table. The nodes are 0 to
+        `nodes` - 1."""
+        self._table, self._names, self._numbers, self._count = table, names, numbers, nodes
+        self._bound = nodes if numbers is None and _HAS_LOCK else 0
+        self._handle = self._table_calls.handle()
+        self._at, self._live = ctypes.byref(self._handle), ctypes.c_void_p(ctypes.addressof(self._handle))
+        self._lock: ContextManager[Any] = RLock()
+        if _HAS_LOCK:
+            self._lock = _UNLOCKED
+        status = opened(self._at)
+        if status == _calls.NO_MEMORY:
+            raise MemoryError
+        if status != _calls.ANSWERED:
+            self._refuse()
+        self._end = weakref.finalize(self, self._table_calls.close, self._at)
+        self._end.atexit = False
+
+    def copy(self: Same) -> Same:
+        """One more reader of the same table, for another thread."""
+        with self._lock:
+            opened = lambda other: self._table_calls.copy(self._at, other)  # noqa: E731
+            return type(self)(opened, self._table, self._names, self._numbers, self._count)
+
+    def learn(self: Same, other: Same) -> None:
+        """Learns what another reader of the same kind and of the same network knows. From then on this reader reads the
+        last table that the other one knew, or a later one.
+
+        A new reader knows what the network has then. So a thread can hand on its changes: it makes a reader after them,
+        and gives it to a thread whose reader learns from it. Then it is proved that this reader sees the changes.
+
+        >>> import revroute
+        >>> network = revroute.Network(4, 0, [(1, 0), (2, 1), (2, 3), (3, 0)])
+        >>> reader = network.reader()
+        >>> network.cut(1, 0)
+        Report(turned=1, cut_off=0)
+        >>> reader.learn(network.reader())
+        >>> reader.next_hop(2)
+        3
+
+        Raises ValueError if the other reader is one of another network, or if one of the two is closed.
+        """
+        if type(other) is not type(self):
+            raise TypeError("a reader learns from another reader of its kind")
+        if other._table is not self._table:
+            raise ValueError("the readers are of two networks")
+        first, second = sorted((self, other), key=id)
+        with first._lock, second._lock:
+            # The library wants two readers.
+            status = _calls.ANSWERED if other is self else self._table_calls.learn(self._at, other._at)
+            if status != _calls.ANSWERED or not self._end.alive:
+                self._refuse()
+
+    def close(self) -> None:
+        """Frees the memory. A second call does nothing."""
+        with self._lock:
+            self._end()
+
+    def _number(self, node: Name) -> int:
+        """The number of a node. Raises NoSuchNode if there is no such node."""
+        if self._numbers is not None:
+            try:
+                return self._numbers[node]  # type: ignore[no-any-return]
+            except KeyError:
+                raise NoSuchNode(node) from None
+        number = index(node)  # type: ignore[arg-type]
+        if not 0 <= number < self._count:
+            raise NoSuchNode(number)
+        return number
+
+    def _name(self, number: int) -> Name:
+        return self._names[number] if self._names is not None else number  # type: ignore[return-value]
+
+    def _refuse(self) -> NoReturn:
+        raise ValueError("the reader is closed")
+
+    def __enter__(self: Same) -> Same:
+        return self
+
+    def __exit__(self, *_: object) -> None:
+        self.close()
+
+    def __reduce__(self) -> NoReturn:
+        raise TypeError("a reader can neither be copied so nor pickled: `copy` makes another one")
+
+    def __repr__(self) -> str:
+        name = type(self).__name__
+        return f"<revroute.{name}>" if self._end.alive else f"<revroute.{name}, closed>"
+
+
+class Reader(TableReader[Name]):
     """Reads next hops while another thread changes the network. `Network.reader` and `Session.reader` make one.
 
     >>> import revroute
@@ -49,61 +156,9 @@ class Reader(Generic[Name]):
     Costs: `next_hop`, `copy` and `learn` are O(1), and `walk` is linear in the length of its result.
     """
 
-    def __init__(
-        self, opened: Any, table: object, names: Optional[Sequence[Name]] = None, numbers: Any = None, nodes: int = _MOST
-    ) -> None:
-        """Only for the package. `opened` opens the handle that it gets, as a reader of the table. The nodes are 0 to
-        `nodes` - 1."""
-        self._table, self._names, self._numbers, self._count = table, names, numbers, nodes
-        self._bound = nodes if numbers is None and _HAS_LOCK else 0
-        self._handle = _calls.ReaderHandle()
-        self._at, self._live = ctypes.byref(self._handle), ctypes.c_void_p(ctypes.addressof(self._handle))
-        self._lock: ContextManager[Any] = RLock()
-        if _HAS_LOCK:
-            self._lock = _UNLOCKED
-        status = opened(self._at)
-        if status == _calls.NO_MEMORY:
-            raise MemoryError
-        if status != _calls.ANSWERED:
-            self._refuse()
-        self._end = weakref.finalize(self, questions.revroute_reader_close, self._at)
-        self._end.atexit = False
-
-    def copy(self) -> Reader[Name]:
-        """One more reader of the same table, for another thread."""
-        with self._lock:
-            opened = lambda other: questions.revroute_reader_copy(self._at, other)  # noqa: E731
-            return Reader(opened, self._table, self._names, self._numbers, self._count)
-
-    def learn(self, other: Reader[Name]) -> None:
-        """Learns what another reader of the same network knows. From then on this reader reads the last table that the
-        other one knew, or a later one.
-
-        A new reader knows the hops that the network has then. So a thread can hand on its changes: it makes a reader
-        after them, and gives it to a thread whose reader learns from it. Then it is proved that this reader sees the
-        changes.
-
-        >>> import revroute
-        >>> network = revroute.Network(4, 0, [(1, 0), (2, 1), (2, 3), (3, 0)])
-        >>> reader = network.reader()
-        >>> network.cut(1, 0)
-        Report(turned=1, cut_off=0)
-        >>> reader.learn(network.reader())
-        >>> reader.next_hop(2)
-        3
-
-        Raises ValueError if the other reader is one of another network, or if one of the two is closed.
-        """
-        if not isinstance(other, Reader):
-            raise TypeError("a reader learns from another reader")
-        if other._table is not self._table:
-            raise ValueError("the readers are of two networks")
-        first, second = sorted((self, other), key=id)
-        with first._lock, second._lock:
-            # The library wants two readers.
-            status = _calls.ANSWERED if other is self else questions.revroute_reader_learn(self._at, other._at)
-            if status != _calls.ANSWERED or not self._end.alive:
-                self._refuse()
+    _table_calls = TableCalls(
+        _calls.ReaderHandle, questions.revroute_reader_copy, questions.revroute_reader_learn, questions.revroute_reader_close
+    )
 
     def next_hop(self, node: Name) -> Union[Name, NoHop]:
         """The next hop of a node, or why it has none, as for `Network.next_hop`.
@@ -157,38 +212,3 @@ class Reader(Generic[Name]):
         if status == _calls.NO_NETWORK:
             self._refuse()
         return [self._name(it) for it in nodes[: length.value]] if status == _calls.ANSWERED else None
-
-    def close(self) -> None:
-        """Frees the memory. A second call does nothing."""
-        with self._lock:
-            self._end()
-
-    def _number(self, node: Name) -> int:
-        """The number of a node. Raises NoSuchNode if there is no such node."""
-        if self._numbers is not None:
-            try:
-                return self._numbers[node]  # type: ignore[no-any-return]
-            except KeyError:
-                raise NoSuchNode(node) from None
-        number = index(node)  # type: ignore[arg-type]
-        if not 0 <= number < self._count:
-            raise NoSuchNode(number)
-        return number
-
-    def _name(self, number: int) -> Name:
-        return self._names[number] if self._names is not None else number  # type: ignore[return-value]
-
-    def _refuse(self) -> NoReturn:
-        raise ValueError("the reader is closed")
-
-    def __enter__(self) -> Reader[Name]:
-        return self
-
-    def __exit__(self, *_: object) -> None:
-        self.close()
-
-    def __reduce__(self) -> NoReturn:
-        raise TypeError("a reader can neither be copied so nor pickled: `copy` makes another one")
-
-    def __repr__(self) -> str:
-        return "<revroute.Reader>" if self._end.alive else "<revroute.Reader, closed>"

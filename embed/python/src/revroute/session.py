@@ -32,6 +32,7 @@ from ._calls import library, questions
 
 if TYPE_CHECKING:
     from .reader import Reader
+    from .way_reader import WayReader
 
 _FIRST_ROOM = 4096
 # How many numbers there is room for in the first try.
@@ -216,6 +217,7 @@ class Session:
 
     - `next_hop`, `distance`, `dest`, `size` and `report`: O(1).
     - `reader`: O(4,096) for the first reader, and O(1) for each later one.
+    - `way_reader`: O(4,096 + m log d) for the first reader, and O(1) for each later one. Each line then costs that too.
     - `walk` and `changed`: linear in the length of the result.
     - `ways`: O(d log d) for d links at the node. `nearest`: O(k d) for a route of k nodes.
     - `hops`, `pushes` and `counts`: O(n).
@@ -473,11 +475,26 @@ class Session:
 
         return Reader(self._open_reader, self._reader_table)
 
+    def way_reader(self) -> WayReader[int]:
+        """A reader of the first ways of nodes, for another thread. It keeps working when a later network replaces this
+        one. It accepts every number below 4,096: if the network has no such node, it has no way. Once a session has had
+        such a reader, each line also lists the ways of all nodes again, and stores those that it has changed for the
+        readers."""
+        from .way_reader import WayReader
+
+        return WayReader(self._open_way_reader, self._reader_table)
+
     def _open_reader(self, reader: Any) -> int:
+        return self._opened(questions.revroute_reader_open, reader)
+
+    def _open_way_reader(self, reader: Any) -> int:
+        return self._opened(questions.revroute_way_reader_open, reader)
+
+    def _opened(self, call: Any, reader: Any) -> int:
         with self._lock:
             self._begin_call()
             try:
-                return int(questions.revroute_reader_open(self._at, reader))
+                return int(call(self._at, reader))
             finally:
                 self._caller = None
 

@@ -1,4 +1,4 @@
-use Rattle.std.proofs.Common.{rules, refl, sym, ◌≡◌, length}
+use Rattle.std.proofs.Common.{rules, refl, ◌≡◌, length}
 use Rattle.std.proofs.lemmas.List.{length-map}
 use Rattle.fr_node.specs.declared.way.Way.{Way}
 use Rattle.revroute_c.specs.NodeCalls.{neighbours_of}

@@ -1,0 +1,41 @@
+-- `empty` makes a null handle.
+use Rattle.std.proofs.Common.{◌≡◌, [], ◌∷◌, refl, lit<}
+use mir.Val.{Val}
+use base.Logic.{SProp, emp}
+use base.Fml.{ftrue}
+use types.Kit.{‵, raw, ◌⊛◌, ◌$◌, ◌∵◌, !, qed, by, move, keep, drop, split, join, fpack, use0}
+use types.Run.{lit, no_more, and_then, returns, enter}
+use types.ByLocal.{alloc_all, pass_all, free_all, look_at, sets}
+use types.Part.{agg}
+use contract.Monad.{fact, fact_i}
+use contract.Running.{tables}
+use denote.RattleType.{owns}
+use denote.Signature.{types_at}
+use denote.RawPtr.{null_ptr}
+use denote.Steps.{nothing}
+use denote.Triple.Walked.{Stays, walk_of}
+use Rattle.std.proofs.raw_atomic.Walks.{proved_at, leaves}
+use Rattle.fr_shared_ways.specs.Knowledge.{Knowledge}
+use Rattle.revroute_c.specs.WayReaders.{no_way_reader}
+use Rattle.revroute_c.proofs.Owned.{word}
+use Rattle.revroute_c.proofs.WayReaderHandles.{handle_in, handle_of}
+use Rattle.revroute_c.specs.contracts.way_reader_handle.WayReaderHandle.empty.{ended, clauses}
+use Rattle.revroute_c.specs.contracts.way_reader_handle.WayReaderHandle.empty.Key.{name as #self}
+use Rattle.revroute_c.proofs.way_reader_handle.WayReaderHandle.empty.Statement.{statement}
+use Rattle.revroute_c.proofs.way_reader_handle.WayReaderHandle.empty.Code as code
+
+pub empty_spec : {M : Type 1} → statement M
+empty_spec 𝓤 𝓛 𝓜 𝓡 wired =
+    let H = 𝓛.H in let 𝓣 = tables 𝓤 H 𝓜 𝓡 𝓡.env in let c = clauses 𝓛 𝓜.mem 𝓡.returns in let fn = code.function in
+    let hs : Stays ended.signature.params ended.kept = tt in
+    proved_at 𝓛 ended hs c 𝓜 𝓡 tt #self fn (code.unfolded 𝓤 H 𝓜 𝓡 wired) (λ z are.
+    let κs = z.0.0 in let Post : Val → SProp 𝓤 = (walk_of 𝓛 ended hs c).post z in let none : Knowledge = no_way_reader in
+    qed 𝓛 ((‵ ftrue ⊛ ‵ (owns (types_at ended.signature.params κs) z.0.3 z.0.4)) ∷ raw ((c κs z.0.3).requires z.1) ∷ []) ∵ split ! $ move ! (1 ∷ []) $ drop ! $
+    -- [the tokens (there are none); the `requires`; the locals]
+    enter ! 𝓣.C 𝓣.Λ fn [] Post $ alloc_all ! (λ l. pass_all ! refl tt $
+    sets ! (agg ! (and_then ! (lit ! tt) (no_more !))) refl (tt, (record { fits = lit< tt }, tt)) $
+    nothing ! $ fpack ! (none ≡ no_way_reader) (λ _. ftrue) refl $ handle_in ! null_ptr none $
+    use0 𝓛 (raw (fact 𝓤 (null_ptr ≡ null_ptr))) (fact_i 𝓤 (null_ptr ≡ null_ptr) (emp 𝓤) refl) $
+    use0 𝓛 (raw (fact 𝓤 (none ≡ no_way_reader))) (fact_i 𝓤 (none ≡ no_way_reader) (emp 𝓤) refl) $ join ! $ nothing ! $
+    returns ! (look_at ! 0 refl) $ free_all ! refl $ keep ! (3 ∷ 0 ∷ 2 ∷ 1 ∷ []) $ by !
+    (leaves 𝓛 ended hs c z (word null_ptr) (handle_of null_ptr none) tt tt)))
