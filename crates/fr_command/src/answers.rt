@@ -68,7 +68,11 @@ fn answer_one<T: Threads + Wait + Sync, W: Write, G: Gate + Sync>(
     ensures no_start { StartsNone crew.now.plan.now → result ≢ Err RunFault.Start }
 {
     match answer_text(crew, form, responder, line) {
-        Ok(Some(text)) => write_whole(writer, text.as_bytes()),
+        Ok(Some(text)) => {
+            let written = write_whole(writer, text.as_bytes());
+            responder.reuse(text);
+            written
+        }
         Ok(None) => Ok(()),
         Err(fault) => Err(run_fault(fault)),
     }

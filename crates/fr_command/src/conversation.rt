@@ -158,6 +158,16 @@ impl Conversation {
         }
     }
 
+    /// Gives back an answer that is no longer needed. The next answer uses its memory. A caller that gives back each
+    /// answer saves an allocation for each line. O(1).
+    pub fn reuse(&mut self, answer: Option<String>)
+        ensures { self.new ≡ self.old }
+    {
+        if let Some(text) = answer {
+            self.responder.reuse(text);
+        }
+    }
+
     /// Ends the line that has begun, as the end of an input does, and answers it. Returns `None` for a blank line.
     /// Fails with `Start` or `Memory` as [`take`](Conversation::take) does; then nothing has changed. The cost is that
     /// of [`Session::answer_line_in`].

@@ -28,7 +28,7 @@ pub struct Tally {
 #[derive(Debug)]
 pub(crate) struct Responder {
     session: Session,
-    // Memory for answers in JSON.
+    // Memory for answers.
     space: AnswerSpace,
     ended: u64,
     answered: u64,
@@ -118,6 +118,13 @@ impl Responder {
             }
             None => Ok(None),
         }
+    }
+
+    /// Gives back the text of an answer that has been written. The next answer uses its memory.
+    pub(crate) fn reuse(&mut self, text: String)
+        ensures { self.new ≡ self.old }
+    {
+        self.space.reuse(text);
     }
 
     /// Counts an answer, which refuses its line or not.

@@ -12,7 +12,7 @@ ghost use Rattle.fr_command.specs.InLines.{IsLineFault};
 ghost use Rattle.fr_command.specs.InPieces.{Answers, IsFrontFault, IsPieceFault, Tells};
 ghost use Rattle.fr_command.specs.Services.{AnswersInTime, Serves, ServesText};
 
-use crate::conversation::Conversation;
+use crate::conversation::{Conversation, Taken};
 use crate::responder::Tally;
 use fr_bytes::{MAX_BYTES, PIECE, RunFault, Stream, send_whole};
 use fr_crew::{Crew, Gate, Plan};
@@ -138,9 +138,11 @@ fn answer_front<T: Threads + Wait + Sync, S: Stream, G: Gate + Sync>(
     ensures unread { ReadsNothing (S.traffic stream.old) (S.traffic stream.new) }
     ensures no_start { StartsNone crew.now.plan.now → result ≢ Err RunFault.Start }
 {
-    let taken = conversation.take(crew.rt, crew.alloc, piece, crew.plan, crew.gate)?;
-    send_answer(stream, taken.answer)?;
-    Ok(taken.count)
+    let Taken { count, answer } =
+        conversation.take(crew.rt, crew.alloc, piece, crew.plan, crew.gate)?;
+    send_answer(stream, &answer)?;
+    conversation.reuse(answer);
+    Ok(count)
 }
 
 /// Answers the last line, which the end of the input ends, flushes, and returns how many lines were answered and
@@ -159,15 +161,15 @@ fn answer_end<T: Threads + Wait + Sync, S: Stream, G: Gate + Sync>(
     ensures no_start { StartsNone crew.now.plan.now → result ≢ Err RunFault.Start }
 {
     let answer = conversation.finish(crew.rt, crew.alloc, crew.plan, crew.gate)?;
-    send_answer(stream, answer)?;
+    send_answer(stream, &answer)?;
     stream.flush()?;
     Ok(conversation.tally())
 }
 
 /// Writes an answer and a newline, if there is one.
-fn send_answer<S: Stream>(stream: &mut S, answer: Option<String>) -> Result<(), RunFault>
-    ensures ok { OnOk result (Writes (S.traffic stream.old) (S.traffic stream.new) (text_of answer)) }
-    ensures err { OnErr result ((out : List ℕ) × IsBeginning out (text_of answer)
+fn send_answer<S: Stream>(stream: &mut S, answer: &Option<String>) -> Result<(), RunFault>
+    ensures ok { OnOk result (Writes (S.traffic stream.old) (S.traffic stream.new) (text_of answer.now)) }
+    ensures err { OnErr result ((out : List ℕ) × IsBeginning out (text_of answer.now)
         × Writes (S.traffic stream.old) (S.traffic stream.new) out) }
     ensures kind { IfErr result (λ fault. fault ≡ RunFault.Write) }
 {

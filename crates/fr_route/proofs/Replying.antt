@@ -38,7 +38,7 @@ use Rattle.fr_route.specs.declared.fault.RouteFault.TheVariants as route
 use Rattle.fr_route.specs.declared.form.Answer.{Answer}
 use Rattle.fr_route.specs.declared.form.Form.{Form}
 use Rattle.fr_route.specs.declared.form.Form.TheVariants.{Text, Json, JsonWithWays}
-use Rattle.fr_route.specs.declared.form.AnswerForm.{AnswerForm}
+use Rattle.fr_route.specs.Replies.{AnswerForm}
 use Rattle.fr_route.specs.declared.revision.Revision.{Revision}
 use Rattle.fr_route.specs.declared.told.Told.{Told}
 use Rattle.fr_route.specs.declared.told.Told.TheVariants.{Nobody, Nodes}
@@ -203,6 +203,20 @@ edit_refusal s e d at (route.Net fault) why named here refusal is = (
 edit_refusal s e d at route.Range why named here refusal is = absurd why
 edit_refusal s e d at route.Start why named here refusal is = absurd is
 edit_refusal s e d at route.Memory why named here refusal is = absurd is
+
+-- the text of a route does not depend on the state before it
+pub walk_text_in : (form : Form) (s : Option State) (x : ℕ) (new : State) (text : List ℕ)
+    → IsTextIn form None (walk_from x) new text → IsTextIn form s (walk_from x) new text
+walk_text_in Text s x new text h = h
+walk_text_in Json s x new text h = h
+walk_text_in JsonWithWays s x new text h = h
+
+-- the same refusal, by a draft of the same answer
+pub refuses_again : (form other : AnswerForm) (fault : RouteFault) (named : List ℕ) (place : Option ℕ) (answer : Result Answer AnswerFault)
+    → form ≡ other → IfOk answer (λ a. (r : PlainRefusal) × IsRefusalOf fault named place r × RefusesBy form r a)
+    → IfOk answer (λ a. (r : PlainRefusal) × IsRefusalOf fault named place r × RefusesBy other r a)
+refuses_again form other fault named place answer same =
+    subst (λ (f : AnswerForm). IfOk answer (λ a. (r : PlainRefusal) × IsRefusalOf fault named place r × RefusesBy f r a)) same
 
 -- the place of a refused edit is within the batch
 place_inside : (s : State) (edits : List Edit) (at : ℕ) (fault : NetFault) → IsBatchFault (net_at s) edits (record { at = at; fault = fault }) → at < length edits

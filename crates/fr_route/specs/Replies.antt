@@ -25,12 +25,20 @@ use Rattle.fr_route.specs.declared.fault.AnswerFault.TheVariants.{Start}
 use Rattle.fr_route.specs.declared.fault.NotMade.{NotMade}
 use Rattle.fr_route.specs.declared.fault.RouteFault.TheVariants as route
 use Rattle.fr_route.specs.declared.form.Answer.{Answer}
+use Rattle.fr_route.specs.declared.form.Draft.{Draft}
 use Rattle.fr_route.specs.declared.form.Form.{Form}
 use Rattle.fr_route.specs.declared.form.Form.TheVariants.{Text, Json, JsonWithWays}
-use Rattle.fr_route.specs.declared.form.AnswerForm.{AnswerForm}
 use Rattle.fr_route.specs.declared.revision.Revision.{Revision}
 use Rattle.fr_route.specs.declared.told.Told.{Told}
 use Rattle.fr_tables.specs.declared.hop.Hop.{Hop}
+
+-- how a line is answered: in which form, and as which line of its input
+pub record AnswerForm : Type 0 where
+  pub form : Form
+  pub number : ℕ
+
+abbrev pub answer_form : Draft → AnswerForm
+answer_form draft = record { form = draft.form; number = draft.number }
 
 -- the list that JSON needs is there, and the notes that JSON with ways needs
 pub record HasList (form : Form) (told : Told) : Type 0 where

@@ -1,6 +1,10 @@
 //! The form of an answer, the line that it answers, and the answer.
 
 ghost use Rattle.std.specs.Prelude.{◌≡◌, false};
+ghost use Rattle.fr_route.specs.Replies.{answer_form};
+ghost use Rattle.fr_route.specs.declared.form.Form.TheVariants.{Text};
+
+use std::alloc::Global;
 
 /// The form of answers.
 #[derive(Clone, Copy, Debug, PartialEq, Eq)]
@@ -31,18 +35,38 @@ pub struct Answer {
     pub refused: bool,
 }
 
-/// How a line is answered: in which form, and as which line of its input.
-#[derive(Clone, Copy)]
-pub(crate) struct AnswerForm {
+/// An answer that is not written yet: its form, the number of the line in its input, and memory for its text.
+#[derive(Drop)]
+pub(crate) struct Draft {
     pub(crate) form: Form,
     pub(crate) number: u64,
+    // What the string contains has no meaning.
+    pub(crate) spare: String,
 }
 
-/// As text. No text depends on the number of the line.
-pub(crate) const AS_TEXT: AnswerForm = AnswerForm {
-    form: Form::Text,
-    number: 0,
-};
+impl Draft {
+    /// A draft of a text. No text depends on the number of the line.
+    pub(crate) fn text(alloc: Global) -> Draft
+        ensures { answer_form result ≡ record { form = Text; number = 0 } }
+    {
+        Draft {
+            form: Form::Text,
+            number: 0,
+            spare: String::new(alloc),
+        }
+    }
+
+    /// A draft of the answer to the same line, without memory.
+    pub(crate) fn again(&self, alloc: Global) -> Draft
+        ensures { answer_form result ≡ answer_form self.now }
+    {
+        Draft {
+            form: self.form,
+            number: self.number,
+            spare: String::new(alloc),
+        }
+    }
+}
 
 /// The answer to a request that is accepted.
 pub(crate) fn accepted(text: String) -> Answer

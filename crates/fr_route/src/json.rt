@@ -22,17 +22,18 @@ use fr_graph::Links;
 use fr_tables::Hop;
 use fr_ways::{PushList, WayTable};
 use itoa::Buffer;
-use std::alloc::{AllocError, Global};
+use std::alloc::AllocError;
 
 /// The bytes of a node or a count with a comma, as a rule.
 const NUMBER_ROOM: usize = 5;
 
-/// A line that begins with this text, with room for so many numbers and an end.
-fn begun(alloc: Global, text: &str, numbers: usize) -> Result<String, AllocError>
+/// A line that begins with this text, with room for so many numbers and an end, in the memory of this one.
+fn begun(mut line: String, text: &str, numbers: usize) -> Result<String, AllocError>
     ensures { IfOk result (λ line. string_bytes line ≡ text.now) }
 {
     let room = numbers.saturating_mul(NUMBER_ROOM).saturating_add(16);
-    let mut line = String::with_capacity(alloc, room)?;
+    line.clear();
+    line.reserve(room)?;
     line.push_str(text)?;
     Ok(line)
 }
@@ -113,10 +114,10 @@ fn push_link(
 
 /// `{"links":[[1,0],[2,1]]}`: the links, each from its tail to its head.
 #[inline(never)]
-pub(crate) fn links_object(alloc: Global, links: Links<'_>) -> Result<String, AllocError>
+pub(crate) fn links_object(spare: String, links: Links<'_>) -> Result<String, AllocError>
     ensures { IfOk result (λ line. string_bytes line ≡ links_json links.entry) }
 {
-    let mut line = begun(alloc, "{\"links\":[", links.len().saturating_mul(2))?;
+    let mut line = begun(spare, "{\"links\":[", links.len().saturating_mul(2))?;
     let mut buffer = Buffer::new();
     let mut first = true;
     for link in links {
@@ -129,10 +130,10 @@ pub(crate) fn links_object(alloc: Global, links: Links<'_>) -> Result<String, Al
 
 /// `{"counts":[0,1,2]}`: the count of each node.
 #[inline(never)]
-pub(crate) fn counts_object(alloc: Global, counts: &[u64]) -> Result<String, AllocError>
+pub(crate) fn counts_object(spare: String, counts: &[u64]) -> Result<String, AllocError>
     ensures { IfOk result (λ line. string_bytes line ≡ counts_json counts.now) }
 {
-    let mut line = begun(alloc, "{\"counts\":[", counts.len())?;
+    let mut line = begun(spare, "{\"counts\":[", counts.len())?;
     let mut buffer = Buffer::new();
     let mut first = true;
     for count in counts {
@@ -146,10 +147,10 @@ pub(crate) fn counts_object(alloc: Global, counts: &[u64]) -> Result<String, All
 
 /// `{"hops":["here",0,"cut"]}`: the hop of each node.
 #[inline(never)]
-pub(crate) fn hops_object(alloc: Global, hops: &[Hop]) -> Result<String, AllocError>
+pub(crate) fn hops_object(spare: String, hops: &[Hop]) -> Result<String, AllocError>
     ensures { IfOk result (λ line. string_bytes line ≡ hops_json hops.now) }
 {
-    let mut line = begun(alloc, "{\"hops\":[", hops.len())?;
+    let mut line = begun(spare, "{\"hops\":[", hops.len())?;
     let mut buffer = Buffer::new();
     let mut first = true;
     for hop in hops {
@@ -163,10 +164,10 @@ pub(crate) fn hops_object(alloc: Global, hops: &[Hop]) -> Result<String, AllocEr
 
 /// `{"walk":[3,2,1,0]}`: the nodes of a route.
 #[inline(never)]
-pub(crate) fn walk_object(alloc: Global, nodes: &[u32]) -> Result<String, AllocError>
+pub(crate) fn walk_object(spare: String, nodes: &[u32]) -> Result<String, AllocError>
     ensures { IfOk result (λ line. string_bytes line ≡ walk_json nodes.now) }
 {
-    let mut line = begun(alloc, "{\"walk\":[", nodes.len())?;
+    let mut line = begun(spare, "{\"walk\":[", nodes.len())?;
     push_nodes(&mut line, nodes, &mut Buffer::new())?;
     line.push_str("]}")?;
     Ok(line)
@@ -174,10 +175,10 @@ pub(crate) fn walk_object(alloc: Global, nodes: &[u32]) -> Result<String, AllocE
 
 /// The answer for a route from a node that is cut off.
 #[inline(never)]
-pub(crate) fn no_walk_object(alloc: Global) -> Result<String, AllocError>
+pub(crate) fn no_walk_object(spare: String) -> Result<String, AllocError>
     ensures { IfOk result (λ line. string_bytes line ≡ no_walk_json) }
 {
-    begun(alloc, "{\"walk\":null}", 0)
+    begun(spare, "{\"walk\":null}", 0)
 }
 
 /// Appends the ways of a node: `"here"` for the destination, `"cut"` without a way, or the ways in brackets.
@@ -202,11 +203,11 @@ fn push_ways(
 
 /// `{"ways":["here",[0],[0,1],"cut"]}`: the ways of each node.
 #[inline(never)]
-pub(crate) fn ways_object(alloc: Global, dest: u32, table: &WayTable) -> Result<String, AllocError>
+pub(crate) fn ways_object(spare: String, dest: u32, table: &WayTable) -> Result<String, AllocError>
     requires { length table.now < 2 ^ 32 }
     ensures { IfOk result (λ line. string_bytes line ≡ ways_json dest table.now) }
 {
-    let mut line = begun(alloc, "{\"ways\":[", table.list().len())?;
+    let mut line = begun(spare, "{\"ways\":[", table.list().len())?;
     let mut buffer = Buffer::new();
     let mut first = true;
     for x in 0..table.len() as u32 {
@@ -221,13 +222,13 @@ pub(crate) fn ways_object(alloc: Global, dest: u32, table: &WayTable) -> Result<
 /// `{"ways":[0,1]}`: these ways of one node. `home` says whether it is the destination.
 #[inline(never)]
 pub(crate) fn node_ways_object(
-    alloc: Global,
+    spare: String,
     home: bool,
     ways: &[u32],
 ) -> Result<String, AllocError>
     ensures { IfOk result (λ line. string_bytes line ≡ node_ways_json home ways.now) }
 {
-    let mut line = begun(alloc, "{\"ways\":", ways.len())?;
+    let mut line = begun(spare, "{\"ways\":", ways.len())?;
     push_ways(&mut line, home, ways, &mut Buffer::new())?;
     line.push_str("}")?;
     Ok(line)
@@ -289,22 +290,22 @@ fn push_phases(line: &mut String, phases: Listed<'_>, buffer: &mut Buffer) -> Re
 
 /// `{"shrink":[[5,[2]],[3,[]]],"grow":[[3,[5,7]]]}`: the pushes of two phases.
 #[inline(never)]
-pub(crate) fn phases_object(alloc: Global, phases: Listed<'_>) -> Result<String, AllocError>
+pub(crate) fn phases_object(spare: String, phases: Listed<'_>) -> Result<String, AllocError>
     requires { (shrink grow : List (ℕ × List ℕ)) × ArePhasesListed shrink grow phases }
     ensures { (shrink grow : List (ℕ × List ℕ)) → ArePhasesListed shrink grow phases.entry
         → IfOk result (λ line. string_bytes line ≡ phases_json shrink grow) }
 {
-    let mut line = begun(alloc, "{\"shrink\":[", 0)?;
+    let mut line = begun(spare, "{\"shrink\":[", 0)?;
     push_phases(&mut line, phases, &mut Buffer::new())?;
     Ok(line)
 }
 
 /// `{"nearest":[3,1,0]}`: the nodes of a nearest route.
 #[inline(never)]
-pub(crate) fn nearest_object(alloc: Global, nodes: &[u32]) -> Result<String, AllocError>
+pub(crate) fn nearest_object(spare: String, nodes: &[u32]) -> Result<String, AllocError>
     ensures { IfOk result (λ line. string_bytes line ≡ nearest_json nodes.now) }
 {
-    let mut line = begun(alloc, "{\"nearest\":[", nodes.len())?;
+    let mut line = begun(spare, "{\"nearest\":[", nodes.len())?;
     push_nodes(&mut line, nodes, &mut Buffer::new())?;
     line.push_str("]}")?;
     Ok(line)
@@ -312,10 +313,10 @@ pub(crate) fn nearest_object(alloc: Global, nodes: &[u32]) -> Result<String, All
 
 /// The answer for a nearest route from a node that is cut off.
 #[inline(never)]
-pub(crate) fn no_nearest_object(alloc: Global) -> Result<String, AllocError>
+pub(crate) fn no_nearest_object(spare: String) -> Result<String, AllocError>
     ensures { IfOk result (λ line. string_bytes line ≡ no_nearest_json) }
 {
-    begun(alloc, "{\"nearest\":null}", 0)
+    begun(spare, "{\"nearest\":null}", 0)
 }
 
 /// The hop of a number. A number that is not a node is cut off.
@@ -368,13 +369,13 @@ fn push_changes(
 
 /// `{"pushes":[[3,2],[4,"cut"]]}`: each of these nodes with its hop in this table.
 pub(crate) fn pushes_object(
-    alloc: Global,
+    spare: String,
     nodes: &[u32],
     hops: &[Hop],
 ) -> Result<String, AllocError>
     ensures { IfOk result (λ line. string_bytes line ≡ pushes_json (changes_of hops.now nodes.now)) }
 {
-    let mut line = begun(alloc, "{\"pushes\":[", nodes.len().saturating_mul(3))?;
+    let mut line = begun(spare, "{\"pushes\":[", nodes.len().saturating_mul(3))?;
     push_changes(&mut line, nodes, hops, &mut Buffer::new())?;
     line.push_str("]}")?;
     Ok(line)
@@ -457,14 +458,14 @@ pub(crate) fn push_report_with_ways(
 /// `"edit":1` before `"line"` for a batch.
 #[inline(never)]
 pub(crate) fn refusal_object(
-    alloc: Global,
+    spare: String,
     refusal: &Refusal<'_>,
     number: u64,
 ) -> Result<String, AllocError>
     ensures { IfOk result (λ line. string_bytes line ≡ refusal_json (plain_refusal refusal.now) number) }
 {
     let mut buffer = Buffer::new();
-    let mut line = refused(alloc, refusal, &mut buffer)?;
+    let mut line = refused(spare, refusal, &mut buffer)?;
     push_shown(&mut line, refusal, &mut buffer)?;
     line.push_str(",\"line\":")?;
     push_number(&mut line, number, &mut buffer)?;
@@ -473,11 +474,11 @@ pub(crate) fn refusal_object(
 }
 
 /// A line that begins with the number and the name of the fault, with room for the rest.
-fn refused(alloc: Global, refusal: &Refusal<'_>, buffer: &mut Buffer) -> Result<String, AllocError>
+fn refused(spare: String, refusal: &Refusal<'_>, buffer: &mut Buffer) -> Result<String, AllocError>
     ensures { IfOk result (λ line. string_bytes line ≡ refused_json (number_of refusal.now.reason)) }
 {
     let mut line = begun(
-        alloc,
+        spare,
         "{\"refused\":",
         refusal.nodes.len().saturating_add(16),
     )?;

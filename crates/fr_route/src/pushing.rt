@@ -4,13 +4,13 @@ ghost use Rattle.std.specs.Prelude.{◌≡◌, ℕ, ◌<◌, ◌++◌, ◌∷◌
 ghost use Rattle.std.specs.Prelude.{IfErr, IfOk, length, slice_index, string_bytes};
 ghost use Rattle.fr_lines.specs.Requests.{order_pushes};
 ghost use Rattle.fr_route.specs.Pushing.{IsTablesFault, changes_of};
-ghost use Rattle.fr_route.specs.Replies.{IsFromReply, IsStillReply, RefusesBy, pushes_in as text_of_pushes};
+ghost use Rattle.fr_route.specs.Replies.{answer_form, IsFromReply, IsStillReply, RefusesBy, pushes_in as text_of_pushes};
 ghost use Rattle.fr_route.specs.States.{State};
 ghost use Rattle.fr_route.specs.declared.fault.AnswerFault.TheVariants.{Memory};
 ghost use Rattle.fr_tables.specs.Faults.{IsFaultOf};
 
 use crate::fault::AnswerFault;
-use crate::form::{Answer, Form, AnswerForm, accepted};
+use crate::form::{Answer, Draft, Form, accepted};
 use crate::hops::resized;
 use crate::json::pushes_object;
 use crate::refusals::Reason;
@@ -24,60 +24,59 @@ use std::alloc::{AllocError, Global};
 /// cut off.
 pub(crate) fn pushes_between(
     alloc: Global,
-    manner: AnswerForm,
+    draft: Draft,
     table: &[Hop],
     wanted: &[Hop],
 ) -> Result<Answer, AnswerFault>
     ensures reply { IfOk result
-        (λ answer. (s : Option State) → IsStillReply manner s (order_pushes table.now (Some wanted.now)) answer) }
+        (λ answer. (s : Option State) → IsStillReply (answer_form draft) s (order_pushes table.now (Some wanted.now)) answer) }
     ensures memory { IfErr result (λ fault. fault ≡ Memory) }
 {
     let nodes = table.len().max(wanted.len());
     if nodes > MAX_NODES as usize {
-        return refuse(alloc, manner, Reason::TooMany, &[], None);
+        return refuse(draft, Reason::TooMany, &[], None);
     }
     let hops = resized(alloc, wanted, nodes as u32)?;
-    pushes_from(alloc, manner, table, &hops)
+    pushes_from(alloc, draft, table, &hops)
 }
 
 /// The answer to a request for the pushes from a table to these hops.
 pub(crate) fn pushes_from(
     alloc: Global,
-    manner: AnswerForm,
+    draft: Draft,
     table: &[Hop],
     hops: &[Hop],
 ) -> Result<Answer, AnswerFault>
-    ensures reply { IfOk result (IsFromReply manner table.now hops.now) }
+    ensures reply { IfOk result (IsFromReply (answer_form draft) table.now hops.now) }
     ensures memory { IfErr result (λ fault. fault ≡ Memory) }
 {
     if table.len().max(hops.len()) > MAX_NODES as usize {
-        return refuse(alloc, manner, Reason::TooMany, &[], None);
+        return refuse(draft, Reason::TooMany, &[], None);
     }
     let nodes = hops.len() as u32;
     if table.len() > hops.len() {
-        return refuse(alloc, manner, Reason::NoNode, &[nodes], None);
+        return refuse(draft, Reason::NoNode, &[nodes], None);
     }
     let old = resized(alloc, table, nodes)?;
     match push_order(alloc, &old, hops) {
-        Ok(order) => Ok(accepted(pushes_text(alloc, manner.form, &order, hops)?)),
-        Err(fault) => refuse_tables(alloc, manner, fault, &old, hops),
+        Ok(order) => Ok(accepted(pushes_text(draft, &order, hops)?)),
+        Err(fault) => refuse_tables(draft, fault, &old, hops),
     }
 }
 
 /// The text for the pushes of these nodes, each with its hop in this table.
-fn pushes_text(alloc: Global, form: Form, nodes: &[u32], hops: &[Hop]) -> Result<String, AllocError>
-    ensures { IfOk result (λ text. string_bytes text ≡ text_of_pushes form (changes_of hops.now nodes.now)) }
+fn pushes_text(draft: Draft, nodes: &[u32], hops: &[Hop]) -> Result<String, AllocError>
+    ensures { IfOk result (λ text. string_bytes text ≡ text_of_pushes draft.form (changes_of hops.now nodes.now)) }
 {
-    match form {
-        Form::Text => pushes_line(alloc, nodes, hops),
-        _ => pushes_object(alloc, nodes, hops),
+    match draft.form {
+        Form::Text => pushes_line(draft.spare, nodes, hops),
+        _ => pushes_object(draft.spare, nodes, hops),
     }
 }
 
 /// The answer that refuses these tables. They have one length, so this is not the fault.
 fn refuse_tables(
-    alloc: Global,
-    manner: AnswerForm,
+    draft: Draft,
     fault: TableFault,
     _old: &[Hop],
     _new: &[Hop],
@@ -85,14 +84,14 @@ fn refuse_tables(
     requires { IsFaultOf _old.now _new.now fault }
     ensures refuses { IfOk result (λ answer. (number : ℕ) × (nodes : List ℕ)
         × IsTablesFault _old.now _new.now number nodes
-        × RefusesBy manner (record { number = number; nodes = nodes; edit = None }) answer) }
+        × RefusesBy (answer_form draft) (record { number = number; nodes = nodes; edit = None }) answer) }
     ensures memory { IfErr result (λ why. why ≡ Memory) }
 {
     match fault {
-        TableFault::Range(x) => refuse(alloc, manner, Reason::NoNode, &[x], None),
+        TableFault::Range(x) => refuse(draft, Reason::NoNode, &[x], None),
         TableFault::Loop(nodes) => {
             let nodes = closed(nodes)?;
-            refuse(alloc, manner, Reason::Cycle, &nodes, None)
+            refuse(draft, Reason::Cycle, &nodes, None)
         }
         TableFault::Length | TableFault::Memory => Err(AnswerFault::Memory),
     }

@@ -13,7 +13,7 @@ ghost use Rattle.fr_route.specs.Ways.{Settles, NeverStarts};
 ghost use Rattle.fr_route.specs.Answers.{IsAccepted};
 ghost use Rattle.fr_route.specs.Json.{ends};
 ghost use Rattle.fr_route.specs.Listing.{IsListing, nodes_told};
-ghost use Rattle.fr_route.specs.Replies.{HasList, IsLineAnsweredIn, IsLineReplied, IsReplied};
+ghost use Rattle.fr_route.specs.Replies.{answer_form, HasList, IsLineAnsweredIn, IsLineReplied, IsReplied};
 ghost use Rattle.fr_route.specs.Replies.{IsReportIn, IsRevised, IsStillReply, request_of_edit};
 ghost use Rattle.fr_route.specs.Sessions.{IsAnswered, IsLineAnswered};
 ghost use Rattle.fr_route.specs.Reroutes.{AreReplaced};
@@ -25,7 +25,7 @@ ghost use Rattle.fr_route.specs.declared.form.Form.TheVariants.{JsonWithWays, Te
 
 use crate::blank::is_blank;
 use crate::fault::{AnswerFault, NotMade, RouteFault};
-use crate::form::{AS_TEXT, Answer, Form, Line, AnswerForm, accepted};
+use crate::form::{Answer, Draft, Form, Line, accepted};
 use crate::outcome::ends as ends_of;
 use crate::pushing::{pushes_between, pushes_from};
 use crate::questions::{node_question_in, phases_in, question_in, walk_in};
@@ -51,92 +51,92 @@ impl Session {
     fn put(
         &mut self,
         alloc: Global,
-        form: Form,
+        draft: Draft,
         router: Router,
         told: &mut Told,
     ) -> Result<String, AnswerFault>
-        ensures report { HasList form told.old
-            → IfOk result (λ text. IsReportIn form (AreReplaced self.old router) self.old router (string_bytes text)) }
+        ensures report { HasList draft.form told.old
+            → IfOk result (λ text. IsReportIn draft.form (AreReplaced self.old router) self.old router (string_bytes text)) }
         ensures put { OnOk result (self.new ≡ Some router) }
         ensures told { IsListing told.old → OnOk result (AreReplaced self.old router (nodes_told told.new)) }
         ensures unchanged { OnErr result ((self.new ≡ self.old) × (nodes_told told.new ≡ nodes_told told.old)) }
-        ensures short { form ≡ Text → IfOk result (λ text. length (string_bytes text) ≤ longest_report) }
+        ensures short { draft.form ≡ Text → IfOk result (λ text. length (string_bytes text) ≤ longest_report) }
         ensures memory { IfErr result (λ fault. fault ≡ Memory) }
     {
         router.state_law();
         let replaced = replaced_nodes(alloc, self.router.as_ref(), &router, told)?;
-        let text = new_report(alloc, form, self.router.as_ref(), &router, &replaced)?;
+        let text = new_report(alloc, draft, self.router.as_ref(), &router, &replaced)?;
         told.put_list(replaced);
         self.put_router(router);
         Ok(text)
     }
 
     /// The answer to a request for the route from a node.
-    fn walk(&self, alloc: Global, manner: AnswerForm, x: u32) -> Result<Answer, AnswerFault>
-        ensures reply { IfOk result (λ answer. IsStillReply manner self.now (walk_from x) answer) }
+    fn walk(&self, alloc: Global, draft: Draft, x: u32) -> Result<Answer, AnswerFault>
+        ensures reply { IfOk result (λ answer. IsStillReply (answer_form draft) self.now (walk_from x) answer) }
         ensures memory { IfErr result (λ fault. fault ≡ Memory) }
     {
         let Some(router) = &self.router else {
-            return refuse(alloc, manner, Reason::NoNetwork, &[], None);
+            return refuse(draft, Reason::NoNetwork, &[], None);
         };
         if x >= router.net().nodes() {
-            return refuse(alloc, manner, Reason::NoNode, &[x], None);
+            return refuse(draft, Reason::NoNode, &[x], None);
         }
-        Ok(accepted(walk_in(alloc, manner.form, router, x)?))
+        Ok(accepted(walk_in(alloc, draft, router, x)?))
     }
 
     /// The answer to a question.
     pub(crate) fn question(
         &self,
         alloc: Global,
-        manner: AnswerForm,
+        draft: Draft,
         question: Question,
     ) -> Result<Answer, AnswerFault>
-        ensures reply { IfOk result (λ answer. IsStillReply manner self.now (ask question) answer) }
+        ensures reply { IfOk result (λ answer. IsStillReply (answer_form draft) self.now (ask question) answer) }
         ensures memory { IfErr result (λ fault. fault ≡ Memory) }
     {
         let Some(router) = &self.router else {
-            return refuse(alloc, manner, Reason::NoNetwork, &[], None);
+            return refuse(draft, Reason::NoNetwork, &[], None);
         };
-        Ok(accepted(question_in(alloc, manner.form, router, question)?))
+        Ok(accepted(question_in(alloc, draft, router, question)?))
     }
 
     /// The answer to a question about one node.
     fn node_question(
         &mut self,
         alloc: Global,
-        manner: AnswerForm,
+        draft: Draft,
         question: NodeQuestion,
         x: u32,
     ) -> Result<Answer, AnswerFault>
         ensures same { self.new ≡ self.old }
-        ensures reply { IfOk result (λ answer. IsStillReply manner self.old (ask_node question x) answer) }
+        ensures reply { IfOk result (λ answer. IsStillReply (answer_form draft) self.old (ask_node question x) answer) }
         ensures memory { IfErr result (λ fault. fault ≡ Memory) }
     {
         let Some(router) = &mut self.router else {
-            return refuse(alloc, manner, Reason::NoNetwork, &[], None);
+            return refuse(draft, Reason::NoNetwork, &[], None);
         };
         if x >= router.net().nodes() {
-            return refuse(alloc, manner, Reason::NoNode, &[x], None);
+            return refuse(draft, Reason::NoNode, &[x], None);
         }
-        Ok(accepted(node_question_in(alloc, manner.form, router, question, x)?))
+        Ok(accepted(node_question_in(alloc, draft, router, question, x)?))
     }
 
     /// The answer to a request for the pushes from a table to the wanted one, or to the next hops if none is given.
     fn pushes(
         &self,
         alloc: Global,
-        manner: AnswerForm,
+        draft: Draft,
         table: &[Hop],
         wanted: &Option<Vec<Hop>>,
     ) -> Result<Answer, AnswerFault>
-        ensures reply { IfOk result (IsStillReply manner self.now
+        ensures reply { IfOk result (IsStillReply (answer_form draft) self.now
             (order_pushes table.now (option_map (λ (t : Vec Hop Global). t.items) wanted.now))) }
         ensures memory { IfErr result (λ fault. fault ≡ Memory) }
     {
         match wanted {
-            Some(wanted) => pushes_between(alloc, manner, table, wanted),
-            None => self.pushes_to_hops(alloc, manner, table),
+            Some(wanted) => pushes_between(alloc, draft, table, wanted),
+            None => self.pushes_to_hops(alloc, draft, table),
         }
     }
 
@@ -144,39 +144,39 @@ impl Session {
     fn pushes_to_hops(
         &self,
         alloc: Global,
-        manner: AnswerForm,
+        draft: Draft,
         table: &[Hop],
     ) -> Result<Answer, AnswerFault>
-        ensures reply { IfOk result (λ answer. IsStillReply manner self.now (order_pushes table.now None) answer) }
+        ensures reply { IfOk result (λ answer. IsStillReply (answer_form draft) self.now (order_pushes table.now None) answer) }
         ensures memory { IfErr result (λ fault. fault ≡ Memory) }
     {
         let Some(router) = &self.router else {
-            return refuse(alloc, manner, Reason::NoNetwork, &[], None);
+            return refuse(draft, Reason::NoNetwork, &[], None);
         };
-        pushes_from(alloc, manner, table, router.hops())
+        pushes_from(alloc, draft, table, router.hops())
     }
 
     /// The answer to a request for the pushes from a table of ways to the ways of each node.
     fn way_pushes(
         &self,
         alloc: Global,
-        manner: AnswerForm,
+        draft: Draft,
         table: &WayTable,
     ) -> Result<Answer, AnswerFault>
-        ensures reply { IfOk result (λ answer. IsStillReply manner self.now (push_ways table.now) answer) }
+        ensures reply { IfOk result (λ answer. IsStillReply (answer_form draft) self.now (push_ways table.now) answer) }
         ensures memory { IfErr result (λ fault. fault ≡ Memory) }
     {
         let Some(router) = &self.router else {
-            return refuse(alloc, manner, Reason::NoNetwork, &[], None);
+            return refuse(draft, Reason::NoNetwork, &[], None);
         };
         if table.len() > MAX_NODES as usize {
-            return refuse(alloc, manner, Reason::TooMany, &[], None);
+            return refuse(draft, Reason::TooMany, &[], None);
         }
         let nodes = router.net().nodes();
         if table.len() > nodes as usize {
-            return refuse(alloc, manner, Reason::NoNode, &[nodes], None);
+            return refuse(draft, Reason::NoNode, &[nodes], None);
         }
-        Ok(accepted(phases_in(alloc, manner.form, router, table)?))
+        Ok(accepted(phases_in(alloc, draft, router, table)?))
     }
 }
 
@@ -234,7 +234,7 @@ impl<'a, F: Fn(&Net, u32, Option<&[u32]>, Turns) -> Result<Turns, CrewFault>> Se
         ensures { IsLineAnswered
             (NeverStarts F.post self.now.settle.now) session.old line.now told.old result session.new told.new }
     {
-        match self.reply_line(session, AS_TEXT, line, told)? {
+        match self.reply_line(session, Draft::text(self.alloc), line, told)? {
             Some(answer) => Ok(Some(answer.text)),
             None => Ok(None),
         }
@@ -251,7 +251,10 @@ impl<'a, F: Fn(&Net, u32, Option<&[u32]>, Turns) -> Result<Turns, CrewFault>> Se
         ensures { IsAnswered (NeverStarts F.post self.now.settle.now) session.old
             (Ok (plain request.now)) told.old result session.new told.new }
     {
-        Ok(self.reply(session, AS_TEXT, request, told)?.text)
+        Ok(
+            self.reply(session, Draft::text(self.alloc), request, told)?
+                .text,
+        )
     }
 
     /// The answer to a line in this form, or `None` for a blank one. Lists rerouted nodes only for JSON, and notes ways
@@ -266,17 +269,20 @@ impl<'a, F: Fn(&Net, u32, Option<&[u32]>, Turns) -> Result<Turns, CrewFault>> Se
         requires { Settles F.pre F.post self.now.settle.now }
         ensures { IsLineAnsweredIn (NeverStarts F.post self.now.settle.now) form line.entry.number session.old line.entry.bytes.now result session.new }
     {
-        let number = line.number;
-        let manner = AnswerForm { form, number };
+        let draft = Draft {
+            form,
+            number: line.number,
+            spare: space.text(self.alloc),
+        };
         match form {
-            Form::Text => self.reply_line(session, manner, line.bytes, &mut Told::Nobody),
+            Form::Text => self.reply_line(session, draft, line.bytes, &mut Told::Nobody),
             Form::Json => {
                 let mut told = space.listing(self.alloc);
-                let answer = self.reply_line(session, manner, line.bytes, &mut told);
+                let answer = self.reply_line(session, draft, line.bytes, &mut told);
                 space.keep(told);
                 answer
             }
-            Form::JsonWithWays => self.reply_with_ways(session, line, space),
+            Form::JsonWithWays => self.reply_with_ways(session, draft, line.bytes, space),
         }
     }
 
@@ -286,20 +292,20 @@ impl<'a, F: Fn(&Net, u32, Option<&[u32]>, Turns) -> Result<Turns, CrewFault>> Se
     fn reply_with_ways(
         &self,
         session: &mut Session,
-        line: Line<'_>,
+        draft: Draft,
+        line: &[u8],
         space: &mut AnswerSpace,
     ) -> Result<Option<Answer>, AnswerFault>
-        requires { Settles F.pre F.post self.now.settle.now }
-        ensures { IsLineAnsweredIn (NeverStarts F.post self.now.settle.now) JsonWithWays line.entry.number session.old
-            line.entry.bytes.now result session.new }
+        requires settles { Settles F.pre F.post self.now.settle.now }
+        requires form { draft.form ≡ JsonWithWays }
+        ensures { IsLineAnsweredIn (NeverStarts F.post self.now.settle.now) JsonWithWays draft.number session.old
+            line.now result session.new }
     {
-        if is_blank(line.bytes) {
+        if is_blank(line) {
             return Ok(None);
         }
-        let form = Form::JsonWithWays;
-        let number = line.number;
         let mut told = space.asking(self.alloc)?;
-        let answer = self.reply_line(session, AnswerForm { form, number }, line.bytes, &mut told);
+        let answer = self.reply_line(session, draft, line, &mut told);
         space.keep(told);
         answer
     }
@@ -308,38 +314,38 @@ impl<'a, F: Fn(&Net, u32, Option<&[u32]>, Turns) -> Result<Turns, CrewFault>> Se
     fn reply_line(
         &self,
         session: &mut Session,
-        manner: AnswerForm,
+        draft: Draft,
         line: &[u8],
         told: &mut Told,
     ) -> Result<Option<Answer>, AnswerFault>
         requires settles { Settles F.pre F.post self.now.settle.now }
-        requires lists { HasList manner.form told.old }
+        requires lists { HasList draft.form told.old }
         ensures { IsLineReplied
-            (NeverStarts F.post self.now.settle.now) manner session.old line.now told.old result session.new told.new }
+            (NeverStarts F.post self.now.settle.now) (answer_form draft) session.old line.now told.old result session.new told.new }
     {
         if is_blank(line) {
             return Ok(None);
         }
-        Ok(Some(self.reply_read(session, manner, line, told)?))
+        Ok(Some(self.reply_read(session, draft, line, told)?))
     }
 
     /// The answer to a line that is not blank.
     fn reply_read(
         &self,
         session: &mut Session,
-        manner: AnswerForm,
+        draft: Draft,
         line: &[u8],
         told: &mut Told,
     ) -> Result<Answer, AnswerFault>
         requires settles { Settles F.pre F.post self.now.settle.now }
-        requires lists { HasList manner.form told.old }
-        ensures { IsReplied (NeverStarts F.post self.now.settle.now) manner session.old
+        requires lists { HasList draft.form told.old }
+        ensures { IsReplied (NeverStarts F.post self.now.settle.now) (answer_form draft) session.old
             (reading line.now) told.old result session.new told.new }
     {
         match read_line(self.alloc, line) {
-            Ok(request) => self.reply(session, manner, &request, told),
-            Err(LineFault::NotJson) => refuse(self.alloc, manner, Reason::NotJson, &[], None),
-            Err(LineFault::NotRequest) => refuse(self.alloc, manner, Reason::NotRequest, &[], None),
+            Ok(request) => self.reply(session, draft, &request, told),
+            Err(LineFault::NotJson) => refuse(draft, Reason::NotJson, &[], None),
+            Err(LineFault::NotRequest) => refuse(draft, Reason::NotRequest, &[], None),
             Err(LineFault::Memory) => Err(AnswerFault::Memory),
         }
     }
@@ -348,13 +354,13 @@ impl<'a, F: Fn(&Net, u32, Option<&[u32]>, Turns) -> Result<Turns, CrewFault>> Se
     fn reply(
         &self,
         session: &mut Session,
-        manner: AnswerForm,
+        draft: Draft,
         request: &Request,
         told: &mut Told,
     ) -> Result<Answer, AnswerFault>
         requires settles { Settles F.pre F.post self.now.settle.now }
-        requires lists { HasList manner.form told.old }
-        ensures { IsReplied (NeverStarts F.post self.now.settle.now) manner session.old
+        requires lists { HasList draft.form told.old }
+        ensures { IsReplied (NeverStarts F.post self.now.settle.now) (answer_form draft) session.old
             (Ok (plain request.now)) told.old result session.new told.new }
     {
         match request {
@@ -364,26 +370,26 @@ impl<'a, F: Fn(&Net, u32, Option<&[u32]>, Turns) -> Result<Turns, CrewFault>> Se
                     dest: *dest,
                     links,
                 };
-                self.reply_network(session, manner, parts, told)
+                self.reply_network(session, draft, parts, told)
             }
             Request::Cut { u, v } => {
-                self.reply_edit(session, manner, Edit::Cut { u: *u, v: *v }, told)
+                self.reply_edit(session, draft, Edit::Cut { u: *u, v: *v }, told)
             }
             Request::Add { u, v } => {
-                self.reply_edit(session, manner, Edit::Add { u: *u, v: *v }, told)
+                self.reply_edit(session, draft, Edit::Add { u: *u, v: *v }, told)
             }
             Request::Join { u, v } => {
-                self.reply_edit(session, manner, Edit::Join { u: *u, v: *v }, told)
+                self.reply_edit(session, draft, Edit::Join { u: *u, v: *v }, told)
             }
-            Request::Batch { edits } => self.reply_batch(session, manner, edits, told),
-            Request::Destination { dest } => self.reply_move(session, manner, *dest, told),
-            Request::Walk { x } => session.walk(self.alloc, manner, *x),
-            Request::Ask(question) => session.question(self.alloc, manner, *question),
+            Request::Batch { edits } => self.reply_batch(session, draft, edits, told),
+            Request::Destination { dest } => self.reply_move(session, draft, *dest, told),
+            Request::Walk { x } => session.walk(self.alloc, draft, *x),
+            Request::Ask(question) => session.question(self.alloc, draft, *question),
             Request::AskNode { question, x } => {
-                session.node_question(self.alloc, manner, *question, *x)
+                session.node_question(self.alloc, draft, *question, *x)
             }
-            Request::Pushes { table, wanted } => session.pushes(self.alloc, manner, table, wanted),
-            Request::WayPushes { table } => session.way_pushes(self.alloc, manner, table),
+            Request::Pushes { table, wanted } => session.pushes(self.alloc, draft, table, wanted),
+            Request::WayPushes { table } => session.way_pushes(self.alloc, draft, table),
         }
     }
 
@@ -393,20 +399,20 @@ impl<'a, F: Fn(&Net, u32, Option<&[u32]>, Turns) -> Result<Turns, CrewFault>> Se
     fn reply_network(
         &self,
         session: &mut Session,
-        manner: AnswerForm,
+        draft: Draft,
         parts: Parts<'_>,
         told: &mut Told,
     ) -> Result<Answer, AnswerFault>
         requires settles { Settles F.pre F.post self.now.settle.now }
-        requires lists { HasList manner.form told.old }
-        ensures { IsReplied (NeverStarts F.post self.now.settle.now) manner session.old
+        requires lists { HasList draft.form told.old }
+        ensures { IsReplied (NeverStarts F.post self.now.settle.now) (answer_form draft) session.old
             (Ok (new_network parts.entry.nodes parts.entry.dest parts.entry.links.now)) told.old result session.new
             told.new }
     {
         let Parts { nodes, dest, links } = parts;
         match self.open_network(nodes, dest, links) {
-            Ok(router) => Ok(accepted(session.put(self.alloc, manner.form, router, told)?)),
-            Err(fault) => refuse_for(self.alloc, manner, fault, &[dest], None),
+            Ok(router) => Ok(accepted(session.put(self.alloc, draft, router, told)?)),
+            Err(fault) => refuse_for(draft, fault, &[dest], None),
         }
     }
 
@@ -430,25 +436,24 @@ impl<'a, F: Fn(&Net, u32, Option<&[u32]>, Turns) -> Result<Turns, CrewFault>> Se
     fn reply_edit(
         &self,
         session: &mut Session,
-        manner: AnswerForm,
+        draft: Draft,
         edit: Edit,
         told: &mut Told,
     ) -> Result<Answer, AnswerFault>
         requires settles { Settles F.pre F.post self.now.settle.now }
-        requires lists { HasList manner.form told.old }
-        ensures { IsReplied (NeverStarts F.post self.now.settle.now) manner session.old
+        requires lists { HasList draft.form told.old }
+        ensures { IsReplied (NeverStarts F.post self.now.settle.now) (answer_form draft) session.old
             (Ok (request_of_edit edit)) told.old result session.new told.new }
     {
         let Some(router) = &mut session.router else {
-            return refuse(self.alloc, manner, Reason::NoNetwork, &[], None);
+            return refuse(draft, Reason::NoNetwork, &[], None);
         };
         let dest = router.dest();
         let edits = &[edit];
-        match self.revise(router, &Revision { edits, dest }, manner.form, told) {
+        let again = draft.again(self.alloc);
+        match self.revise(router, &Revision { edits, dest }, draft, told) {
             Ok(text) => Ok(accepted(text)),
-            Err(undone) => {
-                refuse_for(self.alloc, manner, undone.fault, &ends_at(edits, 0), None)
-            }
+            Err(undone) => refuse_for(again, undone.fault, &ends_at(edits, 0), None),
         }
     }
 
@@ -457,30 +462,25 @@ impl<'a, F: Fn(&Net, u32, Option<&[u32]>, Turns) -> Result<Turns, CrewFault>> Se
     fn reply_batch(
         &self,
         session: &mut Session,
-        manner: AnswerForm,
+        draft: Draft,
         edits: &[Edit],
         told: &mut Told,
     ) -> Result<Answer, AnswerFault>
         requires settles { Settles F.pre F.post self.now.settle.now }
-        requires lists { HasList manner.form told.old }
-        ensures { IsReplied (NeverStarts F.post self.now.settle.now) manner session.old
+        requires lists { HasList draft.form told.old }
+        ensures { IsReplied (NeverStarts F.post self.now.settle.now) (answer_form draft) session.old
             (Ok (make_edits edits.now)) told.old result session.new told.new }
     {
         let Some(router) = &mut session.router else {
-            return refuse(self.alloc, manner, Reason::NoNetwork, &[], None);
+            return refuse(draft, Reason::NoNetwork, &[], None);
         };
         let dest = router.dest();
-        match self.revise(router, &Revision { edits, dest }, manner.form, told) {
+        let again = draft.again(self.alloc);
+        match self.revise(router, &Revision { edits, dest }, draft, told) {
             Ok(text) => Ok(accepted(text)),
             Err(undone) => {
                 let at = undone.at;
-                refuse_for(
-                    self.alloc,
-                    manner,
-                    undone.fault,
-                    &ends_at(edits, at),
-                    Some(at),
-                )
+                refuse_for(again, undone.fault, &ends_at(edits, at), Some(at))
             }
         }
     }
@@ -490,25 +490,26 @@ impl<'a, F: Fn(&Net, u32, Option<&[u32]>, Turns) -> Result<Turns, CrewFault>> Se
     fn reply_move(
         &self,
         session: &mut Session,
-        manner: AnswerForm,
+        draft: Draft,
         dest: u32,
         told: &mut Told,
     ) -> Result<Answer, AnswerFault>
         requires settles { Settles F.pre F.post self.now.settle.now }
-        requires lists { HasList manner.form told.old }
-        ensures { IsReplied (NeverStarts F.post self.now.settle.now) manner session.old
+        requires lists { HasList draft.form told.old }
+        ensures { IsReplied (NeverStarts F.post self.now.settle.now) (answer_form draft) session.old
             (Ok (move_dest dest)) told.old result session.new told.new }
     {
         let Some(router) = &mut session.router else {
-            return refuse(self.alloc, manner, Reason::NoNetwork, &[], None);
+            return refuse(draft, Reason::NoNetwork, &[], None);
         };
         if dest >= router.net().nodes() {
-            return refuse(self.alloc, manner, Reason::NoNode, &[dest], None);
+            return refuse(draft, Reason::NoNode, &[dest], None);
         }
         let edits = &[];
-        match self.revise(router, &Revision { edits, dest }, manner.form, told) {
+        let again = draft.again(self.alloc);
+        match self.revise(router, &Revision { edits, dest }, draft, told) {
             Ok(text) => Ok(accepted(text)),
-            Err(undone) => refuse_for(self.alloc, manner, undone.fault, &[], None),
+            Err(undone) => refuse_for(again, undone.fault, &[], None),
         }
     }
 
@@ -518,13 +519,13 @@ impl<'a, F: Fn(&Net, u32, Option<&[u32]>, Turns) -> Result<Turns, CrewFault>> Se
         &self,
         router: &mut Router,
         revision: &Revision<'_>,
-        form: Form,
+        draft: Draft,
         told: &mut Told,
     ) -> Result<String, NotMade>
         requires settles { Settles F.pre F.post self.now.settle.now }
-        requires lists { HasList form told.old }
+        requires lists { HasList draft.form told.old }
         requires node { revision.now.dest < router.old.nodes }
-        ensures { IsRevised (NeverStarts F.post self.now.settle.now) form router.old revision.now told.old result router.new told.new }
+        ensures { IsRevised (NeverStarts F.post self.now.settle.now) (answer_form draft).form router.old revision.now told.old result router.new told.new }
     {
         if revision.edits.len() > MAX_EDITS {
             return Err(NotMade {
@@ -535,7 +536,8 @@ impl<'a, F: Fn(&Net, u32, Option<&[u32]>, Turns) -> Result<Turns, CrewFault>> Se
         let net = router.net();
         net.network_law();
         let links = net.link_count() + revision.edits.len();
-        let mut text = report_begun(self.alloc, form, net.nodes(), links)?;
+        let form = draft.form;
+        let mut text = report_begun(draft.spare, form, net.nodes(), links)?;
         let report = self.edit(router, revision, told)?;
         router.state_law();
         // There is room, so this does not fail.

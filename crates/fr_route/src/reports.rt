@@ -11,7 +11,7 @@ ghost use Rattle.fr_route.specs.Texts.{longest_report};
 ghost use Rattle.fr_route.specs.declared.form.Form.TheVariants.{JsonWithWays, Text};
 
 use crate::change::Report;
-use crate::form::Form;
+use crate::form::{Draft, Form};
 use crate::json::{push_report_object, push_report_with_ways};
 use crate::listed::{noted, planned};
 use crate::router::Router;
@@ -20,9 +20,10 @@ use crate::told::Told;
 use fr_tables::Hop;
 use std::alloc::{AllocError, Global};
 
-/// An empty line with room for each report of a round on a network of so many nodes and at most so many links.
+/// An empty line with room for each report of a round on a network of so many nodes and at most so many links, in the memory
+/// of this one.
 pub(crate) fn report_begun(
-    alloc: Global,
+    mut line: String,
     form: Form,
     nodes: u32,
     links: usize,
@@ -32,7 +33,9 @@ pub(crate) fn report_begun(
     ensures length { IfOk result (λ line. string_len line ≡ 0) }
     ensures room { IfOk result (λ line. report_room form nodes links ≤ string_capacity line) }
 {
-    String::with_capacity(alloc, room_of(form, nodes, links))
+    line.clear();
+    line.reserve(room_of(form, nodes, links))?;
+    Ok(line)
 }
 
 /// The bytes of the longest such report.
@@ -74,20 +77,21 @@ pub(crate) fn push_report_in(
 /// The report of a network that replaces the one before it, if there was one. These numbers have a new hop.
 pub(crate) fn new_report(
     alloc: Global,
-    form: Form,
+    draft: Draft,
     before: Option<&Router>,
     router: &Router,
     replaced: &[u32],
 ) -> Result<String, AllocError>
-    ensures report { (form ≢ Text → AreReplaced (option_copied before.entry) router.now replaced.now)
-        → IfOk result (λ text. IsReportIn form (AreReplaced (option_copied before.entry) router.now)
+    ensures report { (draft.form ≢ Text → AreReplaced (option_copied before.entry) router.now replaced.now)
+        → IfOk result (λ text. IsReportIn draft.form (AreReplaced (option_copied before.entry) router.now)
         (option_copied before.entry) router.now (string_bytes text)) }
-    ensures short { form ≡ Text → IfOk result (λ text. length (string_bytes text) ≤ longest_report) }
+    ensures short { draft.form ≡ Text → IfOk result (λ text. length (string_bytes text) ≤ longest_report) }
 {
     router.state_law();
     router.net().network_law();
     let net = router.net();
-    let mut text = report_begun(alloc, form, net.nodes(), net.link_count())?;
+    let form = draft.form;
+    let mut text = report_begun(draft.spare, form, net.nodes(), net.link_count())?;
     let report = router.report();
     match form {
         Form::Text => {

@@ -328,15 +328,13 @@ impl Router {
             plan,
             gate,
         };
-        placeless(
-            Settler::new(
-                alloc,
-                &|net, dest, from, turns|
-                    requires { CanBegin net.now dest from turns }
-                { settled_counts(&crew, net, dest, from, turns) },
-            )
-            .change(self, &change, &mut Told::Nobody),
+        placeless(Settler::new(
+            alloc,
+            &|net, dest, from, turns|
+                requires { CanBegin net.now dest from turns }
+            { settled_counts(&crew, net, dest, from, turns) },
         )
+        .change(self, &change, &mut Told::Nobody))
     }
 
     /// Does the same on the calling thread. It starts no thread, does not wait, and never fails with `Start`. The cost
@@ -348,13 +346,11 @@ impl Router {
         ensures unchanged { OnErr result (self.new ≡ self.old) }
         ensures no_start { IfErr result (λ fault. fault ≢ Start) }
     {
-        placeless(
-            Settler::new(
-                alloc,
-                &|net, dest, from, turns| settled_counts_alone(net, dest, from, turns),
-            )
-            .change(self, &change, &mut Told::Nobody),
+        placeless(Settler::new(
+            alloc,
+            &|net, dest, from, turns| settled_counts_alone(net, dest, from, turns),
         )
+        .change(self, &change, &mut Told::Nobody))
     }
 
     /// Changes the network as `change_alone` does, and lists the rerouted nodes in the caller's list: those that now send on

@@ -16,7 +16,7 @@ ghost use Rattle.fr_route.specs.Texts.{longest_report};
 ghost use Rattle.fr_route.specs.declared.fault.AnswerFault.TheVariants.{Start, Memory};
 
 use crate::fault::AnswerFault;
-use crate::form::{AS_TEXT, Answer, Form, Line, accepted};
+use crate::form::{Answer, Draft, Form, Line};
 use crate::router::Router;
 use crate::settling::Settler;
 use crate::space::AnswerSpace;
@@ -329,6 +329,6 @@ impl Session {
         ensures text { IfOk result (λ text. IsAnswer self.now (ask question) (string_bytes text) self.now) }
         ensures memory { IfErr result (λ fault. fault ≡ Memory) }
     {
-        Ok(self.question(alloc, AS_TEXT, question)?.text)
+        Ok(self.question(alloc, Draft::text(alloc), question)?.text)
     }
 }

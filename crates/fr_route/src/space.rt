@@ -1,4 +1,4 @@
-//! Memory for answers in JSON.
+//! Memory for answers.
 
 ghost use Rattle.std.specs.Prelude.{IfOk};
 ghost use Rattle.fr_route.specs.Listing.{AsksWays, IsListing};
@@ -8,9 +8,11 @@ use crate::way_notes::WayNotes;
 use std::alloc::{AllocError, Global};
 use std::mem;
 
-/// Memory for answers in JSON, which is kept from one line to the next. What it contains has no meaning for the caller.
+/// Memory for answers, which is kept from one line to the next. What it contains has no meaning for the caller.
 #[derive(Debug)]
 pub struct AnswerSpace {
+    // For the text of the next answer, if the caller has given one back.
+    text: String,
     // For the rerouted nodes.
     list: Vec<u32>,
     // For the notes of ways. A report in [`Form::JsonWithWays`](crate::Form) needs them, and no other answer does.
@@ -21,7 +23,8 @@ pub struct AnswerSpace {
 // dropped.
 impl Drop for AnswerSpace {
     fn drop(self) {
-        let AnswerSpace { list, notes } = self;
+        let AnswerSpace { text, list, notes } = self;
+        drop(text);
         drop(list);
         drop(notes);
     }
@@ -31,9 +34,20 @@ impl AnswerSpace {
     /// No memory yet. It allocates nothing. O(1).
     pub fn new(alloc: Global) -> AnswerSpace {
         AnswerSpace {
+            text: String::new(alloc),
             list: Vec::new(alloc),
             notes: None,
         }
+    }
+
+    /// Gives back the text of an answer that is no longer needed. The next answer uses its memory. O(1).
+    pub fn reuse(&mut self, text: String) {
+        self.text = text;
+    }
+
+    /// Takes the text that was given back last, or an empty one.
+    pub(crate) fn text(&mut self, alloc: Global) -> String {
+        mem::replace(&mut self.text, String::new(alloc))
     }
 
     /// Takes the list. It comes back by `keep`.

@@ -25,14 +25,15 @@ const NUMBER_ROOM: usize = 5;
 
 const _: () = prove!(MAX_NODES < 10_000);
 
-/// A line that begins with this word, with room for so many numbers and a line end after it. It is inlined, so that a
-/// word is copied as a constant.
+/// A line that begins with this word, with room for so many numbers and a line end after it, in the memory of this one. It
+/// is inlined, so that a word is copied as a constant.
 #[inline(always)]
-fn begun(alloc: Global, word: &str, numbers: usize) -> Result<String, AllocError>
+fn begun(mut line: String, word: &str, numbers: usize) -> Result<String, AllocError>
     ensures { IfOk result (λ line. string_bytes line ≡ word.now) }
 {
     let room = numbers.saturating_mul(NUMBER_ROOM).saturating_add(8);
-    let mut line = String::with_capacity(alloc, room)?;
+    line.clear();
+    line.reserve(room)?;
     line.push_str(word)?;
     Ok(line)
 }
@@ -70,7 +71,14 @@ fn push_digits(line: &mut String, number: u64, buffer: &mut Buffer) -> Result<()
 pub fn links_line(alloc: Global, links: Links<'_>) -> Result<String, AllocError>
     ensures { IfOk result (λ line. string_bytes line ≡ links_text links.entry) }
 {
-    let mut line = begun(alloc, "links", links.len().saturating_mul(2))?;
+    links_in(String::new(alloc), links)
+}
+
+/// The same, in the memory of this string.
+pub(crate) fn links_in(spare: String, links: Links<'_>) -> Result<String, AllocError>
+    ensures { IfOk result (λ line. string_bytes line ≡ links_text links.entry) }
+{
+    let mut line = begun(spare, "links", links.len().saturating_mul(2))?;
     let mut buffer = Buffer::new();
     for (tail, head) in links {
         push_number(&mut line, " ", u64::from(tail), &mut buffer)?;
@@ -84,7 +92,14 @@ pub fn links_line(alloc: Global, links: Links<'_>) -> Result<String, AllocError>
 pub fn counts_line(alloc: Global, counts: &[u64]) -> Result<String, AllocError>
     ensures { IfOk result (λ line. string_bytes line ≡ counts_text counts.now) }
 {
-    let mut line = begun(alloc, "counts", counts.len())?;
+    counts_in(String::new(alloc), counts)
+}
+
+/// The same, in the memory of this string.
+pub(crate) fn counts_in(spare: String, counts: &[u64]) -> Result<String, AllocError>
+    ensures { IfOk result (λ line. string_bytes line ≡ counts_text counts.now) }
+{
+    let mut line = begun(spare, "counts", counts.len())?;
     let mut buffer = Buffer::new();
     for count in counts {
         push_number(&mut line, " ", *count, &mut buffer)?;
@@ -104,10 +119,10 @@ fn push_hop(line: &mut String, hop: Hop, buffer: &mut Buffer) -> Result<(), Allo
 }
 
 /// `hops`, and then a space and the word for each hop.
-pub(crate) fn hops_line(alloc: Global, hops: &[Hop]) -> Result<String, AllocError>
+pub(crate) fn hops_line(spare: String, hops: &[Hop]) -> Result<String, AllocError>
     ensures { IfOk result (λ line. string_bytes line ≡ hops_text hops.now) }
 {
-    let mut line = begun(alloc, "hops", hops.len())?;
+    let mut line = begun(spare, "hops", hops.len())?;
     let mut buffer = Buffer::new();
     for hop in hops {
         push_hop(&mut line, *hop, &mut buffer)?;
@@ -127,10 +142,10 @@ fn push_new_hop(line: &mut String, hop: Hop, buffer: &mut Buffer) -> Result<(), 
 }
 
 /// `pushes`, and then a space and `node>hop` for each of these nodes, with its hop in this table.
-pub(crate) fn pushes_line(alloc: Global, nodes: &[u32], hops: &[Hop]) -> Result<String, AllocError>
+pub(crate) fn pushes_line(spare: String, nodes: &[u32], hops: &[Hop]) -> Result<String, AllocError>
     ensures { IfOk result (λ line. string_bytes line ≡ pushes_text (changes_of hops.now nodes.now)) }
 {
-    let mut line = begun(alloc, "pushes", nodes.len().saturating_mul(2))?;
+    let mut line = begun(spare, "pushes", nodes.len().saturating_mul(2))?;
     let mut buffer = Buffer::new();
     for node in nodes {
         push_number(&mut line, " ", u64::from(*node), &mut buffer)?;
@@ -140,10 +155,10 @@ pub(crate) fn pushes_line(alloc: Global, nodes: &[u32], hops: &[Hop]) -> Result<
 }
 
 /// `walk`, and then a space and the number of each node.
-pub(crate) fn walk_line(alloc: Global, nodes: &[u32]) -> Result<String, AllocError>
+pub(crate) fn walk_line(spare: String, nodes: &[u32]) -> Result<String, AllocError>
     ensures { IfOk result (λ line. string_bytes line ≡ walk_text nodes.now) }
 {
-    let mut line = begun(alloc, "walk", nodes.len())?;
+    let mut line = begun(spare, "walk", nodes.len())?;
     let mut buffer = Buffer::new();
     for node in nodes {
         push_number(&mut line, " ", u64::from(*node), &mut buffer)?;
@@ -152,10 +167,13 @@ pub(crate) fn walk_line(alloc: Global, nodes: &[u32]) -> Result<String, AllocErr
 }
 
 /// The answer for a route from a node that is cut off.
-pub(crate) fn no_walk_line(alloc: Global, node: u32) -> Result<String, AllocError>
+pub(crate) fn no_walk_line(spare: String, node: u32) -> Result<String, AllocError>
     ensures { IfOk result (λ line. string_bytes line ≡ no_walk_text node) }
 {
-    format!(in alloc; "walk {node} cut")
+    let mut line = begun(spare, "walk", 1)?;
+    push_number(&mut line, " ", u64::from(node), &mut Buffer::new())?;
+    line.push_str(" cut")?;
+    Ok(line)
 }
 
 /// Appends the word for the ways of a node: `here` for the destination, `cut` without a way, or the ways.
@@ -178,11 +196,11 @@ fn push_ways(
 
 /// `ways`, and then a space and the word for the ways of each node.
 #[inline(never)]
-pub(crate) fn ways_line(alloc: Global, dest: u32, table: &WayTable) -> Result<String, AllocError>
+pub(crate) fn ways_line(spare: String, dest: u32, table: &WayTable) -> Result<String, AllocError>
     requires { length table.now < 2 ^ 32 }
     ensures { IfOk result (λ line. string_bytes line ≡ ways_text dest table.now) }
 {
-    let mut line = begun(alloc, "ways", table.list().len())?;
+    let mut line = begun(spare, "ways", table.list().len())?;
     let mut buffer = Buffer::new();
     for x in 0..table.len() as u32 {
         line.push_str(" ")?;
@@ -193,10 +211,10 @@ pub(crate) fn ways_line(alloc: Global, dest: u32, table: &WayTable) -> Result<St
 
 /// `ways`, and then a space and the word for these ways of one node. `home` says whether it is the destination.
 #[inline(never)]
-pub(crate) fn node_ways_line(alloc: Global, home: bool, ways: &[u32]) -> Result<String, AllocError>
+pub(crate) fn node_ways_line(spare: String, home: bool, ways: &[u32]) -> Result<String, AllocError>
     ensures { IfOk result (λ line. string_bytes line ≡ node_ways_text home ways.now) }
 {
-    let mut line = begun(alloc, "ways ", ways.len())?;
+    let mut line = begun(spare, "ways ", ways.len())?;
     push_ways(&mut line, home, ways, &mut Buffer::new())?;
     Ok(line)
 }
@@ -226,12 +244,12 @@ fn push_lists(line: &mut String, pushes: &Pushes, buffer: &mut Buffer) -> Result
 
 /// `pushes shrink`, the pushes of the first phase, `grow`, and those of the second.
 #[inline(never)]
-pub(crate) fn phases_line(alloc: Global, phases: &TwoPhases) -> Result<String, AllocError>
+pub(crate) fn phases_line(spare: String, phases: &TwoPhases) -> Result<String, AllocError>
     requires { AreListed phases.now.shrink × AreListed phases.now.grow }
     ensures { IfOk result (λ line. string_bytes line
         ≡ phases_text (pairs phases.now.shrink) (pairs phases.now.grow)) }
 {
-    let mut line = begun(alloc, "pushes shrink", 0)?;
+    let mut line = begun(spare, "pushes shrink", 0)?;
     let mut buffer = Buffer::new();
     push_lists(&mut line, &phases.shrink, &mut buffer)?;
     line.push_str(" grow")?;
@@ -241,10 +259,10 @@ pub(crate) fn phases_line(alloc: Global, phases: &TwoPhases) -> Result<String, A
 
 /// `nearest`, and then a space and the number of each node.
 #[inline(never)]
-pub(crate) fn nearest_line(alloc: Global, nodes: &[u32]) -> Result<String, AllocError>
+pub(crate) fn nearest_line(spare: String, nodes: &[u32]) -> Result<String, AllocError>
     ensures { IfOk result (λ line. string_bytes line ≡ nearest_text nodes.now) }
 {
-    let mut line = begun(alloc, "nearest", nodes.len())?;
+    let mut line = begun(spare, "nearest", nodes.len())?;
     let mut buffer = Buffer::new();
     for node in nodes {
         push_number(&mut line, " ", u64::from(*node), &mut buffer)?;
@@ -254,10 +272,13 @@ pub(crate) fn nearest_line(alloc: Global, nodes: &[u32]) -> Result<String, Alloc
 
 /// The answer for a nearest route from a node that is cut off.
 #[inline(never)]
-pub(crate) fn no_nearest_line(alloc: Global, node: u32) -> Result<String, AllocError>
+pub(crate) fn no_nearest_line(spare: String, node: u32) -> Result<String, AllocError>
     ensures { IfOk result (λ line. string_bytes line ≡ no_nearest_text node) }
 {
-    format!(in alloc; "nearest {node} cut")
+    let mut line = begun(spare, "nearest", 1)?;
+    push_number(&mut line, " ", u64::from(node), &mut Buffer::new())?;
+    line.push_str(" cut")?;
+    Ok(line)
 }
 
 /// Appends the report of a round: how many turns it took, and how many nodes are cut off.
@@ -273,8 +294,8 @@ pub(crate) fn push_report(line: &mut String, report: Report) -> Result<(), Alloc
 }
 
 /// The answer to a line that is refused.
-pub(crate) fn refusal_line(alloc: Global, refusal: Reason) -> Result<String, AllocError>
+pub(crate) fn refusal_line(spare: String, refusal: Reason) -> Result<String, AllocError>
     ensures { IfOk result (λ line. string_bytes line ≡ refusal_text (number_of refusal)) }
 {
-    begun(alloc, refusal.answer(), 1)
+    begun(spare, refusal.answer(), 1)
 }

@@ -40,6 +40,6 @@ returns c =
     let new = c.in_ok-wanted.wanted in
     let lists = c.planned.ensures old new c.in_ok-phases.ensures in
     IfOk-weaker c.phases_object.result _ _
-    (λ text is. json_phases c.args.form c.in_default.not-Text c.args.router.now old (string_bytes text)
+    (λ text is. json_phases c.args.draft.form c.in_default.not-Text c.args.router.now old (string_bytes text)
     (new, c.in_ok-wanted.ensures, is))
     (c.phases_object.ensures (shrinks old new) (growths old new) lists)

@@ -1,16 +1,16 @@
 use Rattle.std.proofs.Common.{◌≡◌, ◌∙◌, None, Ok, Some, [], ◌∷◌, ap, subst, sym, ℕ}
 use Rattle.fr_route.specs.Changes.{IsPlacedFault}
 use Rattle.fr_route.specs.Outcomes.{IsEdited}
-use Rattle.fr_route.specs.Replies.{request_of_edit}
+use Rattle.fr_route.specs.Replies.{answer_form, request_of_edit}
 use Rattle.fr_route.specs.States.{State}
 use Rattle.fr_route.specs.declared.fault.RouteFault.TheVariants.{Start}
-use Rattle.fr_route.proofs.Replying.{edit_accepted, edit_is_refused, edit_may_start, edit_refusal, edit_tells, edit_text, edit_wants, faulty, none_yet, revised}
+use Rattle.fr_route.proofs.Replying.{edit_accepted, edit_is_refused, edit_may_start, edit_refusal, edit_tells, edit_text, edit_wants, faulty, none_yet, refuses_again, revised}
 use Rattle.fr_route.proofs.settling.Settler.reply_edit.Goals as goal
 use Rattle.fr_route.proofs.settling.Settler.reply_edit.Goals.{in-Ok, in-Err}
 
 pub returns-in_default : goal.returns-in_default
 returns-in_default g c =
-    none_yet _ c.args.manner c.args.session.now (request_of_edit c.args.edit) c.args.told.now c.refuse.result c.session.inside.router
+    none_yet _ (answer_form c.args.draft) c.args.session.now (request_of_edit c.args.edit) c.args.told.now c.refuse.result c.session.inside.router
     (sym c.session.view_is ∙ c.in_default.is) c.in_default.is (edit_wants c.args.edit) c.refuse.ensures.refuses c.refuse.ensures.memory
 
 pub returns : goal.returns
@@ -18,12 +18,12 @@ returns g c =
     let s : State = c.in-Some.router in
     let here : c.args.session.now ≡ Some s = sym c.session.view_is ∙ c.in-Some.is in
     elim c.match-revise.branch [
-      | in-Ok w ↦ rw (here, w.result-is) (revised _ c.args.manner s (request_of_edit c.args.edit) _ c.args.told.now w.in-Ok.text w.accepted.result c.revise.new.router c.revise.new.told
+      | in-Ok w ↦ rw (here, w.result-is) (revised _ (answer_form c.args.draft) s (request_of_edit c.args.edit) _ c.args.told.now w.in-Ok.text w.accepted.result c.revise.new.router c.revise.new.told
           w.accepted.ensures w.in-Ok.ensures
           (λ made. edit_accepted s c.args.edit c.revise.new.router (subst (λ (d : ℕ). IsEdited s (c.args.edit ∷ []) d c.revise.new.router) c.dest-dest.ensures.value made))
-          (λ bytes is. edit_text c.args.manner.form s c.args.edit c.revise.new.router bytes is)
+          (λ bytes is. edit_text c.args.draft.form s c.args.edit c.revise.new.router bytes is)
           (λ after is. edit_tells s c.args.edit c.revise.new.router _ after is))
-      | in-Err w ↦ rw (here, w.result-is) (faulty _ c.args.manner (Some s) (Ok (request_of_edit c.args.edit)) c.args.told.now w.in-Err.undone.fault w.ends_at.result None w.refuse_for.result
+      | in-Err w ↦ rw (here, w.result-is) (faulty _ (answer_form c.args.draft) (Some s) (Ok (request_of_edit c.args.edit)) c.args.told.now w.in-Err.undone.fault w.ends_at.result None w.refuse_for.result
           (Some c.revise.new.router) c.revise.new.told
           (λ refusal is. edit_is_refused s c.args.edit refusal
           (edit_refusal s c.args.edit c.dest-dest.result w.in-Err.undone.at w.in-Err.undone.fault w.in-Err.ensures.fault w.ends_at.result w.ends_at.ensures refusal is))
@@ -31,5 +31,6 @@ returns g c =
           (subst (λ (d : ℕ). IsPlacedFault s (c.args.edit ∷ []) d w.in-Err.undone.at Start) c.dest-dest.ensures.value
           (subst (IsPlacedFault s (c.args.edit ∷ []) c.dest-dest.result w.in-Err.undone.at) e w.in-Err.ensures.fault)))
           w.in-Err.ensures.no_start (ap (λ (z : State). Some z) w.in-Err.ensures.unchanged.0) w.in-Err.ensures.unchanged.1
-          w.refuse_for.ensures.refuses w.refuse_for.ensures.start)
+          (refuses_again (answer_form c.again-again.result) (answer_form c.args.draft) w.in-Err.undone.fault w.ends_at.result None w.refuse_for.result
+          c.again-again.ensures w.refuse_for.ensures.refuses) w.refuse_for.ensures.start)
     ]

@@ -3,13 +3,14 @@ use Rattle.fr_graph.specs.Network.{Network}
 use Rattle.fr_lines.specs.Requests.{move_dest}
 use Rattle.fr_route.specs.Changes.{IsPlacedFault}
 use Rattle.fr_route.specs.States.{State, IsRound}
-use Rattle.fr_route.proofs.Replying.{faulty, move_text, no_refusal, none_yet, revised}
+use Rattle.fr_route.specs.Replies.{answer_form}
+use Rattle.fr_route.proofs.Replying.{faulty, move_text, no_refusal, none_yet, refuses_again, revised}
 use Rattle.fr_route.proofs.settling.Settler.reply_move.Goals as goal
 use Rattle.fr_route.proofs.settling.Settler.reply_move.Goals.{in-Ok, in-Err}
 
 pub returns-in_default : goal.returns-in_default
 returns-in_default g c =
-    none_yet _ c.args.manner c.args.session.now (move_dest c.args.dest) c.args.told.now c.refuse.result c.session.inside.router
+    none_yet _ (answer_form c.args.draft) c.args.session.now (move_dest c.args.dest) c.args.told.now c.refuse.result c.session.inside.router
     (sym c.session.view_is ∙ c.in_default.is) c.in_default.is refl c.refuse.ensures.refuses c.refuse.ensures.memory
 
 pub returns : goal.returns
@@ -19,15 +20,16 @@ returns g c =
     let below : d < s.nodes = omega (arith, c.if-dest-nodes.false, c.nodes.ensures.value, c.net.ensures.nodes) in
     let here : c.args.session.now ≡ Some s = sym c.session.view_is ∙ c.in-Some.is in
     elim c.match-revise.branch [
-      | in-Ok w ↦ rw (here, w.result-is) (revised _ c.args.manner s (move_dest d) _ c.args.told.now w.in-Ok.text w.accepted.result c.revise.new.router c.revise.new.told
+      | in-Ok w ↦ rw (here, w.result-is) (revised _ (answer_form c.args.draft) s (move_dest d) _ c.args.told.now w.in-Ok.text w.accepted.result c.revise.new.router c.revise.new.told
           w.accepted.ensures w.in-Ok.ensures
           (λ made. (below, subst (λ (m : Network). IsRound m.nodes d m.links c.revise.new.router) made.1.1.0 made.1.1.1))
-          (λ bytes is. move_text c.args.manner.form s d c.revise.new.router bytes is)
+          (λ bytes is. move_text c.args.draft.form s d c.revise.new.router bytes is)
           (λ after is. is))
-      | in-Err w ↦ rw (here, w.result-is) (faulty _ c.args.manner (Some s) (Ok (move_dest d)) c.args.told.now w.in-Err.undone.fault [] None w.refuse_for.result
+      | in-Err w ↦ rw (here, w.result-is) (faulty _ (answer_form c.args.draft) (Some s) (Ok (move_dest d)) c.args.told.now w.in-Err.undone.fault [] None w.refuse_for.result
           (Some c.revise.new.router) c.revise.new.told
           (λ refusal is. absurd (no_refusal s d w.in-Err.undone.at w.in-Err.undone.fault w.in-Err.ensures.fault [] None refusal is))
           (λ e. subst (IsPlacedFault s [] d w.in-Err.undone.at) e w.in-Err.ensures.fault)
           w.in-Err.ensures.no_start (ap (λ (z : State). Some z) w.in-Err.ensures.unchanged.0) w.in-Err.ensures.unchanged.1
-          w.refuse_for.ensures.refuses w.refuse_for.ensures.start)
+          (refuses_again (answer_form c.again-again.result) (answer_form c.args.draft) w.in-Err.undone.fault [] None w.refuse_for.result
+          c.again-again.ensures w.refuse_for.ensures.refuses) w.refuse_for.ensures.start)
     ]

@@ -3,7 +3,7 @@ use Rattle.fr_route.proofs.Replying.{done, faulty, new_refusal, new_text}
 use Rattle.std.specs.Prelude.{String}
 use Rattle.std.specs.declared.alloc.Global.{Global}
 use Rattle.fr_lines.specs.Requests.{new_network}
-use Rattle.fr_route.specs.Replies.{IsReportIn}
+use Rattle.fr_route.specs.Replies.{IsReportIn, answer_form}
 use Rattle.fr_route.specs.Reroutes.{AreReplaced}
 use Rattle.fr_route.specs.States.{State}
 use Rattle.fr_route.specs.Texts.{longest_report}
@@ -18,10 +18,10 @@ returns-in_ok-put-in-Ok g c =
     let put = c.in_ok-put-in-Ok.ensures in
     let s : Option State = c.args.session.now in
     let text : c.accepted.result.text ≡ c.in_ok-put-in-Ok.field-0 = c.accepted.ensures.0 in
-    done _ c.args.manner s (new_network n d links) c.args.told.now c.in-Ok.router c.accepted.result c.put.new.self c.put.new.told
+    done _ (answer_form c.args.draft) s (new_network n d links) c.args.told.now c.in-Ok.router c.accepted.result c.put.new.self c.put.new.told
     c.in-Ok.ensures.accepted
-    (λ list. new_text c.args.manner.form s n d links c.in-Ok.router (string_bytes c.accepted.result.text)
-    (subst (λ (t : String Global). IsReportIn c.args.manner.form (AreReplaced s c.in-Ok.router) s c.in-Ok.router (string_bytes t)) (sym text) (put.report list)))
+    (λ list. new_text c.args.draft.form s n d links c.in-Ok.router (string_bytes c.accepted.result.text)
+    (subst (λ (t : String Global). IsReportIn c.args.draft.form (AreReplaced s c.in-Ok.router) s c.in-Ok.router (string_bytes t)) (sym text) (put.report list)))
     c.accepted.ensures.1 put.put (λ listing. put.told listing)
     (λ e. subst (λ (t : String Global). length (string_bytes t) ≤ longest_report) (sym text) (put.short e))
 
@@ -31,7 +31,7 @@ returns-in-Err g c =
     let d = c.args.parts.dest in
     let links = c.args.parts.links.now in
     let why = c.in-Err.ensures.refused in
-    faulty _ c.args.manner c.args.session.now _ c.args.told.now c.in-Err.fault (d ∷ []) None c.refuse_for.result
+    faulty _ (answer_form c.args.draft) c.args.session.now _ c.args.told.now c.in-Err.fault (d ∷ []) None c.refuse_for.result
     c.args.session.now c.args.told.now (new_refusal n d links c.in-Err.fault why)
     (λ e. subst (IsNewFault n d links) e why)
     c.in-Err.ensures.no_start refl refl c.refuse_for.ensures.refuses c.refuse_for.ensures.start
