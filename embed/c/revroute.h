@@ -612,7 +612,7 @@ typedef struct revroute_way_reader {
  * REVROUTE_ANSWERED or REVROUTE_NO_MEMORY. After REVROUTE_NO_MEMORY *reader is unchanged and the session answers as
  * before, although it may have its table now.
  *
- * The first reader of ways of a session takes 80 KiB of memory, and O(4,096 + m log d) if no node has more than d
+ * The first reader of ways of a session takes 112 KiB of memory, and O(4,096 + m log d) if no node has more than d
  * links; each later one O(1). However many readers of ways a session has had, revroute_change and revroute_move_dest
  * then cost what revroute_change_with_ways costs. To push the ways of k nodes that a change has altered costs
  * O(k (log k + d log d)) more. revroute_open and each line, also a question, cost O(4,096 + m log d) more. */
