@@ -1,7 +1,6 @@
 ghost use Rattle.std.specs.Prelude.{◌≡◌, ◌<◌};
 
 use crate::{PublishedSession, WayReader};
-use fr_graph::Edit;
 use fr_route::{Change, Hop};
 use std::alloc::Global;
 use std::test::Fail;
@@ -74,133 +73,126 @@ fn cut_by(alloc: Global, session: &mut PublishedSession, change: Change) -> Opti
     Some(report.cut)
 }
 
+/// Whether a line has an answer, or is blank.
+fn answers(alloc: Global, session: &mut PublishedSession, line: &[u8]) -> bool {
+    session.answer_line(alloc, line).is_ok()
+}
+
 /// The nodes that lose a link shrink, and those that turn get other ways. A node that is cut off has none until it is
 /// joined again.
+fn follows_changes(alloc: Global, session: &mut PublishedSession, reader: &mut WayReader) -> bool
+    requires { 4 < reader.old.nodes }
+{
+    let line = b"[\"net\",5,0,[[1,0],[2,0],[3,1],[3,2],[4,3]]]";
+    let opened = answers(alloc, session, line) & has_ways(reader, 3, &[1, 2]);
+    // Node 1 turns.
+    let one_turns = (cut_by(alloc, session, Change::Cut { u: 1, v: 0 }) == Some(0))
+        & has_ways(reader, 1, &[3])
+        & has_ways(reader, 2, &[0])
+        & has_ways(reader, 3, &[2]);
+    // Only the destination is left.
+    let none_left = (cut_by(alloc, session, Change::Cut { u: 2, v: 0 }) == Some(4))
+        & has_ways(reader, 1, &[])
+        & has_ways(reader, 3, &[])
+        & has_ways(reader, 4, &[]);
+    // Nodes 1, 2 and 3 turn.
+    let joined = (cut_by(alloc, session, Change::Join { u: 4, v: 0 }) == Some(0))
+        & has_ways(reader, 1, &[3])
+        & has_ways(reader, 2, &[3])
+        & has_ways(reader, 3, &[4])
+        & has_ways(reader, 4, &[0]);
+    opened & one_turns & none_left & joined
+}
+
 #[test]
 fn a_reader_of_ways_follows_changes(rt: HostRuntime) -> Result<(), Fail> {
     let mut session = PublishedSession::new(rt.alloc());
-    session
-        .answer_line(rt.alloc(), b"[\"net\",5,0,[[1,0],[2,0],[3,1],[3,2],[4,3]]]")
-        .expect(&rt, "an answer");
     let mut reader = session.way_reader(rt.alloc())?;
     session.table_law();
-    assert!(rt; has_ways(&mut reader, 3, &[1, 2]) && has_ways(&mut reader, 4, &[3]));
-    // Node 1 turns.
-    assert!(rt; cut_by(rt.alloc(), &mut session, Change::Cut { u: 1, v: 0 }) == Some(0));
-    assert!(rt;
-        has_ways(&mut reader, 1, &[3])
-            && has_ways(&mut reader, 2, &[0])
-            && has_ways(&mut reader, 3, &[2])
-            && has_ways(&mut reader, 4, &[3])
-    );
-    // Only the destination is left.
-    assert!(rt; cut_by(rt.alloc(), &mut session, Change::Cut { u: 2, v: 0 }) == Some(4));
-    assert!(rt;
-        has_ways(&mut reader, 1, &[])
-            && has_ways(&mut reader, 2, &[])
-            && has_ways(&mut reader, 3, &[])
-            && has_ways(&mut reader, 4, &[])
-    );
-    // Nodes 1, 2 and 3 turn.
-    assert!(rt; cut_by(rt.alloc(), &mut session, Change::Join { u: 4, v: 0 }) == Some(0));
-    assert!(rt;
-        has_ways(&mut reader, 1, &[3])
-            && has_ways(&mut reader, 2, &[3])
-            && has_ways(&mut reader, 3, &[4])
-            && has_ways(&mut reader, 4, &[0])
-    );
+    assert!(rt; follows_changes(rt.alloc(), &mut session, &mut reader));
     Ok(())
 }
 
 /// `change` and `change_with_ways` take turns, and only the second keeps its pushes. A refused change pushes nothing.
+fn follows_both_calls(alloc: Global, session: &mut PublishedSession, reader: &mut WayReader) -> bool
+    requires { 3 < reader.old.nodes }
+{
+    let line = b"[\"net\",4,0,[[1,0],[2,1],[3,2]]]";
+    let opened = answers(alloc, session, line) & has_ways(reader, 3, &[2]);
+    let added = (cut_by(alloc, session, Change::Add { u: 3, v: 0 }) == Some(0))
+        & has_ways(reader, 3, &[0, 2])
+        & session.grow().nodes.is_empty();
+    let kept = session
+        .change_with_ways(alloc, Change::Add { u: 3, v: 1 })
+        .is_some()
+        & has_ways(reader, 3, &[0, 1, 2])
+        & (session.grow().nodes == [3].as_slice())
+        & (session.grow().list == [0, 1, 2].as_slice());
+    // The destination moves, and nodes 0 and 1 turn.
+    let moved = (cut_by(alloc, session, Change::Destination { dest: 2 }) == Some(0))
+        & has_ways(reader, 0, &[3])
+        & has_ways(reader, 1, &[2, 3, 0])
+        & has_ways(reader, 2, &[])
+        & has_ways(reader, 3, &[2])
+        & (session.grow().nodes == [3].as_slice())
+        & session.shrink().nodes.is_empty();
+    let refused = cut_by(alloc, session, Change::Cut { u: 2, v: 0 }).is_none()
+        & has_ways(reader, 1, &[2, 3, 0]);
+    opened & added & kept & moved & refused
+}
+
 #[test]
 fn a_reader_of_ways_follows_both_calls(rt: HostRuntime) -> Result<(), Fail> {
     let mut session = PublishedSession::new(rt.alloc());
     let mut reader = session.way_reader(rt.alloc())?;
     session.table_law();
-    session
-        .answer_line(rt.alloc(), b"[\"net\",4,0,[[1,0],[2,1],[3,2]]]")
-        .expect(&rt, "an answer");
-    assert!(rt; has_ways(&mut reader, 3, &[2]));
-    assert!(rt; cut_by(rt.alloc(), &mut session, Change::Add { u: 3, v: 0 }) == Some(0));
-    assert!(rt; has_ways(&mut reader, 3, &[0, 2]) && session.grow().nodes.is_empty());
-    session
-        .change_with_ways(rt.alloc(), Change::Add { u: 3, v: 1 })
-        .expect(&rt, "a network")?;
-    assert!(rt; has_ways(&mut reader, 3, &[0, 1, 2]));
-    assert!(rt;
-        session.grow().nodes == [3].as_slice() && session.grow().list == [0, 1, 2].as_slice()
-    );
-    // The destination moves, and nodes 0 and 1 turn.
-    assert!(rt; cut_by(rt.alloc(), &mut session, Change::Destination { dest: 2 }) == Some(0));
-    assert!(rt;
-        has_ways(&mut reader, 0, &[3])
-            && has_ways(&mut reader, 1, &[2, 3, 0])
-            && has_ways(&mut reader, 2, &[])
-            && has_ways(&mut reader, 3, &[2])
-    );
-    assert!(rt; session.grow().nodes == [3].as_slice() && session.shrink().nodes.is_empty());
-    assert!(rt; cut_by(rt.alloc(), &mut session, Change::Cut { u: 2, v: 0 }).is_none());
-    assert!(rt; has_ways(&mut reader, 1, &[2, 3, 0]));
+    assert!(rt; follows_both_calls(rt.alloc(), &mut session, &mut reader));
     Ok(())
 }
 
-/// Node 8 has seven ways, and readers read the first five. Then the sixth and the seventh come up, and a new network
-/// has fewer nodes.
+/// Node 8 has seven ways, and readers read the first five. Then the others come up, at last by a line.
+fn reads_five(alloc: Global, session: &mut PublishedSession, reader: &mut WayReader) -> bool
+    requires { 8 < reader.old.nodes }
+    ensures { reader.new.nodes ≡ reader.old.nodes }
+{
+    let line =
+        b"[\"net\",9,0,[[1,0],[2,0],[3,0],[4,0],[5,0],[6,0],[7,0],[8,1],[8,2],[8,3],[8,4],[8,5],[8,6],[8,7]]]";
+    let opened = answers(alloc, session, line) & has_ways(reader, 8, &[1, 2, 3, 4, 5]);
+    let past = (cut_by(alloc, session, Change::Cut { u: 8, v: 7 }) == Some(0))
+        & has_ways(reader, 8, &[1, 2, 3, 4, 5]);
+    let next = (cut_by(alloc, session, Change::Cut { u: 1, v: 8 }) == Some(0))
+        & has_ways(reader, 8, &[2, 3, 4, 5, 6]);
+    let batch = answers(
+        alloc,
+        session,
+        b"[\"batch\",[[\"cut\",8,2],[\"cut\",8,3],[\"add\",8,0]]]",
+    ) & has_ways(reader, 8, &[0, 4, 5, 6]);
+    opened & past & next & batch
+}
+
+/// Then a question, a refused line and a blank line leave the table as it is. A new network has fewer nodes.
+fn follows_lines(alloc: Global, session: &mut PublishedSession, reader: &mut WayReader) -> bool
+    requires { 8 < reader.old.nodes }
+{
+    let left = answers(alloc, session, b"[\"ways\"]")
+        & answers(alloc, session, b"[\"cut\",8,1]")
+        & answers(alloc, session, b" ")
+        & has_ways(reader, 8, &[0, 4, 5, 6]);
+    let fewer = answers(alloc, session, b"[\"net\",3,2,[[0,2],[1,0],[1,2]]]")
+        & has_ways(reader, 8, &[])
+        & has_ways(reader, 1, &[2, 0]);
+    let last = (cut_by(alloc, session, Change::Cut { u: 1, v: 2 }) == Some(0))
+        & has_ways(reader, 1, &[0])
+        & has_ways(reader, 0, &[2]);
+    left & fewer & last
+}
+
 #[test]
 fn a_reader_of_ways_reads_five(rt: HostRuntime) -> Result<(), Fail> {
     let mut session = PublishedSession::new(rt.alloc());
-    let line =
-        b"[\"net\",9,0,[[1,0],[2,0],[3,0],[4,0],[5,0],[6,0],[7,0],[8,1],[8,2],[8,3],[8,4],[8,5],[8,6],[8,7]]]";
-    session
-        .answer_line(rt.alloc(), line)
-        .expect(&rt, "an answer");
     let mut reader = session.way_reader(rt.alloc())?;
     session.table_law();
-    assert!(rt; has_ways(&mut reader, 8, &[1, 2, 3, 4, 5]));
-    assert!(rt; cut_by(rt.alloc(), &mut session, Change::Cut { u: 8, v: 7 }) == Some(0));
-    assert!(rt; has_ways(&mut reader, 8, &[1, 2, 3, 4, 5]));
-    assert!(rt; cut_by(rt.alloc(), &mut session, Change::Cut { u: 1, v: 8 }) == Some(0));
-    assert!(rt; has_ways(&mut reader, 8, &[2, 3, 4, 5, 6]));
-    let mut edits = Vec::new(rt.alloc());
-    edits.push(Edit::Cut { u: 8, v: 2 })?;
-    edits.push(Edit::Cut { u: 8, v: 3 })?;
-    edits.push(Edit::Add { u: 8, v: 0 })?;
-    assert!(rt; cut_by(rt.alloc(), &mut session, Change::Batch(edits)) == Some(0));
-    assert!(rt; has_ways(&mut reader, 8, &[0, 4, 5, 6]));
-    session
-        .answer_line(rt.alloc(), b"[\"net\",3,2,[[0,2],[1,0],[1,2]]]")
-        .expect(&rt, "an answer");
-    assert!(rt; has_ways(&mut reader, 8, &[]) && has_ways(&mut reader, 1, &[2, 0]));
-    assert!(rt; cut_by(rt.alloc(), &mut session, Change::Cut { u: 1, v: 2 }) == Some(0));
-    assert!(rt; has_ways(&mut reader, 1, &[0]) && has_ways(&mut reader, 0, &[2]));
-    Ok(())
-}
-
-/// Questions, refused lines and a blank line leave the table as it is. An edit by a line is followed, and so is a change
-/// after it.
-#[test]
-fn a_reader_of_ways_follows_lines(rt: HostRuntime) -> Result<(), Fail> {
-    let mut session = PublishedSession::new(rt.alloc());
-    let mut reader = session.way_reader(rt.alloc())?;
-    session.table_law();
-    session
-        .answer_line(rt.alloc(), b"[\"net\",4,0,[[1,0],[2,0],[3,1],[3,2]]]")
-        .expect(&rt, "an answer");
-    session
-        .answer_line(rt.alloc(), b"[\"ways\"]")
-        .expect(&rt, "an answer");
-    session
-        .answer_line(rt.alloc(), b"[\"cut\",3,0]")
-        .expect(&rt, "a refusal");
-    session.answer_line(rt.alloc(), b" ").expect(&rt, "nothing");
-    assert!(rt; has_ways(&mut reader, 3, &[1, 2]) && has_ways(&mut reader, 1, &[0]));
-    // Node 1 turns.
-    session
-        .answer_line(rt.alloc(), b"[\"cut\",1,0]")
-        .expect(&rt, "an answer");
-    assert!(rt; has_ways(&mut reader, 3, &[2]) && has_ways(&mut reader, 1, &[3]));
-    assert!(rt; cut_by(rt.alloc(), &mut session, Change::Join { u: 1, v: 2 }) == Some(0));
-    assert!(rt; has_ways(&mut reader, 3, &[2]) && has_ways(&mut reader, 1, &[2, 3]));
+    assert!(rt; reads_five(rt.alloc(), &mut session, &mut reader));
+    assert!(rt; follows_lines(rt.alloc(), &mut session, &mut reader));
     Ok(())
 }
