@@ -112,7 +112,7 @@ done never manner s request told new answer next more accepted text by n tells s
 -- the answer to edits that are made
 pub revised : (never : Type 0) (manner : AnswerForm) (s : State) (request : PlainRequest) (revision : Revision) (told : Told) (text : String Global)
     (a : Answer) (new : State) (more : Told) → (a.text ≡ text) × (a.refused ≡ false)
-    → IsRevised never manner.form s revision told (Ok text) new more
+    → IsRevised never manner.form s revision told (Ok tt) text new more
     → (IsEdited s revision.edits.now revision.dest new → IsAccepted (Some s) request new)
     → ((bytes : List ℕ) → IsReportIn manner.form (AreRerouted s new) (Some s) new bytes → IsTextIn manner.form (Some s) request new bytes)
     → ((after : List ℕ) → AreRerouted s new after → TellsOf (Some s) request new (nodes_told told) after)

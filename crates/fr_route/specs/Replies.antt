@@ -172,14 +172,14 @@ pub record IsLineAnsweredIn (never : Type 0) (form : Form) (number : ℕ) (s : O
   pub start : IfErr answer (λ fault. fault ≡ Start → MayStartForLine s (reading line))
   pub no_start : never → IfErr answer (λ fault. fault ≢ Start)
 
--- edits, and the report of the round after them
+-- edits, and the report of the round after them, which becomes this text
 pub record IsRevised (never : Type 0) (form : Form) (s : State) (revision : Revision) (told : Told)
-    (text : Result (String Global) NotMade) (next : State) (more : Told) : Type 0 where
-  pub made : IfOk text (λ _. IsEdited s revision.edits.now revision.dest next)
+    (answer : Result (Unit {0}) NotMade) (text : String Global) (next : State) (more : Told) : Type 0 where
+  pub made : IfOk answer (λ _. IsEdited s revision.edits.now revision.dest next)
   pub report : HasList form told
-      → IfOk text (λ it. IsReportIn form (AreRerouted s next) (Some s) next (string_bytes it))
-  pub short : form ≡ Text → IfOk text (λ it. length (string_bytes it) ≤ longest_report)
-  pub rerouted : IsListing told → IfOk text (λ _. AreRerouted s next (nodes_told more))
-  pub fault : IfErr text (IsPlaced s revision.edits.now revision.dest)
-  pub unchanged : OnErr text ((next ≡ s) × (nodes_told more ≡ nodes_told told))
-  pub no_start : never → IfErr text (λ undone. undone.fault ≢ route.Start)
+      → IfOk answer (λ _. IsReportIn form (AreRerouted s next) (Some s) next (string_bytes text))
+  pub short : form ≡ Text → IfOk answer (λ _. length (string_bytes text) ≤ longest_report)
+  pub rerouted : IsListing told → IfOk answer (λ _. AreRerouted s next (nodes_told more))
+  pub fault : IfErr answer (IsPlaced s revision.edits.now revision.dest)
+  pub unchanged : OnErr answer ((next ≡ s) × (nodes_told more ≡ nodes_told told))
+  pub no_start : never → IfErr answer (λ undone. undone.fault ≢ route.Start)

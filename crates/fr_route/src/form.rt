@@ -55,17 +55,6 @@ impl Draft {
             spare: String::new(alloc),
         }
     }
-
-    /// A draft of the answer to the same line, without memory.
-    pub(crate) fn again(&self, alloc: Global) -> Draft
-        ensures { answer_form result ≡ answer_form self.now }
-    {
-        Draft {
-            form: self.form,
-            number: self.number,
-            spare: String::new(alloc),
-        }
-    }
 }
 
 /// The answer to a request that is accepted.

@@ -31,7 +31,7 @@ use crate::pushing::{pushes_between, pushes_from};
 use crate::questions::{node_question_in, phases_in, question_in, walk_in};
 use crate::refusals::Reason;
 use crate::refusing::{refuse, refuse_for};
-use crate::reports::{new_report, push_report_in, report_begun};
+use crate::reports::{begin_report, new_report, push_report_in};
 use crate::revision::Revision;
 use crate::router::Router;
 use crate::session::Session;
@@ -436,7 +436,7 @@ impl<'a, F: Fn(&Net, u32, Option<&[u32]>, Turns) -> Result<Turns, CrewFault>> Se
     fn reply_edit(
         &self,
         session: &mut Session,
-        draft: Draft,
+        mut draft: Draft,
         edit: Edit,
         told: &mut Told,
     ) -> Result<Answer, AnswerFault>
@@ -450,10 +450,9 @@ impl<'a, F: Fn(&Net, u32, Option<&[u32]>, Turns) -> Result<Turns, CrewFault>> Se
         };
         let dest = router.dest();
         let edits = &[edit];
-        let again = draft.again(self.alloc);
-        match self.revise(router, &Revision { edits, dest }, draft, told) {
-            Ok(text) => Ok(accepted(text)),
-            Err(undone) => refuse_for(again, undone.fault, &ends_at(edits, 0), None),
+        match self.revise(router, &Revision { edits, dest }, &mut draft, told) {
+            Ok(()) => Ok(accepted(draft.spare)),
+            Err(undone) => refuse_for(draft, undone.fault, &ends_at(edits, 0), None),
         }
     }
 
@@ -462,7 +461,7 @@ impl<'a, F: Fn(&Net, u32, Option<&[u32]>, Turns) -> Result<Turns, CrewFault>> Se
     fn reply_batch(
         &self,
         session: &mut Session,
-        draft: Draft,
+        mut draft: Draft,
         edits: &[Edit],
         told: &mut Told,
     ) -> Result<Answer, AnswerFault>
@@ -475,12 +474,11 @@ impl<'a, F: Fn(&Net, u32, Option<&[u32]>, Turns) -> Result<Turns, CrewFault>> Se
             return refuse(draft, Reason::NoNetwork, &[], None);
         };
         let dest = router.dest();
-        let again = draft.again(self.alloc);
-        match self.revise(router, &Revision { edits, dest }, draft, told) {
-            Ok(text) => Ok(accepted(text)),
+        match self.revise(router, &Revision { edits, dest }, &mut draft, told) {
+            Ok(()) => Ok(accepted(draft.spare)),
             Err(undone) => {
                 let at = undone.at;
-                refuse_for(again, undone.fault, &ends_at(edits, at), Some(at))
+                refuse_for(draft, undone.fault, &ends_at(edits, at), Some(at))
             }
         }
     }
@@ -490,7 +488,7 @@ impl<'a, F: Fn(&Net, u32, Option<&[u32]>, Turns) -> Result<Turns, CrewFault>> Se
     fn reply_move(
         &self,
         session: &mut Session,
-        draft: Draft,
+        mut draft: Draft,
         dest: u32,
         told: &mut Told,
     ) -> Result<Answer, AnswerFault>
@@ -506,26 +504,27 @@ impl<'a, F: Fn(&Net, u32, Option<&[u32]>, Turns) -> Result<Turns, CrewFault>> Se
             return refuse(draft, Reason::NoNode, &[dest], None);
         }
         let edits = &[];
-        let again = draft.again(self.alloc);
-        match self.revise(router, &Revision { edits, dest }, draft, told) {
-            Ok(text) => Ok(accepted(text)),
-            Err(undone) => refuse_for(again, undone.fault, &[], None),
+        match self.revise(router, &Revision { edits, dest }, &mut draft, told) {
+            Ok(()) => Ok(accepted(draft.spare)),
+            Err(undone) => refuse_for(draft, undone.fault, &[], None),
         }
     }
 
-    /// Makes these edits, and returns the report of the round. Room for the report is taken before anything is changed,
-    /// but only for edits within the limit.
+    /// Makes these edits, and writes the report of the round as the text of the draft. Room for the report is taken before
+    /// anything is changed, but only for edits within the limit.
     fn revise(
         &self,
         router: &mut Router,
         revision: &Revision<'_>,
-        draft: Draft,
+        draft: &mut Draft,
         told: &mut Told,
-    ) -> Result<String, NotMade>
+    ) -> Result<(), NotMade>
         requires settles { Settles F.pre F.post self.now.settle.now }
-        requires lists { HasList draft.form told.old }
+        requires lists { HasList draft.old.form told.old }
         requires node { revision.now.dest < router.old.nodes }
-        ensures { IsRevised (NeverStarts F.post self.now.settle.now) (answer_form draft).form router.old revision.now told.old result router.new told.new }
+        ensures revised { IsRevised (NeverStarts F.post self.now.settle.now) draft.old.form router.old revision.now told.old
+            result draft.new.spare router.new told.new }
+        ensures same { answer_form draft.new ≡ answer_form draft.old }
     {
         if revision.edits.len() > MAX_EDITS {
             return Err(NotMade {
@@ -536,12 +535,11 @@ impl<'a, F: Fn(&Net, u32, Option<&[u32]>, Turns) -> Result<Turns, CrewFault>> Se
         let net = router.net();
         net.network_law();
         let links = net.link_count() + revision.edits.len();
-        let form = draft.form;
-        let mut text = report_begun(draft.spare, form, net.nodes(), links)?;
+        begin_report(&mut draft.spare, draft.form, net.nodes(), links)?;
         let report = self.edit(router, revision, told)?;
         router.state_law();
         // There is room, so this does not fail.
-        push_report_in(&mut text, form, report, told, router.hops())?;
-        Ok(text)
+        push_report_in(&mut draft.spare, draft.form, report, told, router.hops())?;
+        Ok(())
     }
 }

@@ -20,22 +20,20 @@ use crate::told::Told;
 use fr_tables::Hop;
 use std::alloc::{AllocError, Global};
 
-/// An empty line with room for each report of a round on a network of so many nodes and at most so many links, in the memory
-/// of this one.
-pub(crate) fn report_begun(
-    mut line: String,
+/// Empties a line, and takes room for each report of a round on a network of so many nodes and at most so many links.
+pub(crate) fn begin_report(
+    line: &mut String,
     form: Form,
     nodes: u32,
     links: usize,
-) -> Result<String, AllocError>
+) -> Result<(), AllocError>
     requires { links < 2 ^ 32 }
-    ensures empty { IfOk result (λ line. string_bytes line ≡ []) }
-    ensures length { IfOk result (λ line. string_len line ≡ 0) }
-    ensures room { IfOk result (λ line. report_room form nodes links ≤ string_capacity line) }
+    ensures empty { OnOk result (string_bytes line.new ≡ []) }
+    ensures length { OnOk result (string_len line.new ≡ 0) }
+    ensures room { OnOk result (report_room form nodes links ≤ string_capacity line.new) }
 {
     line.clear();
-    line.reserve(room_of(form, nodes, links))?;
-    Ok(line)
+    line.reserve(room_of(form, nodes, links))
 }
 
 /// The bytes of the longest such report.
@@ -90,8 +88,12 @@ pub(crate) fn new_report(
     router.state_law();
     router.net().network_law();
     let net = router.net();
-    let form = draft.form;
-    let mut text = report_begun(draft.spare, form, net.nodes(), net.link_count())?;
+    let Draft {
+        form,
+        number: _,
+        spare: mut text,
+    } = draft;
+    begin_report(&mut text, form, net.nodes(), net.link_count())?;
     let report = router.report();
     match form {
         Form::Text => {

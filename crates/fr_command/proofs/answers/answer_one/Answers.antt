@@ -11,16 +11,18 @@ use Rattle.fr_command.proofs.answers.answer_one.Goals as goal
 pub returns-in-Ok-Some : goal.returns-in-Ok-Some
 returns-in-Ok-Some g c =
     let old = g.W.Write.contents c.args.writer.now in
-    let new = g.W.Write.contents c.write_whole.new.writer in
+    let new = g.W.Write.contents c.write_whole-written.new.writer in
     let answer : List ℕ = string_bytes c.in-Ok-Some.text in
     let told : AreAnswersIn c.args.form c.args.responder.now (c.args.line.now ∷ []) answer c.answer_text.new.responder =
     rw c.in-Ok-Some.field-0-is at c.in-Ok-Some.ensures.text in
+    let kept : AreAnswersIn c.args.form c.args.responder.now (c.args.line.now ∷ []) answer c.reuse.new.self =
+    rw c.reuse.ensures told in
     record {
-      ok = on_ok_weaker c.write_whole.result (λ (whole : Appends old new answer). (answer, told, whole))
-          (rw c.as_bytes.ensures.value at c.write_whole.ensures.ok);
-      fault = of_the_fault c.write_whole.result Write (IsLineFault c.args.form c.args.responder.now c.args.line.now old new)
-          ((n : ℕ) × Appends old new (take n answer)) c.write_whole.ensures.kind
-          (rw c.as_bytes.ensures.value at c.write_whole.ensures.err)
+      ok = on_ok_weaker c.write_whole-written.result (λ (whole : Appends old new answer). (answer, kept, whole))
+          (rw c.as_bytes.ensures.value at c.write_whole-written.ensures.ok);
+      fault = of_the_fault c.write_whole-written.result Write (IsLineFault c.args.form c.args.responder.now c.args.line.now old new)
+          ((n : ℕ) × Appends old new (take n answer)) c.write_whole-written.ensures.kind
+          (rw c.as_bytes.ensures.value at c.write_whole-written.ensures.err)
           (λ part. record {
             answer = answer;
             last = c.answer_text.new.responder;

@@ -14,4 +14,4 @@ returns-in_ok-push_report_object-in-Json-clause-report c = λ replaced.
     rw c.in-Json.is (report_is Json (AreReplaced old new) old new c.state_law.ensures c.report-report.result
     c.report-report.ensures c.hops.result.now c.hops.ensures c.args.replaced.now
     (λ other. replaced (λ e. let no : Json ≡ Text = sym c.in-Json.is ∙ e in absurd cc)) none (λ e. absurd cc)
-    _ (rw c.in_ok-text.ensures.empty at c.in_ok-push_report_object-in-Json.ensures.text))
+    _ (rw c.in_ok-begin_report.ensures.empty at c.in_ok-push_report_object-in-Json.ensures.text))
