@@ -8,7 +8,7 @@ use Rattle.fr_bytes.specs.Streams.{Log, Moment, Traffic, Flushes, Reads, ReadsNo
 use Rattle.fr_bytes.specs.Streams.{after_flush, after_read, after_write, first_log}
 use Rattle.fr_bytes.proofs.Traffics.{flush_reads_nothing, write_reads_nothing}
 use Rattle.fr_command.specs.Conversations.{Talk, Takes, silence_in}
-use Rattle.fr_command.specs.InPieces.{Answers, Tells}
+use Rattle.fr_command.specs.InPieces.{Answers}
 use Rattle.fr_command.specs.Services.{AnswersInTime, IsAnsweredAt}
 use Rattle.fr_command.proofs.Taking.{takes_none, takes_on}
 

@@ -14,7 +14,7 @@ use Rattle.fr_core.specs.declared.entry.Entry.{Entry}
 use Rattle.fr_route.specs.Answers.{IsRefused}
 use Rattle.fr_route.specs.Texts.{refusal_text}
 use Rattle.fr_command.specs.Plays.{line_of, end_text, first_asking, IsPlayText, IsRefusal}
-use Rattle.fr_command.specs.Plays.{IsAcceptedPlay, IsPlayOf, IsPlayOfReading, IsPlayOutput}
+use Rattle.fr_command.specs.Plays.{IsPlayOf, IsPlayOfReading, IsPlayOutput}
 use Rattle.fr_words.specs.declared.draws.Draw.{Draw}
 use Rattle.fr_route.proofs.Determined.{answer_unique}
 

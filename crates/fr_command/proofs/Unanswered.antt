@@ -1,5 +1,5 @@
 -- Why a line is not answered.
-use Rattle.std.proofs.Common.{◌≡◌, ◌≢◌, ◌⊎◌, ◌↔◌, inl, inr, false, List, ℕ, Option, Result, Ok, Err, IfErr, refl, sym, ap, subst}
+use Rattle.std.proofs.Common.{◌≡◌, ◌↔◌, false, List, ℕ, Option, refl, sym, subst}
 use Rattle.std.specs.Io.KnownBytes.{Keeps}
 use Rattle.fr_lines.specs.Requests.{reading}
 use Rattle.fr_route.specs.Answers.{MayStartForLine}

@@ -5,8 +5,7 @@ use Rattle.fr_route.specs.declared.form.Form.{Form}
 use Rattle.fr_route.specs.declared.form.Form.TheVariants.{Text, Json, JsonWithWays}
 use Rattle.fr_bytes.specs.Bytes.{IsBeginning, ReadsInput}
 use Rattle.fr_bytes.specs.Streams.{Traffic}
-use Rattle.fr_bytes.specs.declared.fault.RunFault.{RunFault}
-use Rattle.fr_bytes.specs.declared.fault.RunFault.TheVariants.{Read, Write, TooLong, Start, Memory}
+use Rattle.fr_bytes.specs.declared.fault.RunFault.TheVariants.{Write, Memory}
 use Rattle.fr_words.specs.Tasks.{IsCommandLineIn, IsFaultOf}
 use Rattle.fr_words.specs.declared.task.CommandLine.{CommandLine}
 use Rattle.fr_words.specs.declared.task.Task.{Task}

@@ -138,8 +138,9 @@ fn answer_front<T: Threads + Wait + Sync, S: Stream, G: Gate + Sync>(
     ensures unread { ReadsNothing (S.traffic stream.old) (S.traffic stream.new) }
     ensures no_start { StartsNone crew.now.plan.now → result ≢ Err RunFault.Start }
 {
-    let Taken { count, answer } =
-        conversation.take(crew.rt, crew.alloc, piece, crew.plan, crew.gate)?;
+    let Taken { count, answer } = conversation.take(
+        crew.rt, crew.alloc, piece, crew.plan, crew.gate,
+    )?;
     send_answer(stream, &answer)?;
     conversation.reuse(answer);
     Ok(count)

@@ -14,7 +14,9 @@ ghost use Rattle.fr_route.specs.declared.fault.RouteFault.TheVariants.{Memory};
 use crate::noting::{change_noting, grow_in, is_report, shrink_in};
 use crate::publishing::{opened, publish, replaced, session_law};
 use crate::ways::{WayTables, publish_changes, publish_ways};
-use fr_route::{AnswerFault, Change, NotMade, Report, Reroutes, RouteFault, Router, Session, Walked};
+use fr_route::{
+    AnswerFault, Change, NotMade, Report, Reroutes, RouteFault, Router, Session, Walked,
+};
 use fr_shared::{Past, Publisher, Reader};
 use fr_shared_ways as shared_ways;
 use fr_ways::PushList;

@@ -1,4 +1,4 @@
-use Rattle.std.proofs.Common.{◌≡◌, ◌-◌, [], List, ℕ, length-drop, length, take, drop, append-nil, sym, subst, arith}
+use Rattle.std.proofs.Common.{◌≡◌, ◌-◌, [], List, ℕ, length-drop, length, take, drop, sym, subst, arith}
 use Rattle.std.proofs.Math.Seq.{take-add}
 use Rattle.std.proofs.lemmas.List.{take_all}
 use Rattle.std.proofs.lemmas.Result.{on_ok_weaker}

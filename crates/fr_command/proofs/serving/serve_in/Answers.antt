@@ -1,4 +1,4 @@
-use Rattle.std.proofs.Common.{IfErr, IfOk, ap, subst}
+use Rattle.std.proofs.Common.{IfErr, ap, subst}
 use Rattle.fr_route.specs.declared.form.Form.{Form}
 use Rattle.fr_command.specs.Conversations.{Talk}
 use Rattle.fr_command.specs.Faults.{IsServeFaultIn}
