@@ -174,9 +174,19 @@ fn answering<'a>(alloc: Global, name: &'a str, about: &'a str) -> Result<Command
 {
     let command = planning(alloc, name, about)?;
     let command = with_option(command, flag(alloc, "alone", ALONE))?;
-    let command = with_option(command, flag(alloc, "json", JSON))?;
-    let command = with_option(command, flag(alloc, "ways", WAYS))?;
+    let command = with_forms(alloc, command)?;
     with_option(command, flag(alloc, "strict", STRICT))
+}
+
+/// The command with the flags for the form of answers.
+fn with_forms<'a>(alloc: Global, command: Command<'a>) -> Result<Command<'a>, AllocError>
+    requires { (out-Command command).has_globals ≡ false }
+    ensures { IfOk result
+        (λ c. (app_of c ≡ with_rule (with_rule (app_of command.entry) (flag_of (codes "json"))) (flag_of (codes "ways")))
+        × ((out-Command c).has_globals ≡ false)) }
+{
+    let command = with_option(command, flag(alloc, "json", JSON))?;
+    with_option(command, flag(alloc, "ways", WAYS))
 }
 
 /// A subcommand that settles networks with a plan.
