@@ -615,7 +615,8 @@ typedef struct revroute_way_reader {
  * The first reader of ways of a session takes 112 KiB of memory, and O(4,096 + m log d) if no node has more than d
  * links; each later one O(1). However many readers of ways a session has had, revroute_change and revroute_move_dest
  * then cost what revroute_change_with_ways costs. To push the ways of k nodes that a change has altered costs
- * O(k (log k + d log d)) more. revroute_open and each line, also a question, cost O(4,096 + m log d) more. */
+ * O(k (log k + d log d)) more. revroute_open and a line that begins a round cost O(4,096 + m log d) more, and no other
+ * line does. */
 revroute_status revroute_way_reader_open(revroute *session, revroute_way_reader *reader);
 
 /* Opens one more reader of the same table in *other, which must be another handle. A reader that was there is closed.

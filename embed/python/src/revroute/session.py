@@ -217,7 +217,8 @@ class Session:
 
     - `next_hop`, `distance`, `dest`, `size` and `report`: O(1).
     - `reader`: O(4,096) for the first reader, and O(1) for each later one.
-    - `way_reader`: O(4,096 + m log d) for the first reader, and O(1) for each later one. Each line then costs that too.
+    - `way_reader`: O(4,096 + m log d) for the first reader, and O(1) for each later one. A line that
+      begins a round then costs that too.
     - `walk` and `changed`: linear in the length of the result.
     - `ways`: O(d log d) for d links at the node. `nearest`: O(k d) for a route of k nodes.
     - `hops`, `pushes` and `counts`: O(n).
@@ -478,8 +479,8 @@ class Session:
     def way_reader(self) -> WayReader[int]:
         """A reader of the first ways of nodes, for another thread. It keeps working when a later network replaces this
         one. It accepts every number below 4,096: if the network has no such node, it has no way. Once a session has had
-        such a reader, each line also lists the ways of all nodes again, and stores those that it has changed for the
-        readers."""
+        such a reader, a line that begins a round also lists the ways of all nodes again, and stores those that it has
+        changed for the readers. A question does not."""
         from .way_reader import WayReader
 
         return WayReader(self._open_way_reader, self._reader_table)
