@@ -46,7 +46,7 @@ pub record IsMade (old : Published) (change : Change) (report : Report) (new : P
   pub report_is : IsReport after report.turned report.cut
   pub rerouted : AreRerouted before after new.rerouted
 
--- the change is refused so, or memory is missing
+-- why the change was not made: it is refused, or memory is missing
 pub record IsNotMade (old : Published) (change : Change) (undone : NotMade) : Type 0 where
   pub before : State
   pub was : old.session ≡ Some before

@@ -8,7 +8,8 @@ use crate::way_notes::WayNotes;
 use std::alloc::{AllocError, Global};
 use std::mem;
 
-/// Memory for answers, which is kept from one line to the next. What it contains has no meaning for the caller.
+/// Memory for answers, which is kept from one line to the next. What it contains has no meaning for the caller. Once texts
+/// are given back by [`reuse`](AnswerSpace::reuse), it has the memory of the longest answer so far.
 #[derive(Debug)]
 pub struct AnswerSpace {
     // For the text of the next answer, if the caller has given one back.
