@@ -87,11 +87,6 @@ def stamp(name):
     return made.hexdigest()
 
 
-def newest(names):
-    """The time at which a file of these crates last changed."""
-    return max(it.stat().st_mtime for it in [TOP / "crates.txt", *(file for name in names for file in sources(name))])
-
-
 def jobs_in_memory():
     """The number of jobs that there is memory for."""
     memory = next(it for it in Path("/proc/meminfo").read_text().splitlines() if it.startswith("MemAvailable:"))

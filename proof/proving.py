@@ -17,6 +17,8 @@ import crates
 PROVED = crates.BUILT / "proved"
 # What the checker printed when it proved a program, for proof/axioms.
 WORDS = crates.BUILT / "axioms"
+# A hash of the sources of each crate that rt ci has proved, written by proof/gate.
+PASSED = crates.BUILT / "gate"
 # The folder where proved libraries are unpacked, outside of the clone. It is deleted when the command ends.
 ROOM = tempfile.TemporaryDirectory(prefix="revroute-proved-")
 # Each job loads what it needs, so too many jobs cost more than they save. With four jobs, revroute with its 6
@@ -60,17 +62,16 @@ def gate_rlib(name):
     return crates.CRATES / name / "out" / "rlib" / f"{name}.rlib"
 
 
+def has_passed(name):
+    """Whether rt ci has proved a crate from the sources as they are now."""
+    stamp = PASSED / name
+    return stamp.is_file() and stamp.read_text() == crates.stamp(name)
+
+
 def are_proved_by_the_gate(names):
-    """Whether rt ci has proved these libraries from the sources as they are now. Libraries that other commands of rt
-    leave have a stamp beside them, and fit only the libraries that these commands built below them. If rt ci keeps
-    files from an earlier run, the files are as old as that run, but their folder is not."""
-    is_stamped = any((gate_rlib(it).parent / "stamp").exists() for it in names)
-    edited = crates.newest(names)
-    return not is_stamped and all(gate_rlib(it).is_dir() and gate_rlib(it).stat().st_mtime > edited for it in names)
-
-
-def is_newer(file, moment):
-    return file.is_file() and file.stat().st_mtime > moment
+    """Whether rt ci has proved these libraries from the sources as they are now, and has left them. Libraries that other
+    commands of rt leave have a stamp beside them, and fit only the libraries that these commands built below them."""
+    return all(has_passed(it) and gate_rlib(it).is_dir() and not (gate_rlib(it).parent / "stamp").exists() for it in names)
 
 
 def useful_jobs(name):
@@ -264,14 +265,13 @@ def build(name, beside=None):
     to = crates.BUILT / (name if crates.is_program(name) else f"lib{name}.a")
     # The gate leaves a program, but not a static library, where it was proved.
     left = crates.CRATES / name / "out" / name
-    edited = crates.newest([*crates.below(name), name])
     stamp, sources = to.with_name(f"{to.name}.stamp"), crates.stamp(name)
     if to.is_file() and stamp.is_file() and stamp.read_text() == sources:
         # proof/run goes by times: this says that an edit was undone.
         to.touch()
         return
     made = to.with_name(f"{to.name}.new")
-    if is_newer(left, edited):
+    if has_passed(name) and left.is_file():
         shutil.copy(left, made)
     else:
         rlib_of = libraries_beside(name, beside) if beside else libraries(progress, name, jobs)

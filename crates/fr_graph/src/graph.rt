@@ -42,7 +42,7 @@ pub(crate) struct Graph {
 }
 
 /// What an edit did to the links.
-#[derive(Drop, Clone, Copy)]
+#[derive(Debug, Drop, Clone, Copy)]
 pub(crate) enum Done {
     /// The link was removed.
     Taken {
@@ -288,39 +288,45 @@ impl Graph {
     }
 
     /// Undoes what edits did, the last one first. It does not allocate.
-    pub(crate) fn undo_all(&mut self, mut done: Vec<Done>)
+    pub(crate) fn undo_all(&mut self, done: &mut Vec<Done>)
         requires graph { IsGraph self.old }
-        requires done { (first : Network) × CanUndo first done.items self.old }
+        requires done { (first : Network) × CanUndo first done.old.items self.old }
         ensures graph { IsGraph self.new }
-        ensures undone { (first : Network) → CanUndo first done.items self.old → shown self.new ≡ first }
+        ensures undone { (first : Network) → CanUndo first done.old.items self.old → shown self.new ≡ first }
     {
         while let Some(last) = done.pop() {
             self.undo(last);
         }
     }
 
-    /// Makes the edits in order, and returns what they did. If one is refused or an allocation fails, all of them are
-    /// undone.
-    pub(crate) fn edit_all(&mut self, alloc: Global, edits: &[Edit]) -> Result<Vec<Done>, EditFault>
+    /// Makes the edits in order, and lists in `done` what they did. If one is refused or an allocation fails, all of them
+    /// are undone.
+    pub(crate) fn edit_all(
+        &mut self,
+        alloc: Global,
+        edits: &[Edit],
+        done: &mut Vec<Done>,
+    ) -> Result<(), EditFault>
         requires graph { IsGraph self.old }
         requires few { length edits.now ≤ most_edits }
         ensures graph { IsGraph self.new }
-        ensures ok { IfOk result (λ done. AreMade (shown self.old) edits.now (shown self.new)
-            × CanUndo (shown self.old) done.items self.new) }
+        ensures ok { OnOk result (AreMade (shown self.old) edits.now (shown self.new)
+            × CanUndo (shown self.old) done.new.items self.new) }
         ensures refused { IfErr result (IsRefusal (shown self.old) edits.now) }
         ensures unchanged { OnErr result (shown self.new ≡ shown self.old) }
     {
-        let mut all = Vec::with_capacity(alloc, edits.len())?;
+        done.clear();
+        done.reserve(edits.len())?;
         self.rows.trim(alloc)?;
         for (at, edit) in edits.iter().enumerate() {
             match self.edit(alloc, *edit) {
-                Ok(done) => all.push_reserved(done),
+                Ok(step) => done.push_reserved(step),
                 Err(fault) => {
-                    self.undo_all(all);
+                    self.undo_all(done);
                     return Err(EditFault { at, fault });
                 }
             }
         }
-        Ok(all)
+        Ok(())
     }
 }

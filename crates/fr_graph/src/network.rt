@@ -27,7 +27,7 @@ use crate::cycle::{Found, find_cycle};
 use crate::edit::Edit;
 use crate::fault::{EditFault, NetFault, NotEdited};
 use crate::first::First;
-use crate::graph::Graph;
+use crate::graph::{Done, Graph};
 use crate::half_links::{HalfLink, entries_of, first_twice, sorted_halves};
 use crate::heights::Heights;
 use crate::limits::{MAX_EDITS, MAX_LINKS, MAX_NODES};
@@ -110,9 +110,21 @@ fn test_few(edits: &[Edit]) -> Result<(), EditFault>
 
 /// A network: nodes, and links that contain no cycle. The value in contracts is the number of nodes, and the links
 /// ordered by tail and then by head.
-#[derive(Debug, Drop)]
+#[derive(Debug)]
 pub struct Net {
     graph: Graph,
+    // Memory for what edits did, which is kept from one call to the next. What it contains has no meaning.
+    done: Vec<Done>,
+}
+
+// Written by hand: code that drops a network proves this one call. With a derived Drop it proves how each part is
+// dropped.
+impl Drop for Net {
+    fn drop(self) {
+        let Net { graph, done } = self;
+        drop(graph);
+        drop(done);
+    }
 }
 
 impl Model for Net {
@@ -152,6 +164,7 @@ impl Net {
             Found::Walk(walk) => Err(NetFault::Cycle(walk)),
             Found::Order(order) => Ok(Net {
                 graph: graph_of(alloc, nodes, links.len(), rows, &order)?,
+                done: Vec::new(alloc),
             }),
         }
     }
@@ -238,7 +251,8 @@ impl Net {
         ensures { IfOk result (λ net. net ≡ self.now) }
     {
         let graph = self.graph.copied(alloc)?;
-        Ok(Net { graph })
+        let done = Vec::new(alloc);
+        Ok(Net { graph, done })
     }
 
     /// The network after this edit, made on a copy.
@@ -249,7 +263,8 @@ impl Net {
     {
         let mut graph = self.graph.copied(alloc)?;
         graph.edit(alloc, edit)?;
-        Ok(Net { graph })
+        let done = Vec::new(alloc);
+        Ok(Net { graph, done })
     }
 
     /// The network without the link between `u` and `v`, whichever way it points. Fails with `NoLink` if no link joins
@@ -299,9 +314,9 @@ impl Net {
         ensures names { IfErr result (NamesInBatch self.now edits.now) }
     {
         test_few(edits)?;
-        let mut graph = self.graph.copied(alloc)?;
-        graph.edit_all(alloc, edits)?;
-        Ok(Net { graph })
+        let mut net = self.copied(alloc)?;
+        net.graph.edit_all(alloc, edits, &mut net.done)?;
+        Ok(net)
     }
 
     /// Makes these edits in place and in order, if `accept` succeeds on the edited network, and returns what `accept`
@@ -332,14 +347,13 @@ impl Net {
         if let Err(refused) = test_few(edits) {
             return Err(NotEdited::Refused(refused));
         }
-        let done = match self.graph.edit_all(alloc, edits) {
-            Ok(done) => done,
-            Err(refused) => return Err(NotEdited::Refused(refused)),
-        };
+        if let Err(refused) = self.graph.edit_all(alloc, edits, &mut self.done) {
+            return Err(NotEdited::Refused(refused));
+        }
         match accept(self) {
             Ok(answer) => Ok(answer),
             Err(fault) => {
-                self.graph.undo_all(done);
+                self.graph.undo_all(&mut self.done);
                 Err(NotEdited::Fault(fault))
             }
         }

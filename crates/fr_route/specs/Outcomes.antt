@@ -22,6 +22,8 @@ use Rattle.fr_tables.specs.Tables.{IsInRange, IsLoopFree}
 use Rattle.fr_tables.specs.declared.hop.Hop.{Hop}
 use Rattle.fr_tables.specs.declared.hop.Hop.TheVariants.{To}
 use Rattle.fr_route.specs.declared.hops.AfterRound.{AfterRound}
+use Rattle.fr_route.specs.declared.movable.Movable.{Movable}
+use Rattle.fr_route.specs.declared.movable.Movable.TheVariants.{Few, Many}
 use Rattle.fr_route.specs.declared.outcome.Outcome.{Outcome}
 use Rattle.fr_route.specs.declared.told.Told.{Told}
 
@@ -62,6 +64,11 @@ cut_off_nodes s = filter (λ x. slice_index s.counts x == s.nodes) (range_with_l
 -- node turns
 abbrev pub movable : State → ℕ → List Edit → List ℕ
 movable s d edits = touched s d edits ++ cut_off_nodes s
+
+-- the nodes in such a list
+abbrev pub nodes_in : Movable → List ℕ
+nodes_in (Few nodes) = nodes
+nodes_in (Many nodes) = nodes.items
 
 -- y is x itself, or a neighbour that sends on to x
 abbrev pub SendsTo : List (ℕ × ℕ) → ℕ → ℕ → Hop → Type 0

@@ -27,6 +27,7 @@ mod json;
 mod kept_distances;
 pub mod laws;
 mod listed;
+mod movable;
 mod outcome;
 mod pushing;
 mod questions;

@@ -18,13 +18,14 @@ ghost use Rattle.fr_route.specs.WayPushes.{IsPhasesFault, LeadToWays};
 ghost use Rattle.fr_route.specs.Tries.{IsTried, change_of, edit_of, revision_of};
 ghost use Rattle.fr_route.specs.Outcomes.{IsOutcome, IsRoundFault};
 ghost use Rattle.fr_ways.specs.Ways.{IsInRange};
-ghost use Rattle.fr_route.specs.Outcomes.{IsSettledTable, cut_off_nodes, movable};
+ghost use Rattle.fr_route.specs.Outcomes.{IsSettledTable, cut_off_nodes, movable, nodes_in};
 
 use crate::change::{Change, Report};
 use crate::fault::{NotMade, RouteFault, placeless};
 use crate::hops::{AfterRound, Walked, hop_table, resized};
 use crate::kept_distances::{KeptDistances, table_of_ways};
-use crate::outcome::{alone_nodes, push_capped, put_in_place, report_of, touched_nodes};
+use crate::movable::Movable;
+use crate::outcome::{alone_nodes, ends, push_capped, put_in_place, report_of, touched_nodes};
 use crate::reroutes::Reroutes;
 use crate::revision::Revision;
 use crate::settling::Settler;
@@ -170,7 +171,7 @@ impl<'a, F: Fn(&Net, u32, Option<&[u32]>, Turns) -> Result<Turns, CrewFault>> Se
         let distances = &mut router.distances;
         distances.keep_if(told.asks_ways(), &router.net, router.dest);
         told.begin_ways(&router.net, &distances.table, revision.edits)?;
-        let from = movable.as_slice();
+        let from = movable.nodes();
         let dest = revision.dest;
         let spare = &mut router.spare;
         let outcome = router.net.edit_if(
@@ -418,9 +419,9 @@ impl Router {
     /// if no node turns: those that the edits and the new destination touch, and those with links that the last round
     /// cut off. Every other node with a link still has a link that points away from it. Too many edits are refused
     /// before anything is allocated.
-    fn movable(&self, alloc: Global, revision: &Revision<'_>) -> Result<Vec<u32>, NotMade>
+    fn movable(&self, alloc: Global, revision: &Revision<'_>) -> Result<Movable, NotMade>
         ensures movable { IfOk result
-            (λ nodes. nodes.items ≡ movable self.now revision.now.dest revision.now.edits.now) }
+            (λ them. nodes_in them ≡ movable self.now revision.now.dest revision.now.edits.now) }
         ensures few { OnOk result (length revision.now.edits.now ≤ most_edits) }
         ensures fault { IfErr result (IsPlaced self.now revision.now.edits.now revision.now.dest) }
         ensures no_start { IfErr result (λ undone. undone.fault ≢ Start) }
@@ -431,13 +432,17 @@ impl Router {
                 fault: RouteFault::Net(NetFault::TooMany),
             });
         }
-        let mut nodes = touched_nodes(alloc, self.dest, revision.dest, revision.edits)?;
         let cut_off = self.linked_cut_off();
+        if cut_off == 0 && revision.edits.len() == 1 {
+            let (u, v) = ends(revision.edits[0]);
+            return Ok(Movable::Few([self.dest, revision.dest, u, v]));
+        }
+        let mut nodes = touched_nodes(alloc, self.dest, revision.dest, revision.edits)?;
         if cut_off > 0 {
             nodes.reserve(cut_off as usize)?;
             push_capped(&mut nodes, self.net.nodes(), self.turns.counts())?;
         }
-        Ok(nodes)
+        Ok(Movable::Many(nodes))
     }
 
     /// How many nodes with links the last round cut off. Each such node has turned as often as there are nodes.

@@ -1,4 +1,4 @@
-use Rattle.std.proofs.Common.{List, ap, arith, get_or, subst, suc, sym, take, take_all, ◌+◌, ◌≡◌}
+use Rattle.std.proofs.Common.{List, ap, arith, get_or, subst, suc, sym, take, take_all, ◌+◌, ◌∙◌, ◌≡◌}
 use Rattle.std.proofs.lemmas.List.{get_or_default}
 use Rattle.fr_graph.proofs.Batches.{all_made_one, made_next}
 use Rattle.fr_graph.proofs.Remaking.{graph_of_rows, shown_of_rows, with_links}
@@ -13,11 +13,11 @@ use Rattle.fr_graph.proofs.graph.Graph.edit_all.Goals as goal
 use Rattle.fr_graph.proofs.graph.Graph.edit_all.Goals.{In-Err}
 
 -- the edits before the one that is refused can be undone
-still : (c : In-Err) → CanUndo (shown c.args.self.now) c.loop-at.all.items c.edit.new.self
+still : (c : In-Err) → CanUndo (shown c.args.self.now) c.loop-at.done.items c.edit.new.self
 still c =
     let same = c.in-Err.ensures.unchanged in
-    still_done c.loop-at.self c.edit.new.self (shown c.args.self.now) c.loop-at.all.items (shown c.edit.new.self) same.rooms
-    (subst (λ (m : Network). AreDone c.loop-at.self (shown c.args.self.now) c.loop-at.all.items m) (sym same.same) c.loop-at.invariant.undo)
+    still_done c.loop-at.self c.edit.new.self (shown c.args.self.now) c.loop-at.done.items (shown c.edit.new.self) same.rooms
+    (subst (λ (m : Network). AreDone c.loop-at.self (shown c.args.self.now) c.loop-at.done.items m) (sym same.same) c.loop-at.invariant.undo)
 
 pub returns-in_err-trim-clause-graph : goal.returns-in_err-trim-clause-graph
 returns-in_err-trim-clause-graph c = graph_of_rows c.args.self.now c.trim.new.self c.trim.ensures.rows c.requires.graph
@@ -28,9 +28,9 @@ loop-at-init c =
     record {
       graph = graph_of_rows c.args.self.now c.trim.new.self c.trim.ensures.rows c.requires.graph;
       made = same;
-      undo = rw c.in_ok-all.ensures.items same;
-      one_each = c.in_ok-all.ensures.len;
-      all_room = c.in_ok-all.ensures.capacity;
+      undo = rw (c.reserve.ensures.items ∙ c.clear.ensures.items) same;
+      one_each = c.reserve.ensures.len ∙ c.clear.ensures.len;
+      all_room = omega (arith, c.in_ok-reserve.ensures.ok);
     }
 
 pub edit-requires : goal.edit-requires
@@ -80,12 +80,12 @@ loop-at-preserved c =
     let mid = shown c.loop-at.self in
     let after = shown c.edit.new.self in
     let more : at + 1 ≡ suc at = omega arith in
-    let kept = still_done c.loop-at.self c.edit.new.self first c.loop-at.all.items mid edited.rooms inv.undo in
+    let kept = still_done c.loop-at.self c.edit.new.self first c.loop-at.done.items mid edited.rooms inv.undo in
     record {
       graph = edited.graph;
       made = rw more (made_next first c.args.edits.now at mid after _ (omega (arith, c.loop-at-test.true)) inv.made edited.made);
       undo = subst (λ (ds : List Done). AreDone c.edit.new.self first ds after) (sym c.push_reserved.ensures.items)
-          (more_done c.edit.new.self first c.loop-at.all.items mid c.in-Ok.done after kept edited.back edited.by);
+          (more_done c.edit.new.self first c.loop-at.done.items mid c.in-Ok.step after kept edited.back edited.by);
       one_each = omega (arith, c.push_reserved.ensures.len, inv.one_each);
       all_room = omega (arith, c.push_reserved.ensures.capacity, inv.all_room);
     }

@@ -7,7 +7,7 @@ abbrev pub invariant-loop-at : goal.invariant-loop-at
 invariant-loop-at l = record {
   graph : IsGraph l.self;
   made : AreMade (shown l.fn.self) (take l.at l.edits) (shown l.self);
-  undo : CanUndo (shown l.fn.self) l.all.items l.self;
-  one_each : vec_len l.all ≡ l.at;
-  all_room : length l.edits ≤ vec_capacity l.all;
+  undo : CanUndo (shown l.fn.self) l.done.items l.self;
+  one_each : vec_len l.done ≡ l.at;
+  all_room : length l.edits ≤ vec_capacity l.done;
 }

@@ -7,7 +7,7 @@ use Rattle.fr_graph.proofs.graph.Graph.undo_all.Goals as goal
 use Rattle.fr_graph.proofs.graph.Graph.undo_all.Goals.{In-Some}
 
 -- the network before the last step that is still to be undone
-last : (c : In-Some) (first : Network) → CanUndo first c.args.done.items c.args.self.now
+last : (c : In-Some) (first : Network) → CanUndo first c.args.done.now.items c.args.self.now
     → (mid : Network) × (AreDone c.loop-last.self first c.pop.new.self.items mid
     × (HasRoomFor c.loop-last.self mid × IsDone mid c.in-Some.last (shown c.loop-last.self)))
 last c first can =

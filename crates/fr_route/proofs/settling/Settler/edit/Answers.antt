@@ -21,7 +21,7 @@ use Rattle.fr_route.specs.Faults.{of_not_edited}
 use Rattle.fr_route.specs.Listing.{AsksWays, HasLedOn, HasPlaces, IsListing, nodes_told, notes_told, ways_in, ways_told}
 use Rattle.fr_crew.specs.Settlements.{IsCounted}
 use Rattle.fr_route.specs.KeptDistances.{KeepsDistances}
-use Rattle.fr_route.specs.Outcomes.{AreOthers, HoldsMoved, IsOutcome, movable, settled_state}
+use Rattle.fr_route.specs.Outcomes.{AreOthers, HoldsMoved, IsOutcome, movable, nodes_in, settled_state}
 use Rattle.fr_route.specs.Reroutes.{AreRerouted}
 use Rattle.fr_route.specs.Routes.{AreHops}
 use Rattle.fr_route.specs.RouterInside.{state_of}
@@ -41,7 +41,7 @@ use Rattle.fr_route.proofs.Noting.{listing_has}
 use Rattle.fr_route.proofs.SettledHops.{settled_in_range, settled_loop_free}
 use Rattle.fr_route.proofs.settling.Settler.edit.Given.{Over}
 use Rattle.fr_route.proofs.settling.Settler.edit.Goals as goal
-use Rattle.fr_route.proofs.settling.Settler.edit.Goals.{After-as_slice-from, After-begin_ways, After-put_in_order, After-put_in_place, After-router, In_err-outcome, In_ok-outcome}
+use Rattle.fr_route.proofs.settling.Settler.edit.Goals.{After-nodes-from, After-begin_ways, After-put_in_order, After-put_in_place, After-router, In_err-outcome, In_ok-outcome}
 
 items_put : (v : Vec Hop Global) (hops : List Hop) → length hops ≡ length v.items → (with_items v hops).items ≡ hops
 items_put v hops as_many = with_items_is v hops (omega (arith, as_many, v.ok.0))
@@ -51,10 +51,10 @@ now_is : (g : Over) (c : After-router g) → state_of c.router.inside ≡ c.args
 now_is g c = c.router.view_is
 
 -- the nodes from which the round begins are those that can move
-from_movable : (g : Over) (c : After-as_slice-from g)
-    → c.as_slice-from.result.now ≡ movable (state_of c.router.inside) c.args.revision.now.dest c.args.revision.now.edits.now
-from_movable g c = c.as_slice-from.ensures.value
-    ∙ subst (λ (now : State). c.in_ok-movable.movable.items ≡ movable now c.args.revision.now.dest
+from_movable : (g : Over) (c : After-nodes-from g)
+    → c.nodes-from.result.now ≡ movable (state_of c.router.inside) c.args.revision.now.dest c.args.revision.now.edits.now
+from_movable g c = c.nodes-from.ensures
+    ∙ subst (λ (now : State). nodes_in c.in_ok-movable.movable ≡ movable now c.args.revision.now.dest
     c.args.revision.now.edits.now) (sym c.router.view_is) c.in_ok-movable.ensures.movable
 
 in_range : (g : Over) (c : After-router g) → c.args.revision.now.dest < (state_of c.router.inside).nodes
@@ -79,7 +79,7 @@ edit_if-requires g c = record {
         c.requires.settles,
         (
           omega (arith, below, nodes),
-          subst (HoldsSinks made.now c.args.revision.now.dest) (sym (from_movable g at.After-as_slice-from))
+          subst (HoldsSinks made.now c.args.revision.now.dest) (sym (from_movable g at.After-nodes-from))
               (movable_sinks s c.router.invariant.round c.args.revision.now.edits.now made.now c.args.revision.now.dest below is),
         ),
       );
@@ -234,8 +234,8 @@ put_in_place-requires-clause-moved g c =
     let net : Network = c.edit_if.new.self in
     let counts : List ℕ = c.in_ok-outcome.outcome.turns in
     let hops : AreHops s s.nodes c.deref_mut.result.now = rw c.deref_mut.ensures.value c.router.invariant.hops in
-    subst (λ (d : ℕ). HoldsMoved (settled_state net d counts) c.deref_mut.result.now c.as_slice-from.result.now) (sym (same_dest g at.In_ok-outcome))
-    (subst (HoldsMoved (settled_state net c.args.revision.now.dest counts) c.deref_mut.result.now) (sym (from_movable g at.After-as_slice-from))
+    subst (λ (d : ℕ). HoldsMoved (settled_state net d counts) c.deref_mut.result.now c.nodes-from.result.now) (sym (same_dest g at.In_ok-outcome))
+    (subst (HoldsMoved (settled_state net c.args.revision.now.dest counts) c.deref_mut.result.now) (sym (from_movable g at.After-nodes-from))
     (unmoved_hops s c.router.invariant.round c.args.revision.now.edits.now net c.args.revision.now.dest
     (in_range g at.After-router) (edits_made g at.In_ok-outcome) counts (outcome_is g at.In_ok-outcome).counts c.deref_mut.result.now hops))
 

@@ -1,0 +1,25 @@
+//! The list of the nodes that can move at a change.
+
+ghost use Rattle.std.specs.Prelude.{◌≡◌};
+ghost use Rattle.fr_route.specs.Outcomes.{nodes_in};
+
+/// The nodes that can move at a change. Those of a single edit need no allocation.
+#[derive(Drop)]
+pub(crate) enum Movable {
+    /// The nodes of a single edit: the old and the new destination, and the ends of the link.
+    Few([u32; 4]),
+    /// Any nodes.
+    Many(Vec<u32>),
+}
+
+impl Movable {
+    /// These nodes.
+    pub fn nodes(&self) -> &[u32]
+        ensures { result.now ≡ nodes_in self.now }
+    {
+        match self {
+            Movable::Few(nodes) => nodes,
+            Movable::Many(nodes) => nodes,
+        }
+    }
+}
