@@ -1,10 +1,11 @@
 -- How far a walk along the route has come.
-use Rattle.std.proofs.Common.{List, [], append-nil, append_assoc, ap, arith, length, refl, subst, sym, ℕ, ◌++◌, ◌<◌, ◌∙◌, ◌∷◌, ◌≡◌, ◌≤◌}
+use Rattle.std.proofs.Common.{List, [], append-nil, append_assoc, ap, arith, codes, decimal, length, refl, subst, sym, ℕ, ◌++◌, ◌<◌, ◌∙◌, ◌∷◌, ◌≡◌, ◌≤◌}
 use Rattle.std.proofs.lemmas.List.Elements.{All-contains}
 use Rattle.std.proofs.lemmas.List.{length-append}
 use Rattle.fr_graph.specs.Links.{IsNet}
 use Rattle.fr_core.proofs.Following.{path_short}
 use Rattle.fr_route.specs.States.{State}
+use Rattle.fr_route.specs.Texts.{spaced, walk_text}
 use Rattle.fr_route.specs.Routes.{IsHop, IsRoute}
 use Rattle.fr_tables.specs.declared.hop.Hop.{Hop}
 use Rattle.fr_tables.specs.declared.hop.Hop.TheVariants.{Here, To, CutOff}
@@ -60,3 +61,21 @@ walk_short s x at nodes net below w =
     x (w.done ++ w.left) (route_in_range s.nodes s.links s.dest x (w.done ++ w.left) net below w.whole)
     (route_path s.links s.dest x (w.done ++ w.left) w.whole) in
     omega (arith, short, length-append w.done w.left, ap length w.front)
+
+-- the same, with the number of these nodes and a line that shows them
+pub record HasWritten (s : State) (x at count : ℕ) (line : List ℕ) : Type 0 where
+  pub nodes : List ℕ
+  pub walked : HasWalked s x at nodes
+  pub many : length nodes ≡ count
+  pub text : line ≡ walk_text nodes
+
+spaced_more : (ns : List ℕ) (n : ℕ) → spaced (ns ++ n ∷ []) ≡ spaced ns ++ (codes " " ++ decimal n)
+spaced_more [] n = ap (λ (l : List ℕ). codes " " ++ l) (append-nil (decimal n))
+spaced_more (m ∷ ns) n =
+    ap (λ (l : List ℕ). codes " " ++ l)
+    (ap (λ (l : List ℕ). decimal m ++ l) (spaced_more ns n) ∙ sym (append_assoc (decimal m) (spaced ns) (codes " " ++ decimal n)))
+
+-- one more node
+pub walk_more : (ns : List ℕ) (n : ℕ) → walk_text (ns ++ n ∷ []) ≡ walk_text ns ++ (codes " " ++ decimal n)
+walk_more ns n =
+    ap (λ (l : List ℕ). codes "walk" ++ l) (spaced_more ns n) ∙ sym (append_assoc (codes "walk") (spaced ns) (codes " " ++ decimal n))

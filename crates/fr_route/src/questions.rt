@@ -4,9 +4,10 @@ ghost use Rattle.std.specs.Prelude.{◌≡◌, ◌==◌, ℕ, ◌<◌, None, IfE
 ghost use Rattle.fr_lines.specs.Requests.{ask, ask_node, push_ways, walk_from};
 ghost use Rattle.fr_lines.specs.declared.requests.NodeQuestion.TheVariants.{Nearest, Ways};
 ghost use Rattle.fr_lines.specs.declared.requests.Question.TheVariants.{Ways as WaysOfAll};
+ghost use Rattle.fr_route.specs.Answers.{IsWalkLine};
+ghost use Rattle.fr_route.specs.Json.{IsJsonWalk};
 ghost use Rattle.fr_route.specs.NodeWays.{AreNodeWays, IsNearest};
 ghost use Rattle.fr_route.specs.Replies.{IsTextIn};
-ghost use Rattle.fr_route.specs.Routes.{IsWalked};
 ghost use Rattle.fr_route.specs.States.{State};
 ghost use Rattle.fr_route.specs.declared.fault.AnswerFault.TheVariants.{Memory};
 
@@ -18,13 +19,15 @@ use crate::json::{
     node_ways_object, phases_object, walk_object, ways_object,
 };
 use crate::listed::planned;
-use crate::router::Router;
+use crate::router::{ROUTE_ROOM, Router};
 use crate::texts::{
-    counts_in, hops_line, links_in, nearest_line, no_nearest_line, no_walk_line, node_ways_line,
-    phases_line, walk_line, ways_line,
+    begun, counts_in, hops_line, links_in, nearest_line, no_nearest_line, no_walk_line,
+    node_ways_line, phases_line, push_number, ways_line,
 };
 use fr_lines::{NodeQuestion, Question};
+use fr_tables::Hop;
 use fr_ways::{WayTable, known_phases};
+use itoa::Buffer;
 use std::alloc::{AllocError, Global};
 
 /// The answer to a question.
@@ -100,27 +103,53 @@ pub(crate) fn walk_in(
     ensures text { IfOk result (λ text. IsTextIn draft.form None (walk_from x) router.now (string_bytes text)) }
     ensures memory { IfErr result (λ fault. fault ≡ Memory) }
 {
-    let Ok(walked) = router.walk(alloc, x) else {
-        return Err(AnswerFault::Memory);
-    };
-    Ok(walked_in(draft, x, &walked)?)
+    match draft.form {
+        Form::Text => Ok(route_line(draft.spare, router, x)?),
+        _ => route_object(alloc, draft.spare, router, x),
+    }
 }
 
-/// The answer for this route from node `x`.
-fn walked_in(draft: Draft, x: u32, walked: &Walked) -> Result<String, AllocError>
-    ensures { IfOk result (λ text. (s : State) → IsWalked s x walked.now
-        → IsTextIn draft.form None (walk_from x) s (string_bytes text)) }
+/// `walk`, and then a space and the number of each node of the route from `x`. The line is written hop by hop, so there is
+/// no list of the nodes. If `x` is cut off, the line says so.
+fn route_line(spare: String, router: &Router, x: u32) -> Result<String, AllocError>
+    requires { x < router.now.nodes }
+    ensures { IfOk result (λ line. IsWalkLine router.now x (string_bytes line)) }
 {
-    let Draft {
-        form,
-        number: _,
-        spare,
-    } = draft;
-    match (form, walked) {
-        (Form::Text, Walked::Route(nodes)) => walk_line(spare, nodes),
-        (Form::Text, Walked::CutOff) => no_walk_line(spare, x),
-        (_, Walked::Route(nodes)) => walk_object(spare, nodes),
-        (_, Walked::CutOff) => no_walk_object(spare),
+    router.state_law();
+    let net = router.net();
+    net.network_law();
+    if router.next_hop(x) == Hop::CutOff {
+        return no_walk_line(spare, x);
+    }
+    let mut line = begun(spare, "walk", ROUTE_ROOM)?;
+    let mut buffer = Buffer::new();
+    push_number(&mut line, " ", u64::from(x), &mut buffer)?;
+    let mut at = x;
+    // No route has more nodes than the network, so the walk ends.
+    let mut count = 1_u32;
+    'hops: while let Hop::To(next) = router.next_hop(at) {
+        push_number(&mut line, " ", u64::from(next), &mut buffer)?;
+        at = next;
+        count += 1;
+    }
+    Ok(line)
+}
+
+/// The route from node `x` in JSON, or `null` if it is cut off.
+fn route_object(
+    alloc: Global,
+    spare: String,
+    router: &Router,
+    x: u32,
+) -> Result<String, AnswerFault>
+    requires { x < router.now.nodes }
+    ensures text { IfOk result (λ text. IsJsonWalk router.now x (string_bytes text)) }
+    ensures memory { IfErr result (λ fault. fault ≡ Memory) }
+{
+    match router.walk(alloc, x) {
+        Ok(Walked::Route(nodes)) => Ok(walk_object(spare, &nodes)?),
+        Ok(Walked::CutOff) => Ok(no_walk_object(spare)?),
+        Err(_) => Err(AnswerFault::Memory),
     }
 }
 

@@ -43,7 +43,7 @@ use std::sync::Wait;
 use std::thread::Threads;
 
 /// How many nodes of a route there is room for at first, so that the list of a short route never grows.
-const ROUTE_ROOM: usize = 16;
+pub(crate) const ROUTE_ROOM: usize = 16;
 
 /// A settled network: the links and counts after the last round, and the next hop of each node. The value in contracts
 /// is the state: the number of nodes, the destination, the links in order, and the counts.

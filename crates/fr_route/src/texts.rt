@@ -4,7 +4,7 @@ ghost use Rattle.std.specs.Prelude.{◌≡◌, ◌<◌, ◌≤◌, ◌++◌, ◌
 ghost use Rattle.fr_route.specs.Refusals.{number_of};
 ghost use Rattle.fr_route.specs.Pushing.{changes_of};
 ghost use Rattle.fr_route.specs.Rooms.{Fits};
-ghost use Rattle.fr_route.specs.Texts.{counts_text, links_text, hops_text, hop_word, walk_text};
+ghost use Rattle.fr_route.specs.Texts.{counts_text, links_text, hops_text, hop_word};
 ghost use Rattle.fr_route.specs.Texts.{no_walk_text, pushes_text, report_text, longest_report, refusal_text};
 ghost use Rattle.fr_route.specs.Texts.{list_word, nearest_text, no_nearest_text, node_ways_text, phases_text};
 ghost use Rattle.fr_route.specs.Texts.{spaced_lists, ways_text, ways_word};
@@ -28,7 +28,7 @@ const _: () = prove!(MAX_NODES < 10_000);
 /// A line that begins with this word, with room for so many numbers and a line end after it, in the memory of this one. It
 /// is inlined, so that a word is copied as a constant.
 #[inline(always)]
-fn begun(mut line: String, word: &str, numbers: usize) -> Result<String, AllocError>
+pub(crate) fn begun(mut line: String, word: &str, numbers: usize) -> Result<String, AllocError>
     ensures { IfOk result (λ line. string_bytes line ≡ word.now) }
 {
     let room = numbers.saturating_mul(NUMBER_ROOM).saturating_add(8);
@@ -40,7 +40,7 @@ fn begun(mut line: String, word: &str, numbers: usize) -> Result<String, AllocEr
 
 /// Appends a text and a number. It is inlined, so that the text is copied as a constant.
 #[inline(always)]
-fn push_number(
+pub(crate) fn push_number(
     line: &mut String,
     before: &str,
     number: u64,
@@ -150,18 +150,6 @@ pub(crate) fn pushes_line(spare: String, nodes: &[u32], hops: &[Hop]) -> Result<
     for node in nodes {
         push_number(&mut line, " ", u64::from(*node), &mut buffer)?;
         push_new_hop(&mut line, hop_at(hops, *node), &mut buffer)?;
-    }
-    Ok(line)
-}
-
-/// `walk`, and then a space and the number of each node.
-pub(crate) fn walk_line(spare: String, nodes: &[u32]) -> Result<String, AllocError>
-    ensures { IfOk result (λ line. string_bytes line ≡ walk_text nodes.now) }
-{
-    let mut line = begun(spare, "walk", nodes.len())?;
-    let mut buffer = Buffer::new();
-    for node in nodes {
-        push_number(&mut line, " ", u64::from(*node), &mut buffer)?;
     }
     Ok(line)
 }
