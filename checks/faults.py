@@ -15,6 +15,7 @@ The command can-fail of a check makes the edit in a copy of the repository and r
 """
 
 import argparse
+import os
 import re
 import shutil
 import subprocess
@@ -139,3 +140,13 @@ def words(description):
 def end(found):
     """Ends a command can-fail, with the status 1 if a fault was not found."""
     sys.exit(0 if all(found) else 1)
+
+
+def plant_between(name, parts, usage):
+    """Plants the faults of a check that looks at the program revroute, over a copy of these parts of the repository. The
+    check runs checks/between of the copy, which runs the program that the words name."""
+    known = words(usage)
+    known.add_argument("--program", type=Path, default=TOP / "revroute")
+    asked = known.parse_args()
+    os.environ["REVROUTE"] = str(asked.program.resolve())
+    end([try_edit(it, parts, lambda folder, _: [folder / "checks" / name / "check", folder / "checks" / "between"]) for it in edits(name, asked.faults)])
