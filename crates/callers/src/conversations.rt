@@ -5,7 +5,7 @@ ghost use Rattle.fr_command.specs.Outputs.{IsOutput};
 ghost use Rattle.fr_command.specs.Conversations.{Takes, text_of};
 
 use fr_command::{Conversation, Joined, RunFault, Taken, serve};
-use fr_crew::{OpenGate, Plan};
+use fr_crew::{Crew, OpenGate, Plan};
 use std::alloc::Global;
 use std::sync::Wait;
 use std::thread::Threads;
@@ -22,7 +22,13 @@ pub fn take_line<T: Threads + Wait + Sync>(
         (λ taken. Takes conversation.old (take taken.count come.now) (text_of taken.answer) conversation.new) }
 {
     let plan = Plan::new(1, 0, 0).unwrap();
-    conversation.take(rt, alloc, come, &plan, &OpenGate)
+    let crew = Crew {
+        rt,
+        alloc,
+        plan: &plan,
+        gate: &OpenGate,
+    };
+    conversation.take(&crew, come)
 }
 
 /// The answers to the lines of a text, each line by itself.
@@ -38,6 +44,12 @@ pub fn served<T: Threads + Wait + Sync>(
         reader: text,
         writer: Vec::new(alloc),
     };
-    serve(rt, alloc, &mut stream, &plan, &OpenGate)?;
+    let crew = Crew {
+        rt,
+        alloc,
+        plan: &plan,
+        gate: &OpenGate,
+    };
+    serve(&crew, &mut stream)?;
     Ok(stream.writer)
 }

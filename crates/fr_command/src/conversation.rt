@@ -14,7 +14,7 @@ ghost use Rattle.fr_command.specs.InPieces.{IsHoldFault};
 use crate::fault::run_fault;
 use crate::responder::{Responder, Tally};
 use fr_bytes::{MAX_BYTES, RunFault, front_size};
-use fr_crew::{Crew, Gate, Plan};
+use fr_crew::{Crew, Gate};
 use fr_route::{Form, Session, is_blank};
 use std::alloc::Global;
 use std::marker::Model;
@@ -113,11 +113,8 @@ impl Conversation {
     /// O(b) for b bytes taken, and at a newline the cost of [`Session::answer_line_in`].
     pub fn take<T: Threads + Wait + Sync, G: Gate + Sync>(
         &mut self,
-        rt: &T,
-        alloc: Global,
+        crew: &Crew<'_, T, G>,
         piece: &[u8],
-        plan: &Plan,
-        gate: &G,
     ) -> Result<Taken, RunFault>
         ensures count { IfOk result (λ taken. taken.count ≡ line_size piece.now) }
         ensures takes { IfOk result
@@ -126,7 +123,7 @@ impl Conversation {
         ensures unchanged { OnErr result (self.new ≡ self.old) }
         ensures fault { IfErr result
             (IsTakeFault (point_of self.old) (carried self.old piece.now) piece.now) }
-        ensures no_start { StartsNone plan.now → result ≢ Err RunFault.Start }
+        ensures no_start { StartsNone crew.now.plan.now → result ≢ Err RunFault.Start }
     {
         let kept = self.begun.len();
         let end = front_size(piece);
@@ -146,7 +143,7 @@ impl Conversation {
                 answer: None,
             });
         }
-        match self.finish(rt, alloc, plan, gate) {
+        match self.finish(crew) {
             Ok(answer) => Ok(Taken {
                 count: end + 1,
                 answer,
@@ -173,23 +170,14 @@ impl Conversation {
     /// of [`Session::answer_line_in`].
     pub fn finish<T: Threads + Wait + Sync, G: Gate + Sync>(
         &mut self,
-        rt: &T,
-        alloc: Global,
-        plan: &Plan,
-        gate: &G,
+        crew: &Crew<'_, T, G>,
     ) -> Result<Option<String>, RunFault>
         ensures ends { IfOk result (λ answer. Ends self.old (text_of answer) self.new) }
         ensures unchanged { OnErr result (self.new ≡ self.old) }
         ensures fault { IfErr result (IsFinishFault (point_of self.old) self.old.begun) }
-        ensures no_start { StartsNone plan.now → result ≢ Err RunFault.Start }
+        ensures no_start { StartsNone crew.now.plan.now → result ≢ Err RunFault.Start }
     {
-        let crew = Crew {
-            rt,
-            alloc,
-            plan,
-            gate,
-        };
-        match self.responder.answer(&crew, self.form, &self.begun) {
+        match self.responder.answer(crew, self.form, &self.begun) {
             Ok(answer) => {
                 self.begun.clear();
                 Ok(answer)

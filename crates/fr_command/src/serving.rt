@@ -15,9 +15,8 @@ ghost use Rattle.fr_command.specs.Services.{AnswersInTime, Serves, ServesText};
 use crate::conversation::{Conversation, Taken};
 use crate::responder::Tally;
 use fr_bytes::{MAX_BYTES, PIECE, RunFault, Stream, send_whole};
-use fr_crew::{Crew, Gate, Plan};
+use fr_crew::{Crew, Gate};
 use fr_route::Form;
-use std::alloc::Global;
 use std::sync::Wait;
 use std::thread::Threads;
 
@@ -35,24 +34,15 @@ use std::thread::Threads;
 ///
 /// The cost is that of `run`, but memory is needed only for the longest line.
 pub fn serve<T: Threads + Wait + Sync, S: Stream, G: Gate + Sync>(
-    rt: &T,
-    alloc: Global,
+    crew: &Crew<'_, T, G>,
     stream: &mut S,
-    plan: &Plan,
-    gate: &G,
 ) -> Result<(), RunFault>
     ensures ok { OnOk result (ServesText (S.traffic stream.old) (S.traffic stream.new)) }
     ensures fault { IfErr result (IsServeFault (S.traffic stream.old) (S.traffic stream.new)) }
     ensures in_time { AnswersInTime Text (S.traffic stream.old).log (S.traffic stream.new).log }
-    ensures no_start { StartsNone plan.now → result ≢ Err RunFault.Start }
+    ensures no_start { StartsNone crew.now.plan.now → result ≢ Err RunFault.Start }
 {
-    let crew = Crew {
-        rt,
-        alloc,
-        plan,
-        gate,
-    };
-    match serve_in(&crew, Form::Text, stream) {
+    match serve_in(crew, Form::Text, stream) {
         Ok(_) => Ok(()),
         Err(fault) => Err(fault),
     }
@@ -138,9 +128,7 @@ fn answer_front<T: Threads + Wait + Sync, S: Stream, G: Gate + Sync>(
     ensures unread { ReadsNothing (S.traffic stream.old) (S.traffic stream.new) }
     ensures no_start { StartsNone crew.now.plan.now → result ≢ Err RunFault.Start }
 {
-    let Taken { count, answer } = conversation.take(
-        crew.rt, crew.alloc, piece, crew.plan, crew.gate,
-    )?;
+    let Taken { count, answer } = conversation.take(crew, piece)?;
     send_answer(stream, &answer)?;
     conversation.reuse(answer);
     Ok(count)
@@ -161,7 +149,7 @@ fn answer_end<T: Threads + Wait + Sync, S: Stream, G: Gate + Sync>(
     ensures unread { ReadsNothing (S.traffic stream.old) (S.traffic stream.new) }
     ensures no_start { StartsNone crew.now.plan.now → result ≢ Err RunFault.Start }
 {
-    let answer = conversation.finish(crew.rt, crew.alloc, crew.plan, crew.gate)?;
+    let answer = conversation.finish(crew)?;
     send_answer(stream, &answer)?;
     stream.flush()?;
     Ok(conversation.tally())

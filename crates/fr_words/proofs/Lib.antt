@@ -1,4 +1,5 @@
 pub mod DrawnSteps
+pub mod Makings
 pub mod OptionRules
 pub mod OptionNumbers
 pub mod Flags

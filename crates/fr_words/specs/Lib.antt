@@ -1,3 +1,4 @@
 pub mod Draws
 pub mod Commands
+pub mod Making
 pub mod Tasks

@@ -1,16 +1,15 @@
 //! The command line, as `clap` reads it.
 
-ghost use Rattle.std.specs.Prelude.{◌≡◌, [], IfOk, IfErr, map, codes, pos, false};
+ghost use Rattle.std.specs.Prelude.{◌≡◌, [], IfOk, IfErr, map, codes, pos, false, Ok};
 ghost use Rattle.clap.specs.Simple.{on_top};
-ghost use Rattle.clap.specs.Words.{HasKind, app_of, fault_of, new_app, rule_of, subcommand_of};
+ghost use Rattle.clap.specs.Words.{App, HasKind, fault_of, new_app, rule_of, subcommand_of};
 ghost use Rattle.clap.specs.Words.{subcommand_rows_of, with_rule, with_subcommand};
-ghost use Rattle.clap.specs.declared.builder.command.Command.TheViews.{out-Command};
 ghost use Rattle.fr_core.specs.Limits.{most_workers};
 ghost use Rattle.fr_words.specs.Draws.{most_steps};
-ghost use Rattle.fr_words.specs.Commands.{command, most_budget, program, run_command as run_command_of};
-ghost use Rattle.fr_words.specs.Commands.{serve_command as serve_command_of};
+ghost use Rattle.fr_words.specs.Commands.{command, most_budget, program};
 ghost use Rattle.fr_words.specs.Commands.{play_command as play_command_of, planning as planning_of};
 ghost use Rattle.fr_words.specs.Commands.{answering as answering_of, flag as flag_of, option as option_of};
+ghost use Rattle.fr_words.specs.Making.{Makes};
 
 use crate::draws::MAX_STEPS;
 use clap::builder::ValueParser;
@@ -102,6 +101,9 @@ const _: () = prove!(MAX_STEPS == 10_000);
 /// The largest budget that the command line accepts.
 pub(crate) const MAX_BUDGET: u32 = 1_000_000_000;
 
+/// A command, unless an allocation was refused while it was made.
+type Made<'a> = Result<Command<'a>, AllocError>;
+
 /// What the words of a command line say, for a program with this version. The first word is the program's name.
 pub(crate) fn matches_of<'a>(
     alloc: Global,
@@ -116,133 +118,136 @@ pub(crate) fn matches_of<'a>(
 }
 
 /// The program with its subcommands.
-fn whole_command<'a>(alloc: Global, version: &'a str) -> Result<Command<'a>, AllocError>
-    ensures { IfOk result (λ c. app_of c ≡ command) }
+fn whole_command<'a>(alloc: Global, version: &'a str) -> Made<'a>
+    ensures { Makes command result }
 {
-    let play = play_command(alloc)?;
-    command_for_requests(alloc, version)?.subcommand(play)
-}
-
-/// The program with the two subcommands that answer requests.
-fn command_for_requests<'a>(alloc: Global, version: &'a str) -> Result<Command<'a>, AllocError>
-    ensures { IfOk result
-        (λ c. (app_of c ≡ with_subcommand
-        (with_subcommand (on_top program (new_app (codes "revroute"))) run_command_of.top) serve_command_of.top)
-        × ((out-Command c).has_globals ≡ false)) }
-{
-    let serve = serve_command(alloc)?;
-    command_for_runs(alloc, version)?.subcommand(serve)
-}
-
-/// The program with the subcommand that reads all requests before it answers.
-fn command_for_runs<'a>(alloc: Global, version: &'a str) -> Result<Command<'a>, AllocError>
-    ensures { IfOk result
-        (λ c. (app_of c ≡ with_subcommand (on_top program (new_app (codes "revroute"))) run_command_of.top)
-        × ((out-Command c).has_globals ≡ false)) }
-{
-    let run = run_command(alloc)?;
-    bare_command(alloc, version).subcommand(run)
+    let command = bare_command(alloc, version);
+    let command = with_subcommand(command, answering(alloc, "run", RUN_ABOUT));
+    let command = with_subcommand(command, answering(alloc, "serve", SERVE_ABOUT));
+    with_subcommand(command, play_command(alloc))
 }
 
 /// The program before its subcommands. One of them must be given, and the program prints its version.
-fn bare_command<'a>(alloc: Global, version: &'a str) -> Command<'a>
-    ensures app { app_of result ≡ on_top program (new_app (codes "revroute")) }
-    ensures local { (out-Command result).has_globals ≡ false }
+#[tactic(auto, unfolding(crate::specs::Making::Makes))]
+fn bare_command<'a>(alloc: Global, version: &'a str) -> Made<'a>
+    ensures { Makes (on_top program (new_app (codes "revroute"))) result }
 {
-    described(alloc, "revroute", ABOUT, EXAMPLE)
-        .version(version)
-        .subcommand_required(true)
-}
-
-/// The subcommand that answers requests.
-fn run_command<'a>(alloc: Global) -> Result<Command<'a>, AllocError>
-    ensures { IfOk result (λ c. (app_of c ≡ run_command_of) × ((out-Command c).has_globals ≡ false)) }
-{
-    answering(alloc, "run", RUN_ABOUT)
-}
-
-/// The subcommand that answers each request as it comes.
-fn serve_command<'a>(alloc: Global) -> Result<Command<'a>, AllocError>
-    ensures { IfOk result (λ c. (app_of c ≡ serve_command_of) × ((out-Command c).has_globals ≡ false)) }
-{
-    answering(alloc, "serve", SERVE_ABOUT)
+    Ok(
+        Command::new(alloc, "revroute")
+            .about(ABOUT)
+            .after_help(EXAMPLE)
+            .version(version)
+            .subcommand_required(true),
+    )
 }
 
 /// A subcommand that answers requests. Its help lists them.
-fn answering<'a>(alloc: Global, name: &'a str, about: &'a str) -> Result<Command<'a>, AllocError>
-    ensures { IfOk result (λ c. (app_of c ≡ answering_of name.entry.now) × ((out-Command c).has_globals ≡ false)) }
+fn answering<'a>(alloc: Global, name: &'a str, about: &'a str) -> Made<'a>
+    ensures { Makes (answering_of name.entry.now) result }
 {
-    let command = planning(alloc, name, about)?;
-    let command = with_option(command, flag(alloc, "alone", ALONE))?;
-    let command = with_forms(alloc, command)?;
-    with_option(command, flag(alloc, "strict", STRICT))
-}
-
-/// The command with the flags for the form of answers.
-fn with_forms<'a>(alloc: Global, command: Command<'a>) -> Result<Command<'a>, AllocError>
-    requires { (out-Command command).has_globals ≡ false }
-    ensures { IfOk result
-        (λ c. (app_of c ≡ with_rule (with_rule (app_of command.entry) (flag_of (codes "json"))) (flag_of (codes "ways")))
-        × ((out-Command c).has_globals ≡ false)) }
-{
-    let command = with_option(command, flag(alloc, "json", JSON))?;
-    with_option(command, flag(alloc, "ways", WAYS))
+    let command = planning(alloc, name, about);
+    let command = with_flag(alloc, command, "alone", ALONE);
+    let command = with_flag(alloc, command, "json", JSON);
+    let command = with_flag(alloc, command, "ways", WAYS);
+    with_flag(alloc, command, "strict", STRICT)
 }
 
 /// A subcommand that settles networks with a plan.
-fn planning<'a>(alloc: Global, name: &'a str, about: &'a str) -> Result<Command<'a>, AllocError>
-    ensures { IfOk result (λ c. (app_of c ≡ planning_of name.entry.now) × ((out-Command c).has_globals ≡ false)) }
+fn planning<'a>(alloc: Global, name: &'a str, about: &'a str) -> Made<'a>
+    ensures { Makes (planning_of name.entry.now) result }
 {
     let command = described(alloc, name, about, REQUESTS);
-    let command = with_option(
+    let command = with_number(
+        alloc,
         command,
-        option(alloc, "workers", "4", worker_numbers(), RUN_WORKERS),
-    )?;
-    let command = with_option(
+        "workers",
+        "4",
+        worker_numbers(),
+        RUN_WORKERS,
+    );
+    let command = with_number(alloc, command, "seed", "0", value_parser!(u64), RUN_SEED);
+    with_number(
+        alloc,
         command,
-        option(alloc, "seed", "0", value_parser!(u64), RUN_SEED),
-    )?;
-    with_option(
-        command,
-        option(alloc, "budget", "1000000", budget_numbers(), BUDGET),
+        "budget",
+        "1000000",
+        budget_numbers(),
+        BUDGET,
     )
 }
 
 /// The subcommand that plays a drawn schedule.
-fn play_command<'a>(alloc: Global) -> Result<Command<'a>, AllocError>
-    ensures { IfOk result (λ c. (app_of c ≡ play_command_of) × ((out-Command c).has_globals ≡ false)) }
+fn play_command<'a>(alloc: Global) -> Made<'a>
+    ensures { Makes play_command_of result }
 {
     let command = described(alloc, "play", PLAY_ABOUT, PLAY_EXAMPLE);
-    let command = with_option(
+    let command = with_number(
+        alloc,
         command,
-        option(alloc, "workers", "2", worker_numbers(), PLAY_WORKERS),
-    )?;
-    let command = with_option(
-        command,
-        option(alloc, "seed", "0", value_parser!(u64), PLAY_SEED),
-    )?;
-    with_option(
-        command,
-        option(alloc, "steps", "100", step_numbers(), STEPS),
-    )
+        "workers",
+        "2",
+        worker_numbers(),
+        PLAY_WORKERS,
+    );
+    let command = with_number(alloc, command, "seed", "0", value_parser!(u64), PLAY_SEED);
+    with_number(alloc, command, "steps", "100", step_numbers(), STEPS)
 }
 
 /// A command with this name, a description and an example.
-fn described<'a>(alloc: Global, name: &'a str, about: &'a str, example: &'a str) -> Command<'a>
-    ensures app { app_of result ≡ new_app name.entry.now }
-    ensures local { (out-Command result).has_globals ≡ false }
+#[tactic(auto, unfolding(crate::specs::Making::Makes))]
+fn described<'a>(alloc: Global, name: &'a str, about: &'a str, example: &'a str) -> Made<'a>
+    ensures { Makes (new_app name.entry.now) result }
 {
-    Command::new(alloc, name).about(about).after_help(example)
+    Ok(Command::new(alloc, name).about(about).after_help(example))
 }
 
-/// The command with one more option.
-fn with_option<'a>(command: Command<'a>, option: Arg<'a>) -> Result<Command<'a>, AllocError>
-    requires command { (out-Command command).has_globals ≡ false }
-    requires local { option.global ≡ false }
-    ensures { IfOk result (λ c. (app_of c ≡ with_rule (app_of command.entry) (rule_of option.entry))
-        × ((out-Command c).has_globals ≡ false)) }
+/// The command with one more subcommand.
+#[tactic(auto, unfolding(crate::specs::Making::Makes))]
+fn with_subcommand<'a>(command: Made<'a>, subcommand: Made<'a>) -> Made<'a>
+    ensures { (app sub : App) → Makes app command.entry → Makes sub subcommand.entry
+        → Makes (with_subcommand app sub.top) result }
 {
-    command.arg(option)
+    with_made_subcommand(command, subcommand?)
+}
+
+/// The same, after the subcommand was made.
+#[tactic(auto, unfolding(crate::specs::Making::Makes))]
+fn with_made_subcommand<'a>(command: Made<'a>, subcommand: Command<'a>) -> Made<'a>
+    ensures { (app sub : App) → Makes app command.entry → Makes sub (Ok subcommand.entry)
+        → Makes (with_subcommand app sub.top) result }
+{
+    command?.subcommand(subcommand)
+}
+
+/// The command with one more flag.
+fn with_flag<'a>(alloc: Global, command: Made<'a>, name: &'a str, help: &'a str) -> Made<'a>
+    ensures { (app : App) → Makes app command.entry → Makes (with_rule app (flag_of name.entry.now)) result }
+{
+    with_option(command, flag(alloc, name, help))
+}
+
+/// The command with one more option, which has a number. `default` is its text if the option is not given.
+fn with_number<'a>(
+    alloc: Global,
+    command: Made<'a>,
+    name: &'a str,
+    default: &'a str,
+    numbers: ValueParser<'a>,
+    help: &'a str,
+) -> Made<'a>
+    ensures { (app : App) → Makes app command.entry
+        → Makes (with_rule app (option_of name.entry.now default.entry.now numbers.entry)) result }
+{
+    with_option(command, option(alloc, name, default, numbers, help))
+}
+
+/// The command with one more option, of any kind.
+#[tactic(auto, unfolding(crate::specs::Making::Makes))]
+fn with_option<'a>(command: Made<'a>, option: Arg<'a>) -> Made<'a>
+    requires { option.global ≡ false }
+    ensures { (app : App) → Makes app command.entry → Makes (with_rule app (rule_of option.entry)) result }
+{
+    command?.arg(option)
 }
 
 /// An option with a number. `default` is its text if the option is not given.

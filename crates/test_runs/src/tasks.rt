@@ -3,7 +3,7 @@
 use crate::cases::Case;
 use crate::outcomes::Outcome;
 use fr_command::{Draw, Joined, RunFault, Task, play_drawn, run, serve};
-use fr_crew::{OpenGate, Plan};
+use fr_crew::{Crew, OpenGate, Plan};
 use std::io::{Read, Write};
 use std::sync::Wait;
 use std::thread::Threads;
@@ -41,7 +41,13 @@ pub fn perform<T: Threads + Wait + Sync + AllocGlobal, R: Read, W: Write>(
         Task::Run(plan) => run(rt, rt.alloc(), reader, writer, &plan, &OpenGate),
         Task::Serve(plan) => {
             let mut stream = Joined { reader, writer };
-            serve(rt, rt.alloc(), &mut stream, &plan, &OpenGate).map(|()| 0)
+            let crew = Crew {
+                rt,
+                alloc: rt.alloc(),
+                plan: &plan,
+                gate: &OpenGate,
+            };
+            serve(&crew, &mut stream).map(|()| 0)
         }
         Task::Play(draw) => play_drawn(rt.alloc(), reader, writer, draw),
     }
