@@ -1,6 +1,6 @@
 //! A router: a settled network with its next hops and routes, and the changes after which it settles again.
 
-ghost use Rattle.std.specs.Prelude.{◌≡◌, ◌≢◌, ◌<◌, ◌≤◌, [], ◌∷◌, length, replicate, take};
+ghost use Rattle.std.specs.Prelude.{◌≡◌, ◌≢◌, ◌<◌, ◌≤◌, [], ◌∷◌, length, max, replicate, take};
 ghost use Rattle.std.specs.Prelude.{Some, IfOk, IfErr, IfSome, MatchOption, OnErr, OnOk};
 ghost use Rattle.std.specs.Option.{option_copied};
 ghost use Rattle.fr_graph.specs.Limits.{most_edits};
@@ -12,8 +12,8 @@ ghost use Rattle.fr_route.specs.NodeWays.{AreAllWays, AreNodeWays, AreWaysBelow,
 ghost use Rattle.fr_route.specs.States.{IsAfterRound, IsCutOff, IsRound, IsReport};
 ghost use Rattle.fr_route.specs.Routes.{IsHop, AreHops, IsWalked};
 ghost use Rattle.fr_route.specs.Changes.{IsChanged, IsOpenFault, IsPlaced, IsRouteFault, IsStill, IsUndone};
-ghost use Rattle.fr_route.specs.Reroutes.{ArePushes, AreReplaced, IsPushesFault, LeadFromWays};
-ghost use Rattle.fr_route.specs.Reroutes.{TellsRerouted, TellsReroutes};
+ghost use Rattle.fr_route.specs.Reroutes.{ArePushes, AreReplaced, AreWaysIn, IsPushesFault, IsTableIn, LeadFromWays};
+ghost use Rattle.fr_route.specs.Reroutes.{TellsRerouted, TellsReroutes, nodes_in};
 ghost use Rattle.fr_route.specs.WayPushes.{IsPhasesFault, LeadToWays};
 ghost use Rattle.fr_route.specs.Tries.{IsTried, change_of, edit_of, revision_of};
 ghost use Rattle.fr_route.specs.Outcomes.{IsOutcome, IsRoundFault};
@@ -27,10 +27,10 @@ use crate::kept_distances::{KeptDistances, table_of_ways};
 use crate::outcome::{alone_nodes, push_capped, put_in_place, report_of, touched_nodes};
 use crate::reroutes::Reroutes;
 use crate::revision::Revision;
-use crate::settling::Settler;
+use crate::settling::{Settler, counts_alone};
 use crate::spare::Spare;
 use crate::told::Told;
-use fr_crew::{Crew, CrewFault, Gate, Plan, settled_counts, settled_counts_alone};
+use fr_crew::{Crew, CrewFault, Gate, Plan, settled_counts};
 use fr_graph::{Edit, MAX_EDITS, Net, NetFault, Turns};
 use fr_nearest::Distances;
 use fr_tables::{Hop, PushRoom, TableFault, first_outside, known_push_order};
@@ -97,6 +97,31 @@ fn keep_turns(last: &mut Turns, spare: &mut Spare, turns: Turns)
     ensures { last.new ≡ turns }
 {
     spare.keep(mem::replace(last, turns));
+}
+
+/// The hops of the numbers below `count` in the router that another one replaces. Without a router, all are cut off.
+fn hops_before(
+    alloc: Global,
+    before: Option<&Router>,
+    count: u32,
+) -> Result<Vec<Hop>, AllocError>
+    requires { nodes_in (option_copied before) ≤ count }
+    ensures { IfOk result (λ hops. IsTableIn (option_copied before.entry) count hops.items) }
+{
+    match before {
+        Some(router) => router.hops_below(alloc, count),
+        None => vec![in alloc; Hop::CutOff; count as usize],
+    }
+}
+
+/// The ways of the nodes of the router that another one replaces. Without a router, there are none.
+fn ways_before(alloc: Global, before: Option<&Router>) -> Result<WayTable, AllocError>
+    ensures { IfOk result (AreWaysIn (option_copied before.entry)) }
+{
+    match before {
+        Some(router) => router.all_ways(alloc),
+        None => WayTable::with_capacity(alloc, 0, 0),
+    }
 }
 
 impl<'a, F: Fn(&Net, u32, Option<&[u32]>, Turns) -> Result<Turns, CrewFault>> Settler<'a, F> {
@@ -250,11 +275,7 @@ impl Router {
         ensures fault { IfErr result (IsOpenFault net.nodes dest) }
         ensures no_start { IfErr result (λ fault. fault ≢ Start) }
     {
-        Settler::new(
-            alloc,
-            &|net, dest, from, turns| settled_counts_alone(net, dest, from, turns),
-        )
-        .open(net, dest)
+        Settler::new(alloc, &counts_alone).open(net, dest)
     }
 
     /// The router of a network with these settled counts.
@@ -346,10 +367,7 @@ impl Router {
         ensures unchanged { OnErr result (self.new ≡ self.old) }
         ensures no_start { IfErr result (λ fault. fault ≢ Start) }
     {
-        placeless(Settler::new(
-            alloc,
-            &|net, dest, from, turns| settled_counts_alone(net, dest, from, turns),
-        )
+        placeless(Settler::new(alloc, &counts_alone)
         .change(self, &change, &mut Told::Nobody))
     }
 
@@ -376,10 +394,7 @@ impl Router {
         ensures no_start { IfErr result (λ undone. undone.fault ≢ Start) }
     {
         let mut told = Told::taken(rerouted, alloc);
-        let report = Settler::new(
-            alloc,
-            &|net, dest, from, turns| settled_counts_alone(net, dest, from, turns),
-        )
+        let report = Settler::new(alloc, &counts_alone)
         .change(self, &change, &mut told);
         *rerouted = told.into_list(alloc);
         report
@@ -407,10 +422,7 @@ impl Router {
         ensures unchanged { OnErr result (self.new ≡ self.old) }
         ensures no_start { IfErr result (λ undone. undone.fault ≢ Start) }
     {
-        Settler::new(
-            alloc,
-            &|net, dest, from, turns| settled_counts_alone(net, dest, from, turns),
-        )
+        Settler::new(alloc, &counts_alone)
         .change(self, &change, &mut reroutes.told)
     }
 
@@ -509,15 +521,8 @@ impl Router {
         ensures changed { IfOk result (λ nodes. AreReplaced (option_copied before.entry) self.now nodes.items) }
         ensures memory { IfErr result (λ fault. fault ≡ Memory) }
     {
-        let nodes = self.net.nodes();
-        let count = match before {
-            Some(router) => nodes.max(router.net.nodes()),
-            None => nodes,
-        };
-        let old = match before {
-            Some(router) => router.hops_below(alloc, count)?,
-            None => vec![in alloc; Hop::CutOff; count as usize]?,
-        };
+        let count = self.numbers_with(before);
+        let old = hops_before(alloc, before, count)?;
         let new = self.hops_below(alloc, count)?;
         Ok(known_push_order(alloc, &old, &new)?)
     }
@@ -532,17 +537,20 @@ impl Router {
         ensures { IfOk result (LeadFromWays (option_copied before.entry) self.now) }
     {
         self.net.network_law();
+        let old = ways_before(alloc, before)?;
+        let new = self.ways_below(alloc, self.numbers_with(before))?;
+        known_phases(alloc, &old, &new)
+    }
+
+    /// How many numbers are nodes of this router or of the one that it replaces.
+    fn numbers_with(&self, before: Option<&Router>) -> u32
+        ensures { result ≡ max self.now.nodes (nodes_in (option_copied before.entry)) }
+    {
         let nodes = self.net.nodes();
-        let count = match before {
+        match before {
             Some(router) => nodes.max(router.net.nodes()),
             None => nodes,
-        };
-        let old = match before {
-            Some(router) => router.all_ways(alloc)?,
-            None => WayTable::with_capacity(alloc, 0, 0)?,
-        };
-        let new = self.ways_below(alloc, count)?;
-        known_phases(alloc, &old, &new)
+        }
     }
 
     /// The ways of the numbers below `count`. A number that is not a node has none.

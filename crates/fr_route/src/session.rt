@@ -18,10 +18,10 @@ ghost use Rattle.fr_route.specs.declared.fault.AnswerFault.TheVariants.{Start, M
 use crate::fault::AnswerFault;
 use crate::form::{Answer, Draft, Form, Line};
 use crate::router::Router;
-use crate::settling::Settler;
+use crate::settling::{Settler, counts_alone};
 use crate::space::AnswerSpace;
 use crate::told::Told;
-use fr_crew::{Crew, Gate, Plan, settled_counts, settled_counts_alone};
+use fr_crew::{Crew, Gate, Plan, settled_counts};
 use fr_graph::Net;
 use fr_lines::{Question, Request, read_line};
 use std::alloc::Global;
@@ -147,10 +147,7 @@ impl Session {
             (λ answer. IfSome answer (λ text. (self.new ≡ self.old) ⊎ (length (string_bytes text) ≤ longest_report))) }
         ensures no_start { IfErr result (λ fault. fault ≢ Start) }
     {
-        Settler::new(
-            alloc,
-            &|net, dest, from, turns| settled_counts_alone(net, dest, from, turns),
-        )
+        Settler::new(alloc, &counts_alone)
         .answer_line(self, line, &mut Told::Nobody)
     }
 
@@ -176,10 +173,7 @@ impl Session {
         ensures no_start { IfErr result (λ fault. fault ≢ Start) }
     {
         let mut told = Told::taken(rerouted, alloc);
-        let answer = Settler::new(
-            alloc,
-            &|net, dest, from, turns| settled_counts_alone(net, dest, from, turns),
-        )
+        let answer = Settler::new(alloc, &counts_alone)
         .answer_line(self, line, &mut told);
         *rerouted = told.into_list(alloc);
         answer
@@ -225,10 +219,7 @@ impl Session {
         ensures short { IfOk result (λ text. (self.new ≡ self.old) ⊎ (length (string_bytes text) ≤ longest_report)) }
         ensures no_start { IfErr result (λ fault. fault ≢ Start) }
     {
-        Settler::new(
-            alloc,
-            &|net, dest, from, turns| settled_counts_alone(net, dest, from, turns),
-        )
+        Settler::new(alloc, &counts_alone)
         .answer(self, request, &mut Told::Nobody)
     }
 
@@ -250,10 +241,7 @@ impl Session {
         ensures no_start { IfErr result (λ fault. fault ≢ Start) }
     {
         let mut told = Told::taken(rerouted, alloc);
-        let answer = Settler::new(
-            alloc,
-            &|net, dest, from, turns| settled_counts_alone(net, dest, from, turns),
-        )
+        let answer = Settler::new(alloc, &counts_alone)
         .answer(self, request, &mut told);
         *rerouted = told.into_list(alloc);
         answer
@@ -316,10 +304,7 @@ impl Session {
         ensures unchanged { OnErr result ((is_blank_line line.entry.bytes.now ≡ false) × (self.new ≡ self.old)) }
         ensures no_start { IfErr result (λ fault. fault ≢ Start) }
     {
-        Settler::new(
-            alloc,
-            &|net, dest, from, turns| settled_counts_alone(net, dest, from, turns),
-        )
+        Settler::new(alloc, &counts_alone)
         .reply_line_in(self, form, line, space)
     }
 
