@@ -1,7 +1,7 @@
 //! A router: a settled network with its next hops and routes, and the changes after which it settles again.
 
 ghost use Rattle.std.specs.Prelude.{◌≡◌, ◌≢◌, ◌<◌, ◌≤◌, [], ◌∷◌, length, max, replicate, take};
-ghost use Rattle.std.specs.Prelude.{Some, IfOk, IfErr, IfSome, MatchOption, OnErr, OnOk};
+ghost use Rattle.std.specs.Prelude.{Some, IfOk, IfErr, IfSome, IsTrue, MatchOption, OnErr, OnOk};
 ghost use Rattle.std.specs.Option.{option_copied};
 ghost use Rattle.fr_graph.specs.Limits.{most_edits};
 ghost use Rattle.fr_crew.specs.Settlements.{CanBegin, HoldsSinks, IsCounted};
@@ -18,7 +18,7 @@ ghost use Rattle.fr_route.specs.WayPushes.{IsPhasesFault, LeadToWays};
 ghost use Rattle.fr_route.specs.Tries.{IsTried, change_of, edit_of, revision_of};
 ghost use Rattle.fr_route.specs.Outcomes.{IsOutcome, IsRoundFault};
 ghost use Rattle.fr_ways.specs.Ways.{IsInRange};
-ghost use Rattle.fr_route.specs.Outcomes.{IsSettledTable, cut_off_nodes, movable};
+ghost use Rattle.fr_route.specs.Outcomes.{IsSettledTable, cut_off_nodes, movable, state_after};
 
 use crate::change::{Change, Report};
 use crate::fault::{NotMade, RouteFault, placeless};
@@ -97,6 +97,30 @@ fn keep_turns(last: &mut Turns, spare: &mut Spare, turns: Turns)
     ensures { last.new ≡ turns }
 {
     spare.keep(mem::replace(last, turns));
+}
+
+/// What a router keeps beside its network: the next hops, and room for what changes need.
+#[derive(Drop)]
+struct Beside {
+    hops: Vec<Hop>,
+    distances: KeptDistances,
+    room: PushRoom,
+}
+
+/// What a router keeps beside its network after this round. Its distances are not kept yet.
+fn make_beside(alloc: Global, round: &AfterRound<'_>) -> Result<Beside, AllocError>
+    requires { IsAfterRound (state_after round.now) }
+    ensures hops { IfOk result (λ made. AreHops (state_after round.now) round.now.net.now.nodes made.hops.items) }
+    ensures distances { IfOk result (λ made. length made.distances.table.table ≡ round.now.net.now.nodes) }
+    ensures unkept { IfOk result (λ made. ¬ IsTrue made.distances.are_kept) }
+    ensures room { IfOk result (λ made. made.room ≡ round.now.net.now.nodes) }
+{
+    round.net.network_law();
+    Ok(Beside {
+        hops: hop_table(alloc, round)?,
+        distances: KeptDistances::unmeasured(alloc, round.net)?,
+        room: PushRoom::new(alloc, round.net.nodes())?,
+    })
 }
 
 /// The hops of the numbers below `count` in the router that another one replaces. Without a router, all are cut off.
@@ -293,9 +317,11 @@ impl Router {
             dest,
             turns: &turns,
         };
-        let hops = hop_table(alloc, &round)?;
-        let distances = KeptDistances::unmeasured(alloc, &net)?;
-        let room = PushRoom::new(alloc, net.nodes())?;
+        let Beside {
+            hops,
+            distances,
+            room,
+        } = make_beside(alloc, &round)?;
         Ok(Router {
             net,
             dest,
