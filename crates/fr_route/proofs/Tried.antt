@@ -1,5 +1,5 @@
 -- What holds of an attempt holds of any weaker one.
-use Rattle.std.proofs.Common.{List, [], ◌∷◌, ◌≡◌, Err, Ok, Result, subst, ℕ}
+use Rattle.std.proofs.Common.{List, [], ◌∷◌, ◌≡◌, Err, IfErr, IfOk, Ok, OnErr, Result, subst, ℕ}
 use Rattle.fr_graph.specs.declared.edit.Edit.{Edit}
 use Rattle.std.specs.declared.alloc.Global.{Global}
 use Rattle.std.specs.declared.vec.Vec.{Vec}
@@ -7,9 +7,10 @@ use Rattle.fr_route.specs.Changes.{IsPlaced}
 use Rattle.fr_route.specs.Outcomes.{IsEdited}
 use Rattle.fr_route.specs.declared.change.Change.TheVariants.{Batch}
 use Rattle.fr_route.specs.States.{State}
-use Rattle.fr_route.specs.Tries.{IsTried, Trial, change_of, edit_of, edits_of}
+use Rattle.fr_route.specs.Tries.{IsTried, Trial, change_of, edit_of, edits_of, without_place}
 use Rattle.fr_route.specs.declared.change.Report.{Report}
 use Rattle.fr_route.specs.declared.fault.NotMade.{NotMade}
+use Rattle.fr_route.specs.declared.fault.RouteFault.{RouteFault}
 use Rattle.fr_route.specs.declared.told.Told.{Told}
 
 tried_as : (never : Type 0) (trial other : Trial) (s : State) (told : Told)
@@ -60,3 +61,18 @@ batch_as never batch edits d s told answer next more same here is =
     tried_as never (edits_of s batch.items s.dest) (change_of s (Batch batch)) s told answer next more (λ new h. h) (λ why h. h)
     (subst (λ (e : ℕ). IsTried never (edits_of s batch.items e) s told answer next more) here
     (subst (λ (es : List Edit). IsTried never (edits_of s es d) s told answer next more) same is))
+
+-- what is said of a result without the place of the refused edit, by what is said with it
+module _ {T : Type 0} where
+  pub placeless_ok : (P : T → Type 0) → (r : Result T NotMade) → IfOk r P → IfOk (without_place r) P
+  placeless_ok P (Ok it) h = h
+  placeless_ok P (Err why) h = tt
+
+  pub placeless_err : (Q : RouteFault → Type 0) → (r : Result T NotMade) → IfErr r (λ why. Q why.fault)
+      → IfErr (without_place r) Q
+  placeless_err Q (Ok it) h = tt
+  placeless_err Q (Err why) h = h
+
+  pub placeless_on : (A : Type 0) → (r : Result T NotMade) → OnErr r A → OnErr (without_place r) A
+  placeless_on A (Ok it) h = tt
+  placeless_on A (Err why) h = h
