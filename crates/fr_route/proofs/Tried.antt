@@ -1,5 +1,5 @@
 -- What holds of an attempt holds of any weaker one.
-use Rattle.std.proofs.Common.{List, [], ◌∷◌, ◌≡◌, Err, IfErr, IfOk, Ok, OnErr, Result, subst, ℕ}
+use Rattle.std.proofs.Common.{List, [], ◌∷◌, ◌≡◌, Err, IfOk, Ok, OnErr, Result, subst, ℕ}
 use Rattle.fr_graph.specs.declared.edit.Edit.{Edit}
 use Rattle.std.specs.declared.alloc.Global.{Global}
 use Rattle.std.specs.declared.vec.Vec.{Vec}
@@ -10,7 +10,6 @@ use Rattle.fr_route.specs.States.{State}
 use Rattle.fr_route.specs.Tries.{IsTried, Trial, change_of, edit_of, edits_of, without_place}
 use Rattle.fr_route.specs.declared.change.Report.{Report}
 use Rattle.fr_route.specs.declared.fault.NotMade.{NotMade}
-use Rattle.fr_route.specs.declared.fault.RouteFault.{RouteFault}
 use Rattle.fr_route.specs.declared.told.Told.{Told}
 
 tried_as : (never : Type 0) (trial other : Trial) (s : State) (told : Told)
@@ -67,11 +66,6 @@ module _ {T : Type 0} where
   pub placeless_ok : (P : T → Type 0) → (r : Result T NotMade) → IfOk r P → IfOk (without_place r) P
   placeless_ok P (Ok it) h = h
   placeless_ok P (Err why) h = tt
-
-  pub placeless_err : (Q : RouteFault → Type 0) → (r : Result T NotMade) → IfErr r (λ why. Q why.fault)
-      → IfErr (without_place r) Q
-  placeless_err Q (Ok it) h = tt
-  placeless_err Q (Err why) h = h
 
   pub placeless_on : (A : Type 0) → (r : Result T NotMade) → OnErr r A → OnErr (without_place r) A
   placeless_on A (Ok it) h = tt

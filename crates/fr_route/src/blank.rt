@@ -7,7 +7,7 @@ ghost use Rattle.fr_route.specs.Blank.{is_blank as is_blank_line};
 pub fn is_blank(line: &[u8]) -> bool
     ensures { result ≡ is_blank_line line.now }
 {
-    // A loop, because its proof takes a fifth of the time that the proof of a closure takes.
+    // A loop, because a closure takes far longer to prove.
     for byte in line {
         let is_blank = *byte == b'\t' || *byte == b'\r' || *byte == b' ';
         if !is_blank {

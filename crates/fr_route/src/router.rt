@@ -124,11 +124,7 @@ fn make_beside(alloc: Global, round: &AfterRound<'_>) -> Result<Beside, AllocErr
 }
 
 /// The hops of the numbers below `count` in the router that another one replaces. Without a router, all are cut off.
-fn hops_before(
-    alloc: Global,
-    before: Option<&Router>,
-    count: u32,
-) -> Result<Vec<Hop>, AllocError>
+fn hops_before(alloc: Global, before: Option<&Router>, count: u32) -> Result<Vec<Hop>, AllocError>
     requires { nodes_in (option_copied before) ≤ count }
     ensures { IfOk result (λ hops. IsTableIn (option_copied before.entry) count hops.items) }
 {
@@ -393,8 +389,7 @@ impl Router {
         ensures unchanged { OnErr result (self.new ≡ self.old) }
         ensures no_start { IfErr result (λ fault. fault ≢ Start) }
     {
-        placeless(Settler::new(alloc, &counts_alone)
-        .change(self, &change, &mut Told::Nobody))
+        placeless(Settler::new(alloc, &counts_alone).change(self, &change, &mut Told::Nobody))
     }
 
     /// Changes the network as `change_alone` does, and lists the rerouted nodes in the caller's list: those that now send on
@@ -420,8 +415,7 @@ impl Router {
         ensures no_start { IfErr result (λ undone. undone.fault ≢ Start) }
     {
         let mut told = Told::taken(rerouted, alloc);
-        let report = Settler::new(alloc, &counts_alone)
-        .change(self, &change, &mut told);
+        let report = Settler::new(alloc, &counts_alone).change(self, &change, &mut told);
         *rerouted = told.into_list(alloc);
         report
     }
@@ -448,8 +442,7 @@ impl Router {
         ensures unchanged { OnErr result (self.new ≡ self.old) }
         ensures no_start { IfErr result (λ undone. undone.fault ≢ Start) }
     {
-        Settler::new(alloc, &counts_alone)
-        .change(self, &change, &mut reroutes.told)
+        Settler::new(alloc, &counts_alone).change(self, &change, &mut reroutes.told)
     }
 
     /// The nodes that can be sinks after these edits and the move of the destination, and whose hops can be wrong even

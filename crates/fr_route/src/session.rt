@@ -147,8 +147,7 @@ impl Session {
             (λ answer. IfSome answer (λ text. (self.new ≡ self.old) ⊎ (length (string_bytes text) ≤ longest_report))) }
         ensures no_start { IfErr result (λ fault. fault ≢ Start) }
     {
-        Settler::new(alloc, &counts_alone)
-        .answer_line(self, line, &mut Told::Nobody)
+        Settler::new(alloc, &counts_alone).answer_line(self, line, &mut Told::Nobody)
     }
 
     /// Does the same, and lists the nodes that the line reroutes in the caller's list, in push order: after a change as
@@ -173,8 +172,7 @@ impl Session {
         ensures no_start { IfErr result (λ fault. fault ≢ Start) }
     {
         let mut told = Told::taken(rerouted, alloc);
-        let answer = Settler::new(alloc, &counts_alone)
-        .answer_line(self, line, &mut told);
+        let answer = Settler::new(alloc, &counts_alone).answer_line(self, line, &mut told);
         *rerouted = told.into_list(alloc);
         answer
     }
@@ -219,8 +217,7 @@ impl Session {
         ensures short { IfOk result (λ text. (self.new ≡ self.old) ⊎ (length (string_bytes text) ≤ longest_report)) }
         ensures no_start { IfErr result (λ fault. fault ≢ Start) }
     {
-        Settler::new(alloc, &counts_alone)
-        .answer(self, request, &mut Told::Nobody)
+        Settler::new(alloc, &counts_alone).answer(self, request, &mut Told::Nobody)
     }
 
     /// Does the same, and lists the nodes that the request reroutes in the caller's list, as
@@ -241,8 +238,7 @@ impl Session {
         ensures no_start { IfErr result (λ fault. fault ≢ Start) }
     {
         let mut told = Told::taken(rerouted, alloc);
-        let answer = Settler::new(alloc, &counts_alone)
-        .answer(self, request, &mut told);
+        let answer = Settler::new(alloc, &counts_alone).answer(self, request, &mut told);
         *rerouted = told.into_list(alloc);
         answer
     }
@@ -304,8 +300,7 @@ impl Session {
         ensures unchanged { OnErr result ((is_blank_line line.entry.bytes.now ≡ false) × (self.new ≡ self.old)) }
         ensures no_start { IfErr result (λ fault. fault ≢ Start) }
     {
-        Settler::new(alloc, &counts_alone)
-        .reply_line_in(self, form, line, space)
+        Settler::new(alloc, &counts_alone).reply_line_in(self, form, line, space)
     }
 
     /// Answers a question, as [`Session::answer`] does. This changes nothing. Fails only with `Memory`. O(b) for b

@@ -13,17 +13,16 @@ use fr_crew::{CrewFault, settled_counts_alone};
 use fr_graph::{Net, Turns};
 use std::alloc::Global;
 
-/// Settles networks by a crew, or on the calling thread: a closure over [`settled_counts`](fr_crew::settled_counts) or
-/// [`settled_counts_alone`](fr_crew::settled_counts_alone), with an allocator. Everything that is the same in both ways is
-/// a method of this type.
+/// Settles networks by a crew, or on the calling thread: a closure over [`settled_counts`](fr_crew::settled_counts), or
+/// [`counts_alone`], with an allocator. Everything that is the same in both ways is a method of this type.
 #[derive(Drop)]
 pub(crate) struct Settler<'a, F> {
     pub(crate) alloc: Global,
     settle: &'a F,
 }
 
-/// The settled counts of a network, on the calling thread. A [`Settler`] takes it as a function of this crate: proofs know
-/// no functions of other crates as values, and a closure is proved again at each place.
+/// The settled counts of a network, on the calling thread, for a [`Settler`]. It is a function of this crate because a
+/// function of another crate has no proof as a value, and because a closure is proved again at each place.
 pub(crate) fn counts_alone(
     net: &Net,
     dest: u32,
