@@ -62,6 +62,12 @@ abbrev pub AreHopsIn : Option State → ℕ → List Hop → Type 0
 AreHopsIn None n hops = hops ≡ replicate n CutOff
 AreHopsIn (Some s) n hops = AreHops s n hops
 
+-- the same hops, as a table
+pub record IsTableIn (old : Option State) (n : ℕ) (hops : List Hop) : Type 0 where
+  pub are : AreHopsIn old n hops
+  pub one_each : length hops ≡ n
+  pub in_range : IsInRange hops
+
 -- a new network replaces an old one, if there is one: the numbers whose hop differs, in push order
 pub record AreReplaced (old : Option State) (new : State) (nodes : List ℕ) : Type 0 where
   pub count : ℕ

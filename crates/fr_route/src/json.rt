@@ -2,10 +2,10 @@
 //! their local variables.
 
 ghost use Rattle.std.specs.Prelude.{◌≡◌, ◌<◌, ◌≤◌, ◌++◌, ◌+◌, ◌*◌, ◌^◌, List, ℕ, length, slice_get};
-ghost use Rattle.std.specs.Prelude.{IfOk, OnOk, codes, decimal, string_bytes};
+ghost use Rattle.std.specs.Prelude.{IfOk, OnOk, codes, decimal, string_bytes, true};
 ghost use Rattle.fr_route.specs.Json.{change_json, counts_json, hop_json, pushes_json};
 ghost use Rattle.fr_route.specs.Json.{list_json, lists_json, more_json, nearest_json, no_more_json, no_nearest_json};
-ghost use Rattle.fr_route.specs.Json.{node_ways_json, phases_json, ways_item, ways_json};
+ghost use Rattle.fr_route.specs.Json.{node_ways_json, phases_json, ways_item, ways_items, ways_json};
 ghost use Rattle.fr_route.specs.Listed.{ArePhasesListed};
 ghost use Rattle.fr_ways.specs.PushLists.{AreListed};
 ghost use Rattle.fr_route.specs.Pushing.{changes_of, hop_in};
@@ -128,21 +128,43 @@ pub(crate) fn links_object(spare: String, links: Links<'_>) -> Result<String, Al
     Ok(line)
 }
 
+/// Appends counts, with commas between them.
+fn push_counts(line: &mut String, counts: &[u64]) -> Result<(), AllocError>
+    ensures { OnOk result (string_bytes line.new ≡ string_bytes line.old ++ listed decimal counts.now) }
+{
+    let mut buffer = Buffer::new();
+    let mut first = true;
+    for count in counts {
+        push_comma(line, first)?;
+        push_number(line, *count, &mut buffer)?;
+        first = false;
+    }
+    Ok(())
+}
+
 /// `{"counts":[0,1,2]}`: the count of each node.
 #[inline(never)]
 pub(crate) fn counts_object(spare: String, counts: &[u64]) -> Result<String, AllocError>
     ensures { IfOk result (λ line. string_bytes line ≡ counts_json counts.now) }
 {
     let mut line = begun(spare, "{\"counts\":[", counts.len())?;
-    let mut buffer = Buffer::new();
-    let mut first = true;
-    for count in counts {
-        push_comma(&mut line, first)?;
-        push_number(&mut line, *count, &mut buffer)?;
-        first = false;
-    }
+    push_counts(&mut line, counts)?;
     line.push_str("]}")?;
     Ok(line)
+}
+
+/// Appends hops, with commas between them.
+fn push_hops(line: &mut String, hops: &[Hop]) -> Result<(), AllocError>
+    ensures { OnOk result (string_bytes line.new ≡ string_bytes line.old ++ listed hop_json hops.now) }
+{
+    let mut buffer = Buffer::new();
+    let mut first = true;
+    for hop in hops {
+        push_comma(line, first)?;
+        push_hop(line, *hop, &mut buffer)?;
+        first = false;
+    }
+    Ok(())
 }
 
 /// `{"hops":["here",0,"cut"]}`: the hop of each node.
@@ -151,13 +173,7 @@ pub(crate) fn hops_object(spare: String, hops: &[Hop]) -> Result<String, AllocEr
     ensures { IfOk result (λ line. string_bytes line ≡ hops_json hops.now) }
 {
     let mut line = begun(spare, "{\"hops\":[", hops.len())?;
-    let mut buffer = Buffer::new();
-    let mut first = true;
-    for hop in hops {
-        push_comma(&mut line, first)?;
-        push_hop(&mut line, *hop, &mut buffer)?;
-        first = false;
-    }
+    push_hops(&mut line, hops)?;
     line.push_str("]}")?;
     Ok(line)
 }
@@ -201,6 +217,21 @@ fn push_ways(
     line.push_str("]")
 }
 
+/// Appends the ways of each node, with commas between them.
+fn push_table(line: &mut String, dest: u32, table: &WayTable) -> Result<(), AllocError>
+    requires { length table.now < 2 ^ 32 }
+    ensures { OnOk result (string_bytes line.new ≡ string_bytes line.old ++ ways_items dest 0 true table.now) }
+{
+    let mut buffer = Buffer::new();
+    let mut first = true;
+    for x in 0..table.len() as u32 {
+        push_comma(line, first)?;
+        push_ways(line, x == dest, table.row(x), &mut buffer)?;
+        first = false;
+    }
+    Ok(())
+}
+
 /// `{"ways":["here",[0],[0,1],"cut"]}`: the ways of each node.
 #[inline(never)]
 pub(crate) fn ways_object(spare: String, dest: u32, table: &WayTable) -> Result<String, AllocError>
@@ -208,13 +239,7 @@ pub(crate) fn ways_object(spare: String, dest: u32, table: &WayTable) -> Result<
     ensures { IfOk result (λ line. string_bytes line ≡ ways_json dest table.now) }
 {
     let mut line = begun(spare, "{\"ways\":[", table.list().len())?;
-    let mut buffer = Buffer::new();
-    let mut first = true;
-    for x in 0..table.len() as u32 {
-        push_comma(&mut line, first)?;
-        push_ways(&mut line, x == dest, table.row(x), &mut buffer)?;
-        first = false;
-    }
+    push_table(&mut line, dest, table)?;
     line.push_str("]}")?;
     Ok(line)
 }

@@ -14,10 +14,19 @@ use std::alloc::{AllocError, Global};
 
 /// The distances of the nodes of a router. As long as nobody asks for ways, changes need not update them. So the first
 /// question measures them, in room that is there from the beginning, and from then on each change updates them.
-#[derive(Debug, Drop)]
+#[derive(Debug)]
 pub(crate) struct KeptDistances {
     pub(crate) are_kept: bool,
     pub(crate) table: Distances,
+}
+
+// Written by hand: code that drops distances proves this one call. With a derived Drop it proves how each part is
+// dropped.
+impl Drop for KeptDistances {
+    fn drop(self) {
+        let KeptDistances { are_kept: _, table } = self;
+        drop(table);
+    }
 }
 
 impl KeptDistances {

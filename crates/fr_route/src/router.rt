@@ -1,7 +1,7 @@
 //! A router: a settled network with its next hops and routes, and the changes after which it settles again.
 
-ghost use Rattle.std.specs.Prelude.{◌≡◌, ◌≢◌, ◌<◌, ◌≤◌, [], ◌∷◌, length, replicate, take};
-ghost use Rattle.std.specs.Prelude.{Some, IfOk, IfErr, IfSome, MatchOption, OnErr, OnOk};
+ghost use Rattle.std.specs.Prelude.{◌≡◌, ◌≢◌, ◌<◌, ◌≤◌, [], ◌∷◌, length, max, replicate, take};
+ghost use Rattle.std.specs.Prelude.{Some, IfOk, IfErr, IfSome, IsTrue, MatchOption, OnErr, OnOk};
 ghost use Rattle.std.specs.Option.{option_copied};
 ghost use Rattle.fr_graph.specs.Limits.{most_edits};
 ghost use Rattle.fr_crew.specs.Settlements.{CanBegin, HoldsSinks, IsCounted};
@@ -12,13 +12,13 @@ ghost use Rattle.fr_route.specs.NodeWays.{AreAllWays, AreNodeWays, AreWaysBelow,
 ghost use Rattle.fr_route.specs.States.{IsAfterRound, IsCutOff, IsRound, IsReport};
 ghost use Rattle.fr_route.specs.Routes.{IsHop, AreHops, IsWalked};
 ghost use Rattle.fr_route.specs.Changes.{IsChanged, IsOpenFault, IsPlaced, IsRouteFault, IsStill, IsUndone};
-ghost use Rattle.fr_route.specs.Reroutes.{ArePushes, AreReplaced, IsPushesFault, LeadFromWays};
-ghost use Rattle.fr_route.specs.Reroutes.{TellsRerouted, TellsReroutes};
+ghost use Rattle.fr_route.specs.Reroutes.{ArePushes, AreReplaced, AreWaysIn, IsPushesFault, IsTableIn, LeadFromWays};
+ghost use Rattle.fr_route.specs.Reroutes.{TellsRerouted, TellsReroutes, nodes_in};
 ghost use Rattle.fr_route.specs.WayPushes.{IsPhasesFault, LeadToWays};
 ghost use Rattle.fr_route.specs.Tries.{IsTried, change_of, edit_of, revision_of};
 ghost use Rattle.fr_route.specs.Outcomes.{IsOutcome, IsRoundFault};
 ghost use Rattle.fr_ways.specs.Ways.{IsInRange};
-ghost use Rattle.fr_route.specs.Outcomes.{IsSettledTable, cut_off_nodes, movable, nodes_in};
+ghost use Rattle.fr_route.specs.Outcomes.{IsSettledTable, cut_off_nodes, movable, nodes_in, state_after};
 
 use crate::change::{Change, Report};
 use crate::fault::{NotMade, RouteFault, placeless};
@@ -28,10 +28,10 @@ use crate::movable::Movable;
 use crate::outcome::{alone_nodes, ends, push_capped, put_in_place, report_of, touched_nodes};
 use crate::reroutes::Reroutes;
 use crate::revision::Revision;
-use crate::settling::Settler;
+use crate::settling::{Settler, counts_alone};
 use crate::spare::Spare;
 use crate::told::Told;
-use fr_crew::{Crew, CrewFault, Gate, Plan, settled_counts, settled_counts_alone};
+use fr_crew::{Crew, CrewFault, Gate, Plan, settled_counts};
 use fr_graph::{Edit, MAX_EDITS, Net, NetFault, Turns};
 use fr_nearest::Distances;
 use fr_tables::{Hop, PushRoom, TableFault, first_outside, known_push_order};
@@ -98,6 +98,51 @@ fn keep_turns(last: &mut Turns, spare: &mut Spare, turns: Turns)
     ensures { last.new ≡ turns }
 {
     spare.keep(mem::replace(last, turns));
+}
+
+/// What a router keeps beside its network: the next hops, and room for what changes need.
+#[derive(Drop)]
+struct Beside {
+    hops: Vec<Hop>,
+    distances: KeptDistances,
+    room: PushRoom,
+}
+
+/// What a router keeps beside its network after this round. Its distances are not kept yet.
+fn make_beside(alloc: Global, round: &AfterRound<'_>) -> Result<Beside, AllocError>
+    requires { IsAfterRound (state_after round.now) }
+    ensures hops { IfOk result (λ made. AreHops (state_after round.now) round.now.net.now.nodes made.hops.items) }
+    ensures distances { IfOk result (λ made. length made.distances.table.table ≡ round.now.net.now.nodes) }
+    ensures unkept { IfOk result (λ made. ¬ IsTrue made.distances.are_kept) }
+    ensures room { IfOk result (λ made. made.room ≡ round.now.net.now.nodes) }
+{
+    round.net.network_law();
+    Ok(Beside {
+        hops: hop_table(alloc, round)?,
+        distances: KeptDistances::unmeasured(alloc, round.net)?,
+        room: PushRoom::new(alloc, round.net.nodes())?,
+    })
+}
+
+/// The hops of the numbers below `count` in the router that another one replaces. Without a router, all are cut off.
+fn hops_before(alloc: Global, before: Option<&Router>, count: u32) -> Result<Vec<Hop>, AllocError>
+    requires { nodes_in (option_copied before) ≤ count }
+    ensures { IfOk result (λ hops. IsTableIn (option_copied before.entry) count hops.items) }
+{
+    match before {
+        Some(router) => router.hops_below(alloc, count),
+        None => vec![in alloc; Hop::CutOff; count as usize],
+    }
+}
+
+/// The ways of the nodes of the router that another one replaces. Without a router, there are none.
+fn ways_before(alloc: Global, before: Option<&Router>) -> Result<WayTable, AllocError>
+    ensures { IfOk result (AreWaysIn (option_copied before.entry)) }
+{
+    match before {
+        Some(router) => router.all_ways(alloc),
+        None => WayTable::with_capacity(alloc, 0, 0),
+    }
 }
 
 impl<'a, F: Fn(&Net, u32, Option<&[u32]>, Turns) -> Result<Turns, CrewFault>> Settler<'a, F> {
@@ -251,11 +296,7 @@ impl Router {
         ensures fault { IfErr result (IsOpenFault net.nodes dest) }
         ensures no_start { IfErr result (λ fault. fault ≢ Start) }
     {
-        Settler::new(
-            alloc,
-            &|net, dest, from, turns| settled_counts_alone(net, dest, from, turns),
-        )
-        .open(net, dest)
+        Settler::new(alloc, &counts_alone).open(net, dest)
     }
 
     /// The router of a network with these settled counts.
@@ -273,9 +314,11 @@ impl Router {
             dest,
             turns: &turns,
         };
-        let hops = hop_table(alloc, &round)?;
-        let distances = KeptDistances::unmeasured(alloc, &net)?;
-        let room = PushRoom::new(alloc, net.nodes())?;
+        let Beside {
+            hops,
+            distances,
+            room,
+        } = make_beside(alloc, &round)?;
         Ok(Router {
             net,
             dest,
@@ -347,11 +390,7 @@ impl Router {
         ensures unchanged { OnErr result (self.new ≡ self.old) }
         ensures no_start { IfErr result (λ fault. fault ≢ Start) }
     {
-        placeless(Settler::new(
-            alloc,
-            &|net, dest, from, turns| settled_counts_alone(net, dest, from, turns),
-        )
-        .change(self, &change, &mut Told::Nobody))
+        placeless(Settler::new(alloc, &counts_alone).change(self, &change, &mut Told::Nobody))
     }
 
     /// Changes the network as `change_alone` does, and lists the rerouted nodes in the caller's list: those that now send on
@@ -377,11 +416,7 @@ impl Router {
         ensures no_start { IfErr result (λ undone. undone.fault ≢ Start) }
     {
         let mut told = Told::taken(rerouted, alloc);
-        let report = Settler::new(
-            alloc,
-            &|net, dest, from, turns| settled_counts_alone(net, dest, from, turns),
-        )
-        .change(self, &change, &mut told);
+        let report = Settler::new(alloc, &counts_alone).change(self, &change, &mut told);
         *rerouted = told.into_list(alloc);
         report
     }
@@ -408,11 +443,7 @@ impl Router {
         ensures unchanged { OnErr result (self.new ≡ self.old) }
         ensures no_start { IfErr result (λ undone. undone.fault ≢ Start) }
     {
-        Settler::new(
-            alloc,
-            &|net, dest, from, turns| settled_counts_alone(net, dest, from, turns),
-        )
-        .change(self, &change, &mut reroutes.told)
+        Settler::new(alloc, &counts_alone).change(self, &change, &mut reroutes.told)
     }
 
     /// The nodes that can be sinks after these edits and the move of the destination, and whose hops can be wrong even
@@ -514,15 +545,8 @@ impl Router {
         ensures changed { IfOk result (λ nodes. AreReplaced (option_copied before.entry) self.now nodes.items) }
         ensures memory { IfErr result (λ fault. fault ≡ Memory) }
     {
-        let nodes = self.net.nodes();
-        let count = match before {
-            Some(router) => nodes.max(router.net.nodes()),
-            None => nodes,
-        };
-        let old = match before {
-            Some(router) => router.hops_below(alloc, count)?,
-            None => vec![in alloc; Hop::CutOff; count as usize]?,
-        };
+        let count = self.numbers_with(before);
+        let old = hops_before(alloc, before, count)?;
         let new = self.hops_below(alloc, count)?;
         Ok(known_push_order(alloc, &old, &new)?)
     }
@@ -537,17 +561,20 @@ impl Router {
         ensures { IfOk result (LeadFromWays (option_copied before.entry) self.now) }
     {
         self.net.network_law();
+        let old = ways_before(alloc, before)?;
+        let new = self.ways_below(alloc, self.numbers_with(before))?;
+        known_phases(alloc, &old, &new)
+    }
+
+    /// How many numbers are nodes of this router or of the one that it replaces.
+    fn numbers_with(&self, before: Option<&Router>) -> u32
+        ensures { result ≡ max self.now.nodes (nodes_in (option_copied before.entry)) }
+    {
         let nodes = self.net.nodes();
-        let count = match before {
+        match before {
             Some(router) => nodes.max(router.net.nodes()),
             None => nodes,
-        };
-        let old = match before {
-            Some(router) => router.all_ways(alloc)?,
-            None => WayTable::with_capacity(alloc, 0, 0)?,
-        };
-        let new = self.ways_below(alloc, count)?;
-        known_phases(alloc, &old, &new)
+        }
     }
 
     /// The ways of the numbers below `count`. A number that is not a node has none.

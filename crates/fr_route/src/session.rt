@@ -18,10 +18,10 @@ ghost use Rattle.fr_route.specs.declared.fault.AnswerFault.TheVariants.{Start, M
 use crate::fault::AnswerFault;
 use crate::form::{Answer, Draft, Form, Line};
 use crate::router::Router;
-use crate::settling::Settler;
+use crate::settling::{Settler, counts_alone};
 use crate::space::AnswerSpace;
 use crate::told::Told;
-use fr_crew::{Crew, Gate, Plan, settled_counts, settled_counts_alone};
+use fr_crew::{Crew, Gate, Plan, settled_counts};
 use fr_graph::Net;
 use fr_lines::{Question, Request, read_line};
 use std::alloc::Global;
@@ -147,11 +147,7 @@ impl Session {
             (λ answer. IfSome answer (λ text. (self.new ≡ self.old) ⊎ (length (string_bytes text) ≤ longest_report))) }
         ensures no_start { IfErr result (λ fault. fault ≢ Start) }
     {
-        Settler::new(
-            alloc,
-            &|net, dest, from, turns| settled_counts_alone(net, dest, from, turns),
-        )
-        .answer_line(self, line, &mut Told::Nobody)
+        Settler::new(alloc, &counts_alone).answer_line(self, line, &mut Told::Nobody)
     }
 
     /// Does the same, and lists the nodes that the line reroutes in the caller's list, in push order: after a change as
@@ -176,11 +172,7 @@ impl Session {
         ensures no_start { IfErr result (λ fault. fault ≢ Start) }
     {
         let mut told = Told::taken(rerouted, alloc);
-        let answer = Settler::new(
-            alloc,
-            &|net, dest, from, turns| settled_counts_alone(net, dest, from, turns),
-        )
-        .answer_line(self, line, &mut told);
+        let answer = Settler::new(alloc, &counts_alone).answer_line(self, line, &mut told);
         *rerouted = told.into_list(alloc);
         answer
     }
@@ -225,11 +217,7 @@ impl Session {
         ensures short { IfOk result (λ text. (self.new ≡ self.old) ⊎ (length (string_bytes text) ≤ longest_report)) }
         ensures no_start { IfErr result (λ fault. fault ≢ Start) }
     {
-        Settler::new(
-            alloc,
-            &|net, dest, from, turns| settled_counts_alone(net, dest, from, turns),
-        )
-        .answer(self, request, &mut Told::Nobody)
+        Settler::new(alloc, &counts_alone).answer(self, request, &mut Told::Nobody)
     }
 
     /// Does the same, and lists the nodes that the request reroutes in the caller's list, as
@@ -250,11 +238,7 @@ impl Session {
         ensures no_start { IfErr result (λ fault. fault ≢ Start) }
     {
         let mut told = Told::taken(rerouted, alloc);
-        let answer = Settler::new(
-            alloc,
-            &|net, dest, from, turns| settled_counts_alone(net, dest, from, turns),
-        )
-        .answer(self, request, &mut told);
+        let answer = Settler::new(alloc, &counts_alone).answer(self, request, &mut told);
         *rerouted = told.into_list(alloc);
         answer
     }
@@ -316,11 +300,7 @@ impl Session {
         ensures unchanged { OnErr result ((is_blank_line line.entry.bytes.now ≡ false) × (self.new ≡ self.old)) }
         ensures no_start { IfErr result (λ fault. fault ≢ Start) }
     {
-        Settler::new(
-            alloc,
-            &|net, dest, from, turns| settled_counts_alone(net, dest, from, turns),
-        )
-        .reply_line_in(self, form, line, space)
+        Settler::new(alloc, &counts_alone).reply_line_in(self, form, line, space)
     }
 
     /// Answers a question, as [`Session::answer`] does. This changes nothing. Fails only with `Memory`. O(b) for b

@@ -9,17 +9,31 @@ ghost use Rattle.fr_route.specs.declared.fault.RouteFault.TheVariants.{Start};
 
 use crate::fault::RouteFault;
 use crate::outcome::{Outcome, any_can_turn, report_of};
-use fr_crew::CrewFault;
+use fr_crew::{CrewFault, settled_counts_alone};
 use fr_graph::{Net, Turns};
 use std::alloc::Global;
 
-/// Settles networks by a crew, or on the calling thread: a closure over [`settled_counts`](fr_crew::settled_counts) or
-/// [`settled_counts_alone`](fr_crew::settled_counts_alone), with an allocator. Everything that is the same in both ways is
-/// a method of this type.
+/// Settles networks by a crew, or on the calling thread: a closure over [`settled_counts`](fr_crew::settled_counts), or
+/// [`counts_alone`], with an allocator. Everything that is the same in both ways is a method of this type.
 #[derive(Drop)]
 pub(crate) struct Settler<'a, F> {
     pub(crate) alloc: Global,
     settle: &'a F,
+}
+
+/// The settled counts of a network, on the calling thread, for a [`Settler`]. It is a function of this crate because a
+/// function of another crate has no proof as a value, and because a closure is proved again at each place.
+pub(crate) fn counts_alone(
+    net: &Net,
+    dest: u32,
+    from: Option<&[u32]>,
+    turns: Turns,
+) -> Result<Turns, CrewFault>
+    requires { CanBegin net.now dest from turns }
+    ensures answer { IsCountAnswer net.now dest result }
+    ensures no_start { IfErr result (λ fault. fault ≢ CrewStart) }
+{
+    settled_counts_alone(net, dest, from, turns)
 }
 
 impl<'a, F: Fn(&Net, u32, Option<&[u32]>, Turns) -> Result<Turns, CrewFault>> Settler<'a, F> {

@@ -7,7 +7,7 @@ ghost use Rattle.fr_route.specs.Rooms.{Fits};
 ghost use Rattle.fr_route.specs.Texts.{counts_text, links_text, hops_text, hop_word};
 ghost use Rattle.fr_route.specs.Texts.{no_walk_text, pushes_text, report_text, longest_report, refusal_text};
 ghost use Rattle.fr_route.specs.Texts.{list_word, nearest_text, no_nearest_text, node_ways_text, phases_text};
-ghost use Rattle.fr_route.specs.Texts.{spaced_lists, ways_text, ways_word};
+ghost use Rattle.fr_route.specs.Texts.{spaced_links, spaced_lists, spaced_ways, ways_text, ways_word};
 ghost use Rattle.fr_route.specs.WayLists.{AreListed, pairs};
 
 use crate::change::Report;
@@ -74,16 +74,24 @@ pub fn links_line(alloc: Global, links: Links<'_>) -> Result<String, AllocError>
     links_in(String::new(alloc), links)
 }
 
+/// Appends a space and `tail>head` for each link.
+fn push_links(line: &mut String, links: Links<'_>) -> Result<(), AllocError>
+    ensures { OnOk result (string_bytes line.new ≡ string_bytes line.old ++ spaced_links links.entry) }
+{
+    let mut buffer = Buffer::new();
+    for (tail, head) in links {
+        push_number(line, " ", u64::from(tail), &mut buffer)?;
+        push_number(line, ">", u64::from(head), &mut buffer)?;
+    }
+    Ok(())
+}
+
 /// The same, in the memory of this string.
 pub(crate) fn links_in(spare: String, links: Links<'_>) -> Result<String, AllocError>
     ensures { IfOk result (λ line. string_bytes line ≡ links_text links.entry) }
 {
     let mut line = begun(spare, "links", links.len().saturating_mul(2))?;
-    let mut buffer = Buffer::new();
-    for (tail, head) in links {
-        push_number(&mut line, " ", u64::from(tail), &mut buffer)?;
-        push_number(&mut line, ">", u64::from(head), &mut buffer)?;
-    }
+    push_links(&mut line, links)?;
     Ok(line)
 }
 
@@ -182,6 +190,19 @@ fn push_ways(
     push_nodes(line, ways, buffer)
 }
 
+/// Appends a space and the word for the ways of each node.
+fn push_table(line: &mut String, dest: u32, table: &WayTable) -> Result<(), AllocError>
+    requires { length table.now < 2 ^ 32 }
+    ensures { OnOk result (string_bytes line.new ≡ string_bytes line.old ++ spaced_ways dest 0 table.now) }
+{
+    let mut buffer = Buffer::new();
+    for x in 0..table.len() as u32 {
+        line.push_str(" ")?;
+        push_ways(line, x == dest, table.row(x), &mut buffer)?;
+    }
+    Ok(())
+}
+
 /// `ways`, and then a space and the word for the ways of each node.
 #[inline(never)]
 pub(crate) fn ways_line(spare: String, dest: u32, table: &WayTable) -> Result<String, AllocError>
@@ -189,11 +210,7 @@ pub(crate) fn ways_line(spare: String, dest: u32, table: &WayTable) -> Result<St
     ensures { IfOk result (λ line. string_bytes line ≡ ways_text dest table.now) }
 {
     let mut line = begun(spare, "ways", table.list().len())?;
-    let mut buffer = Buffer::new();
-    for x in 0..table.len() as u32 {
-        line.push_str(" ")?;
-        push_ways(&mut line, x == dest, table.row(x), &mut buffer)?;
-    }
+    push_table(&mut line, dest, table)?;
     Ok(line)
 }
 
