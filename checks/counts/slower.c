@@ -1,9 +1,15 @@
-/* A planted fault for checks/counts/check: each free takes some forty instructions more. */
-extern void __libc_free(void *);
+/* A planted fault for checks/counts/check: each copy of bytes takes some fifty instructions more. */
+#define _GNU_SOURCE
+#include <dlfcn.h>
+#include <stddef.h>
 
-void free(void *memory)
+void *memmove(void *to, const void *from, size_t size)
 {
-    for (volatile int i = 0; i < 5; i++) {
+    static void *(*copy)(void *, const void *, size_t);
+    for (volatile int i = 0; i < 6; i++) {
     }
-    __libc_free(memory);
+    if (!copy) {
+        copy = dlsym(RTLD_NEXT, "memmove");
+    }
+    return copy(to, from, size);
 }

@@ -66,9 +66,9 @@ abbrev pub movable : State → ℕ → List Edit → List ℕ
 movable s d edits = touched s d edits ++ cut_off_nodes s
 
 -- the nodes in such a list
-abbrev pub nodes_in : Movable → List ℕ
-nodes_in (Few nodes) = nodes
-nodes_in (Many nodes) = nodes.items
+abbrev pub nodes_listed : Movable → List ℕ
+nodes_listed (Few nodes) = nodes
+nodes_listed (Many nodes) = nodes.items
 
 -- y is x itself, or a neighbour that sends on to x
 abbrev pub SendsTo : List (ℕ × ℕ) → ℕ → ℕ → Hop → Type 0

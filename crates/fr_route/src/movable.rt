@@ -1,7 +1,7 @@
 //! The list of the nodes that can move at a change.
 
 ghost use Rattle.std.specs.Prelude.{◌≡◌};
-ghost use Rattle.fr_route.specs.Outcomes.{nodes_in};
+ghost use Rattle.fr_route.specs.Outcomes.{nodes_listed};
 
 /// The nodes that can move at a change. Those of a single edit need no allocation.
 #[derive(Drop)]
@@ -15,7 +15,7 @@ pub(crate) enum Movable {
 impl Movable {
     /// These nodes.
     pub fn nodes(&self) -> &[u32]
-        ensures { result.now ≡ nodes_in self.now }
+        ensures { result.now ≡ nodes_listed self.now }
     {
         match self {
             Movable::Few(nodes) => nodes,

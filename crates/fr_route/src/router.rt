@@ -18,7 +18,7 @@ ghost use Rattle.fr_route.specs.WayPushes.{IsPhasesFault, LeadToWays};
 ghost use Rattle.fr_route.specs.Tries.{IsTried, change_of, edit_of, revision_of};
 ghost use Rattle.fr_route.specs.Outcomes.{IsOutcome, IsRoundFault};
 ghost use Rattle.fr_ways.specs.Ways.{IsInRange};
-ghost use Rattle.fr_route.specs.Outcomes.{IsSettledTable, cut_off_nodes, movable, nodes_in, state_after};
+ghost use Rattle.fr_route.specs.Outcomes.{IsSettledTable, cut_off_nodes, movable, nodes_listed, state_after};
 
 use crate::change::{Change, Report};
 use crate::fault::{NotMade, RouteFault, placeless};
@@ -452,7 +452,7 @@ impl Router {
     /// before anything is allocated.
     fn movable(&self, alloc: Global, revision: &Revision<'_>) -> Result<Movable, NotMade>
         ensures movable { IfOk result
-            (λ them. nodes_in them ≡ movable self.now revision.now.dest revision.now.edits.now) }
+            (λ them. nodes_listed them ≡ movable self.now revision.now.dest revision.now.edits.now) }
         ensures few { OnOk result (length revision.now.edits.now ≤ most_edits) }
         ensures fault { IfErr result (IsPlaced self.now revision.now.edits.now revision.now.dest) }
         ensures no_start { IfErr result (λ undone. undone.fault ≢ Start) }

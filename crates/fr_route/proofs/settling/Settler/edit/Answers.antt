@@ -21,7 +21,7 @@ use Rattle.fr_route.specs.Faults.{of_not_edited}
 use Rattle.fr_route.specs.Listing.{AsksWays, HasLedOn, HasPlaces, IsListing, nodes_told, notes_told, ways_in, ways_told}
 use Rattle.fr_crew.specs.Settlements.{IsCounted}
 use Rattle.fr_route.specs.KeptDistances.{KeepsDistances}
-use Rattle.fr_route.specs.Outcomes.{AreOthers, HoldsMoved, IsOutcome, movable, nodes_in, settled_state}
+use Rattle.fr_route.specs.Outcomes.{AreOthers, HoldsMoved, IsOutcome, movable, nodes_listed, settled_state}
 use Rattle.fr_route.specs.Reroutes.{AreRerouted}
 use Rattle.fr_route.specs.Routes.{AreHops}
 use Rattle.fr_route.specs.RouterInside.{state_of}
@@ -54,7 +54,7 @@ now_is g c = c.router.view_is
 from_movable : (g : Over) (c : After-nodes-from g)
     → c.nodes-from.result.now ≡ movable (state_of c.router.inside) c.args.revision.now.dest c.args.revision.now.edits.now
 from_movable g c = c.nodes-from.ensures
-    ∙ subst (λ (now : State). nodes_in c.in_ok-movable.movable ≡ movable now c.args.revision.now.dest
+    ∙ subst (λ (now : State). nodes_listed c.in_ok-movable.movable ≡ movable now c.args.revision.now.dest
     c.args.revision.now.edits.now) (sym c.router.view_is) c.in_ok-movable.ensures.movable
 
 in_range : (g : Over) (c : After-router g) → c.args.revision.now.dest < (state_of c.router.inside).nodes
