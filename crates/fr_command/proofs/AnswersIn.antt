@@ -3,9 +3,9 @@
 use Rattle.std.proofs.Common.{◌≡◌, ◌∙◌, ◌↔◌, ℕ, Bool, true, false, List, [], ◌∷◌, ◌++◌, MatchBool, Option}
 use Rattle.std.proofs.Common.{Result, Ok, Err, inl, inr, append_assoc, append-nil, refl, sym, ap, subst}
 use Rattle.std.specs.Prelude.{IsTrue}
-use Rattle.fr_lines.specs.Requests.{PlainRequest, reading}
-use Rattle.fr_lines.specs.declared.requests.LineFault.{LineFault}
-use Rattle.fr_lines.specs.declared.requests.LineFault.TheVariants.{NotJson, NotRequest, Memory}
+use Rattle.fr_requests.specs.Requests.{PlainRequest, reading}
+use Rattle.fr_requests.specs.declared.requests.LineFault.{LineFault}
+use Rattle.fr_requests.specs.declared.requests.LineFault.TheVariants.{NotJson, NotRequest, Memory}
 use Rattle.fr_route.specs.Answers.{AreAnswers, IsLineAnswer}
 use Rattle.fr_route.specs.Blank.{is_blank}
 use Rattle.fr_route.specs.Forms.{IsLineRefused}

@@ -4,9 +4,9 @@ use Rattle.std.proofs.Common.{inl, inr, arith, Option, Some, None, Result, Ok, E
 use Rattle.std.specs.Prelude.{option_map}
 use Rattle.fr_graph.specs.Faults.{IsFaultless}
 use Rattle.fr_graph.specs.Order.{in_order}
-use Rattle.fr_lines.specs.Requests.{PlainRequest, new_network, reading}
-use Rattle.fr_lines.specs.declared.requests.LineFault.{LineFault}
-use Rattle.fr_lines.specs.declared.requests.LineFault.TheVariants.{NotJson, NotRequest, Memory}
+use Rattle.fr_requests.specs.Requests.{PlainRequest, new_network, reading}
+use Rattle.fr_requests.specs.declared.requests.LineFault.{LineFault}
+use Rattle.fr_requests.specs.declared.requests.LineFault.TheVariants.{NotJson, NotRequest, Memory}
 use Rattle.fr_graph.proofs.Refusing.{no_first_fault}
 use Rattle.fr_core.specs.History.{Moment}
 use Rattle.fr_core.specs.Runs.{IsRunTo}
@@ -15,7 +15,7 @@ use Rattle.fr_route.specs.Answers.{IsRefused}
 use Rattle.fr_route.specs.Texts.{refusal_text}
 use Rattle.fr_command.specs.Plays.{line_of, end_text, first_asking, IsPlayText, IsRefusal}
 use Rattle.fr_command.specs.Plays.{IsPlayOf, IsPlayOfReading, IsPlayOutput}
-use Rattle.fr_words.specs.declared.draws.Draw.{Draw}
+use Rattle.fr_cli.specs.declared.draws.Draw.{Draw}
 use Rattle.fr_route.proofs.Determined.{answer_unique}
 
 -- the same entries lead to the same counts

@@ -3,7 +3,7 @@ use Rattle.std.proofs.Common.{ℕ, List, Option}
 use Rattle.std.specs.Io.KnownBytes.{Appends}
 use Rattle.fr_bytes.specs.Bytes.{IsBeginning}
 use Rattle.fr_command.specs.Plays.{IsPlayOutput, WritesPlay, WritesPlayBeginning}
-use Rattle.fr_words.specs.declared.draws.Draw.{Draw}
+use Rattle.fr_cli.specs.declared.draws.Draw.{Draw}
 use Rattle.fr_command.proofs.OnePlay.{play_output_unique}
 
 module _ (draw : Draw) (bytes out : List ℕ) (count : ℕ) (output : IsPlayOutput draw bytes out count)

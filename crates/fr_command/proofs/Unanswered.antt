@@ -1,7 +1,7 @@
 -- Why a line is not answered.
 use Rattle.std.proofs.Common.{◌≡◌, ◌↔◌, false, List, ℕ, Option, refl, sym, subst}
 use Rattle.std.specs.Io.KnownBytes.{Keeps}
-use Rattle.fr_lines.specs.Requests.{reading}
+use Rattle.fr_requests.specs.Requests.{reading}
 use Rattle.fr_route.specs.Answers.{MayStartForLine}
 use Rattle.fr_route.specs.Blank.{is_blank}
 use Rattle.fr_route.specs.declared.fault.AnswerFault.{AnswerFault}

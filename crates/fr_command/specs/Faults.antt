@@ -9,7 +9,7 @@ use Rattle.fr_bytes.specs.Streams.{Traffic}
 use Rattle.fr_bytes.specs.declared.fault.RunFault.{RunFault}
 use Rattle.fr_bytes.specs.declared.fault.RunFault.TheVariants.{Read, Write, TooLong, Start, Memory}
 use Rattle.fr_crew.specs.declared.plan.Plan.{Plan}
-use Rattle.fr_words.specs.declared.draws.Draw.{Draw}
+use Rattle.fr_cli.specs.declared.draws.Draw.{Draw}
 use Rattle.fr_command.specs.Outputs.{WritesBeginning, StopsAtLine}
 use Rattle.fr_command.specs.Conversations.{Talk, Says, AnswersBefore, MayWantMemory, silence_in}
 use Rattle.fr_command.specs.Points.{Point, MayStartAt}

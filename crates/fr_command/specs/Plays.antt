@@ -6,9 +6,9 @@ use Rattle.std.specs.Io.KnownBytes.{Appends}
 use Rattle.fr_graph.specs.Counts.{links_at}
 use Rattle.fr_graph.specs.Faults.{IsFaultless}
 use Rattle.fr_graph.specs.Order.{in_order}
-use Rattle.fr_lines.specs.Requests.{PlainRequest, new_network, reading}
-use Rattle.fr_lines.specs.declared.requests.LineFault.{LineFault}
-use Rattle.fr_lines.specs.declared.requests.LineFault.TheVariants.{NotJson, NotRequest, Memory}
+use Rattle.fr_requests.specs.Requests.{PlainRequest, new_network, reading}
+use Rattle.fr_requests.specs.declared.requests.LineFault.{LineFault}
+use Rattle.fr_requests.specs.declared.requests.LineFault.TheVariants.{NotJson, NotRequest, Memory}
 use Rattle.fr_core.specs.Played.{IsPlay}
 use Rattle.fr_core.specs.Runs.{IsRunTo}
 use Rattle.fr_core.specs.declared.entry.Entry.{Entry}
@@ -17,12 +17,12 @@ use Rattle.fr_core.specs.declared.entry.Reply.TheVariants.{Turned, Held, Moved, 
 use Rattle.fr_core.specs.declared.targets.Target.{Target}
 use Rattle.fr_core.specs.declared.targets.Target.TheVariants.{Turn}
 use Rattle.fr_route.specs.Answers.{IsRefused}
-use Rattle.fr_words.specs.Draws.{drawn}
+use Rattle.fr_cli.specs.Draws.{drawn}
 use Rattle.fr_route.specs.Blank.{is_blank}
 use Rattle.fr_bytes.specs.Lines.{lines_of}
 use Rattle.fr_bytes.specs.Bytes.{IsBeginning}
 use Rattle.fr_route.specs.Texts.{counts_text, links_text, refusal_text}
-use Rattle.fr_words.specs.declared.draws.Draw.{Draw}
+use Rattle.fr_cli.specs.declared.draws.Draw.{Draw}
 
 -- whether x is an end of a link
 abbrev pub is_linked : List (ℕ × ℕ) → ℕ → Bool

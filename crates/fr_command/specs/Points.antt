@@ -1,7 +1,7 @@
 -- The answers to lines, one after the other, in each form, and how many lines there are. This project's own.
 use Rattle.std.specs.Prelude.{◌≡◌, ◌↔◌, ◌+◌, ◌-◌, ◌^◌, ℕ, Bool, IsTrue, List, []}
 use Rattle.std.specs.Prelude.{◌∷◌, ◌++◌, MatchBool, min, if◌then◌else◌, Option, None, false}
-use Rattle.fr_lines.specs.Requests.{reading}
+use Rattle.fr_requests.specs.Requests.{reading}
 use Rattle.fr_route.specs.Answers.{MayStartForLine}
 use Rattle.fr_route.specs.Blank.{is_blank}
 use Rattle.fr_route.specs.Forms.{IsAnswerIn, IsLineRefused}

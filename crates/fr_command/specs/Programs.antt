@@ -6,12 +6,12 @@ use Rattle.fr_route.specs.declared.form.Form.TheVariants.{Text, Json, JsonWithWa
 use Rattle.fr_bytes.specs.Bytes.{IsBeginning, ReadsInput}
 use Rattle.fr_bytes.specs.Streams.{Traffic}
 use Rattle.fr_bytes.specs.declared.fault.RunFault.TheVariants.{Write, Memory}
-use Rattle.fr_words.specs.Tasks.{IsCommandLineIn, IsFaultOf}
-use Rattle.fr_words.specs.declared.task.CommandLine.{CommandLine}
-use Rattle.fr_words.specs.declared.task.Task.{Task}
-use Rattle.fr_words.specs.declared.task.Task.TheVariants.{Run, Serve, Play}
-use Rattle.fr_words.specs.declared.task.TaskFault.{TaskFault}
-use Rattle.fr_words.specs.declared.task.TaskFault.TheVariants.{Usage as UsageFault, Version, Memory as NoMemory}
+use Rattle.fr_cli.specs.Tasks.{IsCommandLineIn, IsFaultOf}
+use Rattle.fr_cli.specs.declared.task.CommandLine.{CommandLine}
+use Rattle.fr_cli.specs.declared.task.Task.{Task}
+use Rattle.fr_cli.specs.declared.task.Task.TheVariants.{Run, Serve, Play}
+use Rattle.fr_cli.specs.declared.task.TaskFault.{TaskFault}
+use Rattle.fr_cli.specs.declared.task.TaskFault.TheVariants.{Usage as UsageFault, Version, Memory as NoMemory}
 use Rattle.fr_command.specs.Faults.{IsRunFaultIn, IsServeFaultIn, IsDrawnPlayFault}
 use Rattle.fr_command.specs.Outputs.{WritesOutputIn}
 use Rattle.fr_command.specs.Plays.{WritesPlay}

@@ -9,10 +9,10 @@ ghost use Rattle.fr_route.specs.Texts.{counts_text, links_text};
 ghost use Rattle.fr_command.specs.Plays.{turnable_nodes as turnable_nodes_of, targets_for, line_of};
 ghost use Rattle.fr_command.specs.Plays.{entry_text, reply_text, entries_text, end_text as end_text_of};
 
+use fr_cli::Draw;
 use fr_core::{Entry, Reply, Target, check_run};
 use fr_graph::Net;
 use fr_route::{counts_line, links_line};
-use fr_words::Draw;
 use std::alloc::{AllocError, Global};
 use std::fmt::Write;
 

@@ -29,8 +29,8 @@ pub use fault::run_end;
 pub use fr_bytes::{
     Joined, Lines, MAX_BYTES, RunFault, Stream, first_line, read_input, write_whole,
 };
+pub use fr_cli::{CommandLine, Draw, MAX_STEPS, Task, TaskFault, task_end};
 pub use fr_route::Form;
-pub use fr_words::{CommandLine, Draw, MAX_STEPS, Task, TaskFault, task_end};
 pub use play::play_drawn;
 pub use programs::{Failure, program};
 pub use responder::Tally;

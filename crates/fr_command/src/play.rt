@@ -2,23 +2,23 @@
 
 ghost use Rattle.std.specs.Prelude.{◌≡◌, ◌<◌, List, ℕ, not, replicate, string_bytes, find, IfErr, IfOk};
 ghost use Rattle.std.specs.Option.{option_copied};
-ghost use Rattle.fr_lines.specs.Requests.{new_network};
+ghost use Rattle.fr_requests.specs.Requests.{new_network};
 ghost use Rattle.fr_core.specs.Played.{IsPlay};
 ghost use Rattle.fr_route.specs.Blank.{is_blank as is_blank_line};
 ghost use Rattle.fr_route.specs.Refusals.{number_of};
 ghost use Rattle.fr_bytes.specs.Lines.{lines_of};
 ghost use Rattle.fr_bytes.specs.Bytes.{ReadsInput, ReadsAtMostOneTooMany};
-ghost use Rattle.fr_words.specs.Draws.{drawn};
+ghost use Rattle.fr_cli.specs.Draws.{drawn};
 ghost use Rattle.fr_command.specs.Faults.{IsDrawnPlayFault};
 ghost use Rattle.fr_command.specs.Plays.{targets_for, IsRefusal, IsPlayText, IsPlayOf, IsPlayOutput, WritesPlay};
 
 use crate::entries::{end_text, push_count, targets_of};
 use fr_bytes::{Lines, RunFault, read_input, write_out};
+use fr_cli::Draw;
 use fr_core::{Entry, play};
 use fr_graph::Net;
-use fr_lines::{LineFault, Request, read_line};
+use fr_requests::{LineFault, Request, read_line};
 use fr_route::{Reason, is_blank};
-use fr_words::Draw;
 use std::alloc::{AllocError, Global};
 use std::io::{Read, Write};
 

@@ -15,7 +15,7 @@ use fr_graph::{MAX_NODES, Net, Turns};
 /// Searches for the settled counts in a table of its own, and sets the turns to them. It is not inlined, so that the
 /// table takes no stack if a few turns are enough.
 #[inline(never)]
-fn search(net: &Net, dest: u32, turns: &mut Turns)
+fn settle_by_search(net: &Net, dest: u32, turns: &mut Turns)
     requires one_each { length turns.old ≡ net.now.nodes }
     requires node { dest < net.now.nodes }
     ensures { AreSettled net.now.nodes dest net.now.links turns.new }
@@ -44,7 +44,7 @@ fn settle(net: &Net, dest: u32, turns: &mut Turns)
     ensures { AreSettled net.now.nodes dest net.now.links turns.new }
 {
     if !turn_few_of_all(net, dest, turns) {
-        search(net, dest, turns);
+        settle_by_search(net, dest, turns);
     }
 }
 
@@ -106,7 +106,7 @@ pub fn finish_from(net: &Net, dest: u32, turns: &mut Turns, from: &[u32])
 {
     net.network_law();
     if !turn_few(net, dest, turns, from) {
-        search(net, dest, turns);
+        settle_by_search(net, dest, turns);
     }
 }
 

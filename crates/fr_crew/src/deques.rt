@@ -5,8 +5,8 @@ ghost use Rattle.std.specs.Prelude.{◌≡◌, ◌<◌, ◌≤◌, IfSome, lengt
 ghost use Rattle.fr_crew.specs.Candidates.{IsCandidate};
 
 use crate::naming::{Candidates, Naming};
-use crate::standing::Standing;
 use crate::unshared::Unshared;
+use crate::waiting::Waiting;
 use crossbeam_deque::{Steal, Worker};
 use fr_round::Round;
 use rand_core::SeedableRng;
@@ -57,29 +57,29 @@ impl<J: Naming> Deque<J> {
     /// Puts a candidate at the end, unless it is in a deque. A candidate for which there is no memory is dropped. It is
     /// left to the finisher, or to the worker that puts it next.
     #[inline(always)]
-    pub fn put(&mut self, standing: &Standing<J>, x: u32)
+    pub fn put(&mut self, waiting: &Waiting<J>, x: u32)
         requires { IsCandidate J.setup x }
     {
         if let Some(unshared) = &mut self.unshared {
             unshared.put(x);
-        } else if !standing.has(x) {
+        } else if !waiting.has(x) {
             // Most candidates are in a deque already, and a load is cheaper than an exchange.
-            self.share(standing, x);
+            self.share(waiting, x);
         }
     }
 
     /// Puts a candidate at the end of the shared deque, unless another worker has just put it.
     #[inline(never)]
-    fn share(&mut self, standing: &Standing<J>, x: u32)
+    fn share(&mut self, waiting: &Waiting<J>, x: u32)
         requires { IsCandidate J.setup x }
     {
-        if standing.enters(x) && self.own.push_as::<Candidates<J>>(x).is_err() {
-            standing.leaves(x);
+        if waiting.enters(x) && self.own.push_as::<Candidates<J>>(x).is_err() {
+            waiting.leaves(x);
         }
     }
 
     /// Puts all neighbours of a node, except the destination: each of them may be a sink after the node has turned.
-    pub fn put_neighbours(&mut self, standing: &Standing<J>, round: &Round, x: u32)
+    pub fn put_neighbours(&mut self, waiting: &Waiting<J>, round: &Round, x: u32)
         requires named { round.now.setup ≡ J.setup }
         requires node { x < J.setup.nodes }
     {
@@ -87,30 +87,30 @@ impl<J: Naming> Deque<J> {
         for (neighbour, _) in round.net().row(x) {
             let neighbour = *neighbour as u32;
             if neighbour != dest {
-                self.put(standing, neighbour);
+                self.put(waiting, neighbour);
             }
         }
     }
 
     /// Takes the first of its own candidates. The candidate is then in no deque.
-    pub fn take(&mut self, standing: &Standing<J>) -> Option<u32>
+    pub fn take(&mut self, waiting: &Waiting<J>) -> Option<u32>
         ensures { IfSome result (IsCandidate J.setup) }
     {
         if let Some(unshared) = &mut self.unshared {
             return unshared.take();
         }
         let x = self.own.pop_as::<Candidates<J>>()?;
-        standing.leaves(x);
+        waiting.leaves(x);
         Some(x)
     }
 
     /// Steals a candidate of another worker. The candidate is then in no deque.
-    pub fn steal(&mut self, standing: &Standing<J>, stealers: &[Stealer<J>]) -> Option<u32>
+    pub fn steal(&mut self, waiting: &Waiting<J>, stealers: &[Stealer<J>]) -> Option<u32>
         requires { 0 < length stealers.now }
         ensures { IfSome result (IsCandidate J.setup) }
     {
         let x = self.steal_from_each(stealers)?;
-        standing.leaves(x);
+        waiting.leaves(x);
         Some(x)
     }
 

@@ -21,9 +21,9 @@ mod members;
 mod naming;
 mod plan;
 mod settlement;
-mod standing;
 mod threads;
 mod unshared;
+mod waiting;
 
 pub use fault::CrewFault;
 pub use gate::{Gate, OpenGate};

@@ -7,7 +7,7 @@ ghost use Rattle.fr_crew.specs.Crews.{IsNew, IsOwnMember};
 
 use crate::deques::{Deque, Stealer};
 use crate::naming::Naming;
-use crate::standing::Standing;
+use crate::waiting::Waiting;
 use fr_round::{Round, Worker};
 use std::alloc::{AllocError, Global};
 
@@ -92,7 +92,7 @@ pub(crate) fn room_for(round: &Round, from: Option<&[u32]>, workers: usize) -> u
 /// link, and is not the destination.
 fn deal_node<J: Naming>(
     round: &Round,
-    standing: &Standing<J>,
+    waiting: &Waiting<J>,
     members: &mut [Member<J>],
     turn: usize,
     x: u32,
@@ -104,19 +104,19 @@ fn deal_node<J: Naming>(
     let net = round.net();
     if x < net.nodes() && x != round.dest() && net.degree(x) > 0 {
         let to = turn % members.len();
-        members[to].deque.put(standing, x);
+        members[to].deque.put(waiting, x);
     }
 }
 
 /// Deals all candidates in increasing order, each to the member whose number is the node's modulo the number of
 /// members.
-fn deal_all<J: Naming>(round: &Round, standing: &Standing<J>, members: &mut [Member<J>])
+fn deal_all<J: Naming>(round: &Round, waiting: &Waiting<J>, members: &mut [Member<J>])
     requires named { round.now.setup ≡ J.setup }
     requires some { 0 < length members.old }
     ensures own { (own : OpenRound) → Each (IsOwnMember own) members.old → Each (IsOwnMember own) members.new }
 {
     for x in 0..round.net().nodes() {
-        deal_node(round, standing, members, x as usize, x);
+        deal_node(round, waiting, members, x as usize, x);
     }
 }
 
@@ -124,7 +124,7 @@ fn deal_all<J: Naming>(round: &Round, standing: &Standing<J>, members: &mut [Mem
 /// members.
 fn deal_each<J: Naming>(
     round: &Round,
-    standing: &Standing<J>,
+    waiting: &Waiting<J>,
     members: &mut [Member<J>],
     nodes: &[u32],
 )
@@ -133,14 +133,14 @@ fn deal_each<J: Naming>(
     ensures own { (own : OpenRound) → Each (IsOwnMember own) members.old → Each (IsOwnMember own) members.new }
 {
     for (turn, x) in nodes.iter().enumerate() {
-        deal_node(round, standing, members, turn, *x);
+        deal_node(round, waiting, members, turn, *x);
     }
 }
 
 /// Deals the first candidates: those among the nodes of `from`, or all candidates if there is no `from`.
 pub(crate) fn deal<J: Naming>(
     round: &Round,
-    standing: &Standing<J>,
+    waiting: &Waiting<J>,
     members: &mut [Member<J>],
     from: Option<&[u32]>,
 )
@@ -149,7 +149,7 @@ pub(crate) fn deal<J: Naming>(
     ensures own { (own : OpenRound) → Each (IsOwnMember own) members.old → Each (IsOwnMember own) members.new }
 {
     match from {
-        Some(from) => deal_each(round, standing, members, from),
-        None => deal_all(round, standing, members),
+        Some(from) => deal_each(round, waiting, members, from),
+        None => deal_all(round, waiting, members),
     }
 }

@@ -15,7 +15,7 @@ use crate::gate::Gate;
 use crate::members::{Member, Members, deal, equip, room_for};
 use crate::naming::Naming;
 use crate::plan::Crew;
-use crate::standing::Standing;
+use crate::waiting::Waiting;
 use fr_core::Reply;
 use fr_round::{Round, Worker};
 use std::alloc::{AllocError, Global};
@@ -29,7 +29,7 @@ use std::thread::{Promise, PromisedHandle, Scope, Threads};
 struct Job<J: Naming> {
     round: Round,
     stealers: Vec<Stealer<J>>,
-    standing: Standing<J>,
+    waiting: Waiting<J>,
     budget: u64,
     ghost some_stealer: { 0 < vec_len stealers },
 }
@@ -69,9 +69,9 @@ struct Started<G: Gate> {
 fn next_candidate<J: Naming>(job: &Job<J>, deque: &mut Deque<J>) -> Option<u32>
     ensures { IfSome result (IsCandidate J.setup) }
 {
-    match deque.take(&job.standing) {
+    match deque.take(&job.waiting) {
         Some(x) => Some(x),
-        None => deque.steal(&job.standing, &job.stealers),
+        None => deque.steal(&job.waiting, &job.stealers),
     }
 }
 
@@ -96,8 +96,8 @@ fn try_candidate<J: Naming, G: Gate>(
     let reply = job.round.try_turn(worker, x);
     gate.after(number, call);
     match reply {
-        Ok(Reply::Turned { .. }) => deque.put_neighbours(&job.standing, &job.round, x),
-        Ok(Reply::Moved { .. }) => deque.put(&job.standing, x),
+        Ok(Reply::Turned { .. }) => deque.put_neighbours(&job.waiting, &job.round, x),
+        Ok(Reply::Moved { .. }) => deque.put(&job.waiting, x),
         // The worker that turns the neighbour that held the node will make the node a candidate again.
         Ok(Reply::Held { .. }) | Ok(Reply::Cut) => {}
         // No candidate is refused.
@@ -267,7 +267,7 @@ fn run_threads<J: Naming + Send + Sync, R: Threads + Wait, G: Gate + Sync>(
 fn dealt_members<J: Naming, R: Threads, G: Gate>(
     crew: &Crew<'_, R, G>,
     round: &Round,
-    standing: &Standing<J>,
+    waiting: &Waiting<J>,
     workers: Vec<Worker>,
     from: Option<&[u32]>,
 ) -> Result<Members<J>, AllocError>
@@ -280,7 +280,7 @@ fn dealt_members<J: Naming, R: Threads, G: Gate>(
 {
     let room = room_for(round, from, workers.len());
     let mut all = equip::<J>(crew.alloc, round, workers, room, crew.plan.seed())?;
-    deal(round, standing, &mut all.members, from);
+    deal(round, waiting, &mut all.members, from);
     Ok(all)
 }
 
@@ -298,12 +298,12 @@ fn make_job<J: Naming, R: Threads, G: Gate>(
     ensures own { IfOk result (λ made. Each (IsOwnMember round) made.1.items) }
     ensures len { IfOk result (λ made. vec_len made.1 ≡ vec_len workers) }
 {
-    let standing = Standing::none(crew.alloc, &round)?;
-    let Members { members, stealers } = dealt_members(crew, &round, &standing, workers, from)?;
+    let waiting = Waiting::none(crew.alloc, &round)?;
+    let Members { members, stealers } = dealt_members(crew, &round, &waiting, workers, from)?;
     let job = Job {
         round,
         stealers,
-        standing,
+        waiting,
         budget: crew.plan.budget(),
     };
     Ok((job, members))

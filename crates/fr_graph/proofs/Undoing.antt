@@ -22,8 +22,8 @@ use Rattle.fr_graph.specs.Network.{Network}
 use Rattle.fr_graph.specs.Order.{in_order}
 use Rattle.fr_graph.specs.Rows.{row}
 use Rattle.fr_graph.specs.Tables.{HaveRoom, KeepsRooms, room_of, row_of}
-use Rattle.fr_graph.specs.declared.graph.Done.{Done}
-use Rattle.fr_graph.specs.declared.graph.Done.TheVariants.{Put, Taken}
+use Rattle.fr_graph.specs.declared.graph.Effect.{Effect}
+use Rattle.fr_graph.specs.declared.graph.Effect.TheVariants.{Added, Removed}
 use Rattle.fr_graph.specs.declared.graph.Graph.{Graph}
 
 -- a link is removed and added again
@@ -43,19 +43,19 @@ cut_one links tail head single stands =
     length_permutation (added (without tail head links) tail head) links (back_permutes links tail head single stands)
     ∙ length_push (without tail head links) (tail, head)
 
-taken_is : (net : Network) (tail head : ℕ) (after : Network) → IsDone net (Taken tail head) after → after ≡ with_links net.nodes (without tail head net.links)
+taken_is : (net : Network) (tail head : ℕ) (after : Network) → IsDone net (Removed tail head) after → after ≡ with_links net.nodes (without tail head net.links)
 taken_is net tail head after done = done.step.1.is ∙ ap (with_links net.nodes) (sym (cut_in_order net.links tail head done.sorted))
 
-permuted : (net : Network) (tail head : ℕ) (after : Network) → IsDone net (Taken tail head) after → IsPermutation (added after.links tail head) net.links
+permuted : (net : Network) (tail head : ℕ) (after : Network) → IsDone net (Removed tail head) after → IsPermutation (added after.links tail head) net.links
 permuted net tail head after done =
     subst (λ (m : Network). IsPermutation (added m.links tail head) net.links) (sym (taken_is net tail head after done))
     (back_permutes net.links tail head done.faultless.is_net.single done.step.0)
 
-pub taken_one : (net : Network) (tail head : ℕ) (after : Network) → IsDone net (Taken tail head) after → length net.links ≡ length after.links + 1
+pub taken_one : (net : Network) (tail head : ℕ) (after : Network) → IsDone net (Removed tail head) after → length net.links ≡ length after.links + 1
 taken_one net tail head after done =
     length_permutation (added after.links tail head) net.links (permuted net tail head after done) ∙ length_push after.links (tail, head)
 
-taken_unjoined : (net : Network) (tail head : ℕ) (after : Network) → IsDone net (Taken tail head) after → AreUnjoined after.nodes after.links tail head
+taken_unjoined : (net : Network) (tail head : ℕ) (after : Network) → IsDone net (Removed tail head) after → AreUnjoined after.nodes after.links tail head
 taken_unjoined net tail head after done =
     let p : ℕ × ℕ = (tail, head) in
     let links = net.links in
@@ -70,14 +70,14 @@ taken_unjoined net tail head after done =
     } in
     subst (λ (m : Network). AreUnjoined m.nodes m.links tail head) (sym (taken_is net tail head after done)) free
 
-pub taken_can_be_put : (net : Network) (tail head : ℕ) (after : Network) → IsDone net (Taken tail head) after → CanPut after tail head
+pub taken_can_be_put : (net : Network) (tail head : ℕ) (after : Network) → IsDone net (Removed tail head) after → CanPut after tail head
 taken_can_be_put net tail head after done = record {
   few = omega (arith, taken_one net tail head after done, done.faultless.limits.links_few);
   unjoined = taken_unjoined net tail head after done;
   acyclic = acyclic_listed (added after.links tail head) net.links (permuted net tail head after done) done.faultless.is_net.acyclic;
 }
 
-pub taken_back : (net : Network) (tail head : ℕ) (after back : Network) → IsDone net (Taken tail head) after
+pub taken_back : (net : Network) (tail head : ℕ) (after back : Network) → IsDone net (Removed tail head) after
     → IsNetworkOf after.nodes (added after.links tail head) back → back ≡ net
 taken_back net tail head after back done made =
     let nodes : after.nodes ≡ net.nodes = ap (λ (m : Network). m.nodes) (taken_is net tail head after done) in
@@ -86,12 +86,12 @@ taken_back net tail head after back done made =
     made.is ∙ ap (λ (n : ℕ). with_links n (in_order (added after.links tail head))) nodes ∙ ap (with_links net.nodes) (sym links)
 
 -- a link is added and removed
-pub put_stands : (net : Network) (tail head : ℕ) (after : Network) → IsDone net (Put tail head) after → Points after.links tail head
+pub put_stands : (net : Network) (tail head : ℕ) (after : Network) → IsDone net (Added tail head) after → Points after.links tail head
 put_stands net tail head after done =
     subst (λ (m : Network). Points m.links tail head) (sym done.step.1.is)
     (into_order (added net.links tail head) (tail, head) (Contains-push net.links (tail, head)))
 
-pub put_back : (net : Network) (tail head : ℕ) (after back : Network) → IsDone net (Put tail head) after
+pub put_back : (net : Network) (tail head : ℕ) (after back : Network) → IsDone net (Added tail head) after
     → IsNetworkOf after.nodes (without tail head after.links) back → back ≡ net
 put_back net tail head after back done made =
     let is : after ≡ with_links net.nodes (in_order (added net.links tail head)) = done.step.1.is in
@@ -105,14 +105,14 @@ put_back net tail head after back done made =
     ∙ ap (with_links net.nodes) (sym (order_of_listed net.links net.links (IsPermutation-refl net.links) done.sorted))
 
 -- one more step, and the last one
-pub more_done : (g : Graph) (net : Network) (done : List Done) (mid : Network) (last : Done) (after : Network)
+pub more_done : (g : Graph) (net : Network) (done : List Effect) (mid : Network) (last : Effect) (after : Network)
     → AreDone g net done mid → HasRoomFor g mid → IsDone mid last after → AreDone g net (done ++ last ∷ []) after
 more_done g net [] mid last after steps room h =
     subst (λ (m : Network). AreDone g m (last ∷ []) after) steps (room, (after, (h, refl)))
 more_done g net (d ∷ ds) mid last after steps room h =
     (steps.0, (steps.1.0, (steps.1.1.0, more_done g steps.1.0 ds mid last after steps.1.1.1 room h)))
 
-pub last_done : (g : Graph) (net : Network) (done : List Done) (last : Done) (after : Network) → AreDone g net (done ++ last ∷ []) after
+pub last_done : (g : Graph) (net : Network) (done : List Effect) (last : Effect) (after : Network) → AreDone g net (done ++ last ∷ []) after
     → (mid : Network) × (AreDone g net done mid × (HasRoomFor g mid × IsDone mid last after))
 last_done g net [] last after steps =
     (net, (refl, (steps.0, subst (λ (m : Network). IsDone net last m) (sym steps.1.1.1) steps.1.1.0)))
@@ -121,7 +121,7 @@ last_done g net (d ∷ ds) last after steps =
     (rest.0, ((steps.0, (steps.1.0, (steps.1.1.0, rest.1.0))), rest.1.1))
 
 -- no step means no change
-pub no_steps : (g : Graph) (net : Network) (done : List Done) (after : Network) → length done ≡ 0 → AreDone g net done after → after ≡ net
+pub no_steps : (g : Graph) (net : Network) (done : List Effect) (after : Network) → length done ≡ 0 → AreDone g net done after → after ≡ net
 no_steps g net [] after none steps = steps
 no_steps g net (d ∷ ds) after none steps = absurd (omega (arith, none))
 
@@ -129,7 +129,7 @@ no_steps g net (d ∷ ds) after none steps = absurd (omega (arith, none))
 pub still_room : (before after : Graph) (net : Network) → KeepsRooms before.rows after.rows → HasRoomFor before net → HasRoomFor after net
 still_room before after net kept room = λ x less. omega (arith, room x less, kept x)
 
-pub still_done : (before after : Graph) (net : Network) (done : List Done) (end : Network)
+pub still_done : (before after : Graph) (net : Network) (done : List Effect) (end : Network)
     → KeepsRooms before.rows after.rows → AreDone before net done end → AreDone after net done end
 still_done before after net [] end kept steps = steps
 still_done before after net (d ∷ ds) end kept steps =
@@ -140,7 +140,7 @@ pub own_room : (g : Graph) → IsGraph g → ((x : ℕ) → length (row_of g.row
 own_room g graph room = λ x less. omega (arith, room x, ap length (graph.rows.shown x less))
 
 -- a row before its link was removed
-row_before : (net : Network) (tail head : ℕ) (after : Network) (x : ℕ) → IsDone net (Taken tail head) after
+row_before : (net : Network) (tail head : ℕ) (after : Network) (x : ℕ) → IsDone net (Removed tail head) after
     → row net.nodes net.links x ≡ row after.nodes (added after.links tail head) x
 row_before net tail head after x done =
     let more = added after.links tail head in
@@ -149,7 +149,7 @@ row_before net tail head after x done =
     ∙ sym (in_order_row net.nodes more x) ∙ ap (λ (n : ℕ). row n more x) (sym nodes)
 
 -- if there is room for the network with a link, there is room to add the link again
-pub taken_room : (net : Network) (tail head : ℕ) (g : Graph) → IsGraph g → IsDone net (Taken tail head) (shown g) → HasRoomFor g net → HaveRoom g.rows tail head
+pub taken_room : (net : Network) (tail head : ℕ) (g : Graph) → IsGraph g → IsDone net (Removed tail head) (shown g) → HasRoomFor g net → HaveRoom g.rows tail head
 taken_room net tail head g graph done room =
     let after = shown g in
     let free = taken_unjoined net tail head after done in
@@ -178,7 +178,7 @@ rooms_kept before after is = λ x. let same = ap (λ (rooms : List ℕ). get_or 
 
 -- a link was added, after room was made for it
 pub record IsPut (before after : Graph) (tail head : ℕ) : Type 0 where
-  pub by : IsDone (shown before) (Put tail head) (shown after)
+  pub by : IsDone (shown before) (Added tail head) (shown after)
   pub made : IsNetworkOf before.nodes (added (shown before).links tail head) (shown after)
   pub rooms : KeepsRooms before.rows after.rows
   pub back : HasRoomFor after (shown before)

@@ -13,8 +13,8 @@ use Rattle.fr_graph.specs.Network.{Network}
 use Rattle.fr_graph.specs.Order.{AreInOrder}
 use Rattle.fr_graph.specs.Rows.{row}
 use Rattle.fr_graph.specs.Tables.{KeepsRooms, room_of}
-use Rattle.fr_graph.specs.declared.graph.Done.{Done}
-use Rattle.fr_graph.specs.declared.graph.Done.TheVariants.{Taken, Put}
+use Rattle.fr_graph.specs.declared.graph.Effect.{Effect}
+use Rattle.fr_graph.specs.declared.graph.Effect.TheVariants.{Removed, Added}
 use Rattle.fr_graph.specs.declared.graph.Graph.{Graph}
 use Rattle.fr_graph.specs.declared.edit.Edit.{Edit}
 use Rattle.fr_graph.specs.declared.fault.EditFault.{EditFault}
@@ -45,26 +45,26 @@ pub record CanPut (net : Network) (u v : ℕ) : Type 0 where
   pub acyclic : IsAcyclic (net.links ++ (u, v) ∷ [])
 
 -- what one edit did: a link was removed or added
-abbrev pub IsStep : Network → Done → Network → Type 0
-IsStep net (Taken tail head) after = Points net.links tail head
+abbrev pub IsStep : Network → Effect → Network → Type 0
+IsStep net (Removed tail head) after = Points net.links tail head
     × IsNetworkOf net.nodes (without tail head net.links) after
-IsStep net (Put tail head) after = AreUnjoined net.nodes net.links tail head
+IsStep net (Added tail head) after = AreUnjoined net.nodes net.links tail head
     × IsNetworkOf net.nodes (net.links ++ (tail, head) ∷ []) after
 
 -- the same, in a network whose links have no fault and are in order
-pub record IsDone (net : Network) (done : Done) (after : Network) : Type 0 where
+pub record IsDone (net : Network) (done : Effect) (after : Network) : Type 0 where
   pub faultless : IsFaultless net.nodes net.links
   pub sorted : AreInOrder net.links
   pub step : IsStep net done after
 
 -- the same for several edits, one after the other, and the graph has room for the network before each of them
-abbrev pub AreDone : Graph → Network → List Done → Network → Type 0
+abbrev pub AreDone : Graph → Network → List Effect → Network → Type 0
 AreDone g net [] after = after ≡ net
 AreDone g net (done ∷ rest) after = HasRoomFor g net
     × ((next : Network) × (IsDone net done next × AreDone g next rest after))
 
 -- these edits led from the first network to that of the graph, and all of them can be undone
-abbrev pub CanUndo : Network → List Done → Graph → Type 0
+abbrev pub CanUndo : Network → List Effect → Graph → Type 0
 CanUndo first done g = AreDone g first done (shown g)
 
 -- the same network, and no row has less room
@@ -79,7 +79,7 @@ pub record IsRefusal (net : Network) (edits : List Edit) (refused : EditFault) :
   pub names : NamesInBatch net edits refused
 
 -- the edit made `after` of `before`, and `done` says how to undo it
-pub record IsEdited (before : Graph) (edit : Edit) (after : Graph) (done : Done) : Type 0 where
+pub record IsEdited (before : Graph) (edit : Edit) (after : Graph) (done : Effect) : Type 0 where
   pub graph : IsGraph after
   pub made : IsMade (shown before) edit (shown after)
   pub by : IsDone (shown before) done (shown after)

@@ -43,16 +43,16 @@ pub(crate) struct Graph {
 
 /// What an edit did to the links.
 #[derive(Debug, Drop, Clone, Copy)]
-pub(crate) enum Done {
+pub(crate) enum Effect {
     /// The link was removed.
-    Taken {
+    Removed {
         /// Its tail.
         tail: u32,
         /// Its head.
         head: u32,
     },
     /// The link was added.
-    Put {
+    Added {
         /// Its tail.
         tail: u32,
         /// Its head.
@@ -205,7 +205,7 @@ impl Graph {
     }
 
     /// Removes the link between `u` and `v`, whichever way it points.
-    fn cut(&mut self, u: u32, v: u32) -> Result<Done, NetFault>
+    fn cut(&mut self, u: u32, v: u32) -> Result<Effect, NetFault>
         requires graph { IsGraph self.old }
         ensures ok { IfOk result (IsEdited self.old (Cut u v) self.new) }
         ensures refused { IfErr result (IsEditFault (shown self.old) (Cut u v)) }
@@ -216,11 +216,11 @@ impl Graph {
         };
         self.rows.room_law();
         self.take_out(tail, head);
-        Ok(Done::Taken { tail, head })
+        Ok(Effect::Removed { tail, head })
     }
 
     /// Adds the link from `u` to `v`.
-    fn add(&mut self, alloc: Global, u: u32, v: u32) -> Result<Done, NetFault>
+    fn add(&mut self, alloc: Global, u: u32, v: u32) -> Result<Effect, NetFault>
         requires { IsGraph self.old }
         ensures ok { IfOk result (IsEdited self.old (Add u v) self.new) }
         ensures refused { IfErr result (λ fault. fault ≢ Memory → IsEditFault (shown self.old) (Add u v) fault) }
@@ -235,11 +235,11 @@ impl Graph {
         self.make_room(alloc, u, v)?;
         self.rows.room_law();
         self.put(u, v);
-        Ok(Done::Put { tail: u, head: v })
+        Ok(Effect::Added { tail: u, head: v })
     }
 
     /// Joins `u` and `v` by a link from `u` to `v`, or from `v` to `u` if the first would close a cycle.
-    fn join(&mut self, alloc: Global, u: u32, v: u32) -> Result<Done, NetFault>
+    fn join(&mut self, alloc: Global, u: u32, v: u32) -> Result<Effect, NetFault>
         requires { IsGraph self.old }
         ensures ok { IfOk result (IsEdited self.old (Join u v) self.new) }
         ensures refused { IfErr result (λ fault. fault ≢ Memory → IsEditFault (shown self.old) (Join u v) fault) }
@@ -255,11 +255,11 @@ impl Graph {
         self.make_room(alloc, u, v)?;
         self.rows.room_law();
         self.put(tail, head);
-        Ok(Done::Put { tail, head })
+        Ok(Effect::Added { tail, head })
     }
 
     /// Makes an edit. If it is refused or an allocation fails, the network is unchanged.
-    pub(crate) fn edit(&mut self, alloc: Global, edit: Edit) -> Result<Done, NetFault>
+    pub(crate) fn edit(&mut self, alloc: Global, edit: Edit) -> Result<Effect, NetFault>
         requires { IsGraph self.old }
         ensures ok { IfOk result (IsEdited self.old edit self.new) }
         ensures refused { IfErr result (λ fault. fault ≢ Memory → IsEditFault (shown self.old) edit fault) }
@@ -274,7 +274,7 @@ impl Graph {
     }
 
     /// Undoes what an edit did. It does not allocate.
-    fn undo(&mut self, done: Done)
+    fn undo(&mut self, done: Effect)
         requires graph { IsGraph self.old }
         requires done { (net : Network) × IsDone net done (shown self.old) × HasRoomFor self.old net }
         ensures graph { IsGraph self.new }
@@ -282,13 +282,13 @@ impl Graph {
         ensures rooms { self.new.rows.rooms ≡ self.old.rows.rooms }
     {
         match done {
-            Done::Taken { tail, head } => self.put(tail, head),
-            Done::Put { tail, head } => self.take_out(tail, head),
+            Effect::Removed { tail, head } => self.put(tail, head),
+            Effect::Added { tail, head } => self.take_out(tail, head),
         }
     }
 
     /// Undoes what edits did, the last one first. It does not allocate.
-    pub(crate) fn undo_all(&mut self, done: &mut Vec<Done>)
+    pub(crate) fn undo_all(&mut self, done: &mut Vec<Effect>)
         requires graph { IsGraph self.old }
         requires done { (first : Network) × CanUndo first done.old.items self.old }
         ensures graph { IsGraph self.new }
@@ -305,7 +305,7 @@ impl Graph {
         &mut self,
         alloc: Global,
         edits: &[Edit],
-        done: &mut Vec<Done>,
+        done: &mut Vec<Effect>,
     ) -> Result<(), EditFault>
         requires graph { IsGraph self.old }
         requires few { length edits.now ≤ most_edits }

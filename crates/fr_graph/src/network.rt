@@ -27,7 +27,7 @@ use crate::cycle::{Found, find_cycle};
 use crate::edit::Edit;
 use crate::fault::{EditFault, NetFault, NotEdited};
 use crate::first::First;
-use crate::graph::{Done, Graph};
+use crate::graph::{Effect, Graph};
 use crate::half_links::{HalfLink, entries_of, first_twice, sorted_halves};
 use crate::heights::Heights;
 use crate::limits::{MAX_EDITS, MAX_LINKS, MAX_NODES};
@@ -114,7 +114,7 @@ fn test_few(edits: &[Edit]) -> Result<(), EditFault>
 pub struct Net {
     graph: Graph,
     // Memory for what edits did, which is kept from one call to the next. What it contains has no meaning.
-    done: Vec<Done>,
+    done: Vec<Effect>,
 }
 
 // Written by hand: code that drops a network proves this one call. With a derived Drop it proves how each part is

@@ -1,4 +1,4 @@
-//! Networks for link reversal, and the lines of JSON that ask for them: what [`fr_graph`] and [`fr_lines`] offer, under
+//! Networks for link reversal, and the lines of JSON that ask for them: what [`fr_graph`] and [`fr_requests`] offer, under
 //! one name.
 //!
 //! They are two crates, so that the crates that use only networks can be proved at the same time as the lines.
@@ -8,4 +8,4 @@ pub use fr_graph::{
     Edit, EditFault, First, Links, MAX_EDITS, MAX_LINKS, MAX_NODES, Net, NetFault, NotEdited,
     Turns, laws,
 };
-pub use fr_lines::{LineFault, Question, Request, read_line};
+pub use fr_requests::{LineFault, Question, Request, read_line};

@@ -37,7 +37,7 @@ fn is_below(first: First, own: u16, count: u16) -> bool
 /// Whether a node whose count rises from `had` to `count` begins to meet its bound for a neighbour with count `other`.
 /// `first` is the first direction of their link seen from the node. It does exactly if the neighbour begins to miss its
 /// own bound.
-fn begins_to_meet(first: First, other: u16, had: u16, count: u16) -> bool
+fn newly_meets(first: First, other: u16, had: u16, count: u16) -> bool
     ensures { result ≡ (nat_lt had (bound_of (opposite first) other)
         && not (nat_lt count (bound_of (opposite first) other))) }
 {
@@ -80,7 +80,7 @@ fn pass_row(net: &Net, counts: &[u16], missing: &mut [u16], y: u32, count: u16) 
         let at = *neighbour as usize;
         let other = counts[at];
         own += u16::from(is_below(*first, count, other));
-        if begins_to_meet(*first, other, had, count) {
+        if newly_meets(*first, other, had, count) {
             missing[at] -= 1;
         }
     }

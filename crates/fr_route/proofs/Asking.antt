@@ -1,6 +1,6 @@
 -- How far a session has answered lines.
 use Rattle.std.proofs.Common.{◌≡◌, ◌∙◌, ℕ, Bool, true, false, List, [], ◌∷◌, ◌++◌, Option, None, append_assoc, append-nil, refl, sym, ap, subst, MatchBool}
-use Rattle.fr_lines.specs.Requests.{reading}
+use Rattle.fr_requests.specs.Requests.{reading}
 use Rattle.fr_route.specs.Answers.{AreAnswers, IsLineAnswer}
 use Rattle.fr_route.specs.Blank.{is_blank}
 use Rattle.fr_route.specs.States.{State}

@@ -18,19 +18,19 @@ use Rattle.fr_graph.specs.Limits.{most_edits, most_nodes}
 use Rattle.fr_graph.specs.Links.{HasPath, IsAcyclic, IsNet, Points}
 use Rattle.fr_graph.specs.Network.{Network, net_of}
 use Rattle.fr_graph.specs.Order.{in_order}
-use Rattle.fr_lines.specs.Requests.{PlainRequest, new_network, cut_link, add_link, join_nodes, make_edits, move_dest, walk_from, ask, ask_node, order_pushes, push_ways, reading}
-use Rattle.fr_lines.specs.Requests.{reading_of_value, request_of, value_of_line}
+use Rattle.fr_requests.specs.Requests.{PlainRequest, new_network, cut_link, add_link, join_nodes, make_edits, move_dest, walk_from, ask, ask_node, order_pushes, push_ways, reading}
+use Rattle.fr_requests.specs.Requests.{reading_of_value, request_of, value_of_line}
 use Rattle.fr_graph.specs.declared.fault.EditFault.{EditFault}
 use Rattle.fr_graph.specs.declared.fault.NetFault.{NetFault}
 use Rattle.fr_graph.specs.declared.fault.NetFault.TheVariants.{Cycle, Memory, NoLink, Range, SelfLink, TooMany, Twice}
 use Rattle.fr_graph.specs.declared.edit.Edit.{Edit}
 use Rattle.fr_graph.specs.declared.edit.Edit.TheVariants.{Cut, Add, Join}
-use Rattle.fr_lines.specs.declared.requests.LineFault.{LineFault}
-use Rattle.fr_lines.specs.declared.requests.LineFault.TheVariants.{NotRequest}
-use Rattle.fr_lines.specs.declared.requests.Question.{Question}
-use Rattle.fr_lines.specs.declared.requests.Question.TheVariants.{Links, Counts, Hops, Ways}
-use Rattle.fr_lines.specs.declared.requests.NodeQuestion.{NodeQuestion}
-use Rattle.fr_lines.specs.declared.requests.NodeQuestion.TheVariants as node
+use Rattle.fr_requests.specs.declared.requests.LineFault.{LineFault}
+use Rattle.fr_requests.specs.declared.requests.LineFault.TheVariants.{NotRequest}
+use Rattle.fr_requests.specs.declared.requests.Question.{Question}
+use Rattle.fr_requests.specs.declared.requests.Question.TheVariants.{Links, Counts, Hops, Ways}
+use Rattle.fr_requests.specs.declared.requests.NodeQuestion.{NodeQuestion}
+use Rattle.fr_requests.specs.declared.requests.NodeQuestion.TheVariants as node
 use Rattle.fr_core.proofs.Finishing.{settled_exists}
 use Rattle.fr_core.proofs.Paths.{walk_from_path}
 use Rattle.fr_core.proofs.Searching.{cases_below}

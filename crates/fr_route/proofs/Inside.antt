@@ -15,10 +15,10 @@ use Rattle.fr_route.specs.declared.change.Report.{Report}
 use Rattle.fr_tables.specs.declared.hop.Hop.{Hop}
 use Rattle.fr_route.specs.declared.router.Router.TheInside.{Inside}
 use Rattle.fr_route.specs.declared.kept_distances.KeptDistances.{KeptDistances}
-use Rattle.fr_route.specs.declared.spare.Spare.{Spare}
+use Rattle.fr_route.specs.declared.spare_turns.SpareTurns.{SpareTurns}
 use Rattle.fr_route.proofs.CutNodes.{after_outcome}
 
-module _ (d : ℕ) (turns : List ℕ) (spare : Spare) (hops : Vec Hop Global) (distances : KeptDistances) (room : ℕ)
+module _ (d : ℕ) (turns : List ℕ) (spare : SpareTurns) (hops : Vec Hop Global) (distances : KeptDistances) (room : ℕ)
     (report : Report) where
   inside : Network → Inside
   inside net = record {

@@ -15,17 +15,17 @@ use Rattle.fr_route.specs.Listing.{HasPlaces, IsListing, KeepsPlaces, nodes_told
 use Rattle.fr_route.specs.Outcomes.{AreNoted, AreOthers, NotesMore}
 use Rattle.fr_route.specs.Routes.{IsHop}
 use Rattle.fr_route.specs.States.{State}
-use Rattle.fr_route.specs.declared.told.Told.{Told}
-use Rattle.fr_route.specs.declared.told.Told.TheVariants.{Nobody, Nodes}
+use Rattle.fr_route.specs.declared.changed_nodes.ChangedNodes.{ChangedNodes}
+use Rattle.fr_route.specs.declared.changed_nodes.ChangedNodes.TheVariants.{Unlisted, Listed}
 use Rattle.fr_tables.specs.declared.hop.Hop.{Hop}
 use Rattle.fr_route.proofs.Determined.{one_hop}
 
 -- no hop is updated
-pub notes_none : (s : State) (hops : List Hop) (told : Told) → NotesMore s hops told hops told
+pub notes_none : (s : State) (hops : List Hop) (told : ChangedNodes) → NotesMore s hops told hops told
 notes_none s hops told = record { keeps = record { places = λ n has. has; listing = λ is. is; notes = refl }; noted = λ room before noted. noted }
 
 -- one after the other
-pub notes_then : (s : State) (a b c : List Hop) (l m n : Told) → length b ≡ length a → NotesMore s a l b m → NotesMore s b m c n → NotesMore s a l c n
+pub notes_then : (s : State) (a b c : List Hop) (l m n : ChangedNodes) → length b ≡ length a → NotesMore s a l b m → NotesMore s b m c n → NotesMore s a l c n
 notes_then s a b c l m n same h g = record {
   keeps = record { places = λ k has. g.keeps.places k (h.keeps.places k has); listing = λ is. h.keeps.listing (g.keeps.listing is); notes = g.keeps.notes ∙ h.keeps.notes };
   noted = λ room before noted. g.noted (subst (λ (k : ℕ). HasPlaces k m) (sym same) (h.keeps.places (length a) room)) before (h.noted room before noted);
@@ -93,7 +93,7 @@ module _ (s : State) (x : ℕ) (hop : Hop) (right : IsHop s x hop) (old : List H
   }
 
 -- the hop of x is updated and noted
-pub notes_one : (s : State) (x : ℕ) (hop d : Hop) (old : List Hop) (told more : Told) → IsHop s x hop → x < length old → ¬ (get_or old x d ≡ hop)
+pub notes_one : (s : State) (x : ℕ) (hop d : Hop) (old : List Hop) (told more : ChangedNodes) → IsHop s x hop → x < length old → ¬ (get_or old x d ≡ hop)
     → KeepsPlaces told more → ((n : ℕ) → HasPlaces n told → length (nodes_told told) < n → nodes_told more ≡ nodes_told told ++ x ∷ [])
     → NotesMore s old told (set old x hop) more
 notes_one s x hop d old told more right low apart keeps put = record {
@@ -117,6 +117,6 @@ others_noted s before hops nodes noted = record {
 }
 
 -- if there is room, there is a list
-pub listing_has : (n : ℕ) (told : Told) → HasPlaces n told → IsListing told
+pub listing_has : (n : ℕ) (told : ChangedNodes) → HasPlaces n told → IsListing told
 listing_has n Nobody has = has
 listing_has n (Nodes list notes) has = tt

@@ -1,14 +1,14 @@
 -- A line and the states before and after it determine the list of rerouted nodes.
 use Rattle.std.proofs.Common.{◌≡◌, ◌∙◌, ℕ, List, max, Option, Some, None, Result, Ok, Err, inl, inr, subst, sym}
-use Rattle.fr_lines.specs.Requests.{PlainRequest, new_network, cut_link, add_link, join_nodes, make_edits, move_dest, walk_from, ask, ask_node, order_pushes, push_ways}
-use Rattle.fr_lines.specs.declared.requests.LineFault.{LineFault}
+use Rattle.fr_requests.specs.Requests.{PlainRequest, new_network, cut_link, add_link, join_nodes, make_edits, move_dest, walk_from, ask, ask_node, order_pushes, push_ways}
+use Rattle.fr_requests.specs.declared.requests.LineFault.{LineFault}
 use Rattle.fr_tables.specs.declared.hop.Hop.{Hop}
 use Rattle.fr_tables.specs.Pushes.{IsPushOrder}
 use Rattle.fr_tables.proofs.Orders.{order_unique}
 use Rattle.fr_route.specs.Reroutes.{AreHopsIn, AreReplaced, AreReplacedWays, AreRerouted, AreWaysIn, nodes_in}
 use Rattle.fr_route.specs.Routes.{AreHops}
 use Rattle.fr_route.specs.States.{State}
-use Rattle.fr_route.specs.Told.{IsLineTold, IsTold, TellsOf}
+use Rattle.fr_route.specs.Telling.{IsLineTold, IsTold, TellsOf}
 use Rattle.fr_ways.specs.Phases.{growths, shrinks}
 use Rattle.fr_route.proofs.NodeWays.{ways_below_unique}
 use Rattle.fr_route.proofs.Determined.{asked_not_accepted, hops_unique, not_both}

@@ -4,11 +4,11 @@ use Rattle.std.proofs.Common.{ℕ, ◌∙◌, ◌≡◌, ◌≢◌, ◌<◌, ◌
 use Rattle.std.proofs.lemmas.Option.{slice_get-get_or}
 use Rattle.std.specs.Prelude.{String}
 use Rattle.std.specs.declared.alloc.Global.{Global}
-use Rattle.fr_lines.specs.Requests.{PlainRequest, reading, ask, ask_node, cut_link, add_link, join_nodes, make_edits, move_dest, new_network, order_pushes, push_ways, walk_from}
-use Rattle.fr_lines.specs.declared.requests.LineFault.{LineFault}
-use Rattle.fr_lines.specs.declared.requests.LineFault.TheVariants.{NotJson, NotRequest, Memory as LineMemory}
-use Rattle.fr_lines.specs.declared.requests.Question.{Question}
-use Rattle.fr_lines.specs.declared.requests.NodeQuestion.{NodeQuestion}
+use Rattle.fr_requests.specs.Requests.{PlainRequest, reading, ask, ask_node, cut_link, add_link, join_nodes, make_edits, move_dest, new_network, order_pushes, push_ways, walk_from}
+use Rattle.fr_requests.specs.declared.requests.LineFault.{LineFault}
+use Rattle.fr_requests.specs.declared.requests.LineFault.TheVariants.{NotJson, NotRequest, Memory as LineMemory}
+use Rattle.fr_requests.specs.declared.requests.Question.{Question}
+use Rattle.fr_requests.specs.declared.requests.NodeQuestion.{NodeQuestion}
 use Rattle.fr_graph.specs.Batches.{IsBatchFault}
 use Rattle.fr_graph.specs.declared.edit.Edit.{Edit}
 use Rattle.fr_graph.specs.declared.edit.Edit.TheVariants as edit
@@ -30,7 +30,7 @@ use Rattle.fr_route.specs.Sessions.{IsAnswered, IsLineAnswered}
 use Rattle.fr_route.specs.Routes.{AreHops}
 use Rattle.fr_route.specs.States.{State, net_at}
 use Rattle.fr_route.specs.Texts.{longest_report, refusal_text}
-use Rattle.fr_route.specs.Told.{IsLineTold, TellsOf}
+use Rattle.fr_route.specs.Telling.{IsLineTold, TellsOf}
 use Rattle.fr_route.specs.declared.fault.AnswerFault.{AnswerFault}
 use Rattle.fr_route.specs.declared.fault.AnswerFault.TheVariants.{Memory, Start}
 use Rattle.fr_route.specs.declared.fault.RouteFault.{RouteFault}
@@ -40,8 +40,8 @@ use Rattle.fr_route.specs.declared.form.Form.{Form}
 use Rattle.fr_route.specs.declared.form.Form.TheVariants.{Text, Json, JsonWithWays}
 use Rattle.fr_route.specs.Replies.{AnswerForm}
 use Rattle.fr_route.specs.declared.revision.Revision.{Revision}
-use Rattle.fr_route.specs.declared.told.Told.{Told}
-use Rattle.fr_route.specs.declared.told.Told.TheVariants.{Nobody, Nodes}
+use Rattle.fr_route.specs.declared.changed_nodes.ChangedNodes.{ChangedNodes}
+use Rattle.fr_route.specs.declared.changed_nodes.ChangedNodes.TheVariants.{Unlisted, Listed}
 use Rattle.fr_ways.specs.Changes.{Noted}
 use Rattle.fr_tables.specs.declared.hop.Hop.{Hop}
 use Rattle.fr_route.proofs.Changing.{add_by, cut_by, join_by, named_edit, refused_edit}
@@ -49,19 +49,19 @@ use Rattle.fr_route.proofs.Determined.{asked_not_refused, not_both}
 use Rattle.fr_route.specs.WayPushes.{AreWayPushesRefused, IsPhasesText}
 
 -- a refusal is a reply
-refused_reply : (manner : AnswerForm) (s : Option State) (asked : Result PlainRequest LineFault) (told : Told) (a : Answer) (next : Option State) (more : Told)
+refused_reply : (manner : AnswerForm) (s : Option State) (asked : Result PlainRequest LineFault) (told : ChangedNodes) (a : Answer) (next : Option State) (more : ChangedNodes)
     → Refuses manner s asked told a next more → IsReply manner s asked told a next more
 refused_reply manner s (Ok r) told a next more is = inl is
 refused_reply manner s (Err fault) told a next more is = is
 
-module _ (never : Type 0) (manner : AnswerForm) (s : Option State) (asked : Result PlainRequest LineFault) (told : Told) where
+module _ (never : Type 0) (manner : AnswerForm) (s : Option State) (asked : Result PlainRequest LineFault) (told : ChangedNodes) where
   -- missing memory changes nothing
-  pub no_memory : (fault : AnswerFault) (next : Option State) (more : Told) → fault ≡ Memory → next ≡ s → nodes_told more ≡ nodes_told told
+  pub no_memory : (fault : AnswerFault) (next : Option State) (more : ChangedNodes) → fault ≡ Memory → next ≡ s → nodes_told more ≡ nodes_told told
       → IsReplied never manner s asked told (Err fault) next more
   no_memory fault next more memory n t = record { reply = tt; unchanged = (n, t); start = λ e. absurd cc; no_start = λ h e. absurd cc }
 
   -- so does a refusal
-  pub refusing : (refusal : PlainRefusal) (answer : Result Answer AnswerFault) (next : Option State) (more : Told)
+  pub refusing : (refusal : PlainRefusal) (answer : Result Answer AnswerFault) (next : Option State) (more : ChangedNodes)
       → IsLineRefusal s asked refusal → next ≡ s → nodes_told more ≡ nodes_told told → IfOk answer (RefusesBy manner refusal)
       → IfErr answer (λ fault. fault ≡ Memory) → IsReplied never manner s asked told answer next more
   refusing refusal (Ok a) next more why n t by memory = record {
@@ -73,7 +73,7 @@ module _ (never : Type 0) (manner : AnswerForm) (s : Option State) (asked : Resu
   refusing refusal (Err fault) next more why n t by memory = no_memory fault next more memory n t
 
   -- the refusal for a fault
-  pub faulty : (fault : RouteFault) (named : List ℕ) (place : Option ℕ) (answer : Result Answer AnswerFault) (next : Option State) (more : Told)
+  pub faulty : (fault : RouteFault) (named : List ℕ) (place : Option ℕ) (answer : Result Answer AnswerFault) (next : Option State) (more : ChangedNodes)
       → ((refusal : PlainRefusal) → IsRefusalOf fault named place refusal → IsLineRefusal s asked refusal)
       → (fault ≡ route.Start → MayStartForLine s asked) → (never → fault ≢ route.Start) → next ≡ s → nodes_told more ≡ nodes_told told
       → IfOk answer (λ a. (refusal : PlainRefusal) × IsRefusalOf fault named place refusal × RefusesBy manner refusal a)
@@ -88,8 +88,8 @@ module _ (never : Type 0) (manner : AnswerForm) (s : Option State) (asked : Resu
       record { reply = tt; unchanged = (n, t); start = λ e. may (why.0 e); no_start = λ h e. starts h (why.0 e) }
 
 -- the answer to an accepted request that begins a round
-pub done : (never : Type 0) (manner : AnswerForm) (s : Option State) (request : PlainRequest) (told : Told) (new : State)
-    (answer : Answer) (next : Option State) (more : Told) → IsAccepted s request new
+pub done : (never : Type 0) (manner : AnswerForm) (s : Option State) (request : PlainRequest) (told : ChangedNodes) (new : State)
+    (answer : Answer) (next : Option State) (more : ChangedNodes) → IsAccepted s request new
     → (HasList manner.form told → IsTextIn manner.form s request new (string_bytes answer.text)) → answer.refused ≡ false
     → next ≡ Some new → (IsListing told → TellsOf s request new (nodes_told told) (nodes_told more))
     → (manner.form ≡ Text → length (string_bytes answer.text) ≤ longest_report)
@@ -110,8 +110,8 @@ done never manner s request told new answer next more accepted text by n tells s
 }
 
 -- the answer to edits that are made
-pub revised : (never : Type 0) (manner : AnswerForm) (s : State) (request : PlainRequest) (revision : Revision) (told : Told) (text : String Global)
-    (a : Answer) (new : State) (more : Told) → (a.text ≡ text) × (a.refused ≡ false)
+pub revised : (never : Type 0) (manner : AnswerForm) (s : State) (request : PlainRequest) (revision : Revision) (told : ChangedNodes) (text : String Global)
+    (a : Answer) (new : State) (more : ChangedNodes) → (a.text ≡ text) × (a.refused ≡ false)
     → IsRevised never manner.form s revision told (Ok tt) text new more
     → (IsEdited s revision.edits.now revision.dest new → IsAccepted (Some s) request new)
     → ((bytes : List ℕ) → IsReportIn manner.form (AreRerouted s new) (Some s) new bytes → IsTextIn manner.form (Some s) request new bytes)
@@ -125,7 +125,7 @@ revised never manner s request revision told text a new more is made accepted te
     (λ e. subst (λ (bytes : List ℕ). length bytes ≤ longest_report) same (made.short e))
 
 -- a request that needs a network is refused while there is none
-pub none_yet : (never : Type 0) (manner : AnswerForm) (s : Option State) (request : PlainRequest) (told : Told) (answer : Result Answer AnswerFault) (next : Option State)
+pub none_yet : (never : Type 0) (manner : AnswerForm) (s : Option State) (request : PlainRequest) (told : ChangedNodes) (answer : Result Answer AnswerFault) (next : Option State)
     → s ≡ None → next ≡ None → IsRefusal None request (bare_refusal 3) → IfOk answer (RefusesBy manner (bare_refusal 3))
     → IfErr answer (λ fault. fault ≡ Memory) → IsReplied never manner s (Ok request) told answer next told
 none_yet never manner s request told answer next here n refused by memory =
@@ -133,7 +133,7 @@ none_yet never manner s request told answer next here n refused by memory =
     (subst (λ (z : Option State). IsRefusal z request (bare_refusal 3)) (sym here) refused) (n ∙ sym here) refl by memory
 
 -- what changes nothing leaves the list unchanged
-pub still : (never : Type 0) (manner : AnswerForm) (s : Option State) (request : PlainRequest) (told : Told) (answer : Result Answer AnswerFault)
+pub still : (never : Type 0) (manner : AnswerForm) (s : Option State) (request : PlainRequest) (told : ChangedNodes) (answer : Result Answer AnswerFault)
     → ((new : State) → IsAccepted s request new → s ≡ Some new → TellsOf s request new (nodes_told told) (nodes_told told))
     → IfOk answer (IsStillReply manner s request) → IfErr answer (λ fault. fault ≡ Memory)
     → IsReplied never manner s (Ok request) told answer s told
@@ -385,7 +385,7 @@ is_true b e = search rules
 not_true : (b : Bool) → b ≡ false → ¬ IsTrue b
 not_true b e t = search rules
 
-module _ (number : ℕ) (s : Option State) (told : Told) (a : Answer) (next : Option State) (more : Told) where
+module _ (number : ℕ) (s : Option State) (told : ChangedNodes) (a : Answer) (next : Option State) (more : ChangedNodes) where
   -- the answer in a form
   pub answer_in : (form : Form) (asked : Result PlainRequest LineFault) → HasList form told
       → IsReply (record { form = form; number = number }) s asked told a next more → IsAnswerIn form number s asked (string_bytes a.text) next
@@ -435,23 +435,23 @@ module _ (number : ℕ) (s : Option State) (told : Told) (a : Answer) (next : Op
   short_is (Ok r) (inr (inr h)) = inl (h.same, h.untold)
   short_is (Err fault) h = inl (h.same, h.untold)
 
-pub no_list : (told : Told) → HasList Text told
+pub no_list : (told : ChangedNodes) → HasList Text told
 no_list told = record { list = λ other. absurd (other refl); notes = λ e. absurd cc }
 
-pub list_alone : (told : Told) → IsListing told → HasList Json told
+pub list_alone : (told : ChangedNodes) → IsListing told → HasList Json told
 list_alone told listing = record { list = λ other. listing; notes = λ e. absurd cc }
 
 -- notes are beside a list
-asked_listing : (told : Told) → AsksWays told → IsListing told
+asked_listing : (told : ChangedNodes) → AsksWays told → IsListing told
 asked_listing Nobody (notes, is) = absurd cc
 asked_listing (Nodes list notes) asks = tt
 
-pub list_with_notes : (told : Told) → AsksWays told → HasList JsonWithWays told
+pub list_with_notes : (told : ChangedNodes) → AsksWays told → HasList JsonWithWays told
 list_with_notes told asks = record { list = λ other. asked_listing told asks; notes = λ e. asks }
 
 -- the answers in text
 module _ (never : Type 0) (number : ℕ) (s : Option State) where
-  pub text_answered : (asked : Result PlainRequest LineFault) (told : Told) (a : Answer) (next : Option State) (more : Told)
+  pub text_answered : (asked : Result PlainRequest LineFault) (told : ChangedNodes) (a : Answer) (next : Option State) (more : ChangedNodes)
       → IsReply (record { form = Text; number = number }) s asked told a next more → IsAnswered never s asked told (Ok a.text) next more
   text_answered asked told a next more is = record {
     text = answer_in number s told a next more Text asked (no_list told) is;
@@ -462,7 +462,7 @@ module _ (never : Type 0) (number : ℕ) (s : Option State) where
     no_start = λ h. tt;
   }
 
-  pub text_line_answered : (line : List ℕ) (told : Told) (a : Answer) (next : Option State) (more : Told) → is_blank line ≡ false
+  pub text_line_answered : (line : List ℕ) (told : ChangedNodes) (a : Answer) (next : Option State) (more : ChangedNodes) → is_blank line ≡ false
       → IsReply (record { form = Text; number = number }) s (reading line) told a next more → IsLineAnswered never s line told (Ok (Some a.text)) next more
   text_line_answered line told a next more asks is = record {
     blank = tt;
@@ -475,8 +475,8 @@ module _ (never : Type 0) (number : ℕ) (s : Option State) where
   }
 
 -- the answer to a line in a form
-pub line_in : (never : Type 0) (form : Form) (number : ℕ) (s : Option State) (line : List ℕ) (told : Told) (answer : Result (Option Answer) AnswerFault)
-    (next : Option State) (more : Told) → HasList form told → IsLineReplied never (record { form = form; number = number }) s line told answer next more
+pub line_in : (never : Type 0) (form : Form) (number : ℕ) (s : Option State) (line : List ℕ) (told : ChangedNodes) (answer : Result (Option Answer) AnswerFault)
+    (next : Option State) (more : ChangedNodes) → HasList form told → IsLineReplied never (record { form = form; number = number }) s line told answer next more
     → IsLineAnsweredIn never form number s line answer next
 line_in never form number s line told (Ok None) next more list is =
     record { blank = (is.blank.0, is.blank.1); text = tt; refused = tt; unchanged = tt; start = tt; no_start = λ h. tt }

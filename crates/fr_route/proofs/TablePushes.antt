@@ -6,7 +6,7 @@ use Rattle.std.proofs.lemmas.List.{length-replicate}
 use Rattle.std.proofs.lemmas.Option.{slice_get_within}
 use Rattle.fr_core.proofs.Searching.{cases_below}
 use Rattle.fr_graph.specs.Limits.{most_nodes}
-use Rattle.fr_lines.specs.Requests.{PlainRequest, add_link, ask, ask_node, cut_link, join_nodes, make_edits, move_dest, new_network, order_pushes, push_ways, walk_from}
+use Rattle.fr_requests.specs.Requests.{PlainRequest, add_link, ask, ask_node, cut_link, join_nodes, make_edits, move_dest, new_network, order_pushes, push_ways, walk_from}
 use Rattle.fr_route.specs.Pushing.{AreAsked, AreTablePushes, IsFaultFrom, IsPushesRefused, IsTablesFault, LeadFrom, LeadTo, changes_of, padded}
 use Rattle.fr_route.specs.Routes.{AreHops}
 use Rattle.fr_route.specs.States.{State}

@@ -13,10 +13,10 @@ use Rattle.fr_route.specs.declared.change.Report.{Report}
 use Rattle.fr_route.specs.declared.fault.NotMade.{NotMade}
 use Rattle.fr_route.specs.declared.fault.RouteFault.{RouteFault}
 use Rattle.fr_route.specs.declared.fault.RouteFault.TheVariants.{Memory, Net, Range, Start}
-use Rattle.fr_route.specs.declared.told.Told.{Told}
+use Rattle.fr_route.specs.declared.changed_nodes.ChangedNodes.{ChangedNodes}
 
-tried_as : (never : Type 0) (trial other : Trial) (s : State) (told : Told)
-    (answer : Result Report NotMade) (next : State) (more : Told)
+tried_as : (never : Type 0) (trial other : Trial) (s : State) (told : ChangedNodes)
+    (answer : Result Report NotMade) (next : State) (more : ChangedNodes)
     → ((new : State) → trial.Made new → other.Made new) → ((why : NotMade) → trial.Undone why → other.Undone why)
     → IsTried never trial s told answer next more → IsTried never other s told answer next more
 tried_as never trial other s told (Ok it) next more made undone is = record {
@@ -45,8 +45,8 @@ tried_as never trial other s told (Err why) next more made undone is = record {
 }
 
 -- one edit, with the same destination
-pub edit_as : (never : Type 0) (edit : Edit) (d : ℕ) (other : Trial) (s : State) (told : Told)
-    (answer : Result Report NotMade) (next : State) (more : Told)
+pub edit_as : (never : Type 0) (edit : Edit) (d : ℕ) (other : Trial) (s : State) (told : ChangedNodes)
+    (answer : Result Report NotMade) (next : State) (more : ChangedNodes)
     → ((new : State) → IsEdited s (edit ∷ []) s.dest new → other.Made new)
     → ((why : NotMade) → IsPlaced s (edit ∷ []) s.dest why → other.Undone why)
     → d ≡ s.dest → IsTried never (edit_of s edit d) s told answer next more → IsTried never other s told answer next more
@@ -55,8 +55,8 @@ edit_as never edit d other s told answer next more made undone here is =
     (subst (λ (at : ℕ). IsTried never (edit_of s edit at) s told answer next more) here is)
 
 -- a batch of edits, with the same destination
-pub batch_as : (never : Type 0) (batch : Vec Edit Global) (edits : List Edit) (d : ℕ) (s : State) (told : Told)
-    (answer : Result Report NotMade) (next : State) (more : Told) → edits ≡ batch.items → d ≡ s.dest
+pub batch_as : (never : Type 0) (batch : Vec Edit Global) (edits : List Edit) (d : ℕ) (s : State) (told : ChangedNodes)
+    (answer : Result Report NotMade) (next : State) (more : ChangedNodes) → edits ≡ batch.items → d ≡ s.dest
     → IsTried never (edits_of s edits d) s told answer next more
     → IsTried never (change_of s (Batch batch)) s told answer next more
 batch_as never batch edits d s told answer next more same here is =

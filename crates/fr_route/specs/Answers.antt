@@ -6,12 +6,12 @@ use Rattle.fr_graph.specs.Batches.{IsBatchFault, IsEditFault}
 use Rattle.fr_graph.specs.Faults.{IsFirstFault, IsFaultless, IsNetworkOf}
 use Rattle.fr_graph.specs.Limits.{most_nodes}
 use Rattle.fr_graph.specs.Network.{Network}
-use Rattle.fr_lines.specs.Requests.{PlainRequest, new_network, cut_link, add_link, join_nodes}
-use Rattle.fr_lines.specs.Requests.{make_edits, move_dest, walk_from, ask, ask_node, order_pushes, push_ways, reading}
-use Rattle.fr_lines.specs.declared.requests.Question.TheVariants.{Links, Counts, Hops, Ways}
-use Rattle.fr_lines.specs.declared.requests.NodeQuestion.TheVariants as node
-use Rattle.fr_lines.specs.declared.requests.LineFault.{LineFault}
-use Rattle.fr_lines.specs.declared.requests.LineFault.TheVariants.{NotJson, NotRequest, Memory as LineMemory}
+use Rattle.fr_requests.specs.Requests.{PlainRequest, new_network, cut_link, add_link, join_nodes}
+use Rattle.fr_requests.specs.Requests.{make_edits, move_dest, walk_from, ask, ask_node, order_pushes, push_ways, reading}
+use Rattle.fr_requests.specs.declared.requests.Question.TheVariants.{Links, Counts, Hops, Ways}
+use Rattle.fr_requests.specs.declared.requests.NodeQuestion.TheVariants as node
+use Rattle.fr_requests.specs.declared.requests.LineFault.{LineFault}
+use Rattle.fr_requests.specs.declared.requests.LineFault.TheVariants.{NotJson, NotRequest, Memory as LineMemory}
 use Rattle.fr_graph.specs.declared.edit.Edit.TheVariants as edit
 use Rattle.fr_graph.specs.declared.fault.EditFault.{EditFault}
 use Rattle.fr_graph.specs.declared.fault.NetFault.{NetFault}

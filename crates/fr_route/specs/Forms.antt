@@ -1,8 +1,8 @@
 -- The answer to a line, in each form, and which lines are refused. This project's own.
 use Rattle.std.specs.Prelude.{ℕ, List, Option, Result, Ok, Err}
-use Rattle.fr_lines.specs.Requests.{PlainRequest}
-use Rattle.fr_lines.specs.declared.requests.LineFault.{LineFault}
-use Rattle.fr_lines.specs.declared.requests.LineFault.TheVariants.{NotJson, NotRequest, Memory}
+use Rattle.fr_requests.specs.Requests.{PlainRequest}
+use Rattle.fr_requests.specs.declared.requests.LineFault.{LineFault}
+use Rattle.fr_requests.specs.declared.requests.LineFault.TheVariants.{NotJson, NotRequest, Memory}
 use Rattle.fr_route.specs.Answers.{IsLineAnswer, IsRefused}
 use Rattle.fr_route.specs.Json.{EndsHere, EndsWithWays, IsJsonLineAnswer}
 use Rattle.fr_route.specs.States.{State}

@@ -3,8 +3,8 @@
 use Rattle.std.specs.Prelude.{◌≡◌, ℕ, ◌<◌, ◌↔◌, ◌++◌, List, ◌∷◌, Some, Contains, Option, Result, nat_eq}
 use Rattle.std.specs.List.{IsDistinct}
 use Rattle.fr_graph.specs.Links.{IsAcyclic, IsNet, IsPath, end_of}
-use Rattle.fr_lines.specs.Requests.{PlainRequest}
-use Rattle.fr_lines.specs.declared.requests.LineFault.{LineFault}
+use Rattle.fr_requests.specs.Requests.{PlainRequest}
+use Rattle.fr_requests.specs.declared.requests.LineFault.{LineFault}
 use Rattle.fr_core.specs.Walks.{IsConnected}
 use Rattle.fr_route.specs.States.{State, IsAfterRound, IsRound, IsReport}
 use Rattle.fr_route.specs.Reroutes.{ArePushes, AreReplaced, AreRerouted, IsRerouted}

@@ -18,7 +18,7 @@ pub mod Separated
 pub mod Texts
 pub mod Pushing
 pub mod Answers
-pub mod Told
+pub mod Telling
 pub mod Rerouting
 pub mod Json
 pub mod Listed

@@ -25,7 +25,7 @@ use Rattle.fr_route.specs.declared.hops.AfterRound.{AfterRound}
 use Rattle.fr_route.specs.declared.movable.Movable.{Movable}
 use Rattle.fr_route.specs.declared.movable.Movable.TheVariants.{Few, Many}
 use Rattle.fr_route.specs.declared.outcome.Outcome.{Outcome}
-use Rattle.fr_route.specs.declared.told.Told.{Told}
+use Rattle.fr_route.specs.declared.changed_nodes.ChangedNodes.{ChangedNodes}
 
 -- the state after a round with these counts on the network
 abbrev pub settled_state : Network → ℕ → List ℕ → State
@@ -98,7 +98,7 @@ pub record AreNoted (s : State) (before hops : List Hop) (nodes : List ℕ) : Ty
 
 -- while hops are updated, the list continues to note where they differ from any table `before`, if it has room for each
 -- node
-pub record NotesMore (s : State) (old : List Hop) (told : Told) (new : List Hop) (more : Told) : Type 0 where
+pub record NotesMore (s : State) (old : List Hop) (told : ChangedNodes) (new : List Hop) (more : ChangedNodes) : Type 0 where
   pub keeps : KeepsPlaces told more
   pub noted : HasPlaces (length old) told → (before : List Hop) → AreNoted s before old (nodes_told told)
       → AreNoted s before new (nodes_told more)
@@ -110,7 +110,7 @@ pub record AreOthers (old new : List Hop) (nodes : List ℕ) : Type 0 where
   pub just : (x : ℕ) → Contains nodes x ↔ DifferAt old new x
 
 -- the list has exactly the nodes at which the hops differ, if it has room for each node
-pub record ListsOthers (old new : List Hop) (told more : Told) : Type 0 where
+pub record ListsOthers (old new : List Hop) (told more : ChangedNodes) : Type 0 where
   pub keeps : KeepsPlaces told more
   pub others : HasPlaces (length old) told → AreOthers old new (nodes_told more)
 

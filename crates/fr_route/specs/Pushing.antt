@@ -3,7 +3,7 @@
 use Rattle.std.specs.Prelude.{◌≡◌, ℕ, ◌<◌, ◌≤◌, ◌-◌, ◌⊎◌, List, [], ◌∷◌, ◌++◌, length, map, max, replicate}
 use Rattle.std.specs.Prelude.{slice_get, slice_index, Option, Some, None}
 use Rattle.fr_graph.specs.Limits.{most_nodes}
-use Rattle.fr_lines.specs.Requests.{PlainRequest, order_pushes}
+use Rattle.fr_requests.specs.Requests.{PlainRequest, order_pushes}
 use Rattle.fr_route.specs.Routes.{AreHops}
 use Rattle.fr_route.specs.States.{State}
 use Rattle.fr_tables.specs.Faults.{IsLowestLoop, IsOrdered}

@@ -2,7 +2,7 @@
 -- the refusals for the faults of a router.
 use Rattle.std.specs.Prelude.{◌≡◌, ◌≤◌, ℕ, List, Option}
 use Rattle.fr_graph.specs.Faults.{IsFaultless, IsFirstFault}
-use Rattle.fr_lines.specs.Requests.{PlainRequest, cut_link, add_link, join_nodes, make_edits, move_dest}
+use Rattle.fr_requests.specs.Requests.{PlainRequest, cut_link, add_link, join_nodes, make_edits, move_dest}
 use Rattle.fr_route.specs.Answers.{MayStartNew}
 use Rattle.fr_graph.specs.Evidence.{NamesFirst}
 use Rattle.fr_route.specs.Json.{PlainRefusal, refusal_for}

@@ -2,9 +2,9 @@
 use Rattle.std.specs.Prelude.{◌≡◌, ◌≢◌, ℕ, ◌≤◌, ◌⊎◌, ◌↔◌, IsTrue, true, false, length, List, Option, None, Some}
 use Rattle.std.specs.Prelude.{Result, Ok, Err, String, IfOk, IfErr, IfSome, IfNone, OnErr, string_bytes}
 use Rattle.std.specs.declared.alloc.Global.{Global}
-use Rattle.fr_lines.specs.Requests.{PlainRequest, reading, cut_link, add_link, join_nodes}
-use Rattle.fr_lines.specs.declared.requests.LineFault.{LineFault}
-use Rattle.fr_lines.specs.declared.requests.LineFault.TheVariants.{NotJson, NotRequest, Memory}
+use Rattle.fr_requests.specs.Requests.{PlainRequest, reading, cut_link, add_link, join_nodes}
+use Rattle.fr_requests.specs.declared.requests.LineFault.{LineFault}
+use Rattle.fr_requests.specs.declared.requests.LineFault.TheVariants.{NotJson, NotRequest, Memory}
 use Rattle.fr_graph.specs.declared.edit.Edit.{Edit}
 use Rattle.fr_graph.specs.declared.edit.Edit.TheVariants.{Cut, Add, Join}
 use Rattle.fr_route.specs.Answers.{IsAccepted, IsReportLine, IsText, MayStartForLine}
@@ -19,7 +19,7 @@ use Rattle.fr_route.specs.Pushing.{AreAsked, IsFaultFrom, LeadFrom}
 use Rattle.fr_route.specs.Reroutes.{AreRerouted}
 use Rattle.fr_route.specs.States.{State}
 use Rattle.fr_route.specs.Texts.{longest_report, pushes_text, refusal_text}
-use Rattle.fr_route.specs.Told.{TellsOf}
+use Rattle.fr_route.specs.Telling.{TellsOf}
 use Rattle.fr_route.specs.declared.fault.AnswerFault.{AnswerFault}
 use Rattle.fr_route.specs.declared.fault.AnswerFault.TheVariants.{Start}
 use Rattle.fr_route.specs.declared.fault.NotMade.{NotMade}
@@ -29,7 +29,7 @@ use Rattle.fr_route.specs.declared.form.Draft.{Draft}
 use Rattle.fr_route.specs.declared.form.Form.{Form}
 use Rattle.fr_route.specs.declared.form.Form.TheVariants.{Text, Json, JsonWithWays}
 use Rattle.fr_route.specs.declared.revision.Revision.{Revision}
-use Rattle.fr_route.specs.declared.told.Told.{Told}
+use Rattle.fr_route.specs.declared.changed_nodes.ChangedNodes.{ChangedNodes}
 use Rattle.fr_tables.specs.declared.hop.Hop.{Hop}
 
 -- how a line is answered: in which form, and as which line of its input
@@ -41,7 +41,7 @@ abbrev pub answer_form : Draft → AnswerForm
 answer_form draft = record { form = draft.form; number = draft.number }
 
 -- the list that JSON needs is there, and the notes that JSON with ways needs
-pub record HasList (form : Form) (told : Told) : Type 0 where
+pub record HasList (form : Form) (told : ChangedNodes) : Type 0 where
   pub list : form ≢ Text → IsListing told
   pub notes : form ≡ JsonWithWays → AsksWays told
 
@@ -88,8 +88,8 @@ IsLineRefusal s (Err NotRequest) refusal = refusal ≡ bare_refusal 2
 IsLineRefusal s (Err Memory) refusal = ⊥
 
 -- the answer refuses what was read, and nothing changes
-pub record Refuses (manner : AnswerForm) (s : Option State) (asked : Result PlainRequest LineFault) (told : Told)
-    (answer : Answer) (next : Option State) (more : Told) : Type 0 where
+pub record Refuses (manner : AnswerForm) (s : Option State) (asked : Result PlainRequest LineFault) (told : ChangedNodes)
+    (answer : Answer) (next : Option State) (more : ChangedNodes) : Type 0 where
   pub refusal : PlainRefusal
   pub why : IsLineRefusal s asked refusal
   pub by : RefusesBy manner refusal answer
@@ -97,8 +97,8 @@ pub record Refuses (manner : AnswerForm) (s : Option State) (asked : Result Plai
   pub untold : nodes_told more ≡ nodes_told told
 
 -- the answer is that to an accepted request
-pub record Accepts (manner : AnswerForm) (s : Option State) (request : PlainRequest) (told : Told) (answer : Answer)
-    (next : Option State) (more : Told) : Type 0 where
+pub record Accepts (manner : AnswerForm) (s : Option State) (request : PlainRequest) (told : ChangedNodes) (answer : Answer)
+    (next : Option State) (more : ChangedNodes) : Type 0 where
   pub new : State
   pub accepted : IsAccepted s request new
   pub text : HasList manner.form told → IsTextIn manner.form s request new (string_bytes answer.text)
@@ -109,8 +109,8 @@ pub record Accepts (manner : AnswerForm) (s : Option State) (request : PlainRequ
       → ((next ≡ s) × (nodes_told more ≡ nodes_told told)) ⊎ (length (string_bytes answer.text) ≤ longest_report)
 
 -- the answer is that to a request for pushes between tables, and nothing changes
-pub record Orders (manner : AnswerForm) (s : Option State) (request : PlainRequest) (told : Told) (answer : Answer)
-    (next : Option State) (more : Told) : Type 0 where
+pub record Orders (manner : AnswerForm) (s : Option State) (request : PlainRequest) (told : ChangedNodes) (answer : Answer)
+    (next : Option State) (more : ChangedNodes) : Type 0 where
   pub pushes : List (ℕ × Hop)
   pub asked : AreAsked s request pushes
   pub text : string_bytes answer.text ≡ pushes_in manner.form pushes
@@ -118,7 +118,7 @@ pub record Orders (manner : AnswerForm) (s : Option State) (request : PlainReque
   pub same : next ≡ s
   pub untold : nodes_told more ≡ nodes_told told
 
-abbrev pub IsReply : AnswerForm → Option State → Result PlainRequest LineFault → Told → Answer → Option State → Told
+abbrev pub IsReply : AnswerForm → Option State → Result PlainRequest LineFault → ChangedNodes → Answer → Option State → ChangedNodes
     → Type 0
 IsReply manner s (Ok request) told answer next more = Refuses manner s (Ok request) told answer next more
     ⊎ (Accepts manner s request told answer next more ⊎ Orders manner s request told answer next more)
@@ -144,15 +144,15 @@ IsFromReply manner table hops answer =
 -- The answer to what was read of a line, the state after it, and the list of rerouted nodes. With `never`, the way to
 -- settle starts no thread.
 pub record IsReplied (never : Type 0) (manner : AnswerForm) (s : Option State) (asked : Result PlainRequest LineFault)
-    (told : Told) (answer : Result Answer AnswerFault) (next : Option State) (more : Told) : Type 0 where
+    (told : ChangedNodes) (answer : Result Answer AnswerFault) (next : Option State) (more : ChangedNodes) : Type 0 where
   pub reply : IfOk answer (λ a. IsReply manner s asked told a next more)
   pub unchanged : OnErr answer ((next ≡ s) × (nodes_told more ≡ nodes_told told))
   pub start : IfErr answer (λ fault. fault ≡ Start → MayStartForLine s asked)
   pub no_start : never → IfErr answer (λ fault. fault ≢ Start)
 
 -- the same for a line. A blank line has no answer and changes nothing
-pub record IsLineReplied (never : Type 0) (manner : AnswerForm) (s : Option State) (line : List ℕ) (told : Told)
-    (answer : Result (Option Answer) AnswerFault) (next : Option State) (more : Told) : Type 0 where
+pub record IsLineReplied (never : Type 0) (manner : AnswerForm) (s : Option State) (line : List ℕ) (told : ChangedNodes)
+    (answer : Result (Option Answer) AnswerFault) (next : Option State) (more : ChangedNodes) : Type 0 where
   pub blank : IfOk answer (λ a. IfNone a ((is_blank line ≡ true) × (next ≡ s) × (nodes_told more ≡ nodes_told told)))
   pub reply : IfOk answer
       (λ a. IfSome a (λ it. (is_blank line ≡ false) × IsReply manner s (reading line) told it next more))
@@ -173,8 +173,8 @@ pub record IsLineAnsweredIn (never : Type 0) (form : Form) (number : ℕ) (s : O
   pub no_start : never → IfErr answer (λ fault. fault ≢ Start)
 
 -- edits, and the report of the round after them, which becomes this text
-pub record IsRevised (never : Type 0) (form : Form) (s : State) (revision : Revision) (told : Told)
-    (answer : Result (Unit {0}) NotMade) (text : String Global) (next : State) (more : Told) : Type 0 where
+pub record IsRevised (never : Type 0) (form : Form) (s : State) (revision : Revision) (told : ChangedNodes)
+    (answer : Result (Unit {0}) NotMade) (text : String Global) (next : State) (more : ChangedNodes) : Type 0 where
   pub made : IfOk answer (λ _. IsEdited s revision.edits.now revision.dest next)
   pub report : HasList form told
       → IfOk answer (λ _. IsReportIn form (AreRerouted s next) (Some s) next (string_bytes text))

@@ -14,7 +14,7 @@ use Rattle.fr_route.specs.declared.fault.RouteFault.{RouteFault}
 use Rattle.fr_route.specs.declared.fault.RouteFault.TheVariants.{Start, Memory}
 use Rattle.fr_route.specs.declared.fault.NotMade.{NotMade}
 use Rattle.fr_route.specs.declared.revision.Revision.{Revision}
-use Rattle.fr_route.specs.declared.told.Told.{Told}
+use Rattle.fr_route.specs.declared.changed_nodes.ChangedNodes.{ChangedNodes}
 
 -- what is attempted in a state: the states that it can lead to, and why it can fail
 pub record Trial : Type 1 where
@@ -48,8 +48,8 @@ without_place (Err undone) = Err undone.fault
 -- The attempt succeeded, and the answer is the report; or it failed, and nothing has changed. With `never`, the way to
 -- settle starts no thread. If there is a list, it has the rerouted nodes, and if there are notes, they have the pushes of
 -- both phases.
-pub record IsTried (never : Type 0) (trial : Trial) (s : State) (told : Told) (answer : Result Report NotMade)
-    (next : State) (more : Told) : Type 0 where
+pub record IsTried (never : Type 0) (trial : Trial) (s : State) (told : ChangedNodes) (answer : Result Report NotMade)
+    (next : State) (more : ChangedNodes) : Type 0 where
   pub made : IfOk answer (λ _. trial.Made next)
   pub report : IfOk answer (λ report. IsReport next report.turned report.cut)
   pub rerouted : IfOk answer (λ _. IsListing told → AreRerouted s next (nodes_told more))

@@ -8,7 +8,7 @@ ghost use Rattle.fr_route.specs.Outcomes.{AreRenewed, HoldsMoved, IsStale, Notes
 ghost use Rattle.fr_route.specs.States.{IsAfterRound};
 ghost use Rattle.fr_tables.specs.declared.hop.Hop.TheVariants.{CutOff};
 
-use crate::told::Told;
+use crate::changed_nodes::ChangedNodes;
 use fr_graph::{First, Net, Turns};
 use fr_tables::Hop;
 use std::alloc::{AllocError, Global};
@@ -77,7 +77,12 @@ pub(crate) fn hop_table(alloc: Global, round: &AfterRound<'_>) -> Result<Vec<Hop
 /// Updates the hops of the moved nodes, and the hops that turns have made stale. All other hops stay right. Each node
 /// whose hop changes is noted once, if the caller asks for the rerouted nodes. The same holds for the functions that
 /// this one calls.
-pub(crate) fn renew_hops(hops: &mut [Hop], round: &AfterRound<'_>, moved: &[u32], told: &mut Told)
+pub(crate) fn renew_hops(
+    hops: &mut [Hop],
+    round: &AfterRound<'_>,
+    moved: &[u32],
+    told: &mut ChangedNodes,
+)
     requires round { IsAfterRound (state_after round.now) }
     requires one_each { length hops.old ≡ round.now.net.now.nodes }
     requires moved { HoldsMoved (state_after round.now) hops.old moved.now }
@@ -90,7 +95,7 @@ pub(crate) fn renew_hops(hops: &mut [Hop], round: &AfterRound<'_>, moved: &[u32]
 
 /// Updates the hop of each node that has turned, and of each neighbour that sends on to such a node. The links of all
 /// other nodes have not changed.
-fn renew_turned(hops: &mut [Hop], round: &AfterRound<'_>, told: &mut Told)
+fn renew_turned(hops: &mut [Hop], round: &AfterRound<'_>, told: &mut ChangedNodes)
     requires round { IsAfterRound (state_after round.now) }
     requires one_each { length hops.old ≡ round.now.net.now.nodes }
     ensures renewed { AreRenewed (state_after round.now) hops.old hops.new
@@ -103,7 +108,7 @@ fn renew_turned(hops: &mut [Hop], round: &AfterRound<'_>, told: &mut Told)
 }
 
 /// Updates the hop of node `x`, and of each neighbour that sends on to it.
-fn renew_near(hops: &mut [Hop], round: &AfterRound<'_>, x: u32, told: &mut Told)
+fn renew_near(hops: &mut [Hop], round: &AfterRound<'_>, x: u32, told: &mut ChangedNodes)
     requires round { IsAfterRound (state_after round.now) }
     requires one_each { length hops.old ≡ round.now.net.now.nodes }
     requires node { x < round.now.net.now.nodes }
@@ -121,7 +126,7 @@ fn renew_near(hops: &mut [Hop], round: &AfterRound<'_>, x: u32, told: &mut Told)
 }
 
 /// Updates the hop of node `w`, if it sends on to node `x`.
-fn renew_sender(hops: &mut [Hop], round: &AfterRound<'_>, w: u32, x: u32, told: &mut Told)
+fn renew_sender(hops: &mut [Hop], round: &AfterRound<'_>, w: u32, x: u32, told: &mut ChangedNodes)
     requires round { IsAfterRound (state_after round.now) }
     requires one_each { length hops.old ≡ round.now.net.now.nodes }
     requires node { w < round.now.net.now.nodes }
@@ -134,7 +139,7 @@ fn renew_sender(hops: &mut [Hop], round: &AfterRound<'_>, w: u32, x: u32, told: 
 }
 
 /// Updates the hops of these nodes.
-fn renew_some(hops: &mut [Hop], round: &AfterRound<'_>, moved: &[u32], told: &mut Told)
+fn renew_some(hops: &mut [Hop], round: &AfterRound<'_>, moved: &[u32], told: &mut ChangedNodes)
     requires round { IsAfterRound (state_after round.now) }
     requires one_each { length hops.old ≡ round.now.net.now.nodes }
     requires nodes { All (λ (x : ℕ). x < round.now.net.now.nodes) moved.now }
@@ -147,7 +152,7 @@ fn renew_some(hops: &mut [Hop], round: &AfterRound<'_>, moved: &[u32], told: &mu
 }
 
 /// Updates the hop of node `x`, and notes the node if the hop changes.
-fn renew_one(hops: &mut [Hop], round: &AfterRound<'_>, x: u32, told: &mut Told)
+fn renew_one(hops: &mut [Hop], round: &AfterRound<'_>, x: u32, told: &mut ChangedNodes)
     requires round { IsAfterRound (state_after round.now) }
     requires one_each { length hops.old ≡ round.now.net.now.nodes }
     requires node { x < round.now.net.now.nodes }

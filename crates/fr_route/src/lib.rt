@@ -20,6 +20,7 @@
 
 mod blank;
 mod change;
+mod changed_nodes;
 mod fault;
 mod form;
 mod hops;
@@ -41,9 +42,8 @@ mod router;
 mod session;
 mod settling;
 mod space;
-mod spare;
+mod spare_turns;
 mod texts;
-mod told;
 mod version;
 mod way_notes;
 

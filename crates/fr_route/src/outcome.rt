@@ -14,8 +14,8 @@ ghost use Rattle.fr_route.specs.Routes.{AreHops};
 ghost use Rattle.fr_route.specs.States.{IsReport};
 
 use crate::change::Report;
+use crate::changed_nodes::ChangedNodes;
 use crate::hops::{AfterRound, renew_hops};
-use crate::told::Told;
 use fr_core::can_turn;
 use fr_graph::{Edit, Net, Turns};
 use fr_tables::Hop;
@@ -93,7 +93,7 @@ pub(crate) fn put_in_place(
     hops: &mut [Hop],
     outcome: &Outcome,
     moved: &[u32],
-    told: &mut Told,
+    told: &mut ChangedNodes,
 )
     requires counted { IsCounted net.old.nodes outcome.now.dest net.old.links outcome.now.turns }
     requires one_each { length hops.old ≡ net.old.nodes }

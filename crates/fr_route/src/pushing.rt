@@ -2,7 +2,7 @@
 
 ghost use Rattle.std.specs.Prelude.{◌≡◌, ℕ, ◌<◌, ◌++◌, ◌∷◌, [], List, Option, None, Some};
 ghost use Rattle.std.specs.Prelude.{IfErr, IfOk, length, slice_index, string_bytes};
-ghost use Rattle.fr_lines.specs.Requests.{order_pushes};
+ghost use Rattle.fr_requests.specs.Requests.{order_pushes};
 ghost use Rattle.fr_route.specs.Pushing.{IsTablesFault, changes_of};
 ghost use Rattle.fr_route.specs.Replies.{answer_form, IsFromReply, IsStillReply, RefusesBy, pushes_in as text_of_pushes};
 ghost use Rattle.fr_route.specs.States.{State};

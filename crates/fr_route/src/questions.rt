@@ -1,9 +1,9 @@
 //! The answers to questions about a router, in each form. Both forms of JSON have the same.
 
 ghost use Rattle.std.specs.Prelude.{◌≡◌, ◌==◌, ℕ, ◌<◌, None, IfErr, IfOk, string_bytes};
-ghost use Rattle.fr_lines.specs.Requests.{ask, ask_node, push_ways, walk_from};
-ghost use Rattle.fr_lines.specs.declared.requests.NodeQuestion.TheVariants.{Nearest, Ways};
-ghost use Rattle.fr_lines.specs.declared.requests.Question.TheVariants.{Ways as WaysOfAll};
+ghost use Rattle.fr_requests.specs.Requests.{ask, ask_node, push_ways, walk_from};
+ghost use Rattle.fr_requests.specs.declared.requests.NodeQuestion.TheVariants.{Nearest, Ways};
+ghost use Rattle.fr_requests.specs.declared.requests.Question.TheVariants.{Ways as WaysOfAll};
 ghost use Rattle.fr_route.specs.Answers.{IsWalkLine};
 ghost use Rattle.fr_route.specs.Json.{IsJsonWalk};
 ghost use Rattle.fr_route.specs.NodeWays.{AreNodeWays, IsNearest};
@@ -24,7 +24,7 @@ use crate::texts::{
     begun, counts_in, hops_line, links_in, nearest_line, no_nearest_line, no_walk_line,
     node_ways_line, phases_line, push_number, ways_line,
 };
-use fr_lines::{NodeQuestion, Question};
+use fr_requests::{NodeQuestion, Question};
 use fr_tables::Hop;
 use fr_ways::{WayTable, known_phases};
 use itoa::Buffer;

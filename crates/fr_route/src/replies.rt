@@ -7,8 +7,8 @@ ghost use Rattle.std.specs.Prelude.{option_map};
 ghost use Rattle.std.specs.declared.alloc.Global.{Global};
 ghost use Rattle.std.specs.declared.vec.Vec.{Vec};
 ghost use Rattle.fr_tables.specs.declared.hop.Hop.{Hop};
-ghost use Rattle.fr_lines.specs.Requests.{ask, ask_node, make_edits, move_dest, new_network, order_pushes, push_ways};
-ghost use Rattle.fr_lines.specs.Requests.{plain, reading, walk_from};
+ghost use Rattle.fr_requests.specs.Requests.{ask, ask_node, make_edits, move_dest, new_network, order_pushes, push_ways};
+ghost use Rattle.fr_requests.specs.Requests.{plain, reading, walk_from};
 ghost use Rattle.fr_route.specs.Ways.{Settles, NeverStarts};
 ghost use Rattle.fr_route.specs.Answers.{IsAccepted};
 ghost use Rattle.fr_route.specs.Json.{ends};
@@ -24,6 +24,7 @@ ghost use Rattle.fr_route.specs.declared.fault.RouteFault.TheVariants.{Start as 
 ghost use Rattle.fr_route.specs.declared.form.Form.TheVariants.{JsonWithWays, Text};
 
 use crate::blank::is_blank;
+use crate::changed_nodes::ChangedNodes;
 use crate::fault::{AnswerFault, NotMade, RouteFault};
 use crate::form::{Answer, Draft, Form, Line, accepted};
 use crate::outcome::ends as ends_of;
@@ -37,10 +38,9 @@ use crate::router::Router;
 use crate::session::Session;
 use crate::settling::Settler;
 use crate::space::AnswerSpace;
-use crate::told::Told;
 use fr_crew::CrewFault;
 use fr_graph::{Edit, MAX_EDITS, MAX_NODES, Net, NetFault, Turns};
-use fr_lines::{LineFault, NodeQuestion, Question, Request, read_line};
+use fr_requests::{LineFault, NodeQuestion, Question, Request, read_line};
 use fr_tables::Hop;
 use fr_ways::WayTable;
 use std::alloc::Global;
@@ -53,7 +53,7 @@ impl Session {
         alloc: Global,
         draft: Draft,
         router: Router,
-        told: &mut Told,
+        told: &mut ChangedNodes,
     ) -> Result<String, AnswerFault>
         ensures report { HasList draft.form told.old
             → IfOk result (λ text. IsReportIn draft.form (AreReplaced self.old router) self.old router (string_bytes text)) }
@@ -194,15 +194,15 @@ fn replaced_nodes(
     alloc: Global,
     before: Option<&Router>,
     router: &Router,
-    told: &Told,
+    told: &ChangedNodes,
 ) -> Result<Vec<u32>, AnswerFault>
     ensures told { IsListing told.now
         → IfOk result (λ nodes. AreReplaced (option_copied before.entry) router.now nodes.items) }
     ensures memory { IfErr result (λ fault. fault ≡ Memory) }
 {
     match told {
-        Told::Nobody => Ok(Vec::new(alloc)),
-        Told::Nodes(_, _) => match router.changed_since(alloc, before) {
+        ChangedNodes::Unlisted => Ok(Vec::new(alloc)),
+        ChangedNodes::Listed(_, _) => match router.changed_since(alloc, before) {
             Ok(nodes) => Ok(nodes),
             Err(_) => Err(AnswerFault::Memory),
         },
@@ -224,11 +224,11 @@ fn ends_at(edits: &[Edit], at: usize) -> [u32; 2]
 
 impl<'a, F: Fn(&Net, u32, Option<&[u32]>, Turns) -> Result<Turns, CrewFault>> Settler<'a, F> {
     /// The answer to a line as text, or `None` for a blank one.
-    pub(crate) fn answer_line(
+    pub(crate) fn text_for_line(
         &self,
         session: &mut Session,
         line: &[u8],
-        told: &mut Told,
+        told: &mut ChangedNodes,
     ) -> Result<Option<String>, AnswerFault>
         requires { Settles F.pre F.post self.now.settle.now }
         ensures { IsLineAnswered
@@ -241,11 +241,11 @@ impl<'a, F: Fn(&Net, u32, Option<&[u32]>, Turns) -> Result<Turns, CrewFault>> Se
     }
 
     /// The answer to a request as text.
-    pub(crate) fn answer(
+    pub(crate) fn text_for_request(
         &self,
         session: &mut Session,
         request: &Request,
-        told: &mut Told,
+        told: &mut ChangedNodes,
     ) -> Result<String, AnswerFault>
         requires { Settles F.pre F.post self.now.settle.now }
         ensures { IsAnswered (NeverStarts F.post self.now.settle.now) session.old
@@ -275,7 +275,7 @@ impl<'a, F: Fn(&Net, u32, Option<&[u32]>, Turns) -> Result<Turns, CrewFault>> Se
             spare: space.text(self.alloc),
         };
         match form {
-            Form::Text => self.reply_line(session, draft, line.bytes, &mut Told::Nobody),
+            Form::Text => self.reply_line(session, draft, line.bytes, &mut ChangedNodes::Unlisted),
             Form::Json => {
                 let mut told = space.listing(self.alloc);
                 let answer = self.reply_line(session, draft, line.bytes, &mut told);
@@ -316,7 +316,7 @@ impl<'a, F: Fn(&Net, u32, Option<&[u32]>, Turns) -> Result<Turns, CrewFault>> Se
         session: &mut Session,
         draft: Draft,
         line: &[u8],
-        told: &mut Told,
+        told: &mut ChangedNodes,
     ) -> Result<Option<Answer>, AnswerFault>
         requires settles { Settles F.pre F.post self.now.settle.now }
         requires lists { HasList draft.form told.old }
@@ -335,7 +335,7 @@ impl<'a, F: Fn(&Net, u32, Option<&[u32]>, Turns) -> Result<Turns, CrewFault>> Se
         session: &mut Session,
         draft: Draft,
         line: &[u8],
-        told: &mut Told,
+        told: &mut ChangedNodes,
     ) -> Result<Answer, AnswerFault>
         requires settles { Settles F.pre F.post self.now.settle.now }
         requires lists { HasList draft.form told.old }
@@ -356,7 +356,7 @@ impl<'a, F: Fn(&Net, u32, Option<&[u32]>, Turns) -> Result<Turns, CrewFault>> Se
         session: &mut Session,
         draft: Draft,
         request: &Request,
-        told: &mut Told,
+        told: &mut ChangedNodes,
     ) -> Result<Answer, AnswerFault>
         requires settles { Settles F.pre F.post self.now.settle.now }
         requires lists { HasList draft.form told.old }
@@ -401,7 +401,7 @@ impl<'a, F: Fn(&Net, u32, Option<&[u32]>, Turns) -> Result<Turns, CrewFault>> Se
         session: &mut Session,
         draft: Draft,
         parts: Parts<'_>,
-        told: &mut Told,
+        told: &mut ChangedNodes,
     ) -> Result<Answer, AnswerFault>
         requires settles { Settles F.pre F.post self.now.settle.now }
         requires lists { HasList draft.form told.old }
@@ -438,7 +438,7 @@ impl<'a, F: Fn(&Net, u32, Option<&[u32]>, Turns) -> Result<Turns, CrewFault>> Se
         session: &mut Session,
         mut draft: Draft,
         edit: Edit,
-        told: &mut Told,
+        told: &mut ChangedNodes,
     ) -> Result<Answer, AnswerFault>
         requires settles { Settles F.pre F.post self.now.settle.now }
         requires lists { HasList draft.form told.old }
@@ -463,7 +463,7 @@ impl<'a, F: Fn(&Net, u32, Option<&[u32]>, Turns) -> Result<Turns, CrewFault>> Se
         session: &mut Session,
         mut draft: Draft,
         edits: &[Edit],
-        told: &mut Told,
+        told: &mut ChangedNodes,
     ) -> Result<Answer, AnswerFault>
         requires settles { Settles F.pre F.post self.now.settle.now }
         requires lists { HasList draft.form told.old }
@@ -490,7 +490,7 @@ impl<'a, F: Fn(&Net, u32, Option<&[u32]>, Turns) -> Result<Turns, CrewFault>> Se
         session: &mut Session,
         mut draft: Draft,
         dest: u32,
-        told: &mut Told,
+        told: &mut ChangedNodes,
     ) -> Result<Answer, AnswerFault>
         requires settles { Settles F.pre F.post self.now.settle.now }
         requires lists { HasList draft.form told.old }
@@ -517,7 +517,7 @@ impl<'a, F: Fn(&Net, u32, Option<&[u32]>, Turns) -> Result<Turns, CrewFault>> Se
         router: &mut Router,
         revision: &Revision<'_>,
         draft: &mut Draft,
-        told: &mut Told,
+        told: &mut ChangedNodes,
     ) -> Result<(), NotMade>
         requires settles { Settles F.pre F.post self.now.settle.now }
         requires lists { HasList draft.old.form told.old }

@@ -11,12 +11,12 @@ ghost use Rattle.fr_route.specs.Texts.{longest_report};
 ghost use Rattle.fr_route.specs.declared.form.Form.TheVariants.{JsonWithWays, Text};
 
 use crate::change::Report;
+use crate::changed_nodes::ChangedNodes;
 use crate::form::{Draft, Form};
 use crate::json::{push_report_object, push_report_with_ways};
 use crate::listed::{noted, planned};
 use crate::router::Router;
 use crate::texts::push_report;
-use crate::told::Told;
 use fr_tables::Hop;
 use std::alloc::{AllocError, Global};
 
@@ -53,7 +53,7 @@ pub(crate) fn push_report_in(
     line: &mut String,
     form: Form,
     report: Report,
-    told: &Told,
+    told: &ChangedNodes,
     hops: &[Hop],
 ) -> Result<(), AllocError>
     requires { form ≡ JsonWithWays → AsksWays told.now }

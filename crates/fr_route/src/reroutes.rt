@@ -3,7 +3,7 @@
 ghost use Rattle.std.specs.Prelude.{◌≡◌, [], IfOk};
 ghost use Rattle.fr_ways.specs.PushLists.{AreListed};
 
-use crate::told::Told;
+use crate::changed_nodes::ChangedNodes;
 use crate::way_notes::WayNotes;
 use fr_ways::PushList;
 use std::alloc::{AllocError, Global};
@@ -13,7 +13,7 @@ use std::marker::Model;
 /// all their ways. The value in contracts has the nodes in push order, and the pushes of both phases.
 #[derive(Debug)]
 pub struct Reroutes {
-    pub(crate) told: Told,
+    pub(crate) told: ChangedNodes,
 }
 
 // Written by hand: code that drops reroutes proves this one call. With a derived Drop it proves how each part is dropped.
@@ -43,7 +43,7 @@ impl Reroutes {
     {
         let notes = Box::new(alloc, WayNotes::new(alloc)?)?;
         Ok(Reroutes {
-            told: Told::Nodes(Vec::new(alloc), Some(notes)),
+            told: ChangedNodes::Listed(Vec::new(alloc), Some(notes)),
         })
     }
 

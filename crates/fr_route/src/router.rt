@@ -21,6 +21,7 @@ ghost use Rattle.fr_ways.specs.Ways.{IsInRange};
 ghost use Rattle.fr_route.specs.Outcomes.{IsSettledTable, cut_off_nodes, movable, nodes_listed, state_after};
 
 use crate::change::{Change, Report};
+use crate::changed_nodes::ChangedNodes;
 use crate::fault::{NotMade, RouteFault, placeless};
 use crate::hops::{AfterRound, Walked, hop_table, resized};
 use crate::kept_distances::{KeptDistances, table_of_ways};
@@ -29,8 +30,7 @@ use crate::outcome::{alone_nodes, ends, push_capped, put_in_place, report_of, to
 use crate::reroutes::Reroutes;
 use crate::revision::Revision;
 use crate::settling::{Settler, counts_alone};
-use crate::spare::Spare;
-use crate::told::Told;
+use crate::spare_turns::SpareTurns;
 use fr_crew::{Crew, CrewFault, Gate, Plan, settled_counts};
 use fr_graph::{Edit, MAX_EDITS, Net, NetFault, Turns};
 use fr_nearest::Distances;
@@ -52,7 +52,7 @@ pub struct Router {
     net: Net,
     dest: u32,
     turns: Turns,
-    spare: Spare,
+    spare: SpareTurns,
     hops: Vec<Hop>,
     distances: KeptDistances,
     room: PushRoom,
@@ -94,7 +94,7 @@ impl Model for Router {
 }
 
 /// Replaces the turns of the last round by these, and keeps the old table for the next round.
-fn keep_turns(last: &mut Turns, spare: &mut Spare, turns: Turns)
+fn keep_turns(last: &mut Turns, spare: &mut SpareTurns, turns: Turns)
     ensures { last.new ≡ turns }
 {
     spare.keep(mem::replace(last, turns));
@@ -162,7 +162,7 @@ impl<'a, F: Fn(&Net, u32, Option<&[u32]>, Turns) -> Result<Turns, CrewFault>> Se
         &self,
         router: &mut Router,
         change: &Change,
-        told: &mut Told,
+        told: &mut ChangedNodes,
     ) -> Result<Report, NotMade>
         requires { Settles F.pre F.post self.now.settle.now }
         ensures { IsTried (NeverStarts F.post self.now.settle.now) (change_of router.old change.now)
@@ -189,7 +189,12 @@ impl<'a, F: Fn(&Net, u32, Option<&[u32]>, Turns) -> Result<Turns, CrewFault>> Se
     }
 
     /// Makes one edit in place, and settles the network again.
-    fn edit_one(&self, router: &mut Router, edit: Edit, told: &mut Told) -> Result<Report, NotMade>
+    fn edit_one(
+        &self,
+        router: &mut Router,
+        edit: Edit,
+        told: &mut ChangedNodes,
+    ) -> Result<Report, NotMade>
         requires { Settles F.pre F.post self.now.settle.now }
         ensures { IsTried (NeverStarts F.post self.now.settle.now) (edit_of router.old edit router.old.dest)
             router.old told.old result router.new told.new }
@@ -204,7 +209,7 @@ impl<'a, F: Fn(&Net, u32, Option<&[u32]>, Turns) -> Result<Turns, CrewFault>> Se
         &self,
         router: &mut Router,
         revision: &Revision<'_>,
-        told: &mut Told,
+        told: &mut ChangedNodes,
     ) -> Result<Report, NotMade>
         requires settles { Settles F.pre F.post self.now.settle.now }
         requires node { revision.now.dest < router.old.nodes }
@@ -323,7 +328,7 @@ impl Router {
             net,
             dest,
             turns,
-            spare: Spare::none(),
+            spare: SpareTurns::none(),
             hops,
             distances,
             room,
@@ -378,7 +383,7 @@ impl Router {
                 requires { CanBegin net.now dest from turns }
             { settled_counts(&crew, net, dest, from, turns) },
         )
-        .change(self, &change, &mut Told::Nobody))
+        .change(self, &change, &mut ChangedNodes::Unlisted))
     }
 
     /// Does the same on the calling thread. It starts no thread, does not wait, and never fails with `Start`. The cost
@@ -390,7 +395,11 @@ impl Router {
         ensures unchanged { OnErr result (self.new ≡ self.old) }
         ensures no_start { IfErr result (λ fault. fault ≢ Start) }
     {
-        placeless(Settler::new(alloc, &counts_alone).change(self, &change, &mut Told::Nobody))
+        placeless(Settler::new(alloc, &counts_alone).change(
+            self,
+            &change,
+            &mut ChangedNodes::Unlisted,
+        ))
     }
 
     /// Changes the network as `change_alone` does, and lists the rerouted nodes in the caller's list: those that now send on
@@ -415,7 +424,7 @@ impl Router {
         ensures unchanged { OnErr result (self.new ≡ self.old) }
         ensures no_start { IfErr result (λ undone. undone.fault ≢ Start) }
     {
-        let mut told = Told::taken(rerouted, alloc);
+        let mut told = ChangedNodes::taken(rerouted, alloc);
         let report = Settler::new(alloc, &counts_alone).change(self, &change, &mut told);
         *rerouted = told.into_list(alloc);
         report

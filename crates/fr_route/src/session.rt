@@ -5,25 +5,25 @@ ghost use Rattle.std.specs.Prelude.{IfOk, IfErr, OnErr, IfSome, IfNone, IsTrue, 
 ghost use Rattle.std.specs.Option.{option_copied};
 ghost use Rattle.std.specs.declared.alloc.Global.{Global};
 ghost use Rattle.std.specs.declared.vec.Vec.{Vec};
-ghost use Rattle.fr_lines.specs.Requests.{ask};
-ghost use Rattle.fr_lines.specs.Requests.{plain, reading};
+ghost use Rattle.fr_requests.specs.Requests.{ask};
+ghost use Rattle.fr_requests.specs.Requests.{plain, reading};
 ghost use Rattle.fr_crew.specs.Settlements.{CanBegin};
 ghost use Rattle.fr_route.specs.Blank.{is_blank as is_blank_line};
 ghost use Rattle.fr_route.specs.Answers.{IsAnswer, IsLineAnswer, MayStartFor, MayStartForLine};
 ghost use Rattle.fr_route.specs.Forms.{IsAnswerIn, IsLineRefused};
-ghost use Rattle.fr_route.specs.Told.{IsTold, TellsOfLine};
+ghost use Rattle.fr_route.specs.Telling.{IsTold, TellsOfLine};
 ghost use Rattle.fr_route.specs.Texts.{longest_report};
 ghost use Rattle.fr_route.specs.declared.fault.AnswerFault.TheVariants.{Start, Memory};
 
+use crate::changed_nodes::ChangedNodes;
 use crate::fault::AnswerFault;
 use crate::form::{Answer, Draft, Form, Line};
 use crate::router::Router;
 use crate::settling::{Settler, counts_alone};
 use crate::space::AnswerSpace;
-use crate::told::Told;
 use fr_crew::{Crew, Gate, Plan, settled_counts};
 use fr_graph::Net;
-use fr_lines::{Question, Request, read_line};
+use fr_requests::{Question, Request, read_line};
 use std::alloc::Global;
 use std::marker::Model;
 use std::sync::Wait;
@@ -128,7 +128,7 @@ impl Session {
                 requires { CanBegin net.now dest from turns }
             { settled_counts(&crew, net, dest, from, turns) },
         )
-        .answer_line(self, line, &mut Told::Nobody)
+        .text_for_line(self, line, &mut ChangedNodes::Unlisted)
     }
 
     /// Does the same on the calling thread. It starts no thread, does not wait, and never fails with `Start`. The cost
@@ -147,7 +147,7 @@ impl Session {
             (λ answer. IfSome answer (λ text. (self.new ≡ self.old) ⊎ (length (string_bytes text) ≤ longest_report))) }
         ensures no_start { IfErr result (λ fault. fault ≢ Start) }
     {
-        Settler::new(alloc, &counts_alone).answer_line(self, line, &mut Told::Nobody)
+        Settler::new(alloc, &counts_alone).text_for_line(self, line, &mut ChangedNodes::Unlisted)
     }
 
     /// Does the same, and lists the nodes that the line reroutes in the caller's list, in push order: after a change as
@@ -171,8 +171,8 @@ impl Session {
             ⊎ (length (string_bytes text) ≤ longest_report))) }
         ensures no_start { IfErr result (λ fault. fault ≢ Start) }
     {
-        let mut told = Told::taken(rerouted, alloc);
-        let answer = Settler::new(alloc, &counts_alone).answer_line(self, line, &mut told);
+        let mut told = ChangedNodes::taken(rerouted, alloc);
+        let answer = Settler::new(alloc, &counts_alone).text_for_line(self, line, &mut told);
         *rerouted = told.into_list(alloc);
         answer
     }
@@ -206,7 +206,7 @@ impl Session {
                 requires { CanBegin net.now dest from turns }
             { settled_counts(&crew, net, dest, from, turns) },
         )
-        .answer(self, request, &mut Told::Nobody)
+        .text_for_request(self, request, &mut ChangedNodes::Unlisted)
     }
 
     /// Does the same on the calling thread. It starts no thread, does not wait, and never fails with `Start`. The cost
@@ -217,7 +217,11 @@ impl Session {
         ensures short { IfOk result (λ text. (self.new ≡ self.old) ⊎ (length (string_bytes text) ≤ longest_report)) }
         ensures no_start { IfErr result (λ fault. fault ≢ Start) }
     {
-        Settler::new(alloc, &counts_alone).answer(self, request, &mut Told::Nobody)
+        Settler::new(alloc, &counts_alone).text_for_request(
+            self,
+            request,
+            &mut ChangedNodes::Unlisted,
+        )
     }
 
     /// Does the same, and lists the nodes that the request reroutes in the caller's list, as
@@ -237,8 +241,8 @@ impl Session {
             ⊎ (length (string_bytes text) ≤ longest_report)) }
         ensures no_start { IfErr result (λ fault. fault ≢ Start) }
     {
-        let mut told = Told::taken(rerouted, alloc);
-        let answer = Settler::new(alloc, &counts_alone).answer(self, request, &mut told);
+        let mut told = ChangedNodes::taken(rerouted, alloc);
+        let answer = Settler::new(alloc, &counts_alone).text_for_request(self, request, &mut told);
         *rerouted = told.into_list(alloc);
         answer
     }

@@ -3,7 +3,7 @@
 ghost use Rattle.std.specs.Prelude.{IfOk};
 ghost use Rattle.fr_route.specs.Listing.{AsksWays, IsListing};
 
-use crate::told::Told;
+use crate::changed_nodes::ChangedNodes;
 use crate::way_notes::WayNotes;
 use std::alloc::{AllocError, Global};
 use std::mem;
@@ -52,14 +52,14 @@ impl AnswerSpace {
     }
 
     /// Takes the list. It comes back by `keep`.
-    pub(crate) fn listing(&mut self, alloc: Global) -> Told
+    pub(crate) fn listing(&mut self, alloc: Global) -> ChangedNodes
         ensures { IsListing result }
     {
-        Told::Nodes(mem::replace(&mut self.list, Vec::new(alloc)), None)
+        ChangedNodes::Listed(mem::replace(&mut self.list, Vec::new(alloc)), None)
     }
 
     /// Takes the list and the notes, and makes the notes if there are none yet. They come back by `keep`.
-    pub(crate) fn asking(&mut self, alloc: Global) -> Result<Told, AllocError>
+    pub(crate) fn asking(&mut self, alloc: Global) -> Result<ChangedNodes, AllocError>
         ensures { IfOk result AsksWays }
     {
         let notes = match mem::replace(&mut self.notes, None) {
@@ -67,12 +67,12 @@ impl AnswerSpace {
             None => Box::new(alloc, WayNotes::new(alloc)?)?,
         };
         let list = mem::replace(&mut self.list, Vec::new(alloc));
-        Ok(Told::Nodes(list, Some(notes)))
+        Ok(ChangedNodes::Listed(list, Some(notes)))
     }
 
     /// Keeps what was taken for the next line.
-    pub(crate) fn keep(&mut self, told: Told) {
-        if let Told::Nodes(list, notes) = told {
+    pub(crate) fn keep(&mut self, told: ChangedNodes) {
+        if let ChangedNodes::Listed(list, notes) = told {
             self.list = list;
             if notes.is_some() {
                 self.notes = notes;

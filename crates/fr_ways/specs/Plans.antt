@@ -5,7 +5,7 @@ use Rattle.std.specs.List.{range_with_len}
 use Rattle.fr_ways.specs.Faults.{ArePushes}
 use Rattle.fr_ways.specs.Phases.{empties, grows, kept, sheds}
 use Rattle.fr_ways.specs.Ways.{ways}
-use Rattle.fr_ways.specs.declared.kept.Spare.{Spare}
+use Rattle.fr_ways.specs.declared.kept.Comparison.{Comparison}
 use Rattle.fr_ways.specs.declared.plan.Plan.{Plan}
 use Rattle.fr_ways.specs.declared.plan.Pushes.{Pushes}
 
@@ -14,7 +14,7 @@ abbrev pub AreNoted : List ℕ → List Bool → Type 0
 AreNoted list noted = (y : ℕ) → y < length noted → (slice_index_or noted y false ≡ true) ↔ Contains list y
 
 -- no node is noted
-abbrev pub IsClear : ℕ → Spare → Type 0
+abbrev pub IsClear : ℕ → Comparison → Type 0
 IsClear nodes spare = spare.noted.items ≡ replicate nodes false
 
 -- the same pushes, and if the test holds one to x with this list

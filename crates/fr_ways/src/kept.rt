@@ -10,19 +10,19 @@ use std::alloc::{AllocError, Global};
 
 /// Memory to compare lists of ways.
 #[derive(Debug, Drop)]
-pub(crate) struct Spare {
+pub(crate) struct Comparison {
     // Whether each node is in the list that is compared. Between calls all are `false`.
     noted: Vec<bool>,
     /// What the last call of `keep` kept.
     pub kept: Vec<u32>,
 }
 
-impl Spare {
+impl Comparison {
     /// Memory to compare the ways of tables of so many nodes.
-    pub(crate) fn new(alloc: Global, nodes: usize) -> Result<Spare, AllocError>
+    pub(crate) fn new(alloc: Global, nodes: usize) -> Result<Comparison, AllocError>
         ensures { IfOk result (IsClear nodes) }
     {
-        Ok(Spare {
+        Ok(Comparison {
             noted: vec![in alloc; false; nodes]?,
             kept: Vec::new(alloc),
         })

@@ -9,7 +9,7 @@ ghost use Rattle.fr_ways.specs.PushLists.{AreListed};
 ghost use Rattle.fr_ways.specs.Ways.{IsInRange};
 
 use crate::fault::WaysFault;
-use crate::kept::Spare;
+use crate::kept::Comparison;
 use crate::push_list::PushList;
 use crate::range::first_outside;
 use crate::search::find_cycle;
@@ -117,7 +117,7 @@ pub fn known_phases(alloc: Global, old: &WayTable, new: &WayTable) -> Result<Two
         },
         emptied: Vec::new(alloc),
     };
-    let mut spare = Spare::new(alloc, new.len())?;
+    let mut spare = Comparison::new(alloc, new.len())?;
     for x in 0..new.len() as u32 {
         plan.add(old, new, x, &mut spare)?;
     }
@@ -144,7 +144,7 @@ impl Plan {
         old: &WayTable,
         new: &WayTable,
         x: u32,
-        spare: &mut Spare,
+        spare: &mut Comparison,
     ) -> Result<(), AllocError>
         requires range { IsInRange new.now }
         requires plan { IsPlan old.now new.now x self.old }

@@ -1,7 +1,7 @@
 -- How many lines of an input a session has answered.
 use Rattle.std.proofs.Common.{◌≡◌, ℕ, true, false, List, [], ◌∷◌, ◌++◌, Option, Some, None, Global, String, string_bytes, IfSome, IfNone, append-nil}
 use Rattle.std.proofs.Common.{subst, sym, ◌∙◌}
-use Rattle.fr_lines.specs.Requests.{reading}
+use Rattle.fr_requests.specs.Requests.{reading}
 use Rattle.fr_route.specs.Answers.{IsLineAnswer, AreAnswers}
 use Rattle.fr_route.specs.Blank.{is_blank}
 use Rattle.fr_route.specs.States.{State}

@@ -1,10 +1,10 @@
 -- The input determines its page.
 use Rattle.std.proofs.Common.{◌≡◌, ◌∙◌, ℕ, ◌+◌, Bool, true, false, List, [], ◌∷◌, ◌++◌, Option, None, Some, MatchBool, ap, inl, inr, subst, sym}
 use Rattle.std.specs.Prelude.{Result, Ok, Err, codes}
-use Rattle.fr_lines.specs.Requests.{PlainRequest, ask, reading}
-use Rattle.fr_lines.specs.declared.requests.LineFault.{LineFault}
-use Rattle.fr_lines.specs.declared.requests.Question.{Question}
-use Rattle.fr_lines.specs.declared.requests.Question.TheVariants.{Links, Counts, Hops, Ways}
+use Rattle.fr_requests.specs.Requests.{PlainRequest, ask, reading}
+use Rattle.fr_requests.specs.declared.requests.LineFault.{LineFault}
+use Rattle.fr_requests.specs.declared.requests.Question.{Question}
+use Rattle.fr_requests.specs.declared.requests.Question.TheVariants.{Links, Counts, Hops, Ways}
 use Rattle.fr_route.specs.Blank.{is_blank}
 use Rattle.fr_route.specs.States.{State}
 use Rattle.fr_graph.specs.Network.{Network}
@@ -14,7 +14,7 @@ use Rattle.fr_route.proofs.NodeWays.{ways_below_unique}
 use Rattle.fr_route.proofs.OneTelling.{line_told_unique}
 use Rattle.fr_route.proofs.Replying.{refused_by}
 use Rattle.fr_route.specs.Json.{PlainRefusal, refusal_json}
-use Rattle.fr_route.specs.Told.{IsLineTold}
+use Rattle.fr_route.specs.Telling.{IsLineTold}
 use Rattle.fr_bytes.specs.Lines.{lines_of}
 use Rattle.revdot.specs.Pages.{IsPage}
 use Rattle.revdot.specs.Asked.{asked_text}

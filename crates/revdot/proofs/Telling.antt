@@ -11,15 +11,15 @@ use Rattle.fr_tables.specs.declared.hop.Hop.{Hop}
 use Rattle.fr_bytes.specs.Lines.{lines_of}
 use Rattle.fr_bytes.proofs.Ending.{few_lines}
 use Rattle.std.specs.Prelude.{Err, Ok, codes, eqb}
-use Rattle.fr_lines.specs.declared.requests.Question.TheVariants.{Links, Counts, Hops, Ways}
-use Rattle.fr_lines.specs.declared.requests.NodeQuestion.TheVariants as node
-use Rattle.fr_lines.specs.declared.requests.LineFault.{LineFault}
-use Rattle.fr_lines.specs.Requests.{PlainRequest, new_network, cut_link, add_link, join_nodes, make_edits, move_dest, walk_from, ask, ask_node, order_pushes, push_ways, reading}
+use Rattle.fr_requests.specs.declared.requests.Question.TheVariants.{Links, Counts, Hops, Ways}
+use Rattle.fr_requests.specs.declared.requests.NodeQuestion.TheVariants as node
+use Rattle.fr_requests.specs.declared.requests.LineFault.{LineFault}
+use Rattle.fr_requests.specs.Requests.{PlainRequest, new_network, cut_link, add_link, join_nodes, make_edits, move_dest, walk_from, ask, ask_node, order_pushes, push_ways, reading}
 use Rattle.fr_route.specs.Answers.{IsAnswer, IsLineAnswer, IsText}
 use Rattle.fr_route.specs.Blank.{is_blank}
 use Rattle.fr_route.specs.Json.{EndsHere, IsJsonAnswer}
 use Rattle.fr_route.specs.Texts.{refusal_text}
-use Rattle.fr_route.specs.Told.{IsTold}
+use Rattle.fr_route.specs.Telling.{IsTold}
 use Rattle.revdot.specs.Asked.{asked_text}
 use Rattle.revdot.specs.Changes.{pushes_line}
 use Rattle.revdot.specs.Stories.{AreBlocks, AreSettledLines, AreWaysBefore, IsAnswerLine, IsAnsweredBlock, IsBlock, IsMark, IsRefusalLine, IsResult}

@@ -1,14 +1,14 @@
 -- The line of a story that says what a request asks. This project's own.
 use Rattle.std.specs.Prelude.{ℕ, List, [], ◌∷◌, ◌++◌, Result, Ok, Err, codes, decimal}
-use Rattle.fr_lines.specs.Requests.{PlainRequest, new_network, cut_link, add_link}
-use Rattle.fr_lines.specs.Requests.{join_nodes, make_edits, move_dest, walk_from, ask, ask_node, order_pushes, push_ways}
+use Rattle.fr_requests.specs.Requests.{PlainRequest, new_network, cut_link, add_link}
+use Rattle.fr_requests.specs.Requests.{join_nodes, make_edits, move_dest, walk_from, ask, ask_node, order_pushes, push_ways}
 use Rattle.fr_graph.specs.declared.edit.Edit.{Edit}
 use Rattle.fr_graph.specs.declared.edit.Edit.TheVariants.{Cut, Add, Join}
-use Rattle.fr_lines.specs.declared.requests.LineFault.{LineFault}
-use Rattle.fr_lines.specs.declared.requests.Question.{Question}
-use Rattle.fr_lines.specs.declared.requests.Question.TheVariants.{Links, Counts, Hops, Ways}
-use Rattle.fr_lines.specs.declared.requests.NodeQuestion.{NodeQuestion}
-use Rattle.fr_lines.specs.declared.requests.NodeQuestion.TheVariants as node
+use Rattle.fr_requests.specs.declared.requests.LineFault.{LineFault}
+use Rattle.fr_requests.specs.declared.requests.Question.{Question}
+use Rattle.fr_requests.specs.declared.requests.Question.TheVariants.{Links, Counts, Hops, Ways}
+use Rattle.fr_requests.specs.declared.requests.NodeQuestion.{NodeQuestion}
+use Rattle.fr_requests.specs.declared.requests.NodeQuestion.TheVariants as node
 use Rattle.fr_route.specs.Texts.{spaced_links}
 
 -- a word and two numbers

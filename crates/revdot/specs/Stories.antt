@@ -3,10 +3,10 @@
 use Rattle.std.specs.Prelude.{◌≡◌, ℕ, ◌+◌, ◌%◌, ◌==◌, nat_le, ◌⊎◌, ◌&&◌, Bool, true, false, List, [], ◌∷◌, ◌++◌}
 use Rattle.std.specs.Prelude.{Option, Some, None, Result, Ok, Err, MatchBool, if◌then◌else◌, codes, decimal}
 use Rattle.fr_graph.specs.Network.{Network}
-use Rattle.fr_lines.specs.Requests.{PlainRequest, new_network, walk_from, ask, ask_node, order_pushes, push_ways, reading}
-use Rattle.fr_lines.specs.declared.requests.LineFault.{LineFault}
-use Rattle.fr_lines.specs.declared.requests.Question.{Question}
-use Rattle.fr_lines.specs.declared.requests.Question.TheVariants.{Links, Counts, Hops, Ways}
+use Rattle.fr_requests.specs.Requests.{PlainRequest, new_network, walk_from, ask, ask_node, order_pushes, push_ways, reading}
+use Rattle.fr_requests.specs.declared.requests.LineFault.{LineFault}
+use Rattle.fr_requests.specs.declared.requests.Question.{Question}
+use Rattle.fr_requests.specs.declared.requests.Question.TheVariants.{Links, Counts, Hops, Ways}
 use Rattle.fr_route.specs.Answers.{IsAccepted, IsAnswer, IsLineAnswer}
 use Rattle.fr_route.specs.Blank.{is_blank}
 use Rattle.fr_route.specs.NodeWays.{AreAllWays}
@@ -15,7 +15,7 @@ use Rattle.fr_route.specs.Pushing.{AreAsked}
 use Rattle.fr_route.specs.Routes.{AreHops}
 use Rattle.fr_route.specs.States.{State, net_at}
 use Rattle.fr_route.specs.Texts.{spaced}
-use Rattle.fr_route.specs.Told.{IsLineTold}
+use Rattle.fr_route.specs.Telling.{IsLineTold}
 use Rattle.fr_bytes.specs.Lines.{lines_of}
 use Rattle.fr_tables.specs.declared.hop.Hop.{Hop}
 use Rattle.revdot.specs.Asked.{asked_text}

@@ -1,14 +1,14 @@
 //! The line of a story that says what a request asks.
 
 ghost use Rattle.std.specs.Prelude.{◌≡◌, ◌++◌, Ok, OnOk, codes, decimal, string_bytes};
-ghost use Rattle.fr_lines.specs.Requests.{plain};
+ghost use Rattle.fr_requests.specs.Requests.{plain};
 ghost use Rattle.fr_route.specs.Texts.{spaced_links};
 ghost use Rattle.revdot.specs.Asked.{asked_text, edit_text, node_question_text, pair_text, question_text};
 ghost use Rattle.revdot.specs.Asked.{request_text, spaced_edits};
 
 use crate::links::push_links;
 use fr_graph::Edit;
-use fr_lines::{NodeQuestion, Question, Request};
+use fr_requests::{NodeQuestion, Question, Request};
 use std::alloc::AllocError;
 use std::fmt::Write;
 

@@ -10,7 +10,7 @@ ghost use Rattle.revdot.specs.Stories.{is_told as is_told_of, most_told_turns, n
 use crate::changes::{follow_law, push_changes, push_listed, push_pushes};
 use crate::story::Before;
 use crate::turns::Replay;
-use fr_lines::Question;
+use fr_requests::Question;
 use fr_route::{Router, Session};
 use fr_ways::WayTable;
 use std::alloc::{AllocError, Global};

@@ -2,7 +2,7 @@
 //! changed and the nodes that get new hops.
 
 ghost use Rattle.std.specs.Prelude.{◌≡◌, ◌++◌, ℕ, IfOk, List, [], None, Ok, OnOk, codes, string_bytes};
-ghost use Rattle.fr_lines.specs.Requests.{plain, reading};
+ghost use Rattle.fr_requests.specs.Requests.{plain, reading};
 ghost use Rattle.fr_route.specs.Json.{EndsHere, IsJsonLineAnswer};
 ghost use Rattle.fr_route.specs.Refusals.{number_of};
 ghost use Rattle.fr_route.specs.Texts.{refusal_text};
@@ -14,7 +14,7 @@ use crate::asked::push_asked;
 use crate::rounds::{is_told, push_round, push_settled_lines};
 use fr_bytes::Lines;
 use fr_graph::Net;
-use fr_lines::{LineFault, Request, read_line};
+use fr_requests::{LineFault, Request, read_line};
 use fr_route::{AnswerSpace, Form, Line, Reason, Session, is_blank};
 use fr_ways::WayTable;
 use std::alloc::{AllocError, Global};

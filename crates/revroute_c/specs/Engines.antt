@@ -3,7 +3,7 @@ use Rattle.std.specs.Prelude.{ℕ, List, [], Option, None}
 use Rattle.fr_route.specs.States.{State}
 use Rattle.fr_shared.specs.Knowledge.{Knowledge}
 use Rattle.fr_shared_ways.specs.Knowledge.{Knowledge as WayKnowledge}
-use Rattle.fr_published.specs.Published.{Published, WayPushes, no_pushes, published}
+use Rattle.fr_readers.specs.Published.{Published, WayPushes, no_pushes, published}
 
 -- the session, the nodes that its last accepted round rerouted, once there are readers of hops or of ways, their tables,
 -- the pushes of the last change for which a caller asked for them, and the bytes of a line that has begun

@@ -3,7 +3,7 @@
 use Rattle.std.specs.Prelude.{◌≡◌, Option}
 use denote.RawPtr.{null_ptr}
 use Rattle.std.specs.Borrow.{Fml, MutBor, LendsIf}
-use Rattle.fr_published.specs.Published.{published}
+use Rattle.fr_readers.specs.Published.{published}
 use Rattle.revroute_c.specs.Engines.{Held, held, no_engine}
 use Rattle.revroute_c.specs.contracts.engine.Engine.{the_row as engine_row}
 use Rattle.revroute_c.specs.declared.handle.Handle.{Handle}

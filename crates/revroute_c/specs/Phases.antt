@@ -7,7 +7,7 @@ use Rattle.fr_route.specs.WayPushes.{LeadToWays}
 use Rattle.fr_ways.specs.Phases.{growths, shrinks}
 use Rattle.fr_ways.specs.Rows.{IsLaidOut}
 use Rattle.fr_ways.specs.declared.plan.TwoPhases.{TwoPhases}
-use Rattle.revroute_c.specs.declared.phases.Asked.{Asked}
+use Rattle.revroute_c.specs.declared.phases.PhaseRequest.{PhaseRequest}
 use Rattle.revroute_c.specs.declared.phases.Phase.{Phase}
 use Rattle.revroute_c.specs.declared.phases.Phase.TheVariants.{Grow, Shrink}
 
@@ -37,7 +37,7 @@ abbrev pub ArePhasePushes : Phase → Option State → List ℕ → List ℕ →
 ArePhasePushes Shrink = AreShrinks
 ArePhasePushes Grow = AreGrowths
 
-abbrev pub ArePushesOf : Asked → Option State → List ℕ → Type 0
+abbrev pub ArePushesOf : PhaseRequest → Option State → List ℕ → Type 0
 ArePushesOf asked s pushes = ArePhasePushes asked.phase s asked.starts.now asked.ways.now pushes
 
 -- the two places hold no table with a list for each node

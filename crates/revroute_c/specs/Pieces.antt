@@ -2,11 +2,11 @@
 use Rattle.std.specs.Prelude.{◌≡◌, ◌≢◌, ◌==◌, ℕ, ◌+◌, ◌<◌, ◌≤◌, ◌⊎◌, ◌++◌, [], List, length, take, position}
 use Rattle.std.specs.Prelude.{Some, None, Option, true}
 use Rattle.fr_bytes.specs.Bytes.{most_bytes}
-use Rattle.fr_lines.specs.Requests.{reading}
+use Rattle.fr_requests.specs.Requests.{reading}
 use Rattle.fr_route.specs.Blank.{is_blank}
 use Rattle.fr_route.specs.States.{State}
-use Rattle.fr_route.specs.Told.{IsLineTold}
-use Rattle.fr_published.specs.Publishing.{PublishesTo, PublishesWaysTo}
+use Rattle.fr_route.specs.Telling.{IsLineTold}
+use Rattle.fr_readers.specs.Publishing.{PublishesTo, PublishesWaysTo}
 use Rattle.revroute_c.specs.Engines.{Held, published_of}
 use Rattle.revroute_c.specs.Replies.{least_room, IsReplied, IsAnswerLength, Outcome}
 use Rattle.revroute_c.specs.Statuses.{REVROUTE_ANSWERED, REVROUTE_BLANK, REVROUTE_TOO_SHORT}

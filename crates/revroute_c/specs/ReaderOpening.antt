@@ -2,7 +2,7 @@
 use Rattle.std.specs.Prelude.{◌≡◌, Some, IfSome}
 use Rattle.fr_shared.specs.Knowledge.{Knowledge}
 use Rattle.fr_shared_ways.specs.Knowledge.{Knowledge as WayKnowledge}
-use Rattle.fr_published.specs.Published.{HasHopsOf, HasWaysOf}
+use Rattle.fr_readers.specs.Published.{HasHopsOf, HasWaysOf}
 use Rattle.revroute_c.specs.Engines.{Held}
 
 -- the engine is unchanged, except that the table for its readers of hops may be new

@@ -1,11 +1,11 @@
 -- The results of the library's calls. This project's own.
 use Rattle.std.specs.Prelude.{◌≡◌, ℕ, ◌<◌, ◌≤◌, ◌⊎◌, ◌++◌, false, true, List, length, drop, Option}
-use Rattle.fr_lines.specs.Requests.{reading}
+use Rattle.fr_requests.specs.Requests.{reading}
 use Rattle.fr_route.specs.Answers.{IsLineAnswer}
 use Rattle.fr_route.specs.Blank.{is_blank}
 use Rattle.fr_route.specs.States.{State}
-use Rattle.fr_route.specs.Told.{IsLineTold}
-use Rattle.fr_published.specs.Publishing.{PublishesTo, PublishesWaysTo}
+use Rattle.fr_route.specs.Telling.{IsLineTold}
+use Rattle.fr_readers.specs.Publishing.{PublishesTo, PublishesWaysTo}
 use Rattle.revroute_c.specs.Engines.{Held, published_of}
 use Rattle.revroute_c.specs.Statuses.{REVROUTE_ANSWERED, REVROUTE_BLANK, REVROUTE_TOO_SHORT, REVROUTE_NO_MEMORY}
 

@@ -7,14 +7,14 @@ use Rattle.fr_graph.specs.Evidence.{NamesFirst, NamesInBatch}
 use Rattle.fr_graph.specs.Faults.{IsFaultless, IsFirstFault}
 use Rattle.fr_graph.specs.Limits.{most_edits}
 use Rattle.fr_graph.specs.Network.{Network}
-use Rattle.fr_lines.specs.Requests.{PlainRequest}
+use Rattle.fr_requests.specs.Requests.{PlainRequest}
 use Rattle.fr_graph.specs.declared.fault.NetFault.{NetFault}
 use Rattle.fr_graph.specs.declared.fault.NetFault.TheVariants.{TooMany, Range, SelfLink, Twice, Cycle, NoLink, Memory}
 use Rattle.fr_route.specs.Answers.{IsAccepted, fault_number}
 use Rattle.fr_route.specs.States.{State, IsReport, net_at}
-use Rattle.fr_route.specs.Told.{TellsOf}
-use Rattle.fr_published.specs.Published.{LeadsBetween}
-use Rattle.fr_published.specs.Publishing.{PublishesTo, PublishesWaysTo}
+use Rattle.fr_route.specs.Telling.{TellsOf}
+use Rattle.fr_readers.specs.Published.{LeadsBetween}
+use Rattle.fr_readers.specs.Publishing.{PublishesTo, PublishesWaysTo}
 use Rattle.revroute_c.specs.Engines.{Held, published_of}
 use Rattle.revroute_c.specs.Records.{AreKnown, edit_of, is_unknown}
 use Rattle.revroute_c.specs.Statuses.{REVROUTE_ANSWERED, REVROUTE_REFUSED}

@@ -3,7 +3,7 @@
 ghost use Rattle.std.specs.Prelude.{◌≡◌};
 ghost use Rattle.revroute_c.specs.Engines.{no_engine};
 
-use fr_published::PublishedSession;
+use fr_readers::PublishedSession;
 use fr_route::Session;
 use std::alloc::Global;
 use std::marker::Model;

@@ -4,14 +4,14 @@ ghost use Rattle.std.specs.Prelude.{◌≡◌, ℕ, List, MatchOption, Option, N
 ghost use Rattle.std.specs.Borrow.{sem};
 ghost use denote.RawPtr.{null_ptr};
 ghost use Rattle.fr_route.specs.States.{State};
-ghost use Rattle.fr_published.specs.Published.{WayPushes, published};
+ghost use Rattle.fr_readers.specs.Published.{WayPushes, published};
 ghost use Rattle.fr_shared.specs.Knowledge.{Knowledge};
 ghost use Rattle.fr_shared_ways.specs.Knowledge.{Knowledge as WayKnowledge};
 ghost use Rattle.revroute_c.specs.Engines.{no_engine, held};
 ghost use Rattle.revroute_c.specs.Holding.{holds};
 
+use crate::box_parts::BoxParts;
 use crate::engine::Engine;
-use crate::loose::Loose;
 use std::alloc::Global;
 use std::marker::{Model, Send};
 use std::mem::replace;
@@ -51,24 +51,24 @@ impl Handle {
     }
 
     /// The handle of an engine.
-    fn of(loose: Loose<Engine, Global>) -> Handle
+    fn of(loose: BoxParts<Engine, Global>) -> Handle
         ensures { held_by result ≡ loose.value }
     {
-        let Loose { at, alloc: _ } = loose;
+        let BoxParts { at, alloc: _ } = loose;
         Handle {
             at: at.cast::<u8>(),
         }
     }
 
     /// The engine of a handle, unless the handle is null.
-    fn into_loose(self, alloc: Global) -> Option<Loose<Engine, Global>>
+    fn into_loose(self, alloc: Global) -> Option<BoxParts<Engine, Global>>
         ensures { MatchOption result (held_by self ≡ no_engine) (λ loose. held_by self ≡ loose.value) }
     {
         let Handle { at } = self;
         if at.is_null() {
             None
         } else {
-            Some(Loose {
+            Some(BoxParts {
                 at: at.cast::<Engine>(),
                 alloc,
             })
@@ -106,7 +106,7 @@ impl Handle {
         requires { handle.old.at ≡ null_ptr }
         ensures { held_by handle.new ≡ engine.value }
     {
-        *handle = Handle::of(Loose::of(engine));
+        *handle = Handle::of(BoxParts::of(engine));
     }
 }
 

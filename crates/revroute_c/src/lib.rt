@@ -12,13 +12,13 @@ ghost use Rattle.revroute_c.specs.Lending.{held_by};
 ghost use Rattle.revroute_c.specs.Replies.{IsWritten};
 ghost use Rattle.revroute_c.specs.Statuses.{REVROUTE_ANSWERED, REVROUTE_TOO_SHORT};
 
+mod box_parts;
 mod closed_walks;
 mod cycle_calls;
 mod engine;
 mod handle;
 mod line_calls;
 mod link_faults;
-mod loose;
 mod machine;
 mod node_handle;
 mod nodes;

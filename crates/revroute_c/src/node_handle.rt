@@ -7,7 +7,7 @@ ghost use Rattle.revroute_c.specs.Machines.{HeldNode, no_machine};
 ghost use Rattle.revroute_c.specs.Owning.{owned_at};
 ghost use Rattle.revroute_c.specs.contracts.machine.Machine.{the_row as machine_row};
 
-use crate::loose::Loose;
+use crate::box_parts::BoxParts;
 use crate::machine::Machine;
 use std::alloc::Global;
 use std::marker::{Model, Send};
@@ -42,24 +42,24 @@ impl NodeHandle {
     }
 
     /// The handle of a machine.
-    fn of(loose: Loose<Machine, Global>) -> NodeHandle
+    fn of(loose: BoxParts<Machine, Global>) -> NodeHandle
         ensures { kept_by result ≡ loose.value }
     {
-        let Loose { at, alloc: _ } = loose;
+        let BoxParts { at, alloc: _ } = loose;
         NodeHandle {
             at: at.cast::<u8>(),
         }
     }
 
     /// The machine of a handle, unless the handle is null.
-    fn into_loose(self, alloc: Global) -> Option<Loose<Machine, Global>>
+    fn into_loose(self, alloc: Global) -> Option<BoxParts<Machine, Global>>
         ensures { MatchOption result (kept_by self ≡ no_machine) (λ loose. kept_by self ≡ loose.value) }
     {
         let NodeHandle { at } = self;
         if at.is_null() {
             None
         } else {
-            Some(Loose {
+            Some(BoxParts {
                 at: at.cast::<Machine>(),
                 alloc,
             })
@@ -97,7 +97,7 @@ impl NodeHandle {
         ensures { kept_by handle.new ≡ machine.value }
     {
         drop(NodeHandle::taken(handle, alloc));
-        *handle = NodeHandle::of(Loose::of(machine));
+        *handle = NodeHandle::of(BoxParts::of(machine));
     }
 }
 

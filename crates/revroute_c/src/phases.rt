@@ -21,14 +21,14 @@ pub(crate) enum Phase {
 /// What a caller asks for: the pushes of a phase, from a table of ways. The table has where the ways of each node begin,
 /// and the ways of all nodes.
 #[derive(Drop)]
-pub(crate) struct Asked<'a> {
+pub(crate) struct PhaseRequest<'a> {
     pub(crate) phase: Phase,
     pub(crate) starts: &'a [usize],
     pub(crate) ways: &'a [u32],
 }
 
 /// The two phases from the table to the ways of the session, or the status that says why there are none.
-fn phases_from(session: &Session, alloc: Global, asked: &Asked<'_>) -> Result<TwoPhases, u32>
+fn phases_from(session: &Session, alloc: Global, asked: &PhaseRequest<'_>) -> Result<TwoPhases, u32>
     ensures phases { IfOk result (IsPlannedFor session.now asked.now.starts.now asked.now.ways.now) }
     ensures no_network { IfErr result (λ status. (status ≡ NO_NETWORK) ↔ (session.now ≡ None)) }
     ensures no_table { IfErr result
@@ -101,7 +101,7 @@ pub(crate) fn hand_out_pushes(
 pub(crate) fn way_pushes_in(
     session: &Session,
     alloc: Global,
-    asked: &Asked<'_>,
+    asked: &PhaseRequest<'_>,
     pushes: &mut [u32],
     size: &mut usize,
 ) -> u32

@@ -8,7 +8,7 @@ ghost use Rattle.fr_shared.specs.contracts.reader.Reader.{the_row as reader_row}
 ghost use Rattle.revroute_c.specs.Owning.{owned_at};
 ghost use Rattle.revroute_c.specs.Readers.{no_reader};
 
-use crate::loose::Loose;
+use crate::box_parts::BoxParts;
 use fr_shared::Reader;
 use std::alloc::Global;
 use std::marker::{Model, Send};
@@ -43,24 +43,24 @@ impl ReaderHandle {
     }
 
     /// The handle of a reader.
-    fn of(loose: Loose<Reader, Global>) -> ReaderHandle
+    fn of(loose: BoxParts<Reader, Global>) -> ReaderHandle
         ensures { read_by result ≡ loose.value }
     {
-        let Loose { at, alloc: _ } = loose;
+        let BoxParts { at, alloc: _ } = loose;
         ReaderHandle {
             at: at.cast::<u8>(),
         }
     }
 
     /// The reader of a handle, unless the handle is null.
-    fn into_loose(self, alloc: Global) -> Option<Loose<Reader, Global>>
+    fn into_loose(self, alloc: Global) -> Option<BoxParts<Reader, Global>>
         ensures { MatchOption result (read_by self ≡ no_reader) (λ loose. read_by self ≡ loose.value) }
     {
         let ReaderHandle { at } = self;
         if at.is_null() {
             None
         } else {
-            Some(Loose {
+            Some(BoxParts {
                 at: at.cast::<Reader>(),
                 alloc,
             })
@@ -98,7 +98,7 @@ impl ReaderHandle {
         ensures { read_by handle.new ≡ reader.value }
     {
         drop(ReaderHandle::taken(handle, alloc));
-        *handle = ReaderHandle::of(Loose::of(reader));
+        *handle = ReaderHandle::of(BoxParts::of(reader));
     }
 }
 

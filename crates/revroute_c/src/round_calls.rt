@@ -3,8 +3,8 @@
 ghost use Rattle.std.specs.Prelude.{◌≡◌, ◌≤◌, ◌<◌, ◌⊎◌, ◌↔◌, None, length, map, IfSome};
 ghost use Rattle.fr_graph.specs.Faults.{PassFirstTests};
 ghost use Rattle.fr_graph.specs.Limits.{most_edits};
-ghost use Rattle.fr_lines.specs.Requests.{make_edits, move_dest, new_network};
-ghost use Rattle.fr_published.specs.Published.{LeadsBetween};
+ghost use Rattle.fr_requests.specs.Requests.{make_edits, move_dest, new_network};
+ghost use Rattle.fr_readers.specs.Published.{LeadsBetween};
 ghost use Rattle.revroute_c.specs.Lending.{held_by};
 ghost use Rattle.revroute_c.specs.Questions.{no_network};
 ghost use Rattle.revroute_c.specs.Records.{AreKnown, edit_of, link_of};

@@ -11,7 +11,7 @@ ghost use Rattle.revroute_c.specs.Statuses.{REVROUTE_NO_TABLE};
 ghost use Rattle.revroute_c.specs.Ways.{AreWaysFrom, GivesAllWays, HasRoute, IsNearestFrom, TellsDistance};
 
 use crate::handle::Handle;
-use crate::phases::{Asked, Phase, hand_out_pushes, way_pushes_in};
+use crate::phases::{Phase, PhaseRequest, hand_out_pushes, way_pushes_in};
 use crate::questions::HOP_OF_NO_NETWORK;
 use crate::replies::hand_out;
 use crate::statuses::{ANSWERED, NO_MEMORY, NO_NETWORK, TOO_SHORT};
@@ -153,7 +153,7 @@ pub extern "C" fn revroute_shrink(
         Some(engine) => way_pushes_in(
             engine.session(),
             alloc,
-            &Asked {
+            &PhaseRequest {
                 phase: Phase::Shrink,
                 starts,
                 ways,
@@ -191,7 +191,7 @@ pub extern "C" fn revroute_grow(
         Some(engine) => way_pushes_in(
             engine.session(),
             alloc,
-            &Asked {
+            &PhaseRequest {
                 phase: Phase::Grow,
                 starts,
                 ways,

@@ -29,7 +29,7 @@ use std::alloc::Global;
 ///
 /// Returns `NO_MEMORY` if an allocation was refused. Then the reader is unchanged and the session answers as before,
 /// although the table for its readers of ways may be there now. The first reader of a session costs what
-/// [`PublishedSession::way_reader`](fr_published::PublishedSession::way_reader) costs, and each later one O(1).
+/// [`PublishedSession::way_reader`](fr_readers::PublishedSession::way_reader) costs, and each later one O(1).
 #[unsafe(no_mangle)]
 pub extern "C" fn revroute_way_reader_open(
     alloc: Global,

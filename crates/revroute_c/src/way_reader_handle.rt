@@ -8,7 +8,7 @@ ghost use Rattle.fr_shared_ways.specs.contracts.reader.Reader.{the_row as reader
 ghost use Rattle.revroute_c.specs.Owning.{owned_at};
 ghost use Rattle.revroute_c.specs.WayReaders.{no_way_reader};
 
-use crate::loose::Loose;
+use crate::box_parts::BoxParts;
 use fr_shared_ways::Reader;
 use std::alloc::Global;
 use std::marker::{Model, Send};
@@ -43,24 +43,24 @@ impl WayReaderHandle {
     }
 
     /// The handle of a reader.
-    fn of(loose: Loose<Reader, Global>) -> WayReaderHandle
+    fn of(loose: BoxParts<Reader, Global>) -> WayReaderHandle
         ensures { ways_read_by result ≡ loose.value }
     {
-        let Loose { at, alloc: _ } = loose;
+        let BoxParts { at, alloc: _ } = loose;
         WayReaderHandle {
             at: at.cast::<u8>(),
         }
     }
 
     /// The reader of a handle, unless the handle is null.
-    fn into_loose(self, alloc: Global) -> Option<Loose<Reader, Global>>
+    fn into_loose(self, alloc: Global) -> Option<BoxParts<Reader, Global>>
         ensures { MatchOption result (ways_read_by self ≡ no_way_reader) (λ loose. ways_read_by self ≡ loose.value) }
     {
         let WayReaderHandle { at } = self;
         if at.is_null() {
             None
         } else {
-            Some(Loose {
+            Some(BoxParts {
                 at: at.cast::<Reader>(),
                 alloc,
             })
@@ -98,7 +98,7 @@ impl WayReaderHandle {
         ensures { ways_read_by handle.new ≡ reader.value }
     {
         drop(WayReaderHandle::taken(handle, alloc));
-        *handle = WayReaderHandle::of(Loose::of(reader));
+        *handle = WayReaderHandle::of(BoxParts::of(reader));
     }
 }
 

@@ -11,7 +11,7 @@ ghost use Rattle.revroute_c.specs.Ways.{IsNearestFrom, IsTooLong, SaysWhyNone, T
 use crate::questions::{CUT_OFF, HOP_OF_NO_NETWORK, HOP_OF_NO_NODE};
 use crate::replies::hand_out;
 use crate::statuses::{ANSWERED, NO_MEMORY, NO_NETWORK, NO_ROUTE, TOO_SHORT};
-use fr_published::PublishedSession;
+use fr_readers::PublishedSession;
 use fr_route::{Hop, Session, Walked};
 use fr_ways::WayTable;
 use std::alloc::Global;

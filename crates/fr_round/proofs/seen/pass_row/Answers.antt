@@ -4,10 +4,10 @@ use Rattle.fr_graph.specs.Rows.{row}
 use Rattle.fr_graph.specs.declared.first.First.{First}
 use Rattle.fr_graph.specs.declared.first.First.TheVariants.{Outward}
 use Rattle.fr_round.specs.Missing.{misses}
-use Rattle.fr_round.proofs.MissingNumbers.{IsLoweredTo, all_counted, all_lowered, begins_to_meet, counted_on, lowered_no, lowered_yes, one_at_most}
+use Rattle.fr_round.proofs.MissingNumbers.{IsLoweredTo, all_counted, all_lowered, newly_meets, counted_on, lowered_no, lowered_yes, one_at_most}
 use Rattle.fr_round.proofs.MissingNumbers.{other_node, room_to_lower}
 use Rattle.fr_round.proofs.seen.pass_row.Goals as goal
-use Rattle.fr_round.proofs.seen.pass_row.Goals.{then-begins_to_meet, else-begins_to_meet}
+use Rattle.fr_round.proofs.seen.pass_row.Goals.{then-newly_meets, else-newly_meets}
 
 pub bounds-counts-at : goal.bounds-counts-at
 bounds-counts-at c =
@@ -29,13 +29,13 @@ overflow_sub-missing c =
     let counts = c.args.counts.now in
     let had : ℕ = slice_index counts c.args.y in
     let e = get_or c.row-neighbour-items.result.now c.loop-neighbour.neighbour-index (0, Outward) in
-    let begins : begins_to_meet counts had c.args.count e ≡ true = sym c.begins_to_meet.ensures ∙ c.if-begins_to_meet.true in
+    let begins : newly_meets counts had c.args.count e ≡ true = sym c.newly_meets.ensures ∙ c.if-newly_meets.true in
     room_to_lower net.nodes net.links c.row-neighbour-items.result.now counts c.loop-neighbour.missing c.args.y c.args.count
     c.loop-neighbour.neighbour-index c.network_law.ensures.is_net c.row-neighbour-items.ensures c.requires.node
     c.requires.one_each.0 c.requires.up c.loop-neighbour.invariant.lowered c.loop-neighbour-test.true begins
 
-pub bounds-missing-at-then-begins_to_meet : goal.bounds-missing-at-then-begins_to_meet
-bounds-missing-at-then-begins_to_meet c =
+pub bounds-missing-at-then-newly_meets : goal.bounds-missing-at-then-newly_meets
+bounds-missing-at-then-newly_meets c =
     let net = c.args.net.now in
     let e = other_node net.nodes net.links c.args.y c.row-neighbour-items.result.now c.loop-neighbour.neighbour-index
     c.network_law.ensures.is_net c.row-neighbour-items.ensures c.loop-neighbour-test.true in
@@ -52,13 +52,13 @@ loop-neighbour-preserved c =
     let had : ℕ = slice_index counts y in
     let j : ℕ = c.loop-neighbour.neighbour-index in
     let e = get_or list j (0, Outward) in
-    let tested : begins_to_meet counts had count e ≡ c.begins_to_meet.result = sym c.begins_to_meet.ensures in
+    let tested : newly_meets counts had count e ≡ c.newly_meets.result = sym c.newly_meets.ensures in
     let missed : misses counts count e ≡ c.is_below.result = sym c.is_below.ensures in
     let passed = counted_on list counts count c.loop-neighbour.own j c.from-own.result c.is_below.result
     c.loop-neighbour.invariant.counted c.loop-neighbour-test.true missed c.from-own.ensures in
-    elim c.if-begins_to_meet.branch [
-      | then-begins_to_meet w ↦
-          let begins : begins_to_meet counts had count e ≡ true = tested ∙ w.if-begins_to_meet.true in
+    elim c.if-newly_meets.branch [
+      | then-newly_meets w ↦
+          let begins : newly_meets counts had count e ≡ true = tested ∙ w.if-newly_meets.true in
           let room = room_to_lower net.nodes net.links list counts c.loop-neighbour.missing y count j is_net
           c.row-neighbour-items.ensures c.requires.node c.requires.one_each.0 c.requires.up
           c.loop-neighbour.invariant.lowered c.loop-neighbour-test.true begins in record {
@@ -67,10 +67,10 @@ loop-neighbour-preserved c =
                 c.row-neighbour-items.ensures c.loop-neighbour.invariant.lowered c.loop-neighbour-test.true begins room);
             counted = passed;
           }
-      | else-begins_to_meet w ↦ record {
+      | else-newly_meets w ↦ record {
         lowered = subst (λ (m : List ℕ). IsLoweredTo net.nodes net.links list counts m y count (j + 1)) (sym w.missing-is)
             (lowered_no net.nodes net.links list counts c.loop-neighbour.missing y count j
-            c.loop-neighbour.invariant.lowered c.loop-neighbour-test.true (tested ∙ w.if-begins_to_meet.false));
+            c.loop-neighbour.invariant.lowered c.loop-neighbour-test.true (tested ∙ w.if-newly_meets.false));
         counted = passed;
       }
     ]

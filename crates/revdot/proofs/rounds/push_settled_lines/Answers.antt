@@ -1,6 +1,6 @@
 use Rattle.std.proofs.Common.{◌≡◌, ◌++◌, List, string_bytes, ℕ}
 use Rattle.std.proofs.lemmas.Result.{on_ok_weaker}
-use Rattle.fr_lines.specs.declared.requests.Question.TheVariants.{Ways}
+use Rattle.fr_requests.specs.declared.requests.Question.TheVariants.{Ways}
 use Rattle.revdot.specs.Stories.{IsAnswerLine}
 use Rattle.revdot.proofs.Telling.{settled_told}
 use Rattle.revdot.proofs.rounds.push_settled_lines.Goals as goal

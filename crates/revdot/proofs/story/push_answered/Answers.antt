@@ -1,9 +1,9 @@
 use Rattle.std.proofs.Common.{◌≡◌, ◌∙◌, ◌++◌, List, Ok, [], append-nil, codes, eqb, false, refl, rules, string_bytes, subst, sym, true, ℕ}
 use Rattle.std.proofs.lemmas.Result.{on_ok_weaker}
 use Rattle.std.specs.List.{starts_with}
-use Rattle.fr_lines.specs.Requests.{plain, reading}
+use Rattle.fr_requests.specs.Requests.{plain, reading}
 use Rattle.fr_route.specs.Json.{EndsHere, IsJsonLineAnswer}
-use Rattle.fr_route.specs.Told.{IsTold}
+use Rattle.fr_route.specs.Telling.{IsTold}
 use Rattle.revdot.specs.Stories.{IsRoundStory, makes_round, net_before, refusal_line}
 use Rattle.revdot.proofs.Telling.{answered_told, refused_told, round_follows}
 use Rattle.revdot.proofs.story.push_answered.Goals as goal

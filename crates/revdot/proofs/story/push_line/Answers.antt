@@ -1,6 +1,6 @@
 use Rattle.std.proofs.Common.{◌≡◌, ◌++◌, refl, rules, string_bytes}
 use Rattle.std.proofs.lemmas.Result.{on_ok_weaker}
-use Rattle.fr_lines.specs.declared.requests.LineFault.TheVariants.{NotJson, NotRequest}
+use Rattle.fr_requests.specs.declared.requests.LineFault.TheVariants.{NotJson, NotRequest}
 use Rattle.fr_route.specs.Texts.{refusal_text}
 use Rattle.revdot.specs.Stories.{answer_text}
 use Rattle.revdot.proofs.Telling.{unread_told}

@@ -1,5 +1,5 @@
 use Rattle.std.proofs.Common.{◌∙◌, ◌++◌, ◌∷◌, [], ℕ, List, if◌then◌else◌, string_bytes, subst}
-use Rattle.fr_lines.specs.Requests.{reading}
+use Rattle.fr_requests.specs.Requests.{reading}
 use Rattle.fr_route.specs.Forms.{IsAnswerIn}
 use Rattle.fr_command.specs.Points.{Point, AreAnswersIn, one_more}
 use Rattle.fr_command.proofs.AnswersIn.{answered_line}

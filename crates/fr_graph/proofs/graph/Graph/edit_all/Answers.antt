@@ -7,7 +7,7 @@ use Rattle.fr_graph.specs.Batches.{IsEditFault}
 use Rattle.fr_graph.specs.Evidence.{NamesOfEdit}
 use Rattle.fr_graph.specs.Graph.{AreDone, CanUndo, shown}
 use Rattle.fr_graph.specs.Network.{Network}
-use Rattle.fr_graph.specs.declared.graph.Done.{Done}
+use Rattle.fr_graph.specs.declared.graph.Effect.{Effect}
 use Rattle.fr_graph.specs.declared.edit.Edit.{Edit}
 use Rattle.fr_graph.proofs.graph.Graph.edit_all.Goals as goal
 use Rattle.fr_graph.proofs.graph.Graph.edit_all.Goals.{In-Err}
@@ -84,7 +84,7 @@ loop-at-preserved c =
     record {
       graph = edited.graph;
       made = rw more (made_next first c.args.edits.now at mid after _ (omega (arith, c.loop-at-test.true)) inv.made edited.made);
-      undo = subst (λ (ds : List Done). AreDone c.edit.new.self first ds after) (sym c.push_reserved.ensures.items)
+      undo = subst (λ (ds : List Effect). AreDone c.edit.new.self first ds after) (sym c.push_reserved.ensures.items)
           (more_done c.edit.new.self first c.loop-at.done.items mid c.in-Ok.step after kept edited.back edited.by);
       one_each = omega (arith, c.push_reserved.ensures.len, inv.one_each);
       all_room = omega (arith, c.push_reserved.ensures.capacity, inv.all_room);

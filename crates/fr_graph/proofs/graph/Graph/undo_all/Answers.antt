@@ -2,7 +2,7 @@ use Rattle.std.proofs.Common.{List, arith, subst, sym, ◌≡◌}
 use Rattle.fr_graph.proofs.Undoing.{last_done, no_steps, rooms_kept, still_done}
 use Rattle.fr_graph.specs.Graph.{AreDone, CanUndo, HasRoomFor, IsDone, shown}
 use Rattle.fr_graph.specs.Network.{Network}
-use Rattle.fr_graph.specs.declared.graph.Done.{Done}
+use Rattle.fr_graph.specs.declared.graph.Effect.{Effect}
 use Rattle.fr_graph.proofs.graph.Graph.undo_all.Goals as goal
 use Rattle.fr_graph.proofs.graph.Graph.undo_all.Goals.{In-Some}
 
@@ -12,7 +12,7 @@ last : (c : In-Some) (first : Network) → CanUndo first c.args.done.now.items c
     × (HasRoomFor c.loop-last.self mid × IsDone mid c.in-Some.last (shown c.loop-last.self)))
 last c first can =
     last_done c.loop-last.self first c.pop.new.self.items c.in-Some.last (shown c.loop-last.self)
-    (subst (λ (ds : List Done). AreDone c.loop-last.self first ds (shown c.loop-last.self)) c.in-Some.ensures.items (c.loop-last.invariant.undo first can))
+    (subst (λ (ds : List Effect). AreDone c.loop-last.self first ds (shown c.loop-last.self)) c.in-Some.ensures.items (c.loop-last.invariant.undo first can))
 
 pub undo-requires-clause-done : goal.undo-requires-clause-done
 undo-requires-clause-done c =

@@ -1,5 +1,5 @@
 use Rattle.std.proofs.Common.{◌≡◌, ◌∙◌, Ok, Some, ap, refl, subst, sym, ℕ}
-use Rattle.fr_lines.specs.Requests.{make_edits}
+use Rattle.fr_requests.specs.Requests.{make_edits}
 use Rattle.fr_route.specs.Changes.{IsPlacedFault}
 use Rattle.fr_route.specs.Outcomes.{IsEdited}
 use Rattle.fr_route.specs.States.{State}

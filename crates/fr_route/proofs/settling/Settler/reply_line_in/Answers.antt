@@ -1,5 +1,5 @@
 use Rattle.fr_route.proofs.Replying.{line_in, list_alone, no_list}
-use Rattle.fr_route.specs.declared.told.Told.TheVariants.{Nobody}
+use Rattle.fr_route.specs.declared.changed_nodes.ChangedNodes.TheVariants.{Nobody}
 use Rattle.fr_route.proofs.settling.Settler.reply_line_in.Goals as goal
 
 pub returns-in-Text : goal.returns-in-Text

@@ -1,6 +1,6 @@
 use Rattle.std.proofs.Common.{◌≡◌, ◌∙◌, ◌<◌, None, Ok, Some, [], ap, arith, refl, subst, sym}
 use Rattle.fr_graph.specs.Network.{Network}
-use Rattle.fr_lines.specs.Requests.{move_dest}
+use Rattle.fr_requests.specs.Requests.{move_dest}
 use Rattle.fr_route.specs.Changes.{IsPlacedFault}
 use Rattle.fr_route.specs.States.{State, IsRound}
 use Rattle.fr_route.specs.Replies.{answer_form}

@@ -2,7 +2,7 @@ use Rattle.std.proofs.Common.{◌≡◌, ◌≤◌, Option, length, string_bytes
 use Rattle.fr_route.proofs.Replying.{done, faulty, new_refusal, new_text}
 use Rattle.std.specs.Prelude.{String}
 use Rattle.std.specs.declared.alloc.Global.{Global}
-use Rattle.fr_lines.specs.Requests.{new_network}
+use Rattle.fr_requests.specs.Requests.{new_network}
 use Rattle.fr_route.specs.Replies.{IsReportIn, answer_form}
 use Rattle.fr_route.specs.Reroutes.{AreReplaced}
 use Rattle.fr_route.specs.States.{State}

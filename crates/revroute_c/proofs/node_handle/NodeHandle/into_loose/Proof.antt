@@ -33,7 +33,7 @@ use Rattle.revroute_c.proofs.Owned.{word, either_owned}
 use Rattle.revroute_c.proofs.NodeHandles.{handle_out}
 use Rattle.revroute_c.specs.Machines.{no_machine}
 use Rattle.revroute_c.specs.NodeLending.{kept_by}
-use Rattle.revroute_c.proofs.Values.{al, both, Loose, loose_good, loose_in}
+use Rattle.revroute_c.proofs.Values.{al, both, BoxParts, loose_good, loose_in}
 use Rattle.revroute_c.specs.contracts.node_handle.NodeHandle.{the_row as H'}
 use Rattle.revroute_c.specs.contracts.node_handle.NodeHandle.into_loose.{ended, clauses}
 use Rattle.revroute_c.specs.contracts.node_handle.NodeHandle.into_loose.Key.{name as #self}
@@ -44,7 +44,7 @@ pub into_loose_spec : {M : Type 1} → statement M
 into_loose_spec 𝓤 𝓛 𝓜 𝓡 wired =
     let H = 𝓛.H in let 𝓣 = tables 𝓤 H 𝓜 𝓡 𝓡.env in let c = clauses 𝓛 𝓜.mem 𝓡.returns in let fn = code.function in
     let Z : RattleType = heap.the_row in let LZ = heap_laws.the_row_laws in
-    let Lr : RattleType = Loose S Z LZ ghosts in let hs : Stays ended.signature.params ended.kept =
+    let Lr : RattleType = BoxParts S Z LZ ghosts in let hs : Stays ended.signature.params ended.kept =
     (stay_dropped (plain (λ _. H')) yes, (stay_dropped (plain (λ _. Z)) yes, tt)) in
     proved_at 𝓛 ended hs c 𝓜 𝓡 (
       Goes-dropped 𝓛 0 (plain (λ _. H')) yes (λ κs x f. refl),

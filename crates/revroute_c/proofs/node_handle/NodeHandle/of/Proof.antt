@@ -24,7 +24,7 @@ use Rattle.std.proofs.raw_atomic.Walks.{proved_at, leaves}
 use Rattle.revroute_c.specs.contracts.machine.Machine.{the_row as S}
 use Rattle.revroute_c.proofs.Owned.{word, boxed}
 use Rattle.revroute_c.proofs.NodeHandles.{handle_in, handle_of}
-use Rattle.revroute_c.proofs.Values.{both, Loose, loose_good, loose_out}
+use Rattle.revroute_c.proofs.Values.{both, BoxParts, loose_good, loose_out}
 use Rattle.revroute_c.specs.contracts.node_handle.NodeHandle.of.{ended, clauses}
 use Rattle.revroute_c.specs.contracts.node_handle.NodeHandle.of.Key.{name as #self}
 use Rattle.revroute_c.proofs.node_handle.NodeHandle.of.Statement.{statement}
@@ -34,7 +34,7 @@ pub of_spec : {M : Type 1} → statement M
 of_spec 𝓤 𝓛 𝓜 𝓡 wired =
     let H = 𝓛.H in let 𝓣 = tables 𝓤 H 𝓜 𝓡 𝓡.env in let c = clauses 𝓛 𝓜.mem 𝓡.returns in let fn = code.function in
     let Z : RattleType = heap.the_row in let LZ = heap_laws.the_row_laws in
-    let Lr : RattleType = Loose S Z LZ ghosts in let hs : Stays ended.signature.params ended.kept = (stay_dropped (plain (λ _. Lr)) yes, tt) in
+    let Lr : RattleType = BoxParts S Z LZ ghosts in let hs : Stays ended.signature.params ended.kept = (stay_dropped (plain (λ _. Lr)) yes, tt) in
     proved_at 𝓛 ended hs c 𝓜 𝓡 (Goes-dropped 𝓛 0 (plain (λ _. Lr)) yes (λ κs x f. refl), tt) #self fn (code.unfolded 𝓤 H 𝓜 𝓡 wired) (λ z are.
     let κs = z.0.0 in let v = z.0.3.0 in let Post : Val → SProp 𝓤 = (walk_of 𝓛 ended hs c).post z in let Run : List Val
     → SProp 𝓤 = λ ws. WpFn 𝓤 H 𝓣.C 𝓣.Λ fn ws Post in

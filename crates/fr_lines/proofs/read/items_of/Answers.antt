@@ -1,7 +1,0 @@
-use Rattle.std.proofs.Common.{Some, ap, map, sym, ◌∙◌}
-use Rattle.serde_json.specs.View.{view}
-use Rattle.fr_lines.proofs.Items.{items_viewed}
-use Rattle.fr_lines.proofs.read.items_of.Goals as goal
-
-pub returns : goal.returns
-returns c = ap (λ vs. Some (map view vs)) c.as_slice.ensures.value ∙ sym (items_viewed _ _ (sym c.in_ok-as_array.ensures))

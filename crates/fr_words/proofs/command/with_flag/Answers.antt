@@ -1,5 +1,0 @@
-use Rattle.fr_words.proofs.Makings.{makes_rule}
-use Rattle.fr_words.proofs.command.with_flag.Goals as goal
-
-pub returns : goal.returns
-returns c app = makes_rule _ _ app _ _ c.flag.ensures.rule c.with_option.ensures
