@@ -16,7 +16,7 @@ use Rattle.fr_route.specs.Outcomes.{AreNoted, AreOthers, NotesMore}
 use Rattle.fr_route.specs.Routes.{IsHop}
 use Rattle.fr_route.specs.States.{State}
 use Rattle.fr_route.specs.declared.changed_nodes.ChangedNodes.{ChangedNodes}
-use Rattle.fr_route.specs.declared.changed_nodes.ChangedNodes.TheVariants.{Unlisted, Listed}
+use Rattle.fr_route.specs.declared.changed_nodes.ChangedNodes.TheVariants.{InList, Unlisted}
 use Rattle.fr_tables.specs.declared.hop.Hop.{Hop}
 use Rattle.fr_route.proofs.Determined.{one_hop}
 
@@ -118,5 +118,5 @@ others_noted s before hops nodes noted = record {
 
 -- if there is room, there is a list
 pub listing_has : (n : ℕ) (told : ChangedNodes) → HasPlaces n told → IsListing told
-listing_has n Nobody has = has
-listing_has n (Nodes list notes) has = tt
+listing_has n Unlisted has = has
+listing_has n (InList list notes) has = tt

@@ -41,7 +41,7 @@ use Rattle.fr_route.specs.declared.form.Form.TheVariants.{Text, Json, JsonWithWa
 use Rattle.fr_route.specs.Replies.{AnswerForm}
 use Rattle.fr_route.specs.declared.revision.Revision.{Revision}
 use Rattle.fr_route.specs.declared.changed_nodes.ChangedNodes.{ChangedNodes}
-use Rattle.fr_route.specs.declared.changed_nodes.ChangedNodes.TheVariants.{Unlisted, Listed}
+use Rattle.fr_route.specs.declared.changed_nodes.ChangedNodes.TheVariants.{InList, Unlisted}
 use Rattle.fr_ways.specs.Changes.{Noted}
 use Rattle.fr_tables.specs.declared.hop.Hop.{Hop}
 use Rattle.fr_route.proofs.Changing.{add_by, cut_by, join_by, named_edit, refused_edit}
@@ -443,8 +443,8 @@ list_alone told listing = record { list = λ other. listing; notes = λ e. absur
 
 -- notes are beside a list
 asked_listing : (told : ChangedNodes) → AsksWays told → IsListing told
-asked_listing Nobody (notes, is) = absurd cc
-asked_listing (Nodes list notes) asks = tt
+asked_listing Unlisted (notes, is) = absurd cc
+asked_listing (InList list notes) asks = tt
 
 pub list_with_notes : (told : ChangedNodes) → AsksWays told → HasList JsonWithWays told
 list_with_notes told asks = record { list = λ other. asked_listing told asks; notes = λ e. asks }

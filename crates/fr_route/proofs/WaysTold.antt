@@ -7,7 +7,7 @@ use Rattle.std.proofs.Common.{ℕ, Option}
 use Rattle.fr_ways.specs.Changes.{KeepsPushes, Noted}
 use Rattle.fr_route.specs.Listing.{AsksWays, HasSameList, notes_told, ways_in, ways_told}
 use Rattle.fr_route.specs.declared.changed_nodes.ChangedNodes.{ChangedNodes}
-use Rattle.fr_route.specs.declared.changed_nodes.ChangedNodes.TheVariants.{Nodes}
+use Rattle.fr_route.specs.declared.changed_nodes.ChangedNodes.TheVariants.{InList}
 use Rattle.fr_route.specs.declared.way_notes.WayNotes.{WayNotes}
 
 pub pushes_same : (n : Noted) → KeepsPushes n n
@@ -22,7 +22,7 @@ pub same_asking : (a b : ChangedNodes) → notes_told b ≡ notes_told a → Ask
 same_asking a b same (notes, is) = (notes, same ∙ is)
 
 -- other notes beside the same list
-pub same_list : (list : Vec ℕ Global) (a b : Box WayNotes Global) → HasSameList (Nodes list (Some a)) (Nodes list (Some b))
+pub same_list : (list : Vec ℕ Global) (a b : Box WayNotes Global) → HasSameList (InList list (Some a)) (InList list (Some b))
 same_list list a b = record {
   nodes = refl;
   places = λ n has. has;

@@ -9,28 +9,28 @@ use Rattle.fr_ways.specs.Changes.{Noted}
 use Rattle.fr_route.specs.States.{State}
 use Rattle.fr_route.specs.WayNotes.{IsBegun, LeadsOn}
 use Rattle.fr_route.specs.declared.changed_nodes.ChangedNodes.{ChangedNodes}
-use Rattle.fr_route.specs.declared.changed_nodes.ChangedNodes.TheVariants.{Unlisted, Listed}
+use Rattle.fr_route.specs.declared.changed_nodes.ChangedNodes.TheVariants.{InList, Unlisted}
 use Rattle.fr_route.specs.declared.way_notes.WayNotes.{WayNotes}
 
 -- the caller asks for the list
 abbrev pub IsListing : ChangedNodes → Type 0
-IsListing Nobody = ⊥
-IsListing (Nodes list notes) = Unit {0}
+IsListing Unlisted = ⊥
+IsListing (InList list notes) = Unit {0}
 
 -- the nodes in the list
 abbrev pub nodes_told : ChangedNodes → List ℕ
-nodes_told Nobody = []
-nodes_told (Nodes list notes) = list.items
+nodes_told Unlisted = []
+nodes_told (InList list notes) = list.items
 
 -- there is a list, with room for so many nodes
 abbrev pub HasPlaces : ℕ → ChangedNodes → Type 0
-HasPlaces n Nobody = ⊥
-HasPlaces n (Nodes list notes) = n ≤ vec_capacity list
+HasPlaces n Unlisted = ⊥
+HasPlaces n (InList list notes) = n ≤ vec_capacity list
 
 -- the notes of what changes do to the ways of nodes, if the caller asks for that
 abbrev pub notes_told : ChangedNodes → Option WayNotes
-notes_told Nobody = None
-notes_told (Nodes list notes) = option_map (λ (boxed : Box WayNotes Global). boxed.value) notes
+notes_told Unlisted = None
+notes_told (InList list notes) = option_map (λ (boxed : Box WayNotes Global). boxed.value) notes
 
 abbrev pub AsksWays : ChangedNodes → Type 0
 AsksWays told = (notes : WayNotes) × (notes_told told ≡ Some notes)

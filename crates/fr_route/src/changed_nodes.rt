@@ -24,9 +24,9 @@ use std::mem;
 #[derive(Debug, Drop)]
 pub(crate) enum ChangedNodes {
     /// The caller does not ask for them.
-    Nobody,
+    Unlisted,
     /// The caller's list. If he also asks what changes do to the ways of nodes, there are notes of that.
-    Nodes(Vec<u32>, Option<Box<WayNotes>>),
+    InList(Vec<u32>, Option<Box<WayNotes>>),
 }
 
 impl ChangedNodes {
@@ -35,7 +35,7 @@ impl ChangedNodes {
         ensures listing { IsListing result }
         ensures same { nodes_told result ≡ list.old.items }
     {
-        ChangedNodes::Listed(mem::replace(list, Vec::new(alloc)), None)
+        ChangedNodes::InList(mem::replace(list, Vec::new(alloc)), None)
     }
 
     /// Returns the list for the caller.
@@ -44,7 +44,7 @@ impl ChangedNodes {
     {
         match self {
             ChangedNodes::Unlisted => Vec::new(alloc),
-            ChangedNodes::Listed(list, _notes) => list,
+            ChangedNodes::InList(list, _notes) => list,
         }
     }
 
@@ -54,7 +54,7 @@ impl ChangedNodes {
     {
         match self {
             ChangedNodes::Unlisted => &[],
-            ChangedNodes::Listed(list, _) => list,
+            ChangedNodes::InList(list, _) => list,
         }
     }
 
@@ -64,7 +64,7 @@ impl ChangedNodes {
     {
         match self {
             ChangedNodes::Unlisted => {}
-            ChangedNodes::Listed(list, _) => *list = nodes,
+            ChangedNodes::InList(list, _) => *list = nodes,
         }
     }
 
@@ -76,7 +76,7 @@ impl ChangedNodes {
     {
         match self {
             ChangedNodes::Unlisted => Ok(()),
-            ChangedNodes::Listed(list, _) => list.reserve(
+            ChangedNodes::InList(list, _) => list.reserve(
                 (nodes as usize).saturating_sub(list.len()),
             ),
         }
@@ -89,7 +89,7 @@ impl ChangedNodes {
     {
         match self {
             ChangedNodes::Unlisted => {}
-            ChangedNodes::Listed(list, _) => list.clear(),
+            ChangedNodes::InList(list, _) => list.clear(),
         }
     }
 
@@ -101,7 +101,7 @@ impl ChangedNodes {
     {
         match self {
             ChangedNodes::Unlisted => {}
-            ChangedNodes::Listed(list, _) => {
+            ChangedNodes::InList(list, _) => {
                 if list.len() < list.capacity() {
                     list.push_reserved(x);
                 }
@@ -121,7 +121,7 @@ impl ChangedNodes {
     {
         match self {
             ChangedNodes::Unlisted => {}
-            ChangedNodes::Listed(list, _) => room.order(hops, list),
+            ChangedNodes::InList(list, _) => room.order(hops, list),
         }
     }
 
@@ -131,7 +131,7 @@ impl ChangedNodes {
     {
         match self {
             ChangedNodes::Unlisted => false,
-            ChangedNodes::Listed(_, notes) => notes.is_some(),
+            ChangedNodes::InList(_, notes) => notes.is_some(),
         }
     }
 
@@ -141,7 +141,7 @@ impl ChangedNodes {
         ensures { result.now ≡ ways_told self.now }
     {
         match self {
-            ChangedNodes::Listed(_, Some(notes)) => &notes.changes,
+            ChangedNodes::InList(_, Some(notes)) => &notes.changes,
             _ => unreachable!(),
         }
     }
@@ -160,7 +160,7 @@ impl ChangedNodes {
         ensures list { HasSameList self.old self.new }
     {
         match self {
-            ChangedNodes::Listed(_, Some(notes)) => notes.begin(net, distances, edits),
+            ChangedNodes::InList(_, Some(notes)) => notes.begin(net, distances, edits),
             _ => Ok(()),
         }
     }
@@ -175,7 +175,7 @@ impl ChangedNodes {
             (ways_told self.new).grow }
         ensures list { HasSameList self.old self.new }
     {
-        if let ChangedNodes::Listed(_, Some(notes)) = self {
+        if let ChangedNodes::InList(_, Some(notes)) = self {
             notes.note(net, turns, distances, edits);
         }
     }

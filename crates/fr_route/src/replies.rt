@@ -202,7 +202,7 @@ fn replaced_nodes(
 {
     match told {
         ChangedNodes::Unlisted => Ok(Vec::new(alloc)),
-        ChangedNodes::Listed(_, _) => match router.changed_since(alloc, before) {
+        ChangedNodes::InList(_, _) => match router.changed_since(alloc, before) {
             Ok(nodes) => Ok(nodes),
             Err(_) => Err(AnswerFault::Memory),
         },

@@ -43,7 +43,7 @@ impl Reroutes {
     {
         let notes = Box::new(alloc, WayNotes::new(alloc)?)?;
         Ok(Reroutes {
-            told: ChangedNodes::Listed(Vec::new(alloc), Some(notes)),
+            told: ChangedNodes::InList(Vec::new(alloc), Some(notes)),
         })
     }
 

@@ -55,7 +55,7 @@ impl AnswerSpace {
     pub(crate) fn listing(&mut self, alloc: Global) -> ChangedNodes
         ensures { IsListing result }
     {
-        ChangedNodes::Listed(mem::replace(&mut self.list, Vec::new(alloc)), None)
+        ChangedNodes::InList(mem::replace(&mut self.list, Vec::new(alloc)), None)
     }
 
     /// Takes the list and the notes, and makes the notes if there are none yet. They come back by `keep`.
@@ -67,12 +67,12 @@ impl AnswerSpace {
             None => Box::new(alloc, WayNotes::new(alloc)?)?,
         };
         let list = mem::replace(&mut self.list, Vec::new(alloc));
-        Ok(ChangedNodes::Listed(list, Some(notes)))
+        Ok(ChangedNodes::InList(list, Some(notes)))
     }
 
     /// Keeps what was taken for the next line.
     pub(crate) fn keep(&mut self, told: ChangedNodes) {
-        if let ChangedNodes::Listed(list, notes) = told {
+        if let ChangedNodes::InList(list, notes) = told {
             self.list = list;
             if notes.is_some() {
                 self.notes = notes;

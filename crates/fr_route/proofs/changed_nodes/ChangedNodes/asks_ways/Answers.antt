@@ -15,5 +15,5 @@ asked : (notes : Option (Box WayNotes Global)) → (IsTrue (is_some notes) → (
 asked None = (λ h. absurd (false≢true h), λ (it, is). absurd cc)
 asked (Some boxed) = (λ h. (boxed.value, refl), λ h. refl)
 
-pub returns-in-Nodes : goal.returns-in-Nodes
-returns-in-Nodes c = rw (c.is_some.ensures, c.in-Nodes.is) (asked c.in-Nodes.notes)
+pub returns-in-InList : goal.returns-in-InList
+returns-in-InList c = rw (c.is_some.ensures, c.in-InList.is) (asked c.in-InList.notes)

@@ -9,13 +9,13 @@ use Rattle.fr_route.proofs.changed_nodes.ChangedNodes.begin_ways.Goals as goal
 
 pub begin-requires-clause-measured : goal.begin-requires-clause-measured
 begin-requires-clause-measured c =
-    let w = c.in-Nodes-default-Some in
+    let w = c.in-InList-default-Some in
     c.requires.measured (
       w.notes.value,
       ap notes_told w.is
           ∙ ap (λ (it : Option (Box WayNotes Global)). option_map (λ (boxed : Box WayNotes Global). boxed.value) it) w.field-1-is,
     )
 
-pub returns-in-Nodes-default-Some-clause-list : goal.returns-in-Nodes-default-Some-clause-list
-returns-in-Nodes-default-Some-clause-list c =
-    let w = c.in-Nodes-default-Some in rw (w.is, w.field-1-is) (same_list w.field-0 w.notes _)
+pub returns-in-InList-default-Some-clause-list : goal.returns-in-InList-default-Some-clause-list
+returns-in-InList-default-Some-clause-list c =
+    let w = c.in-InList-default-Some in rw (w.is, w.field-1-is) (same_list w.field-0 w.notes _)

@@ -4,11 +4,11 @@ use Rattle.fr_tables.specs.Pushes.{DifferAt, IsPushOrder}
 use Rattle.fr_route.proofs.PushLengths.{order_length}
 use Rattle.fr_route.proofs.changed_nodes.ChangedNodes.put_in_order.Goals as goal
 
-pub returns-in-Nodes-clause-order : goal.returns-in-Nodes-clause-order
-returns-in-Nodes-clause-order c = λ old same listing noted.
-    let others = rw c.in-Nodes.is at noted in
+pub returns-in-InList-clause-order : goal.returns-in-InList-clause-order
+returns-in-InList-clause-order c = λ old same listing noted.
+    let others = rw c.in-InList.is at noted in
     let hops = c.args.hops.now in
-    let list = c.in-Nodes.list in
+    let list = c.in-InList.list in
     let is : IsPushOrder old hops c.order.new.changed = c.order.ensures.order old same
     (subst (λ (nodes : List ℕ). (x : ℕ) → Contains nodes x ↔ DifferAt old hops x) (sym c.deref_mut.ensures.value) others.just) in
     let as_many : length c.order.new.changed ≡ vec_len list = omega (arith, order_length old hops list.items c.order.new.changed others is, list.ok.0) in

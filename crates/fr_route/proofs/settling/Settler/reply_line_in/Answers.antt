@@ -1,11 +1,11 @@
 use Rattle.fr_route.proofs.Replying.{line_in, list_alone, no_list}
-use Rattle.fr_route.specs.declared.changed_nodes.ChangedNodes.TheVariants.{Nobody}
+use Rattle.fr_route.specs.declared.changed_nodes.ChangedNodes.TheVariants.{Unlisted}
 use Rattle.fr_route.proofs.settling.Settler.reply_line_in.Goals as goal
 
 pub returns-in-Text : goal.returns-in-Text
 returns-in-Text g c =
-    line_in _ c.args.form c.args.line.number c.args.session.now c.args.line.bytes.now Nobody c.reply_line.result c.reply_line.new.session c.reply_line.new.told
-    (rw c.in-Text.is (no_list Nobody)) c.reply_line.ensures
+    line_in _ c.args.form c.args.line.number c.args.session.now c.args.line.bytes.now Unlisted c.reply_line.result c.reply_line.new.session c.reply_line.new.told
+    (rw c.in-Text.is (no_list Unlisted)) c.reply_line.ensures
 
 pub returns-in-Json : goal.returns-in-Json
 returns-in-Json g c =
