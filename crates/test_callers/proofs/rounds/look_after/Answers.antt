@@ -5,7 +5,7 @@ use Rattle.fr_round.specs.declared.faults.Refusal.{Refusal}
 use Rattle.fr_round.specs.declared.view.Setup.{Setup}
 use Rattle.fr_round.specs.Histories.{StartsWith, entry}
 use Rattle.fr_round.specs.Knowledge.{Knowledge, LearnsReply, RefusesLook}
-use Rattle.callers.proofs.rounds.look_after.Goals as goal
+use Rattle.test_callers.proofs.rounds.look_after.Goals as goal
 
 -- a look forgets nothing, decided or refused
 known_after : (b : Setup) (before after : Knowledge) (x : ℕ) (result : Result Reply Refusal)

@@ -6,7 +6,7 @@ use Rattle.fr_tables.specs.Pushes.{IsPushOrder, IsPushed}
 use Rattle.fr_tables.specs.Tables.{IsLoopFree}
 use Rattle.fr_tables.specs.declared.hop.Hop.{Hop}
 use Rattle.fr_tables.specs.declared.hop.Hop.TheVariants.{Here}
-use Rattle.callers.proofs.tables.push_all.Goals as goal
+use Rattle.test_callers.proofs.tables.push_all.Goals as goal
 
 -- a node of an order is in the tables
 node_inside : (old new : List Hop) (order : List ℕ) (i : ℕ) → length old ≡ length new → IsPushOrder old new order → i < length order
