@@ -9,8 +9,8 @@ pub fn is_blank(line: &[u8]) -> bool
 {
     // A loop, because a closure takes far longer to prove.
     for byte in line {
-        let is_blank = *byte == b'\t' || *byte == b'\r' || *byte == b' ';
-        if !is_blank {
+        let is_space = *byte == b'\t' || *byte == b'\r' || *byte == b' ';
+        if !is_space {
             return false;
         }
     }

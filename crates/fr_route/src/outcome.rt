@@ -144,7 +144,7 @@ pub(crate) fn push_ends(nodes: &mut Vec<u32>, edits: &[Edit]) -> Result<(), Allo
 }
 
 /// Appends the nodes that have turned as often as there are nodes, in increasing order.
-pub(crate) fn push_capped(
+pub(crate) fn push_capped_nodes(
     capped: &mut Vec<u32>,
     nodes: u32,
     counts: &[u64],

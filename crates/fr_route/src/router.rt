@@ -17,6 +17,7 @@ ghost use Rattle.fr_route.specs.Reroutes.{TellsRerouted, TellsReroutes, nodes_in
 ghost use Rattle.fr_route.specs.WayPushes.{IsPhasesFault, LeadToWays};
 ghost use Rattle.fr_route.specs.Tries.{IsTried, change_of, edit_of, revision_of};
 ghost use Rattle.fr_route.specs.Outcomes.{IsOutcome, IsRoundFault};
+ghost use Rattle.fr_tables.specs.Tables.{IsInRange as NamesNodes};
 ghost use Rattle.fr_ways.specs.Ways.{IsInRange};
 ghost use Rattle.fr_route.specs.Outcomes.{IsSettledTable, cut_off_nodes, movable, nodes_listed, state_after};
 
@@ -26,7 +27,9 @@ use crate::fault::{NotMade, RouteFault, placeless};
 use crate::hops::{AfterRound, Walked, hop_table, resized};
 use crate::kept_distances::{KeptDistances, table_of_ways};
 use crate::movable::Movable;
-use crate::outcome::{alone_nodes, ends, push_capped, put_in_place, report_of, touched_nodes};
+use crate::outcome::{
+    alone_nodes, ends, push_capped_nodes, put_in_place, report_of, touched_nodes,
+};
 use crate::reroutes::Reroutes;
 use crate::revision::Revision;
 use crate::settling::{Settler, counts_alone};
@@ -100,16 +103,16 @@ fn keep_turns(last: &mut Turns, spare: &mut SpareTurns, turns: Turns)
     spare.keep(mem::replace(last, turns));
 }
 
-/// What a router keeps beside its network: the next hops, and room for what changes need.
+/// What a router keeps to forward packets, beside its network: the next hops, and room for what changes need.
 #[derive(Drop)]
-struct Beside {
+struct ForwardingState {
     hops: Vec<Hop>,
     distances: KeptDistances,
     room: PushRoom,
 }
 
-/// What a router keeps beside its network after this round. Its distances are not kept yet.
-fn make_beside(alloc: Global, round: &AfterRound<'_>) -> Result<Beside, AllocError>
+/// The forwarding state after this round. Its distances are not kept yet.
+fn forwarding_state(alloc: Global, round: &AfterRound<'_>) -> Result<ForwardingState, AllocError>
     requires { IsAfterRound (state_after round.now) }
     ensures hops { IfOk result (λ made. AreHops (state_after round.now) round.now.net.now.nodes made.hops.items) }
     ensures distances { IfOk result (λ made. length made.distances.table.table ≡ round.now.net.now.nodes) }
@@ -117,7 +120,7 @@ fn make_beside(alloc: Global, round: &AfterRound<'_>) -> Result<Beside, AllocErr
     ensures room { IfOk result (λ made. made.room ≡ round.now.net.now.nodes) }
 {
     round.net.network_law();
-    Ok(Beside {
+    Ok(ForwardingState {
         hops: hop_table(alloc, round)?,
         distances: KeptDistances::unmeasured(alloc, round.net)?,
         room: PushRoom::new(alloc, round.net.nodes())?,
@@ -319,11 +322,11 @@ impl Router {
             dest,
             turns: &turns,
         };
-        let Beside {
+        let ForwardingState {
             hops,
             distances,
             room,
-        } = make_beside(alloc, &round)?;
+        } = forwarding_state(alloc, &round)?;
         Ok(Router {
             net,
             dest,
@@ -480,7 +483,7 @@ impl Router {
         let mut nodes = touched_nodes(alloc, self.dest, revision.dest, revision.edits)?;
         if cut_off > 0 {
             nodes.reserve(cut_off as usize)?;
-            push_capped(&mut nodes, self.net.nodes(), self.turns.counts())?;
+            push_capped_nodes(&mut nodes, self.net.nodes(), self.turns.counts())?;
         }
         Ok(Movable::Many(nodes))
     }
@@ -621,14 +624,24 @@ impl Router {
         ensures pushes { IfOk result (λ nodes. ArePushes self.now table.now nodes.items) }
         ensures fault { IfErr result (IsPushesFault self.now table.now) }
     {
-        self.net.network_law();
         if table.len() != self.hops.len() {
             return Err(TableFault::Length);
         }
         if let Some(x) = first_outside(table) {
             return Err(TableFault::Range(x));
         }
-        Ok(known_push_order(alloc, table, &self.hops)?)
+        Ok(self.known_pushes(alloc, table)?)
+    }
+
+    /// Lists the same nodes as [`pushes`](Router::pushes) without any test: the table must have one hop for each node, and
+    /// each hop must name a node. Fails with `AllocError` if an allocation is refused. O(n).
+    pub fn known_pushes(&self, alloc: Global, table: &[Hop]) -> Result<Vec<u32>, AllocError>
+        requires nodes { length table.now ≡ self.now.nodes }
+        requires range { NamesNodes table.now }
+        ensures { IfOk result (λ nodes. ArePushes self.now table.now nodes.items) }
+    {
+        self.net.network_law();
+        known_push_order(alloc, table, &self.hops)
     }
 
     /// The next hop of node `x`, which must be in the network: the neighbour with the lowest number to which a link

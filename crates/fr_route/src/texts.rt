@@ -74,6 +74,15 @@ pub fn links_line(alloc: Global, links: Links<'_>) -> Result<String, AllocError>
     links_in(String::new(alloc), links)
 }
 
+/// The same, in the memory of this string.
+pub(crate) fn links_in(spare: String, links: Links<'_>) -> Result<String, AllocError>
+    ensures { IfOk result (λ line. string_bytes line ≡ links_text links.entry) }
+{
+    let mut line = begun(spare, "links", links.len().saturating_mul(2))?;
+    push_links(&mut line, links)?;
+    Ok(line)
+}
+
 /// Appends a space and `tail>head` for each link.
 fn push_links(line: &mut String, links: Links<'_>) -> Result<(), AllocError>
     ensures { OnOk result (string_bytes line.new ≡ string_bytes line.old ++ spaced_links links.entry) }
@@ -84,15 +93,6 @@ fn push_links(line: &mut String, links: Links<'_>) -> Result<(), AllocError>
         push_number(line, ">", u64::from(head), &mut buffer)?;
     }
     Ok(())
-}
-
-/// The same, in the memory of this string.
-pub(crate) fn links_in(spare: String, links: Links<'_>) -> Result<String, AllocError>
-    ensures { IfOk result (λ line. string_bytes line ≡ links_text links.entry) }
-{
-    let mut line = begun(spare, "links", links.len().saturating_mul(2))?;
-    push_links(&mut line, links)?;
-    Ok(line)
 }
 
 /// `counts`, and then a space and the count for each node. Fails with `AllocError` if an allocation is refused. O(b)

@@ -1,7 +1,7 @@
 use Rattle.std.proofs.Common.{Bool, List, append-nil, arith, eq-eqb, false, ne_eqb, slice_index, sym, true, ℕ, ◌==◌, ◌∙◌}
 use Rattle.fr_route.proofs.CutNodes.{filtered_more}
-use Rattle.fr_route.proofs.outcome.push_capped.Goals as goal
-use Rattle.fr_route.proofs.outcome.push_capped.Goals.{then-counts-x+in_ok-push, else-counts-x}
+use Rattle.fr_route.proofs.outcome.push_capped_nodes.Goals as goal
+use Rattle.fr_route.proofs.outcome.push_capped_nodes.Goals.{then-counts-x+in_ok-push, else-counts-x}
 
 pub loop-x-preserved : goal.loop-x-preserved
 loop-x-preserved c =
