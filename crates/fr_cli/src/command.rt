@@ -157,23 +157,10 @@ fn planning<'a>(alloc: Global, name: &'a str, about: &'a str) -> Made<'a>
     ensures { Makes (planning_of name.entry.now) result }
 {
     let command = described(alloc, name, about, REQUESTS);
-    let command = with_number(
-        alloc,
-        command,
-        "workers",
-        "4",
-        worker_numbers(),
-        RUN_WORKERS,
-    );
-    let command = with_number(alloc, command, "seed", "0", value_parser!(u64), RUN_SEED);
-    with_number(
-        alloc,
-        command,
-        "budget",
-        "1000000",
-        budget_numbers(),
-        BUDGET,
-    )
+    let workers = option(alloc, "workers", "4", worker_numbers(), RUN_WORKERS);
+    let seed = option(alloc, "seed", "0", value_parser!(u64), RUN_SEED);
+    let budget = option(alloc, "budget", "1000000", budget_numbers(), BUDGET);
+    with_option(with_option(with_option(command, workers), seed), budget)
 }
 
 /// The subcommand that plays a drawn schedule.
@@ -181,16 +168,10 @@ fn play_command<'a>(alloc: Global) -> Made<'a>
     ensures { Makes play_command_of result }
 {
     let command = described(alloc, "play", PLAY_ABOUT, PLAY_EXAMPLE);
-    let command = with_number(
-        alloc,
-        command,
-        "workers",
-        "2",
-        worker_numbers(),
-        PLAY_WORKERS,
-    );
-    let command = with_number(alloc, command, "seed", "0", value_parser!(u64), PLAY_SEED);
-    with_number(alloc, command, "steps", "100", step_numbers(), STEPS)
+    let workers = option(alloc, "workers", "2", worker_numbers(), PLAY_WORKERS);
+    let seed = option(alloc, "seed", "0", value_parser!(u64), PLAY_SEED);
+    let steps = option(alloc, "steps", "100", step_numbers(), STEPS);
+    with_option(with_option(with_option(command, workers), seed), steps)
 }
 
 /// A command with this name, a description and an example.
@@ -226,22 +207,7 @@ fn with_flag<'a>(alloc: Global, command: Made<'a>, name: &'a str, help: &'a str)
     with_option(command, flag(alloc, name, help))
 }
 
-/// The command with one more option, which has a number. `default` is its text if the option is not given.
-fn with_number<'a>(
-    alloc: Global,
-    command: Made<'a>,
-    name: &'a str,
-    default: &'a str,
-    numbers: ValueParser<'a>,
-    help: &'a str,
-) -> Made<'a>
-    ensures { (app : App) → Makes app command.entry
-        → Makes (with_rule app (option_of name.entry.now default.entry.now numbers.entry)) result }
-{
-    with_option(command, option(alloc, name, default, numbers, help))
-}
-
-/// The command with one more option, of any kind.
+/// The command with one more option or flag.
 #[tactic(auto, unfolding(crate::specs::Making::Makes))]
 fn with_option<'a>(command: Made<'a>, option: Arg<'a>) -> Made<'a>
     requires { option.global ≡ false }

@@ -108,32 +108,24 @@ pub fn settle<R: Threads + Wait + Sync, G: Gate + Sync>(
 /// Its faults and its costs are those of `settle`. Only where no worker makes a call does it allocate more: `left`
 /// and `turned`, which takes `O(n + k)` steps for k workers.
 pub fn settle_telling<R: Threads + Wait + Sync, G: Gate + Sync>(
-    rt: &R,
-    alloc: Global,
+    crew: &Crew<'_, R, G>,
     net: Net,
     dest: u32,
-    plan: &Plan,
-    gate: &G,
 ) -> Result<CrewWork, CrewFault>
     ensures settled { IfOk result (λ work. IsSettlement net.nodes dest net.links work.settled) }
-    ensures told { IfOk result (IsCrewWork net.nodes dest net.links plan.now (G.passed gate.now)) }
+    ensures told { IfOk result (IsCrewWork net.nodes dest net.links crew.now.plan.now (G.passed crew.now.gate.now)) }
     ensures range { IfErr result (λ fault. (fault ≡ Range) ↔ (net.nodes ≤ dest)) }
-    ensures by_finisher { plan.now.budget ≡ 0 → IfOk result (λ work. work.settled.by_workers ≡ 0) }
-    ensures no_start { (plan.now.budget ≡ 0) ⊎ (plan.now.workers ≡ 1) → IfErr result (λ fault. fault ≢ Start) }
+    ensures by_finisher { crew.now.plan.now.budget ≡ 0 → IfOk result (λ work. work.settled.by_workers ≡ 0) }
+    ensures no_start { (crew.now.plan.now.budget ≡ 0) ⊎ (crew.now.plan.now.workers ≡ 1)
+        → IfErr result (λ fault. fault ≢ Start) }
     ensures still { AreSettled net.nodes dest net.links (replicate net.nodes 0)
         → IfErr result (λ fault. fault ≢ Start) }
 {
-    let turns = none_yet(alloc, &net, dest)?;
-    let crew = Crew {
-        rt,
-        alloc,
-        plan,
-        gate,
-    };
-    if plan.budget() == 0 || are_settled(&net, dest, turns.counts()) {
-        return settled_by_none(&crew, net, dest, turns);
+    let turns = none_yet(crew.alloc, &net, dest)?;
+    if crew.plan.budget() == 0 || are_settled(&net, dest, turns.counts()) {
+        return settled_by_none(crew, net, dest, turns);
     }
-    settled_by(&crew, net, dest, turns)
+    settled_by(crew, net, dest, turns)
 }
 
 /// Does the same on the calling thread, by [`finish_turns`](fr_core::finish_turns). The result is that of [`settle`],

@@ -8,7 +8,6 @@ use crate::questions::{CUT_OFF, HERE};
 use crate::replies::hand_out;
 use crate::statuses::{ANSWERED, NO_MEMORY, NO_NETWORK, NO_TABLE, TOO_SHORT};
 use fr_route::{Hop, Session};
-use fr_tables::TableFault;
 use std::alloc::{AllocError, Global};
 
 /// The hop that a number names.
@@ -45,7 +44,7 @@ pub(crate) fn table_of(alloc: Global, numbers: &[u32]) -> Result<Vec<Hop>, Alloc
 {
     let mut table = Vec::with_capacity(alloc, numbers.len())?;
     for number in numbers {
-        table.push(hop_of(*number))?;
+        table.push_reserved(hop_of(*number));
     }
     Ok(table)
 }
@@ -78,10 +77,8 @@ pub(crate) fn pushes_in(
     let Ok(hops) = table_of(alloc, table) else {
         return NO_MEMORY;
     };
-    match router.pushes(alloc, &hops) {
+    match router.known_pushes(alloc, &hops) {
         Ok(pushes) => hand_out(&pushes, nodes, size),
-        Err(TableFault::Memory) => NO_MEMORY,
-        Err(TableFault::Length | TableFault::Loop(_)) => unreachable!(),
-        Err(TableFault::Range(_)) => unreachable!(),
+        Err(_) => NO_MEMORY,
     }
 }

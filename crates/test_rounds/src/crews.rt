@@ -3,7 +3,7 @@
 use crate::answers::Answer;
 use crate::fault::Fault;
 use crate::values::{items, network, number, small_number};
-use fr_crew::{CrewWork, Gate, OpenGate, Plan, Settled, settle, settle_telling};
+use fr_crew::{Crew, CrewWork, Gate, OpenGate, Plan, Settled, settle, settle_telling};
 use fr_net::Net;
 use serde_json::Value;
 use std::alloc::Global;
@@ -109,11 +109,17 @@ pub fn settle_and_tell<R: Threads + Wait + Sync + Alloc<A = Global>>(
     };
     let (dest, plan) = (small_number(dest)?, named_plan(workers, budget)?);
     let net = network(rt.alloc(), nodes, links)?;
+    let crew = Crew {
+        rt,
+        alloc: rt.alloc(),
+        plan: &plan,
+        gate: &OpenGate,
+    };
     let CrewWork {
         settled,
         left,
         turned,
-    } = settle_telling(rt, rt.alloc(), net, dest, &plan, &OpenGate)?;
+    } = settle_telling(&crew, net, dest)?;
     text.put("left ", &left);
     text.put(", turned ", &turned);
     text.say(", ");
