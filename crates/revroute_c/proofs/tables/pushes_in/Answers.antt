@@ -9,4 +9,4 @@ known_pushes-requires-clause-range c =
     let count = c.nodes-count.result in
     let one_each : length table ≡ count = omega (arith, c.if-table-count.false) in
     let none : find (is_outside count) table ≡ None = search rules in
-    all_in_range count table one_each none
+    rw (c.deref.ensures.value, c.in-Ok.ensures) (all_in_range count table one_each none)
