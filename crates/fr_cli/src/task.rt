@@ -99,7 +99,7 @@ pub fn command_line<'a>(
     };
     // `clap` accepts no words without a subcommand. Its contract does not say so, so this case needs an answer.
     match matches.subcommand() {
-        Some((_, options)) if lacks_json(options) => Err(ways_without_json(alloc)),
+        Some((_, options)) if has_ways_without_json(options) => Err(ways_without_json(alloc)),
         Some((name, options)) => command_line_in(name, options).ok_or(TaskFault::Memory),
         None => Err(TaskFault::Memory),
     }
@@ -201,7 +201,7 @@ fn is_given(options: &ArgMatches, name: &str) -> bool
 }
 
 /// Whether `--ways` was given without `--json`.
-fn lacks_json(options: &ArgMatches) -> bool
+fn has_ways_without_json(options: &ArgMatches) -> bool
     ensures { IsTrue result ↔ LacksJson (rows_of (found_of options.now)) }
 {
     is_given(options, "ways") && !is_given(options, "json")

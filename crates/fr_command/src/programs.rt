@@ -94,7 +94,7 @@ fn perform<T: Threads + Wait + Sync, R: Read, W: Write>(
         (traffic_of (R.remaining stream.old.reader) (W.contents stream.old.writer))
         (traffic_of (R.remaining stream.new.reader) (W.contents stream.new.writer))) }
 {
-    let form = form_for(line);
+    let form = answer_form(line);
     match line.task {
         Task::Run(plan) => {
             let crew = crew_of(rt, alloc, &plan);
@@ -117,7 +117,7 @@ fn perform<T: Threads + Wait + Sync, R: Read, W: Write>(
 }
 
 /// The form of the answers.
-fn form_for(line: &CommandLine) -> Form
+fn answer_form(line: &CommandLine) -> Form
     ensures { result ≡ form_of line.now }
 {
     if line.ways {

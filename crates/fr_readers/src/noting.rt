@@ -119,7 +119,7 @@ pub(crate) fn change_noting(
 
 /// Whether an answer to a line reports a round. A report is the only answer that begins with a `t`, and every other
 /// answer leaves the session unchanged.
-pub(crate) fn is_report(answer: &Result<Option<String>, AnswerFault>) -> bool
+pub(crate) fn is_round_report(answer: &Result<Option<String>, AnswerFault>) -> bool
     ensures { result ≡ false → IfOk answer.now
         (λ answer. IfSome answer (λ text. slice_get (string_bytes text) 0 ≢ Some 116)) }
 {

@@ -11,7 +11,7 @@ ghost use Rattle.fr_ways.specs.PushLists.{AreListed};
 ghost use Rattle.fr_route.specs.NodeWays.{AreNodeWays, HasDistance, IsNearest};
 ghost use Rattle.fr_route.specs.declared.fault.RouteFault.TheVariants.{Memory};
 
-use crate::noting::{change_noting, grow_in, is_report, shrink_in};
+use crate::noting::{change_noting, grow_in, is_round_report, shrink_in};
 use crate::publishing::{opened, publish, replaced, session_law};
 use crate::ways::{WayTables, publish_changes, publish_ways};
 use fr_route::{
@@ -244,7 +244,7 @@ impl PublishedSession {
             .answer_line_telling_alone(alloc, line, &mut self.rerouted);
         session_law(&self.session);
         publish(&mut self.publisher, &self.session, &self.rerouted);
-        publish_ways(&mut self.ways, &mut self.session, is_report(&answer));
+        publish_ways(&mut self.ways, &mut self.session, is_round_report(&answer));
         answer
     }
 

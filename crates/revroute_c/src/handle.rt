@@ -61,7 +61,7 @@ impl Handle {
     }
 
     /// The engine of a handle, unless the handle is null.
-    fn into_loose(self, alloc: Global) -> Option<BoxParts<Engine, Global>>
+    fn into_box_parts(self, alloc: Global) -> Option<BoxParts<Engine, Global>>
         ensures { MatchOption result (held_by self ≡ no_engine) (λ loose. held_by self ≡ loose.value) }
     {
         let Handle { at } = self;
@@ -83,7 +83,7 @@ impl Handle {
         ensures null { handle.new.at ≡ null_ptr }
     {
         let held = replace(handle, Handle::empty());
-        match held.into_loose(alloc) {
+        match held.into_box_parts(alloc) {
             Some(loose) => Some(loose.into_box()),
             None => None,
         }

@@ -52,7 +52,7 @@ impl NodeHandle {
     }
 
     /// The machine of a handle, unless the handle is null.
-    fn into_loose(self, alloc: Global) -> Option<BoxParts<Machine, Global>>
+    fn into_box_parts(self, alloc: Global) -> Option<BoxParts<Machine, Global>>
         ensures { MatchOption result (kept_by self ≡ no_machine) (λ loose. kept_by self ≡ loose.value) }
     {
         let NodeHandle { at } = self;
@@ -74,7 +74,7 @@ impl NodeHandle {
         ensures null { handle.new.at ≡ null_ptr }
     {
         let held = replace(handle, NodeHandle::empty());
-        match held.into_loose(alloc) {
+        match held.into_box_parts(alloc) {
             Some(loose) => Some(loose.into_box()),
             None => None,
         }

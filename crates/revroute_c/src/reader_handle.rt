@@ -53,7 +53,7 @@ impl ReaderHandle {
     }
 
     /// The reader of a handle, unless the handle is null.
-    fn into_loose(self, alloc: Global) -> Option<BoxParts<Reader, Global>>
+    fn into_box_parts(self, alloc: Global) -> Option<BoxParts<Reader, Global>>
         ensures { MatchOption result (read_by self ≡ no_reader) (λ loose. read_by self ≡ loose.value) }
     {
         let ReaderHandle { at } = self;
@@ -75,7 +75,7 @@ impl ReaderHandle {
         ensures null { handle.new.at ≡ null_ptr }
     {
         let held = replace(handle, ReaderHandle::empty());
-        match held.into_loose(alloc) {
+        match held.into_box_parts(alloc) {
             Some(loose) => Some(loose.into_box()),
             None => None,
         }

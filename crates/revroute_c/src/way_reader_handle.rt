@@ -53,7 +53,7 @@ impl WayReaderHandle {
     }
 
     /// The reader of a handle, unless the handle is null.
-    fn into_loose(self, alloc: Global) -> Option<BoxParts<Reader, Global>>
+    fn into_box_parts(self, alloc: Global) -> Option<BoxParts<Reader, Global>>
         ensures { MatchOption result (ways_read_by self ≡ no_way_reader) (λ loose. ways_read_by self ≡ loose.value) }
     {
         let WayReaderHandle { at } = self;
@@ -75,7 +75,7 @@ impl WayReaderHandle {
         ensures null { handle.new.at ≡ null_ptr }
     {
         let held = replace(handle, WayReaderHandle::empty());
-        match held.into_loose(alloc) {
+        match held.into_box_parts(alloc) {
             Some(loose) => Some(loose.into_box()),
             None => None,
         }

@@ -25,7 +25,7 @@ publish_ways-requires-clause-had c = λ other.
     let a = c.answer_line_telling_alone-answer in
     let same : a.new.self ≡ p.session =
     answer_keeps p.session a.new.self c.args.line.now a.result a.ensures.blank a.ensures.text a.ensures.unchanged
-    (c.is_report.ensures other) in
+    (c.is_round_report.ensures other) in
     subst (λ (s : Option State). IfSome p.ways (HasWaysOf s)) (sym same) c.self.invariant.ways
 
 pub returns : goal.returns

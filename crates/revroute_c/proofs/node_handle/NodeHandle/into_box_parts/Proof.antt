@@ -1,4 +1,4 @@
--- `into_loose` tests the pointer, and has the box if it is not null.
+-- `into_box_parts` tests the pointer, and has the box if it is not null.
 use Rattle.std.proofs.Common.{◌≡◌, List, [], ◌∷◌, ◌++◌, refl, sym, ap, ◌∙◌, subst, lit<}
 use mir.Val.{Val, vptr, vcons, vnil}
 use base.Logic.{SProp, ent, emp, id⊢}
@@ -35,10 +35,10 @@ use Rattle.revroute_c.specs.Machines.{no_machine}
 use Rattle.revroute_c.specs.NodeLending.{kept_by}
 use Rattle.revroute_c.proofs.Values.{al, both, BoxParts, loose_good, loose_in}
 use Rattle.revroute_c.specs.contracts.node_handle.NodeHandle.{the_row as H'}
-use Rattle.revroute_c.specs.contracts.node_handle.NodeHandle.into_loose.{ended, clauses}
-use Rattle.revroute_c.specs.contracts.node_handle.NodeHandle.into_loose.Key.{name as #self}
-use Rattle.revroute_c.proofs.node_handle.NodeHandle.into_loose.Statement.{statement}
-use Rattle.revroute_c.proofs.node_handle.NodeHandle.into_loose.Code as code
+use Rattle.revroute_c.specs.contracts.node_handle.NodeHandle.into_box_parts.{ended, clauses}
+use Rattle.revroute_c.specs.contracts.node_handle.NodeHandle.into_box_parts.Key.{name as #self}
+use Rattle.revroute_c.proofs.node_handle.NodeHandle.into_box_parts.Statement.{statement}
+use Rattle.revroute_c.proofs.node_handle.NodeHandle.into_box_parts.Code as code
 
 pub into_loose_spec : {M : Type 1} → statement M
 into_loose_spec 𝓤 𝓛 𝓜 𝓡 wired =
