@@ -29,7 +29,7 @@ pub(crate) fn targets_of(
     let nodes = turnable_nodes(alloc, net, dest)?;
     let mut targets = Vec::with_capacity(alloc, draw.workers as usize)?;
     for _worker in 0..draw.workers {
-        targets.push(targets_in_turn(alloc, &nodes, draw.steps as usize)?)?;
+        targets.push(cyclic_targets(alloc, &nodes, draw.steps as usize)?)?;
     }
     Ok(targets)
 }
@@ -48,7 +48,7 @@ fn turnable_nodes(alloc: Global, net: &Net, dest: u32) -> Result<Vec<u32>, Alloc
 }
 
 /// `most` turns: one of each of these nodes, and again from the first one. None if there are no nodes.
-fn targets_in_turn(alloc: Global, nodes: &[u32], most: usize) -> Result<Vec<Target>, AllocError>
+fn cyclic_targets(alloc: Global, nodes: &[u32], most: usize) -> Result<Vec<Target>, AllocError>
     ensures { IfOk result (λ turns. turns.items ≡ map Turn (take most (repeat most nodes.now))) }
 {
     let mut turns = Vec::new(alloc);

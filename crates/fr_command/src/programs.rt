@@ -76,7 +76,7 @@ pub fn program<'a, T: Threads + Wait + Sync, R: Read, W: Write>(
 {
     match command_line(alloc, words) {
         Ok(line) => perform(rt, alloc, &line, stream),
-        Err(fault) => tell(fault, &mut stream.writer),
+        Err(fault) => end_without_task(fault, &mut stream.writer),
     }
 }
 
@@ -155,7 +155,7 @@ fn crew_of<'a, T: Threads + Wait + Sync>(
 }
 
 /// Ends the program if the words ask for no task: writes the text that they ask for, or fails.
-fn tell<W: Write>(fault: TaskFault, writer: &mut W) -> Result<u8, Failure>
+fn end_without_task<W: Write>(fault: TaskFault, writer: &mut W) -> Result<u8, Failure>
     ensures done { IfOk result
         (λ status. (status ≡ 0) × PrintsAsked fault (W.contents writer.old) (W.contents writer.new)) }
     ensures failed { IfErr result (IsUntold fault (W.contents writer.old) (W.contents writer.new)) }

@@ -15,7 +15,7 @@ use fr_ways::PushList;
 use std::alloc::{AllocError, Global};
 
 /// Whether a change has no fault that is tested without memory.
-fn needs_memory(router: &Router, change: &Change) -> bool
+fn passes_early_tests(router: &Router, change: &Change) -> bool
     ensures { IsTrue result ↔ MayLackMemory router.now change.now }
 {
     match change {
@@ -103,7 +103,7 @@ pub(crate) fn change_noting(
         (pushes_in reroutes.new).shrink (pushes_in reroutes.new).grow) }
     ensures kept { OnErr result (pushes_in reroutes.new ≡ pushes_in reroutes.old) }
 {
-    if !needs_memory(router, &change) {
+    if !passes_early_tests(router, &change) {
         // This refuses it.
         return router.change_telling_alone(alloc, change, rerouted);
     }

@@ -78,7 +78,7 @@ fn hop_in(hops: &[Hop], x: u32) -> Hop
 
 /// Pushes the hops of a session into a table, for these nodes and in their order. If the table already has the hop of
 /// the first node, the nodes were pushed before, and nothing is pushed.
-fn bring(publisher: &mut Publisher, session: &Session, rerouted: &[u32])
+fn push_rerouted_hops(publisher: &mut Publisher, session: &Session, rerouted: &[u32])
     requires settled { IsSettledSession session.now }
     requires can { CanPublish publisher.old session.now rerouted.now }
     ensures { Publishes publisher.old session.now rerouted.now publisher.new }
@@ -101,7 +101,7 @@ pub(crate) fn publish(publisher: &mut Option<Publisher>, session: &Session, rero
     ensures { PublishesIn publisher.old session.now rerouted.now publisher.new }
 {
     if let Some(publisher) = publisher {
-        bring(publisher, session, rerouted);
+        push_rerouted_hops(publisher, session, rerouted);
     }
 }
 
@@ -113,7 +113,7 @@ pub(crate) fn opened(alloc: Global, session: &Session) -> Result<Publisher, Allo
     session_law(session);
     if let Some(router) = session.router() {
         let rerouted = replaced(alloc, None, router)?;
-        bring(&mut publisher, session, &rerouted);
+        push_rerouted_hops(&mut publisher, session, &rerouted);
     }
     Ok(publisher)
 }

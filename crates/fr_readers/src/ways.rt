@@ -116,9 +116,9 @@ fn want(wanted: &mut FirstWays, space: &mut [u32], session: &mut Session)
     match session.router_mut() {
         Some(router) => {
             want_ways(wanted, space, router);
-            want_none(wanted, router.net().nodes());
+            clear_ways_from(wanted, router.net().nodes());
         }
-        None => want_none(wanted, 0),
+        None => clear_ways_from(wanted, 0),
     }
 }
 
@@ -191,7 +191,7 @@ fn want_listed(wanted: &mut FirstWays, space: &mut [u32], router: &mut Router, n
 }
 
 /// Takes the ways of all numbers from this one on out of a table.
-fn want_none(wanted: &mut FirstWays, from: u32)
+fn clear_ways_from(wanted: &mut FirstWays, from: u32)
     requires { length wanted.old ≡ most_nodes }
     ensures long { length wanted.new ≡ most_nodes }
     ensures none { (x : ℕ) → from ≤ x → ways wanted.new x ≡ [] }

@@ -1,10 +1,10 @@
 -- Graphs in the DOT language of Graphviz, line by line. The looks are this project's own.
 use Rattle.std.specs.Prelude.{ℕ, List, [], ◌++◌, Bool, true, false, Option, Some, None, codes, decimal}
 use Rattle.std.specs.List.{flat_map}
-use Rattle.revdot.specs.declared.graphs.NodeLook.{NodeLook}
-use Rattle.revdot.specs.declared.graphs.NodeLook.TheVariants as node
-use Rattle.revdot.specs.declared.graphs.LinkLook.{LinkLook}
-use Rattle.revdot.specs.declared.graphs.LinkLook.TheVariants as link
+use Rattle.revdot.specs.declared.graphs.NodeStyle.{NodeStyle}
+use Rattle.revdot.specs.declared.graphs.NodeStyle.TheVariants as node
+use Rattle.revdot.specs.declared.graphs.LinkStyle.{LinkStyle}
+use Rattle.revdot.specs.declared.graphs.LinkStyle.TheVariants as link
 use Rattle.revdot.specs.declared.graphs.DrawnNode.{DrawnNode}
 use Rattle.revdot.specs.declared.graphs.DrawnLink.{DrawnLink}
 use Rattle.revdot.specs.declared.graphs.Title.{Title}
@@ -20,7 +20,7 @@ title_text (Some t) = codes "    label = <turn "
 title_text None = []
 
 -- the attributes of one node
-abbrev pub node_look_text : NodeLook → List ℕ
+abbrev pub node_look_text : NodeStyle → List ℕ
 node_look_text node.Plain = []
 node_look_text node.Destination = codes " shape = doublecircle"
 node_look_text node.CutOff = codes " color = gray70 fontcolor = gray60"
@@ -45,7 +45,7 @@ abbrev pub lowest_line : ℕ → List ℕ
 lowest_line d = codes "    { rank = sink " ++ (decimal d ++ codes " }\n")
 
 -- the attributes of one link
-abbrev pub link_look_text : LinkLook → List ℕ
+abbrev pub link_look_text : LinkStyle → List ℕ
 link_look_text link.Plain = []
 link_look_text link.NextHop = codes " color = black penwidth = 2.5"
 link_look_text link.CutOff = codes " color = gray80"

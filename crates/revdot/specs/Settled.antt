@@ -9,21 +9,21 @@ use Rattle.fr_tables.specs.declared.hop.Hop.{Hop}
 use Rattle.fr_tables.specs.declared.hop.Hop.TheVariants.{Here, To, CutOff}
 use Rattle.fr_ways.specs.Ways.{ways}
 use Rattle.revdot.specs.Graphs.{graph_text}
-use Rattle.revdot.specs.declared.graphs.NodeLook.{NodeLook}
-use Rattle.revdot.specs.declared.graphs.NodeLook.TheVariants as node
-use Rattle.revdot.specs.declared.graphs.LinkLook.{LinkLook}
-use Rattle.revdot.specs.declared.graphs.LinkLook.TheVariants as link
+use Rattle.revdot.specs.declared.graphs.NodeStyle.{NodeStyle}
+use Rattle.revdot.specs.declared.graphs.NodeStyle.TheVariants as node
+use Rattle.revdot.specs.declared.graphs.LinkStyle.{LinkStyle}
+use Rattle.revdot.specs.declared.graphs.LinkStyle.TheVariants as link
 use Rattle.revdot.specs.declared.graphs.DrawnNode.{DrawnNode}
 use Rattle.revdot.specs.declared.graphs.DrawnLink.{DrawnLink}
 
 -- the look of a node with this hop
-abbrev pub node_look : Hop → NodeLook
+abbrev pub node_look : Hop → NodeStyle
 node_look Here = node.Destination
 node_look (To y) = node.Plain
 node_look CutOff = node.CutOff
 
 -- the look of a link to this head whose tail has this hop: the link to the next hop is bold
-abbrev pub link_look : Hop → ℕ → LinkLook
+abbrev pub link_look : Hop → ℕ → LinkStyle
 link_look Here head = link.Plain
 link_look (To y) head = if y == head then link.NextHop else link.Plain
 link_look CutOff head = link.CutOff
@@ -57,7 +57,7 @@ is_first None head = false
 
 -- the look of a link to this head, where its tail has this hop and this first way: that to the first way is bold, and
 -- that to the next hop has a hollow head
-abbrev pub way_look : Hop → Option ℕ → ℕ → LinkLook
+abbrev pub way_look : Hop → Option ℕ → ℕ → LinkStyle
 way_look Here first head = link.Plain
 way_look (To y) first head =
     if is_first first head

@@ -9,9 +9,9 @@ use Rattle.fr_core.specs.declared.entry.Reply.TheVariants.{Turned}
 use Rattle.fr_route.specs.States.{IsRound, State}
 use Rattle.revdot.specs.Graphs.{graph_text}
 use Rattle.revdot.specs.Settled.{IsGraphOf}
-use Rattle.revdot.specs.declared.graphs.NodeLook.{NodeLook}
-use Rattle.revdot.specs.declared.graphs.NodeLook.TheVariants as node
-use Rattle.revdot.specs.declared.graphs.LinkLook.TheVariants as link
+use Rattle.revdot.specs.declared.graphs.NodeStyle.{NodeStyle}
+use Rattle.revdot.specs.declared.graphs.NodeStyle.TheVariants as node
+use Rattle.revdot.specs.declared.graphs.LinkStyle.TheVariants as link
 use Rattle.revdot.specs.declared.graphs.DrawnNode.{DrawnNode}
 use Rattle.revdot.specs.declared.graphs.DrawnLink.{DrawnLink}
 
@@ -54,7 +54,7 @@ pub record AreAllTurns (most n d : ℕ) (m : Moment) (xs : List ℕ) : Type 0 wh
   pub all : (length xs ≡ most) ⊎ NoneCanTurn n d (after_turns m xs)
 
 -- the look of node y at the turn of x
-abbrev pub turn_look : ℕ → ℕ → ℕ → NodeLook
+abbrev pub turn_look : ℕ → ℕ → ℕ → NodeStyle
 turn_look d x y = if y == d then node.Destination else if y == x then node.Turning else node.Plain
 
 -- the node y at the turn of x, with its count before it

@@ -10,7 +10,7 @@ use std::fmt::Write;
 
 /// How a node is drawn.
 #[derive(Clone, Copy)]
-pub enum NodeLook {
+pub enum NodeStyle {
     /// A circle.
     Plain,
     /// A double circle.
@@ -23,7 +23,7 @@ pub enum NodeLook {
 
 /// How a link is drawn.
 #[derive(Clone, Copy)]
-pub enum LinkLook {
+pub enum LinkStyle {
     /// A thin arrow.
     Plain,
     /// A bold arrow.
@@ -50,7 +50,7 @@ pub struct DrawnNode {
     /// How often it has turned. The drawing has this below the number.
     pub count: u64,
     /// How it is drawn.
-    pub look: NodeLook,
+    pub look: NodeStyle,
 }
 
 /// A link of a graph. It is drawn from its tail down to its head.
@@ -61,7 +61,7 @@ pub struct DrawnLink {
     /// The lower end.
     pub head: u32,
     /// How it is drawn.
-    pub look: LinkLook,
+    pub look: LinkStyle,
     /// Whether the arrow points up, to the tail.
     pub back: bool,
 }
@@ -150,14 +150,14 @@ fn small_text() -> &'static str
     "<br/><font point-size='9'>"
 }
 
-fn look_of_node(look: NodeLook) -> &'static str
+fn look_of_node(look: NodeStyle) -> &'static str
     ensures { result.now ≡ node_look_text look }
 {
     match look {
-        NodeLook::Plain => "",
-        NodeLook::Destination => " shape = doublecircle",
-        NodeLook::CutOff => " color = gray70 fontcolor = gray60",
-        NodeLook::Turning => " fillcolor = gold",
+        NodeStyle::Plain => "",
+        NodeStyle::Destination => " shape = doublecircle",
+        NodeStyle::CutOff => " color = gray70 fontcolor = gray60",
+        NodeStyle::Turning => " fillcolor = gold",
     }
 }
 
@@ -198,17 +198,17 @@ fn look_of_back(back: bool) -> &'static str
     if back { " dir = back" } else { "" }
 }
 
-fn look_of_link(look: LinkLook) -> &'static str
+fn look_of_link(look: LinkStyle) -> &'static str
     ensures { result.now ≡ link_look_text look }
 {
     match look {
-        LinkLook::Plain => "",
-        LinkLook::NextHop => " color = black penwidth = 2.5",
-        LinkLook::CutOff => " color = gray80",
-        LinkLook::Turning => " color = darkorange penwidth = 2",
-        LinkLook::Way => " color = black penwidth = 0.6",
-        LinkLook::WayToHop => " color = black penwidth = 0.6 arrowhead = empty",
-        LinkLook::FirstWay => " color = black penwidth = 2.5",
-        LinkLook::FirstWayToHop => " color = black penwidth = 2.5 arrowhead = empty",
+        LinkStyle::Plain => "",
+        LinkStyle::NextHop => " color = black penwidth = 2.5",
+        LinkStyle::CutOff => " color = gray80",
+        LinkStyle::Turning => " color = darkorange penwidth = 2",
+        LinkStyle::Way => " color = black penwidth = 0.6",
+        LinkStyle::WayToHop => " color = black penwidth = 0.6 arrowhead = empty",
+        LinkStyle::FirstWay => " color = black penwidth = 2.5",
+        LinkStyle::FirstWayToHop => " color = black penwidth = 2.5 arrowhead = empty",
     }
 }

@@ -62,9 +62,9 @@ enum Task {
 fn main(rt: HostRuntime) -> ExitCode {
     let end = match task_of(&rt) {
         Ok(Task::Draw(picture)) => perform(&rt, picture),
-        Ok(Task::Page) => tell(&rt),
-        Ok(Task::Help) => told(rt.print(HELP)),
-        Ok(Task::Version) => told(println!(rt; "revdot {VERSION}")),
+        Ok(Task::Page) => write_page(&rt),
+        Ok(Task::Help) => print_result(rt.print(HELP)),
+        Ok(Task::Version) => print_result(println!(rt; "revdot {VERSION}")),
         Ok(Task::Refuse(word)) => {
             refuse(&rt, word);
             return ExitCode::from(2);
@@ -81,7 +81,7 @@ fn main(rt: HostRuntime) -> ExitCode {
 }
 
 /// The result of printing a text.
-fn told(written: io::Result<()>) -> Result<(), RunFault> {
+fn print_result(written: io::Result<()>) -> Result<(), RunFault> {
     match written {
         Ok(()) => Ok(()),
         Err(_) => Err(RunFault::Write),

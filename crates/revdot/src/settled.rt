@@ -5,7 +5,7 @@ ghost use Rattle.std.specs.List.{range_with_len};
 ghost use Rattle.revdot.specs.Settled.{node_look, link_look, settled_node, settled_link, IsGraphOf};
 ghost use Rattle.revdot.specs.Settled.{is_first as is_first_of, way_link, way_look, IsWaysGraphOf};
 
-use crate::graphs::{DrawnLink, DrawnNode, LinkLook, NodeLook, push_graph};
+use crate::graphs::{DrawnLink, DrawnNode, LinkStyle, NodeStyle, push_graph};
 use fr_route::{Hop, Router};
 use fr_ways::WayTable;
 use std::alloc::{AllocError, Global};
@@ -56,13 +56,13 @@ fn settled_nodes(alloc: Global, router: &Router, hops: &[Hop]) -> Result<Vec<Dra
 }
 
 /// The look of a node with this hop.
-fn look_by_hop(hop: Hop) -> NodeLook
+fn look_by_hop(hop: Hop) -> NodeStyle
     ensures { result ≡ node_look hop }
 {
     match hop {
-        Hop::Here => NodeLook::Destination,
-        Hop::To(_) => NodeLook::Plain,
-        Hop::CutOff => NodeLook::CutOff,
+        Hop::Here => NodeStyle::Destination,
+        Hop::To(_) => NodeStyle::Plain,
+        Hop::CutOff => NodeStyle::CutOff,
     }
 }
 
@@ -86,19 +86,19 @@ fn settled_links(alloc: Global, router: &Router, hops: &[Hop]) -> Result<Vec<Dra
 }
 
 /// The look of a link to `head` whose tail has this hop.
-fn look_of_link(hop: Hop, head: u32) -> LinkLook
+fn look_of_link(hop: Hop, head: u32) -> LinkStyle
     ensures { result ≡ link_look hop head }
 {
     match hop {
-        Hop::Here => LinkLook::Plain,
+        Hop::Here => LinkStyle::Plain,
         Hop::To(next) => {
             if next == head {
-                LinkLook::NextHop
+                LinkStyle::NextHop
             } else {
-                LinkLook::Plain
+                LinkStyle::Plain
             }
         }
-        Hop::CutOff => LinkLook::CutOff,
+        Hop::CutOff => LinkStyle::CutOff,
     }
 }
 
@@ -127,18 +127,18 @@ fn way_links(
 }
 
 /// The look of a link to `head` whose tail has this hop and these ways.
-fn look_of_way(hop: Hop, ways: &[u32], head: u32) -> LinkLook
+fn look_of_way(hop: Hop, ways: &[u32], head: u32) -> LinkStyle
     ensures { result ≡ way_look hop (slice_get ways.now 0) head }
 {
     match hop {
-        Hop::Here => LinkLook::Plain,
+        Hop::Here => LinkStyle::Plain,
         Hop::To(next) => match (is_first(ways, head), next == head) {
-            (true, true) => LinkLook::FirstWayToHop,
-            (true, false) => LinkLook::FirstWay,
-            (false, true) => LinkLook::WayToHop,
-            (false, false) => LinkLook::Way,
+            (true, true) => LinkStyle::FirstWayToHop,
+            (true, false) => LinkStyle::FirstWay,
+            (false, true) => LinkStyle::WayToHop,
+            (false, false) => LinkStyle::Way,
         },
-        Hop::CutOff => LinkLook::CutOff,
+        Hop::CutOff => LinkStyle::CutOff,
     }
 }
 

@@ -6,7 +6,7 @@ ghost use Rattle.revdot.specs.Replays.{IsReplay, moment_of};
 ghost use Rattle.revdot.specs.Strips.{IsStripOf, AreAllTurns, most_turns, beginning, turn_look};
 ghost use Rattle.revdot.specs.Strips.{turn_node as turn_node_of, turn_link, turn_text, turns_text};
 
-use crate::graphs::{DrawnLink, DrawnNode, LinkLook, NodeLook, Title, push_graph};
+use crate::graphs::{DrawnLink, DrawnNode, LinkStyle, NodeStyle, Title, push_graph};
 use crate::settled::push_settled;
 use crate::turns::Replay;
 use fr_route::Router;
@@ -93,15 +93,15 @@ fn turn_nodes(
 }
 
 /// How node `y` is drawn at the turn of `x`.
-fn look_at_turn(y: u32, dest: u32, x: u32) -> NodeLook
+fn look_at_turn(y: u32, dest: u32, x: u32) -> NodeStyle
     ensures { result ≡ turn_look dest x y }
 {
     if y == dest {
-        NodeLook::Destination
+        NodeStyle::Destination
     } else if y == x {
-        NodeLook::Turning
+        NodeStyle::Turning
     } else {
-        NodeLook::Plain
+        NodeStyle::Plain
     }
 }
 
@@ -125,9 +125,9 @@ fn link_at_turn(stands: (u32, u32), points: (u32, u32), x: u32) -> DrawnLink
     ensures { result ≡ turn_link x (stands, points) }
 {
     let look = if points.1 == x {
-        LinkLook::Turning
+        LinkStyle::Turning
     } else {
-        LinkLook::Plain
+        LinkStyle::Plain
     };
     DrawnLink {
         tail: stands.0,

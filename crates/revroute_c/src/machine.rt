@@ -63,7 +63,7 @@ impl Machine {
         if neighbour == self.me {
             return REFUSED;
         }
-        if !has_capacity(&mut self.ways, self.node.neighbours()) {
+        if !reserve_ways(&mut self.ways, self.node.neighbours()) {
             return NO_MEMORY;
         }
         match self.node.know(neighbour) {
@@ -74,7 +74,7 @@ impl Machine {
     }
 
     /// Takes the event that the link to a neighbour comes up or goes down.
-    pub(crate) fn turn_link(&mut self, alloc: Global, neighbour: u32, up: bool) -> u32
+    pub(crate) fn set_link_state(&mut self, alloc: Global, neighbour: u32, up: bool) -> u32
         ensures { InNode (TurnsLink neighbour up result) ⊥ self.old self.new }
     {
         let node = replace(&mut self.node, Node::gateway(alloc, self.me, 0));
@@ -193,7 +193,7 @@ impl Machine {
 
 /// Empties a list, and reserves capacity for one way more than this number. Returns false if an allocation was refused;
 /// then the list has the capacity that it had.
-fn has_capacity(ways: &mut Vec<Way>, count: usize) -> bool
+fn reserve_ways(ways: &mut Vec<Way>, count: usize) -> bool
     ensures more { result ≡ true → count < vec_capacity ways.new }
     ensures kept { vec_capacity ways.old ≤ vec_capacity ways.new }
 {

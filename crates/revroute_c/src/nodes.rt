@@ -145,7 +145,7 @@ pub extern "C" fn revroute_node_link_up(
     ensures same_handle { handle.new.at ≡ handle.old.at }
 {
     match handle.machine_mut() {
-        Some(machine) => machine.turn_link(alloc, neighbour, true),
+        Some(machine) => machine.set_link_state(alloc, neighbour, true),
         None => NO_NETWORK,
     }
 }
@@ -162,7 +162,7 @@ pub extern "C" fn revroute_node_link_down(
     ensures same_handle { handle.new.at ≡ handle.old.at }
 {
     match handle.machine_mut() {
-        Some(machine) => machine.turn_link(alloc, neighbour, false),
+        Some(machine) => machine.set_link_state(alloc, neighbour, false),
         None => NO_NETWORK,
     }
 }

@@ -7,8 +7,8 @@ use Rattle.fr_readers.proofs.Bringing.{opened_blank}
 use Rattle.fr_readers.proofs.publishing.opened.Goals.{in-Some+in_ok-rerouted, in_default}
 use Rattle.fr_readers.proofs.publishing.opened.Goals as goal
 
-pub bring-requires-clause-can : goal.bring-requires-clause-can
-bring-requires-clause-can c =
+pub push_rerouted_hops-requires-clause-can : goal.push_rerouted_hops-requires-clause-can
+push_rerouted_hops-requires-clause-can c =
     let k = c.in_ok-publisher.publisher in
     let r = c.in-Some.router.now in
     let nodes : List ℕ = c.in_ok-rerouted.rerouted.items in
@@ -21,7 +21,7 @@ bring-requires-clause-can c =
 
 pub returns : goal.returns
 returns c = elim c.match-router.branch [
-  | in-Some+in_ok-rerouted w ↦ subst (HasHopsOf c.args.session.now) (sym w.publisher-is) w.bring.ensures.has
+  | in-Some+in_ok-rerouted w ↦ subst (HasHopsOf c.args.session.now) (sym w.publisher-is) w.push_rerouted_hops.ensures.has
   | in_default w ↦ subst (HasHopsOf c.args.session.now) (sym w.publisher-is)
       (subst (λ (s : Option State). HasHopsOf s c.in_ok-publisher.publisher) w.in_default.ensures
       (opened_blank c.in_ok-publisher.publisher c.in_ok-publisher.ensures.nodes c.in_ok-publisher.ensures.none_yet))

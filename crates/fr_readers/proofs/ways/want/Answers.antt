@@ -6,19 +6,19 @@ use Rattle.fr_readers.proofs.ways.want.Goals as goal
 
 pub returns-in-Some-clause-ways : goal.returns-in-Some-clause-ways
 returns-in-Some-clause-ways c =
-    let wanted = c.want_none.new.wanted in
+    let wanted = c.clear_ways_from.new.wanted in
     let nodes : c.nodes.result ≡ c.in-Some.router.now.nodes =
     c.nodes.ensures.value ∙ (c.net.ensures.nodes ∙ ap (λ (s : State). s.nodes) c.want_ways.ensures.same) in
     subst (λ (s : Option State). AreFirstWays s wanted) (sym c.in-Some.ensures.value) (record {
-      one_each = c.want_none.ensures.long;
+      one_each = c.clear_ways_from.ensures.long;
       each = λ x low.
           let (list, are, is) = c.want_ways.ensures.each x low in
-          (list, are, c.want_none.ensures.others x (omega (arith, low, nodes)) ∙ is);
-      others = λ x high. c.want_none.ensures.none x (omega (arith, high, nodes));
+          (list, are, c.clear_ways_from.ensures.others x (omega (arith, low, nodes)) ∙ is);
+      others = λ x high. c.clear_ways_from.ensures.none x (omega (arith, high, nodes));
     })
 
 pub returns-in-None-clause-ways : goal.returns-in-None-clause-ways
 returns-in-None-clause-ways c =
-    let wanted = c.want_none-in-None.new.wanted in
+    let wanted = c.clear_ways_from-in-None.new.wanted in
     subst (λ (s : Option State). AreFirstWays s wanted) (sym c.in-None.ensures.value)
-    (all_blank wanted c.want_none-in-None.ensures.long (λ x. c.want_none-in-None.ensures.none x (omega arith)))
+    (all_blank wanted c.clear_ways_from-in-None.ensures.long (λ x. c.clear_ways_from-in-None.ensures.none x (omega arith)))

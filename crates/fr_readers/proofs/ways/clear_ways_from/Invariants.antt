@@ -1,7 +1,7 @@
 use Rattle.std.proofs.Common.{[], length, ℕ, ◌<◌, ◌≡◌, ◌≤◌}
 use Rattle.fr_graph.specs.Limits.{most_nodes}
 use Rattle.fr_ways.specs.Ways.{ways}
-use Rattle.fr_readers.proofs.ways.want_none.Given as goal
+use Rattle.fr_readers.proofs.ways.clear_ways_from.Given as goal
 
 abbrev pub invariant-loop-x : goal.invariant-loop-x
 invariant-loop-x l = record {

@@ -1,6 +1,6 @@
 use Rattle.std.proofs.Common.{◌∙◌, sym}
 use Rattle.fr_command.proofs.PlayTargets.{no_turns, some_nodes, one_more_turn}
-use Rattle.fr_command.proofs.entries.targets_in_turn.Goals as goal
+use Rattle.fr_command.proofs.entries.cyclic_targets.Goals as goal
 
 pub returns-then-is_empty : goal.returns-then-is_empty
 returns-then-is_empty c = c.new-turns.ensures.items ∙ sym (no_turns c.args.most c.args.nodes.now c.if-is_empty.ensures)

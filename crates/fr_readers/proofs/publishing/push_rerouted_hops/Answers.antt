@@ -6,7 +6,7 @@ use Rattle.fr_tables.specs.Pushes.{IsPushOrder}
 use Rattle.fr_readers.specs.Publishing.{Publishes}
 use Rattle.fr_readers.proofs.Leading.{all_table}
 use Rattle.fr_readers.proofs.Bringing.{has_already, leads_here, none_to_push, nothing_first, one_is_there, pushed}
-use Rattle.fr_readers.proofs.publishing.bring.Goals as goal
+use Rattle.fr_readers.proofs.publishing.push_rerouted_hops.Goals as goal
 
 pub returns-in_default : goal.returns-in_default
 returns-in_default c =
