@@ -40,8 +40,8 @@ use Rattle.revroute_c.specs.contracts.way_reader_handle.WayReaderHandle.into_box
 use Rattle.revroute_c.proofs.way_reader_handle.WayReaderHandle.into_box_parts.Statement.{statement}
 use Rattle.revroute_c.proofs.way_reader_handle.WayReaderHandle.into_box_parts.Code as code
 
-pub into_loose_spec : {M : Type 1} → statement M
-into_loose_spec 𝓤 𝓛 𝓜 𝓡 wired =
+pub into_box_parts_spec : {M : Type 1} → statement M
+into_box_parts_spec 𝓤 𝓛 𝓜 𝓡 wired =
     let H = 𝓛.H in let 𝓣 = tables 𝓤 H 𝓜 𝓡 𝓡.env in let c = clauses 𝓛 𝓜.mem 𝓡.returns in let fn = code.function in
     let Z : RattleType = heap.the_row in let LZ = heap_laws.the_row_laws in
     let Lr : RattleType = BoxParts S Z LZ ghosts in let hs : Stays ended.signature.params ended.kept =
