@@ -131,7 +131,7 @@ fn perform<R: Alloc<A = Global> + Input + Print>(rt: &R, picture: Picture) -> Re
 }
 
 /// Writes the page of the input of the program to its output.
-fn tell<R: Alloc<A = Global> + Input + Print>(rt: &R) -> Result<(), RunFault> {
+fn write_page<R: Alloc<A = Global> + Input + Print>(rt: &R) -> Result<(), RunFault> {
     let alloc = rt.alloc();
     let Ok(mut out) = BufWriter::new(alloc, io::writer(rt)) else {
         return Err(RunFault::Memory);
