@@ -1,4 +1,4 @@
--- Graphs in the DOT language of Graphviz, line by line. The looks are this project's own.
+-- Graphs in the DOT language of Graphviz, line by line. The styles are this project's own.
 use Rattle.std.specs.Prelude.{ℕ, List, [], ◌++◌, Bool, true, false, Option, Some, None, codes, decimal}
 use Rattle.std.specs.List.{flat_map}
 use Rattle.revdot.specs.declared.graphs.NodeStyle.{NodeStyle}
@@ -20,11 +20,11 @@ title_text (Some t) = codes "    label = <turn "
 title_text None = []
 
 -- the attributes of one node
-abbrev pub node_look_text : NodeStyle → List ℕ
-node_look_text node.Plain = []
-node_look_text node.Destination = codes " shape = doublecircle"
-node_look_text node.CutOff = codes " color = gray70 fontcolor = gray60"
-node_look_text node.Turning = codes " fillcolor = gold"
+abbrev pub node_style_text : NodeStyle → List ℕ
+node_style_text node.Plain = []
+node_style_text node.Destination = codes " shape = doublecircle"
+node_style_text node.CutOff = codes " color = gray70 fontcolor = gray60"
+node_style_text node.Turning = codes " fillcolor = gold"
 
 -- begins a new line in a small font
 unfoldable pub small : List ℕ
@@ -38,22 +38,22 @@ label_text x count = decimal x ++ (small ++ (decimal count ++ codes "</font>"))
 abbrev pub node_line : DrawnNode → List ℕ
 node_line m = codes "    "
     ++ (decimal m.node ++
-    (codes " [ label = <" ++ (label_text m.node m.count ++ (codes ">" ++ (node_look_text m.look ++ codes " ]\n")))))
+    (codes " [ label = <" ++ (label_text m.node m.count ++ (codes ">" ++ (node_style_text m.style ++ codes " ]\n")))))
 
 -- the destination is laid out below all other nodes
 abbrev pub lowest_line : ℕ → List ℕ
 lowest_line d = codes "    { rank = sink " ++ (decimal d ++ codes " }\n")
 
 -- the attributes of one link
-abbrev pub link_look_text : LinkStyle → List ℕ
-link_look_text link.Plain = []
-link_look_text link.NextHop = codes " color = black penwidth = 2.5"
-link_look_text link.CutOff = codes " color = gray80"
-link_look_text link.Turning = codes " color = darkorange penwidth = 2"
-link_look_text link.Way = codes " color = black penwidth = 0.6"
-link_look_text link.WayToHop = codes " color = black penwidth = 0.6 arrowhead = empty"
-link_look_text link.FirstWay = codes " color = black penwidth = 2.5"
-link_look_text link.FirstWayToHop = codes " color = black penwidth = 2.5 arrowhead = empty"
+abbrev pub link_style_text : LinkStyle → List ℕ
+link_style_text link.Plain = []
+link_style_text link.NextHop = codes " color = black penwidth = 2.5"
+link_style_text link.CutOff = codes " color = gray80"
+link_style_text link.Turning = codes " color = darkorange penwidth = 2"
+link_style_text link.Way = codes " color = black penwidth = 0.6"
+link_style_text link.WayToHop = codes " color = black penwidth = 0.6 arrowhead = empty"
+link_style_text link.FirstWay = codes " color = black penwidth = 2.5"
+link_style_text link.FirstWayToHop = codes " color = black penwidth = 2.5 arrowhead = empty"
 
 -- an arrow that points up
 abbrev pub back_text : Bool → List ℕ
@@ -65,7 +65,7 @@ abbrev pub link_line : DrawnLink → List ℕ
 link_line m =
     codes "    " ++ (decimal m.tail
     ++ (codes " -> " ++ (decimal m.head
-    ++ (codes " [" ++ (back_text m.back ++ (link_look_text m.look ++ codes " ]\n"))))))
+    ++ (codes " [" ++ (back_text m.back ++ (link_style_text m.style ++ codes " ]\n"))))))
 
 -- a graph with this destination, these nodes and these links
 abbrev pub graph_text : Option Title → ℕ → List DrawnNode → List DrawnLink → List ℕ

@@ -16,30 +16,30 @@ use Rattle.revdot.specs.declared.graphs.LinkStyle.TheVariants as link
 use Rattle.revdot.specs.declared.graphs.DrawnNode.{DrawnNode}
 use Rattle.revdot.specs.declared.graphs.DrawnLink.{DrawnLink}
 
--- the look of a node with this hop
-abbrev pub node_look : Hop → NodeStyle
-node_look Here = node.Destination
-node_look (To y) = node.Plain
-node_look CutOff = node.CutOff
+-- the style of a node with this hop
+abbrev pub node_style : Hop → NodeStyle
+node_style Here = node.Destination
+node_style (To y) = node.Plain
+node_style CutOff = node.CutOff
 
--- the look of a link to this head whose tail has this hop: the link to the next hop is bold
-abbrev pub link_look : Hop → ℕ → LinkStyle
-link_look Here head = link.Plain
-link_look (To y) head = if y == head then link.NextHop else link.Plain
-link_look CutOff head = link.CutOff
+-- the style of a link to this head whose tail has this hop: the link to the next hop is bold
+abbrev pub link_style : Hop → ℕ → LinkStyle
+link_style Here head = link.Plain
+link_style (To y) head = if y == head then link.NextHop else link.Plain
+link_style CutOff head = link.CutOff
 
 abbrev pub settled_node : List ℕ → List Hop → ℕ → DrawnNode
 settled_node counts hops x = record {
   node = x;
   count = slice_index counts x;
-  look = node_look (slice_index_or hops x Here);
+  style = node_style (slice_index_or hops x Here);
 }
 
 abbrev pub settled_link : List Hop → ℕ × ℕ → DrawnLink
 settled_link hops l = record {
   tail = l.0;
   head = l.1;
-  look = link_look (slice_index_or hops l.0 Here) l.1;
+  style = link_style (slice_index_or hops l.0 Here) l.1;
   back = false;
 }
 
@@ -55,21 +55,21 @@ abbrev pub is_first : Option ℕ → ℕ → Bool
 is_first (Some way) head = way == head
 is_first None head = false
 
--- the look of a link to this head, where its tail has this hop and this first way: that to the first way is bold, and
+-- the style of a link to this head, where its tail has this hop and this first way: that to the first way is bold, and
 -- that to the next hop has a hollow head
-abbrev pub way_look : Hop → Option ℕ → ℕ → LinkStyle
-way_look Here first head = link.Plain
-way_look (To y) first head =
+abbrev pub way_style : Hop → Option ℕ → ℕ → LinkStyle
+way_style Here first head = link.Plain
+way_style (To y) first head =
     if is_first first head
     then (if y == head then link.FirstWayToHop else link.FirstWay)
     else (if y == head then link.WayToHop else link.Way)
-way_look CutOff first head = link.CutOff
+way_style CutOff first head = link.CutOff
 
 abbrev pub way_link : List Hop → List (List ℕ) → ℕ × ℕ → DrawnLink
 way_link hops table l = record {
   tail = l.0;
   head = l.1;
-  look = way_look (slice_index_or hops l.0 Here) (slice_get (ways table l.0) 0) l.1;
+  style = way_style (slice_index_or hops l.0 Here) (slice_get (ways table l.0) 0) l.1;
   back = false;
 }
 

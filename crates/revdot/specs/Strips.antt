@@ -53,20 +53,20 @@ pub record AreAllTurns (most n d : ℕ) (m : Moment) (xs : List ℕ) : Type 0 wh
   pub few : length xs ≤ most
   pub all : (length xs ≡ most) ⊎ NoneCanTurn n d (after_turns m xs)
 
--- the look of node y at the turn of x
-abbrev pub turn_look : ℕ → ℕ → ℕ → NodeStyle
-turn_look d x y = if y == d then node.Destination else if y == x then node.Turning else node.Plain
+-- the style of node y at the turn of x
+abbrev pub turn_style : ℕ → ℕ → ℕ → NodeStyle
+turn_style d x y = if y == d then node.Destination else if y == x then node.Turning else node.Plain
 
 -- the node y at the turn of x, with its count before it
 abbrev pub turn_node : ℕ → List ℕ → ℕ → ℕ → DrawnNode
-turn_node d counts x y = record { node = y; count = slice_index counts y; look = turn_look d x y }
+turn_node d counts x y = record { node = y; count = slice_index counts y; style = turn_style d x y }
 
 -- a link at the turn of x: placed as the settled link, with its direction before the turn
 abbrev pub turn_link : ℕ → (ℕ × ℕ) × (ℕ × ℕ) → DrawnLink
 turn_link x p = record {
   tail = p.0.0;
   head = p.0.1;
-  look = if p.1.1 == x then link.Turning else link.Plain;
+  style = if p.1.1 == x then link.Turning else link.Plain;
   back = not (p.1.0 == p.0.0);
 }
 

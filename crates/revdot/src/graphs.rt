@@ -2,8 +2,8 @@
 
 ghost use Rattle.std.specs.Prelude.{◌≡◌, ◌++◌, OnOk, string_bytes};
 ghost use Rattle.std.specs.List.{flat_map};
-ghost use Rattle.revdot.specs.Graphs.{opening, node_look_text, node_line, label_text, small, lowest_line};
-ghost use Rattle.revdot.specs.Graphs.{link_look_text, back_text, link_line, title_text, graph_text};
+ghost use Rattle.revdot.specs.Graphs.{opening, node_style_text, node_line, label_text, small, lowest_line};
+ghost use Rattle.revdot.specs.Graphs.{link_style_text, back_text, link_line, title_text, graph_text};
 
 use std::alloc::AllocError;
 use std::fmt::Write;
@@ -50,7 +50,7 @@ pub struct DrawnNode {
     /// How often it has turned. The drawing has this below the number.
     pub count: u64,
     /// How it is drawn.
-    pub look: NodeStyle,
+    pub style: NodeStyle,
 }
 
 /// A link of a graph. It is drawn from its tail down to its head.
@@ -61,7 +61,7 @@ pub struct DrawnLink {
     /// The lower end.
     pub head: u32,
     /// How it is drawn.
-    pub look: LinkStyle,
+    pub style: LinkStyle,
     /// Whether the arrow points up, to the tail.
     pub back: bool,
 }
@@ -125,11 +125,11 @@ fn push_nodes(text: &mut String, nodes: &[DrawnNode]) -> Result<(), AllocError>
 fn push_node(text: &mut String, drawn: DrawnNode) -> Result<(), AllocError>
     ensures { OnOk result (string_bytes text.new ≡ string_bytes text.old ++ node_line drawn) }
 {
-    let DrawnNode { node, count, look } = drawn;
+    let DrawnNode { node, count, style } = drawn;
     write!(text, "    {node} [ label = <")?;
     push_label(text, node, count)?;
     text.push_str(">")?;
-    text.push_str(look_of_node(look))?;
+    text.push_str(style_of_node(style))?;
     text.push_str(" ]\n")
 }
 
@@ -150,10 +150,10 @@ fn small_text() -> &'static str
     "<br/><font point-size='9'>"
 }
 
-fn look_of_node(look: NodeStyle) -> &'static str
-    ensures { result.now ≡ node_look_text look }
+fn style_of_node(style: NodeStyle) -> &'static str
+    ensures { result.now ≡ node_style_text style }
 {
-    match look {
+    match style {
         NodeStyle::Plain => "",
         NodeStyle::Destination => " shape = doublecircle",
         NodeStyle::CutOff => " color = gray70 fontcolor = gray60",
@@ -183,25 +183,25 @@ fn push_link(text: &mut String, drawn: DrawnLink) -> Result<(), AllocError>
     let DrawnLink {
         tail,
         head,
-        look,
+        style,
         back,
     } = drawn;
     write!(text, "    {tail} -> {head} [")?;
-    text.push_str(look_of_back(back))?;
-    text.push_str(look_of_link(look))?;
+    text.push_str(style_of_back(back))?;
+    text.push_str(style_of_link(style))?;
     text.push_str(" ]\n")
 }
 
-fn look_of_back(back: bool) -> &'static str
+fn style_of_back(back: bool) -> &'static str
     ensures { result.now ≡ back_text back }
 {
     if back { " dir = back" } else { "" }
 }
 
-fn look_of_link(look: LinkStyle) -> &'static str
-    ensures { result.now ≡ link_look_text look }
+fn style_of_link(style: LinkStyle) -> &'static str
+    ensures { result.now ≡ link_style_text style }
 {
-    match look {
+    match style {
         LinkStyle::Plain => "",
         LinkStyle::NextHop => " color = black penwidth = 2.5",
         LinkStyle::CutOff => " color = gray80",

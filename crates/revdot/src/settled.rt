@@ -2,8 +2,8 @@
 
 ghost use Rattle.std.specs.Prelude.{◌≡◌, ◌++◌, ℕ, List, length, map, slice_get, IfOk, OnOk, string_bytes};
 ghost use Rattle.std.specs.List.{range_with_len};
-ghost use Rattle.revdot.specs.Settled.{node_look, link_look, settled_node, settled_link, IsGraphOf};
-ghost use Rattle.revdot.specs.Settled.{is_first as is_first_of, way_link, way_look, IsWaysGraphOf};
+ghost use Rattle.revdot.specs.Settled.{node_style, link_style, settled_node, settled_link, IsGraphOf};
+ghost use Rattle.revdot.specs.Settled.{is_first as is_first_of, way_link, way_style, IsWaysGraphOf};
 
 use crate::graphs::{DrawnLink, DrawnNode, LinkStyle, NodeStyle, push_graph};
 use fr_route::{Hop, Router};
@@ -49,15 +49,15 @@ fn settled_nodes(alloc: Global, router: &Router, hops: &[Hop]) -> Result<Vec<Dra
         nodes.push(DrawnNode {
             node: x,
             count: counts[x as usize],
-            look: look_by_hop(hops[x as usize]),
+            style: style_by_hop(hops[x as usize]),
         })?;
     }
     Ok(nodes)
 }
 
-/// The look of a node with this hop.
-fn look_by_hop(hop: Hop) -> NodeStyle
-    ensures { result ≡ node_look hop }
+/// The style of a node with this hop.
+fn style_by_hop(hop: Hop) -> NodeStyle
+    ensures { result ≡ node_style hop }
 {
     match hop {
         Hop::Here => NodeStyle::Destination,
@@ -78,16 +78,16 @@ fn settled_links(alloc: Global, router: &Router, hops: &[Hop]) -> Result<Vec<Dra
         links.push(DrawnLink {
             tail,
             head,
-            look: look_of_link(hops[tail as usize], head),
+            style: style_of_link(hops[tail as usize], head),
             back: false,
         })?;
     }
     Ok(links)
 }
 
-/// The look of a link to `head` whose tail has this hop.
-fn look_of_link(hop: Hop, head: u32) -> LinkStyle
-    ensures { result ≡ link_look hop head }
+/// The style of a link to `head` whose tail has this hop.
+fn style_of_link(hop: Hop, head: u32) -> LinkStyle
+    ensures { result ≡ link_style hop head }
 {
     match hop {
         Hop::Here => LinkStyle::Plain,
@@ -119,16 +119,16 @@ fn way_links(
         links.push(DrawnLink {
             tail,
             head,
-            look: look_of_way(hops[tail as usize], table.row(tail), head),
+            style: style_of_way(hops[tail as usize], table.row(tail), head),
             back: false,
         })?;
     }
     Ok(links)
 }
 
-/// The look of a link to `head` whose tail has this hop and these ways.
-fn look_of_way(hop: Hop, ways: &[u32], head: u32) -> LinkStyle
-    ensures { result ≡ way_look hop (slice_get ways.now 0) head }
+/// The style of a link to `head` whose tail has this hop and these ways.
+fn style_of_way(hop: Hop, ways: &[u32], head: u32) -> LinkStyle
+    ensures { result ≡ way_style hop (slice_get ways.now 0) head }
 {
     match hop {
         Hop::Here => LinkStyle::Plain,

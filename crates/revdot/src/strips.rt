@@ -3,7 +3,7 @@
 ghost use Rattle.std.specs.Prelude.{◌≡◌, ◌++◌, ◌<◌, ◌≤◌, ℕ, List, length, map, IfOk, OnOk, string_bytes};
 ghost use Rattle.std.specs.List.{range_with_len, zip};
 ghost use Rattle.revdot.specs.Replays.{IsReplay, moment_of};
-ghost use Rattle.revdot.specs.Strips.{IsStripOf, AreAllTurns, most_turns, beginning, turn_look};
+ghost use Rattle.revdot.specs.Strips.{IsStripOf, AreAllTurns, most_turns, beginning, turn_style};
 ghost use Rattle.revdot.specs.Strips.{turn_node as turn_node_of, turn_link, turn_text, turns_text};
 
 use crate::graphs::{DrawnLink, DrawnNode, LinkStyle, NodeStyle, Title, push_graph};
@@ -86,15 +86,15 @@ fn turn_nodes(
         drawn.push(DrawnNode {
             node: y,
             count: counts[y as usize],
-            look: look_at_turn(y, dest, x),
+            style: style_at_turn(y, dest, x),
         })?;
     }
     Ok(drawn)
 }
 
 /// How node `y` is drawn at the turn of `x`.
-fn look_at_turn(y: u32, dest: u32, x: u32) -> NodeStyle
-    ensures { result ≡ turn_look dest x y }
+fn style_at_turn(y: u32, dest: u32, x: u32) -> NodeStyle
+    ensures { result ≡ turn_style dest x y }
 {
     if y == dest {
         NodeStyle::Destination
@@ -124,7 +124,7 @@ fn turn_links(
 fn link_at_turn(stands: (u32, u32), points: (u32, u32), x: u32) -> DrawnLink
     ensures { result ≡ turn_link x (stands, points) }
 {
-    let look = if points.1 == x {
+    let style = if points.1 == x {
         LinkStyle::Turning
     } else {
         LinkStyle::Plain
@@ -132,7 +132,7 @@ fn link_at_turn(stands: (u32, u32), points: (u32, u32), x: u32) -> DrawnLink
     DrawnLink {
         tail: stands.0,
         head: stands.1,
-        look,
+        style,
         back: points.0 != stands.0,
     }
 }
