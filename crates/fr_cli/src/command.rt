@@ -122,8 +122,8 @@ fn whole_command<'a>(alloc: Global, version: &'a str) -> Made<'a>
     ensures { Makes command result }
 {
     let command = bare_command(alloc, version);
-    let command = with_subcommand(command, answering(alloc, "run", RUN_ABOUT));
-    let command = with_subcommand(command, answering(alloc, "serve", SERVE_ABOUT));
+    let command = with_subcommand(command, answering_command(alloc, "run", RUN_ABOUT));
+    let command = with_subcommand(command, answering_command(alloc, "serve", SERVE_ABOUT));
     with_subcommand(command, play_command(alloc))
 }
 
@@ -142,10 +142,10 @@ fn bare_command<'a>(alloc: Global, version: &'a str) -> Made<'a>
 }
 
 /// A subcommand that answers requests. Its help lists them.
-fn answering<'a>(alloc: Global, name: &'a str, about: &'a str) -> Made<'a>
+fn answering_command<'a>(alloc: Global, name: &'a str, about: &'a str) -> Made<'a>
     ensures { Makes (answering_of name.entry.now) result }
 {
-    let command = planning(alloc, name, about);
+    let command = planning_command(alloc, name, about);
     let command = with_flag(alloc, command, "alone", ALONE);
     let command = with_flag(alloc, command, "json", JSON);
     let command = with_flag(alloc, command, "ways", WAYS);
@@ -153,10 +153,10 @@ fn answering<'a>(alloc: Global, name: &'a str, about: &'a str) -> Made<'a>
 }
 
 /// A subcommand that settles networks with a plan.
-fn planning<'a>(alloc: Global, name: &'a str, about: &'a str) -> Made<'a>
+fn planning_command<'a>(alloc: Global, name: &'a str, about: &'a str) -> Made<'a>
     ensures { Makes (planning_of name.entry.now) result }
 {
-    let command = described(alloc, name, about, REQUESTS);
+    let command = described_command(alloc, name, about, REQUESTS);
     let workers = option(alloc, "workers", "4", worker_numbers(), RUN_WORKERS);
     let seed = option(alloc, "seed", "0", value_parser!(u64), RUN_SEED);
     let budget = option(alloc, "budget", "1000000", budget_numbers(), BUDGET);
@@ -167,7 +167,7 @@ fn planning<'a>(alloc: Global, name: &'a str, about: &'a str) -> Made<'a>
 fn play_command<'a>(alloc: Global) -> Made<'a>
     ensures { Makes play_command_of result }
 {
-    let command = described(alloc, "play", PLAY_ABOUT, PLAY_EXAMPLE);
+    let command = described_command(alloc, "play", PLAY_ABOUT, PLAY_EXAMPLE);
     let workers = option(alloc, "workers", "2", worker_numbers(), PLAY_WORKERS);
     let seed = option(alloc, "seed", "0", value_parser!(u64), PLAY_SEED);
     let steps = option(alloc, "steps", "100", step_numbers(), STEPS);
@@ -176,7 +176,7 @@ fn play_command<'a>(alloc: Global) -> Made<'a>
 
 /// A command with this name, a description and an example.
 #[tactic(auto, unfolding(crate::specs::Making::Makes))]
-fn described<'a>(alloc: Global, name: &'a str, about: &'a str, example: &'a str) -> Made<'a>
+fn described_command<'a>(alloc: Global, name: &'a str, about: &'a str, example: &'a str) -> Made<'a>
     ensures { Makes (new_app name.entry.now) result }
 {
     Ok(Command::new(alloc, name).about(about).after_help(example))

@@ -95,7 +95,7 @@ pub fn command_line<'a>(
 {
     let matches = match matches_of(alloc, words, version) {
         Ok(matches) => matches,
-        Err(error) => return Err(usage_of(alloc, &error)),
+        Err(error) => return Err(usage_fault(alloc, &error)),
     };
     // `clap` accepts no words without a subcommand. Its contract does not say so, so this case needs an answer.
     match matches.subcommand() {
@@ -219,10 +219,10 @@ fn ways_without_json(alloc: Global) -> TaskFault
 
 /// The fault for words that `clap` does not accept, with a text made from the text of `clap`. No clause says what the
 /// text is.
-fn usage_of(alloc: Global, error: &Error) -> TaskFault
+fn usage_fault(alloc: Global, error: &Error) -> TaskFault
     ensures { IsUsageOf (kind_of error.now) result }
 {
-    let Ok(text) = text_of(alloc, error) else {
+    let Ok(text) = error_text(alloc, error) else {
         return TaskFault::Memory;
     };
     match error.kind() {
@@ -234,7 +234,7 @@ fn usage_of(alloc: Global, error: &Error) -> TaskFault
 }
 
 /// The text of an error. If a superfluous word is not an option, the text has a tip, because the word may name a file.
-fn text_of(alloc: Global, error: &Error) -> Result<String, AllocError> {
+fn error_text(alloc: Global, error: &Error) -> Result<String, AllocError> {
     let text = error.to_string(alloc)?;
     let is_too_many = matches!(error.kind(), ErrorKind::UnknownArgument);
     if is_too_many && !text.contains("argument '-") {

@@ -130,13 +130,13 @@ impl Conversation {
         // This comes before the line is kept, so that a blank line allocates nothing.
         if self.ends_blank(piece, end) {
             self.begun.clear();
-            self.responder.pass_blank();
+            self.responder.count_blank_line();
             return Ok(Taken {
                 count: end + 1,
                 answer: None,
             });
         }
-        self.hold(&piece[..end])?;
+        self.keep_unfinished_line(&piece[..end])?;
         if end == piece.len() {
             return Ok(Taken {
                 count: end,
@@ -201,7 +201,7 @@ impl Conversation {
     }
 
     /// Keeps bytes without a newline after those of the line that has begun.
-    fn hold(&mut self, bytes: &[u8]) -> Result<(), RunFault>
+    fn keep_unfinished_line(&mut self, bytes: &[u8]) -> Result<(), RunFault>
         requires { lines_of bytes.now ≡ bytes.now ∷ [] }
         ensures ok { OnOk result ((self.new.begun ≡ self.old.begun ++ bytes.now)
             × (point_of self.new ≡ point_of self.old)

@@ -62,7 +62,7 @@ fn cyclic_targets(alloc: Global, nodes: &[u32], most: usize) -> Result<Vec<Targe
 }
 
 /// The entries of a play, one on each line, and then the links and the counts at the end.
-pub(crate) fn end_text(
+pub(crate) fn play_text(
     alloc: Global,
     net: &Net,
     dest: u32,
@@ -77,11 +77,11 @@ pub(crate) fn end_text(
     let Ok(end) = net.turned_by(alloc, &counts) else {
         return Err(AllocError);
     };
-    lines_at_end(alloc, entries, &end, &counts)
+    play_lines(alloc, entries, &end, &counts)
 }
 
 /// The entries, one on each line, and then the links of this network and these counts.
-fn lines_at_end(
+fn play_lines(
     alloc: Global,
     entries: &[Entry],
     end: &Net,

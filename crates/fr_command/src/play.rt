@@ -12,7 +12,7 @@ ghost use Rattle.fr_cli.specs.Draws.{drawn};
 ghost use Rattle.fr_command.specs.Faults.{IsDrawnPlayFault};
 ghost use Rattle.fr_command.specs.Plays.{targets_for, IsRefusal, IsPlayText, IsPlayOf, IsPlayOutput, WritesPlay};
 
-use crate::entries::{end_text, push_count, targets_of};
+use crate::entries::{play_text, push_count, targets_of};
 use fr_bytes::{Lines, RunFault, read_input, write_out};
 use fr_cli::Draw;
 use fr_core::{Entry, play};
@@ -59,27 +59,27 @@ pub fn play_drawn<R: Read, W: Write>(
 fn play_input(alloc: Global, input: &[u8], draw: Draw) -> Result<(String, u64), AllocError>
     ensures { IfOk result (λ made. IsPlayOutput draw input.now (string_bytes made.0) made.1) }
 {
-    let Some(line) = first_asking(input) else {
-        return refusal(alloc, Reason::NoNetwork);
+    let Some(line) = first_nonblank_line(input) else {
+        return refusal_output(alloc, Reason::NoNetwork);
     };
     match read_line(alloc, line) {
         Ok(Request::Network { nodes, dest, links }) => play_links(alloc, nodes, dest, &links, draw),
-        Ok(_) => refusal(alloc, Reason::NoNetwork),
-        Err(LineFault::NotJson) => refusal(alloc, Reason::NotJson),
-        Err(LineFault::NotRequest) => refusal(alloc, Reason::NotRequest),
+        Ok(_) => refusal_output(alloc, Reason::NoNetwork),
+        Err(LineFault::NotJson) => refusal_output(alloc, Reason::NotJson),
+        Err(LineFault::NotRequest) => refusal_output(alloc, Reason::NotRequest),
         Err(LineFault::Memory) => Err(AllocError),
     }
 }
 
 /// The first line of an input that is not blank.
-fn first_asking(input: &[u8]) -> Option<&[u8]>
+fn first_nonblank_line(input: &[u8]) -> Option<&[u8]>
     ensures { option_copied result ≡ find (λ line. not (is_blank_line line)) (lines_of input.now) }
 {
     Lines::new(input).find(|line| !is_blank(line))
 }
 
 /// The text for a refusal, without entries.
-fn refusal(alloc: Global, refusal: Reason) -> Result<(String, u64), AllocError>
+fn refusal_output(alloc: Global, refusal: Reason) -> Result<(String, u64), AllocError>
     ensures { IfOk result (λ made. IsRefusal (number_of refusal) (string_bytes made.0) made.1) }
 {
     let mut text = String::new(alloc);
@@ -101,12 +101,12 @@ fn play_links(
     let net = match Net::new(alloc, nodes, links) {
         Ok(net) => net,
         Err(fault) => return match Reason::of(&fault) {
-            Some(refused) => refusal(alloc, refused),
+            Some(refused) => refusal_output(alloc, refused),
             None => Err(AllocError),
         },
     };
     if dest >= nodes {
-        return refusal(alloc, Reason::NoNode);
+        return refusal_output(alloc, Reason::NoNode);
     }
     play_net(alloc, &net, dest, draw)
 }
@@ -117,7 +117,7 @@ fn play_net(alloc: Global, net: &Net, dest: u32, draw: Draw) -> Result<(String, 
     ensures { IfOk result (λ made. IsPlayText draw net.now.nodes dest net.now.links (string_bytes made.0) made.1) }
 {
     let entries = entries_of(alloc, net, dest, draw)?;
-    let text = end_text(alloc, net, dest, &entries)?;
+    let text = play_text(alloc, net, dest, &entries)?;
     Ok((text, entries.len() as u64))
 }
 

@@ -113,7 +113,7 @@ impl Responder {
         self.ended = number;
         match answer {
             Some(answer) => {
-                self.count(answer.refused);
+                self.count_answer(answer.refused);
                 Ok(Some(answer.text))
             }
             None => Ok(None),
@@ -128,7 +128,7 @@ impl Responder {
     }
 
     /// Counts an answer, which refuses its line or not.
-    fn count(&mut self, is_refused: bool)
+    fn count_answer(&mut self, is_refused: bool)
         ensures { self.new ≡ record self.old {
           answered = one_more self.old.answered;
           refused = if is_refused then one_more self.old.refused else self.old.refused;
@@ -141,7 +141,7 @@ impl Responder {
     }
 
     /// Counts a blank line that has ended.
-    pub(crate) fn pass_blank(&mut self)
+    pub(crate) fn count_blank_line(&mut self)
         ensures { self.new ≡ after_blank self.old }
     {
         self.ended = self.ended.saturating_add(1);

@@ -61,12 +61,12 @@ pub fn serve_in<T: Threads + Wait + Sync, S: Stream, G: Gate + Sync>(
     ensures no_start { StartsNone crew.now.plan.now → result ≢ Err RunFault.Start }
 {
     let mut conversation = Conversation::with_form(crew.alloc, form);
-    converse(crew, &mut conversation, stream)
+    serve_conversation(crew, &mut conversation, stream)
 }
 
 /// The same, in a conversation in which nothing was said yet. Its caller owns the conversation, so that no exit of
 /// this loop has to drop it.
-fn converse<T: Threads + Wait + Sync, S: Stream, G: Gate + Sync>(
+fn serve_conversation<T: Threads + Wait + Sync, S: Stream, G: Gate + Sync>(
     crew: &Crew<'_, T, G>,
     conversation: &mut Conversation,
     stream: &mut S,
@@ -83,7 +83,7 @@ fn converse<T: Threads + Wait + Sync, S: Stream, G: Gate + Sync>(
         let room = PIECE.min(MAX_BYTES + 1 - conversation.begun().len());
         let count = stream.read(&mut piece[..room])?;
         if count == 0 {
-            return answer_end(crew, conversation, stream);
+            return answer_last_line(crew, conversation, stream);
         }
         answer_piece(crew, conversation, &piece[..count], stream)?;
     }
@@ -107,14 +107,14 @@ fn answer_piece<T: Threads + Wait + Sync, S: Stream, G: Gate + Sync>(
 {
     let mut done = 0;
     while done < piece.len() {
-        let count = answer_front(crew, conversation, &piece[done..], stream)?;
+        let count = answer_first_line(crew, conversation, &piece[done..], stream)?;
         done += count;
     }
     stream.flush()
 }
 
 /// Answers the first line that ends in a piece, if there is one, and returns how many bytes were taken.
-fn answer_front<T: Threads + Wait + Sync, S: Stream, G: Gate + Sync>(
+fn answer_first_line<T: Threads + Wait + Sync, S: Stream, G: Gate + Sync>(
     crew: &Crew<'_, T, G>,
     conversation: &mut Conversation,
     piece: &[u8],
@@ -136,7 +136,7 @@ fn answer_front<T: Threads + Wait + Sync, S: Stream, G: Gate + Sync>(
 
 /// Answers the last line, which the end of the input ends, flushes, and returns how many lines were answered and
 /// refused.
-fn answer_end<T: Threads + Wait + Sync, S: Stream, G: Gate + Sync>(
+fn answer_last_line<T: Threads + Wait + Sync, S: Stream, G: Gate + Sync>(
     crew: &Crew<'_, T, G>,
     conversation: &mut Conversation,
     stream: &mut S,

@@ -24,7 +24,7 @@ use std::alloc::Global;
 
 /// Whether a link points from node `x` to `w` now. The answer is `false` if `w` is not a neighbour of `x`, or not a
 /// node.
-fn points(net: &Net, counts: &[u64], x: u32, w: u32) -> bool
+fn points_to(net: &Net, counts: &[u64], x: u32, w: u32) -> bool
     requires one_each { length counts.now ≡ net.now.nodes }
     requires node { x < net.now.nodes }
     ensures { IsTrue result ↔ Points (links_at net.now.links counts.now) x w }
@@ -74,7 +74,7 @@ fn held_fault(net: &Net, counts: &[u64], x: u32, by: u32) -> Option<Why>
     ensures none { IfNone result (Points (links_at net.now.links counts.now) x by) }
     ensures some { IfSome result (λ why. (why ≡ NotHeld) × ¬ Points (links_at net.now.links counts.now) x by) }
 {
-    if points(net, counts, x, by) {
+    if points_to(net, counts, x, by) {
         None
     } else {
         Some(Why::NotHeld)
@@ -82,7 +82,7 @@ fn held_fault(net: &Net, counts: &[u64], x: u32, by: u32) -> Option<Why>
 }
 
 /// Tests that a count moved from `had` to `count`: the node has this count now, and it is greater than `had`.
-fn moved_fault(now: u64, had: u64, count: u64) -> Option<Why>
+fn new_count_fault(now: u64, had: u64, count: u64) -> Option<Why>
     ensures none { IfNone result ((count ≡ now) × (had < count)) }
     ensures some { IfSome result (λ why. (why ≡ NotMoved) × ¬ ((count ≡ now) × (had < count))) }
 {
@@ -94,7 +94,7 @@ fn moved_fault(now: u64, had: u64, count: u64) -> Option<Why>
 }
 
 /// Tests that a node is cut: its count, `now`, is the number of nodes.
-fn cut_fault(nodes: u32, now: u64) -> Option<Why>
+fn cut_off_fault(nodes: u32, now: u64) -> Option<Why>
     ensures none { IfNone result (now ≡ nodes) }
     ensures some { IfSome result (λ why. (why ≡ NotCut) × ¬ (now ≡ nodes)) }
 {
@@ -135,8 +135,8 @@ fn fault_of(net: &Net, dest: u32, counts: &[u64], entry: Entry) -> Option<Why>
     match entry.reply {
         Reply::Turned { count } => turn_fault(net, dest, counts, x, count),
         Reply::Held { by } => held_fault(net, counts, x, by),
-        Reply::Moved { had, count } => moved_fault(now, had, count),
-        Reply::Cut => cut_fault(nodes, now),
+        Reply::Moved { had, count } => new_count_fault(now, had, count),
+        Reply::Cut => cut_off_fault(nodes, now),
         Reply::Sink => sink_fault(net, counts, x),
     }
 }

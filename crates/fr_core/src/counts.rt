@@ -43,7 +43,7 @@ pub(crate) fn most_count(net: &Net, x: u32) -> u64
 }
 
 /// Whether each node's count is at most the greatest that it can have.
-fn fits_nodes(net: &Net, counts: &[u64]) -> bool
+fn has_counts_in_range(net: &Net, counts: &[u64]) -> bool
     requires { length counts.now ≡ net.now.nodes }
     ensures { IsTrue result ↔ ((x : ℕ) → x < net.now.nodes → IsLawfulCount net.now.nodes net.now.links counts.now x) }
 {
@@ -56,7 +56,7 @@ fn fits_nodes(net: &Net, counts: &[u64]) -> bool
 }
 
 /// Whether the counts give a direction to each link whose tail is node `x`.
-fn fits_row(net: &Net, counts: &[u64], x: u32) -> bool
+fn has_directions_in_row(net: &Net, counts: &[u64], x: u32) -> bool
     requires one_each { length counts.now ≡ net.now.nodes }
     requires node { x < net.now.nodes }
     ensures { IsTrue result ↔ ((w : ℕ) → Points net.now.links x w → IsKept counts.now (x, w)) }
@@ -76,14 +76,14 @@ fn fits_row(net: &Net, counts: &[u64], x: u32) -> bool
 }
 
 /// Whether the counts give each link of the network a direction.
-fn fits_links(net: &Net, counts: &[u64]) -> bool
+fn has_all_directions(net: &Net, counts: &[u64]) -> bool
     requires { length counts.now ≡ net.now.nodes }
     ensures { IsTrue result ↔ All (IsKept counts.now) net.now.links }
 {
     // By this law, the tail of each link is a node.
     net.network_law();
     for x in 0..net.nodes() {
-        if !fits_row(net, counts, x) {
+        if !has_directions_in_row(net, counts, x) {
             return false;
         }
     }
@@ -101,7 +101,7 @@ pub fn lawful(net: &Net, dest: u32, counts: &[u64]) -> bool
     if counts.len() != net.nodes() as usize || counts[dest as usize] != 0 {
         return false;
     }
-    fits_nodes(net, counts) && fits_links(net, counts)
+    has_counts_in_range(net, counts) && has_all_directions(net, counts)
 }
 
 /// Whether node `x` is a sink of the links that the counts give: it has a link, and all its links point to it. There

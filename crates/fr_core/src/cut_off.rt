@@ -28,7 +28,7 @@ fn have_neighbours_turned(net: &Net, counts: &[u64], x: u32) -> bool
 }
 
 /// Whether no link joins a node that has turned with one that has not.
-fn are_apart(net: &Net, turns: &Turns) -> bool
+fn are_turned_nodes_apart(net: &Net, turns: &Turns) -> bool
     requires { length turns.now ≡ net.now.nodes }
     ensures { IsTrue result ↔ AreApart net.now.links turns.now }
 {
@@ -47,7 +47,7 @@ fn are_apart(net: &Net, turns: &Turns) -> bool
 /// If no link joins the nodes that have turned with the others, they are cut off, and would turn up to the cap. Then
 /// they get this count; otherwise the counts are unchanged. No node can turn afterwards that could not before. The call
 /// looks at most at each neighbour of a node that has turned.
-pub(crate) fn cap_cut_off(net: &Net, dest: u32, turns: &mut Turns)
+pub(crate) fn cap_cut_off_counts(net: &Net, dest: u32, turns: &mut Turns)
     requires node { dest < net.now.nodes }
     requires lawful { AreLawful net.now.nodes dest net.now.links turns.old }
     ensures later { AreLater net.now dest turns.old turns.new }
@@ -56,7 +56,7 @@ pub(crate) fn cap_cut_off(net: &Net, dest: u32, turns: &mut Turns)
     ensures apart { AreApart net.now.links turns.old → turns.new ≡ map (set_to net.now.nodes) turns.old }
     ensures still { ¬ AreApart net.now.links turns.old → turns.new ≡ turns.old }
 {
-    if are_apart(net, turns) {
+    if are_turned_nodes_apart(net, turns) {
         turns.set_each(u64::from(net.nodes()));
     }
 }

@@ -9,7 +9,7 @@ ghost use Rattle.fr_core.specs.Work.{IsWithinWork};
 
 use crate::counts::are_settled;
 use crate::levels;
-use crate::worklist::{turn_few, turn_few_of_all};
+use crate::worklist::{turn_all_while_cheap, turn_while_cheap};
 use fr_graph::{MAX_NODES, Net, Turns};
 
 /// Searches for the settled counts in a table of its own, and sets the turns to them. It is not inlined, so that the
@@ -29,7 +29,7 @@ fn settle_by_search(net: &Net, dest: u32, turns: &mut Turns)
 }
 
 /// The number of turns of these counts.
-fn total_of(counts: &[u64]) -> u64
+fn total_turns(counts: &[u64]) -> u64
     requires { sum counts.now < 2 ^ 64 }
     ensures { result ≡ sum counts.now }
 {
@@ -43,7 +43,7 @@ fn settle(net: &Net, dest: u32, turns: &mut Turns)
     requires lawful { AreLawful net.now.nodes dest net.now.links turns.old }
     ensures { AreSettled net.now.nodes dest net.now.links turns.new }
 {
-    if !turn_few_of_all(net, dest, turns) {
+    if !turn_all_while_cheap(net, dest, turns) {
         settle_by_search(net, dest, turns);
     }
 }
@@ -67,9 +67,9 @@ pub fn finish(net: &Net, dest: u32, counts: &mut [u64]) -> u64
 {
     // By this law, there are few nodes, so the totals are exact.
     net.network_law();
-    let before = total_of(counts);
+    let before = total_turns(counts);
     levels::settle(net, dest, counts);
-    total_of(counts) - before
+    total_turns(counts) - before
 }
 
 /// Does the same as [`finish`] with [`Turns`]. Few turns are made one by one. A small part that is cut off is detected
@@ -105,7 +105,7 @@ pub fn finish_from(net: &Net, dest: u32, turns: &mut Turns, from: &[u32])
     ensures { AreSettled net.now.nodes dest net.now.links turns.new }
 {
     net.network_law();
-    if !turn_few(net, dest, turns, from) {
+    if !turn_while_cheap(net, dest, turns, from) {
         settle_by_search(net, dest, turns);
     }
 }
@@ -121,7 +121,7 @@ pub fn finish_from(net: &Net, dest: u32, turns: &mut Turns, from: &[u32])
 ///
 /// What the destination, the counts and `from` must be is the same as for [`finish_from`]. The call does not allocate.
 /// The cost is that of [`finish_from`] if few nodes turn, and at most O(n + m) in addition to looking at `from`.
-pub fn finish_soon(net: &Net, dest: u32, turns: &mut Turns, from: &[u32]) -> bool
+pub fn finish_if_few(net: &Net, dest: u32, turns: &mut Turns, from: &[u32]) -> bool
     requires node { dest < net.now.nodes }
     requires lawful { AreLawful net.now.nodes dest net.now.links turns.old }
     requires from { HoldsAllThatCanTurn net.now.nodes dest net.now.links turns.old from.now }
@@ -131,5 +131,5 @@ pub fn finish_soon(net: &Net, dest: u32, turns: &mut Turns, from: &[u32]) -> boo
 {
     // By this law, a network is settled exactly if no node can turn.
     net.network_law();
-    turn_few(net, dest, turns, from) || are_settled(net, dest, turns.counts())
+    turn_while_cheap(net, dest, turns, from) || are_settled(net, dest, turns.counts())
 }

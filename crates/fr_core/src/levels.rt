@@ -22,7 +22,7 @@ struct Level {
 
 /// Reaches the neighbour of a row entry, if its link first points in the wanted direction and the search has not
 /// reached it yet: it gets the count of this level and a place in the queue.
-fn reach(
+fn reach_neighbour(
     net: &Net,
     entry: (u16, First),
     level: Level,
@@ -62,13 +62,13 @@ fn reach_neighbours(
     ensures reached { All (IsReached net.now.nodes counts.new level.wanted) (row net.now.nodes net.now.links x) }
 {
     for entry in net.row(x) {
-        reach(net, *entry, level, counts, queue);
+        reach_neighbour(net, *entry, level, counts, queue);
     }
 }
 
 /// Follows links from head to tail, which costs no turn, from the nodes of the level and from those that are added to
 /// it. The level begins at place `start` of the queue. The search began at the first node of the queue.
-fn close_level(
+fn complete_level(
     net: &Net,
     count: u64,
     counts: &mut [u64],
@@ -96,7 +96,13 @@ fn close_level(
 
 /// Follows links from tail to head, which costs a turn, from the nodes of the previous level, which begins at place
 /// `start` of the queue. The nodes that this reaches are the first ones of the new level.
-fn open_level(net: &Net, count: u64, counts: &mut [u64], queue: &mut Queue<ALL_NODES>, start: usize)
+fn start_next_level(
+    net: &Net,
+    count: u64,
+    counts: &mut [u64],
+    queue: &mut Queue<ALL_NODES>,
+    start: usize,
+)
     requires net { IsNet net.now.nodes net.now.links }
     requires one_each { length counts.old ≡ net.now.nodes }
     requires search { IsLevelSearch net.now.nodes (slice_index queue.old 0) net.now.links
@@ -116,7 +122,7 @@ fn open_level(net: &Net, count: u64, counts: &mut [u64], queue: &mut Queue<ALL_N
 
 /// Gives each node the greatest count that it can have. For a node with links, this count means that the search has not
 /// reached it.
-fn clear(net: &Net, counts: &mut [u64])
+fn set_greatest_counts(net: &Net, counts: &mut [u64])
     requires { length counts.old ≡ net.now.nodes }
     ensures { (x : ℕ) → x < net.now.nodes → IsMostCount net.now.nodes net.now.links x (slice_index counts.new x) }
 {
@@ -133,17 +139,17 @@ pub(crate) fn settle(net: &Net, dest: u32, counts: &mut [u64])
     requires node { dest < net.now.nodes }
     ensures { AreSettled net.now.nodes dest net.now.links counts.new }
 {
-    clear(net, counts);
+    set_greatest_counts(net, counts);
     counts[dest as usize] = 0;
     let mut queue = Queue::new();
     queue.push(dest);
     let mut start = 0;
     let mut count = 0;
     while start < queue.len() {
-        close_level(net, count, counts, &mut queue, start);
+        complete_level(net, count, counts, &mut queue, start);
         let end = queue.len();
         count += 1;
-        open_level(net, count, counts, &mut queue, start);
+        start_next_level(net, count, counts, &mut queue, start);
         start = end;
     }
 }

@@ -3,7 +3,7 @@
 //!
 //! [`lawful`] tests the counts of a network. [`sense`] and [`is_sink`] say what lawful counts make of its links.
 //! [`finish`] continues to the counts at which every schedule ends. [`finish_turns`] does so with a table of turns,
-//! [`finish_from`] for callers that know where to look, and [`finish_soon`] if few turns lead there. The workers of a
+//! [`finish_from`] for callers that know where to look, and [`finish_if_few`] if few turns lead there. The workers of a
 //! [`Machine`] turn nodes and look at them by single atomic steps, in any order. [`play`] follows a schedule, and
 //! [`check_run`] checks a history entry by entry. The laws behind these calls are in [`laws`].
 //!
@@ -34,7 +34,7 @@ pub use check::{CheckFault, Why, check_run};
 pub use counts::{are_settled, can_turn, is_sink, lawful, sense};
 pub use directions::Sense;
 pub use entry::{Entry, Reply};
-pub use finisher::{finish, finish_from, finish_soon, finish_turns};
+pub use finisher::{finish, finish_from, finish_if_few, finish_turns};
 pub use limits::MAX_WORKERS;
 pub use machine::Machine;
 pub use play_fault::PlayFault;

@@ -13,7 +13,7 @@ ghost use Rattle.fr_core.specs.declared.play_fault.PlayFault.TheVariants.{Memory
 
 use crate::entry::Entry;
 use crate::play_fault::PlayFault;
-use crate::targets::{Target, first_bad};
+use crate::targets::{Target, find_refused_target};
 use crate::worker::Worker;
 use fr_graph::Net;
 use std::alloc::{AllocError, Global};
@@ -69,7 +69,7 @@ impl<'a> Machine<'a> {
         if dest >= net.nodes() {
             return Err(PlayFault::Range);
         }
-        if let Some((worker, at)) = first_bad(net, dest, &targets) {
+        if let Some((worker, at)) = find_refused_target(net, dest, &targets) {
             return Err(PlayFault::BadTarget { worker, at });
         }
         Ok(Machine::start(alloc, net, dest, targets)?)
@@ -135,7 +135,7 @@ impl<'a> Machine<'a> {
     }
 
     /// Makes a step for each number of the schedule, and returns the entries that these steps decide.
-    pub(crate) fn follow(
+    pub(crate) fn follow_schedule(
         &mut self,
         alloc: Global,
         schedule: &[u32],

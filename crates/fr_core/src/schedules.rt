@@ -13,7 +13,7 @@ use fr_graph::Net;
 use std::alloc::Global;
 
 /// Whether a number of the schedule is not a worker.
-fn names_no_worker(schedule: &[u32], workers: usize) -> bool
+fn names_unknown_worker(schedule: &[u32], workers: usize) -> bool
     ensures { IsTrue result ↔ Any (λ k. workers ≤ k) schedule.now }
 {
     schedule.iter().any(|worker| *worker as usize >= workers)
@@ -40,9 +40,9 @@ pub fn play(
         (λ fault. fault ≢ Memory
         → IsPlayFault net.now.nodes dest net.now.links (lists_of targets.items) schedule.now fault) }
 {
-    if dest >= net.nodes() || names_no_worker(schedule, targets.len()) {
+    if dest >= net.nodes() || names_unknown_worker(schedule, targets.len()) {
         return Err(PlayFault::Range);
     }
     let mut machine = Machine::new(alloc, net, dest, targets)?;
-    Ok(machine.follow(alloc, schedule)?)
+    Ok(machine.follow_schedule(alloc, schedule)?)
 }

@@ -28,17 +28,17 @@ impl Target {
 }
 
 /// Whether a look at node `x` is refused: it is not a node, or has no link.
-fn is_unlookable(net: &Net, x: u32) -> bool
+fn is_look_refused(net: &Net, x: u32) -> bool
     ensures { IsTrue result ↔ IsUnlookable net.now.nodes net.now.links x }
 {
     x >= net.nodes() || net.degree(x) == 0
 }
 
 /// Whether a turn of node `x` is refused: a look at it is, or it is the destination.
-fn is_unturnable(net: &Net, dest: u32, x: u32) -> bool
+fn is_turn_refused(net: &Net, dest: u32, x: u32) -> bool
     ensures { IsTrue result ↔ IsUnturnable net.now.nodes dest net.now.links x }
 {
-    is_unlookable(net, x) || x == dest
+    is_look_refused(net, x) || x == dest
 }
 
 /// Whether a machine refuses the target.
@@ -46,8 +46,8 @@ fn is_refused(net: &Net, dest: u32, target: Target) -> bool
     ensures { IsTrue result ↔ IsTargetRefused net.now.nodes dest net.now.links target }
 {
     match target {
-        Target::Turn(x) => is_unturnable(net, dest, x),
-        Target::Look(x) => is_unlookable(net, x),
+        Target::Turn(x) => is_turn_refused(net, dest, x),
+        Target::Look(x) => is_look_refused(net, x),
     }
 }
 
@@ -65,7 +65,11 @@ fn first_refused(net: &Net, dest: u32, targets: &[Target]) -> Option<usize>
 }
 
 /// The worker and the place of the first target that a machine refuses.
-pub(crate) fn first_bad(net: &Net, dest: u32, targets: &[Vec<Target>]) -> Option<(usize, usize)>
+pub(crate) fn find_refused_target(
+    net: &Net,
+    dest: u32,
+    targets: &[Vec<Target>],
+) -> Option<(usize, usize)>
     ensures found { IfSome result (λ p. IsFirstBadTarget net.now.nodes dest net.now.links
         (lists_of targets.now) p.0 p.1) }
     ensures none { IfNone result (AreAllAccepted net.now.nodes dest net.now.links (lists_of targets.now)) }

@@ -61,7 +61,7 @@ impl Model for Worker {
 
 /// The bound of a neighbour. Its link points to a node with this count once the neighbour's count is at least the
 /// bound.
-fn bound_of(first: First, count: u64) -> u64
+fn neighbour_bound(first: First, count: u64) -> u64
     requires { count < 2 ^ 32 }
     ensures { result ≡ bound_of first count }
 {
@@ -72,7 +72,7 @@ fn bound_of(first: First, count: u64) -> u64
 }
 
 /// The phase of a call after no neighbour held the node.
-fn phase_unheld(target: Target, count: u64) -> Phase
+fn phase_if_not_held(target: Target, count: u64) -> Phase
     ensures { result ≡ phase_unheld target count }
 {
     match target {
@@ -107,7 +107,7 @@ impl Worker {
     }
 
     /// Loads the own count for a turn.
-    fn load_own(&mut self, nodes: u32, counts: &[u64], node: u32) -> Option<(u32, Reply)>
+    fn load_own_for_turn(&mut self, nodes: u32, counts: &[u64], node: u32) -> Option<(u32, Reply)>
         requires { node < length counts.now }
         ensures { outcome_with counts.now self.new result ≡ load_own nodes counts.now self.old.left node }
     {
@@ -125,7 +125,7 @@ impl Worker {
     }
 
     /// Loads the own count for a look.
-    fn load_to_look(&mut self, counts: &[u64], node: u32) -> Option<(u32, Reply)>
+    fn load_own_for_look(&mut self, counts: &[u64], node: u32) -> Option<(u32, Reply)>
         requires { node < length counts.now }
         ensures { outcome_with counts.now self.new result ≡ load_to_look counts.now self.old.left node }
     {
@@ -147,13 +147,13 @@ impl Worker {
             return None;
         };
         match *target {
-            Target::Turn(node) => self.load_own(nodes, counts, node),
-            Target::Look(node) => self.load_to_look(counts, node),
+            Target::Turn(node) => self.load_own_for_turn(nodes, counts, node),
+            Target::Look(node) => self.load_own_for_look(counts, node),
         }
     }
 
     /// Loads a neighbour's count.
-    fn load_neighbour(
+    fn load_neighbour_count(
         &mut self,
         net: &Net,
         counts: &[u64],
@@ -172,12 +172,12 @@ impl Worker {
         let node = call.target.node();
         let degree = net.degree(node);
         let (neighbour, first) = net.neighbour(node, place);
-        if counts[neighbour as usize] < bound_of(first, call.count) {
+        if counts[neighbour as usize] < neighbour_bound(first, call.count) {
             self.end_call();
             return Some((node, Reply::Held { by: neighbour }));
         }
         self.phase = if place + 1 == degree {
-            phase_unheld(call.target, call.count)
+            phase_if_not_held(call.target, call.count)
         } else {
             Phase::Looking {
                 target: call.target,
@@ -189,7 +189,12 @@ impl Worker {
     }
 
     /// Exchanges the own count.
-    fn exchange(&mut self, counts: &mut [u64], node: u32, count: u64) -> Option<(u32, Reply)>
+    fn exchange_own_count(
+        &mut self,
+        counts: &mut [u64],
+        node: u32,
+        count: u64,
+    ) -> Option<(u32, Reply)>
         requires node { node < length counts.old }
         requires below_cap { count < 2 ^ 32 }
         ensures { outcome_with counts.new self.new result ≡ exchange counts.old self.old.left node count }
@@ -209,7 +214,7 @@ impl Worker {
     }
 
     /// Loads the own count a second time, which ends a look.
-    fn confirm(&mut self, counts: &[u64], node: u32, count: u64) -> Option<(u32, Reply)>
+    fn confirm_own_count(&mut self, counts: &[u64], node: u32, count: u64) -> Option<(u32, Reply)>
         requires { node < length counts.now }
         ensures { outcome_with counts.now self.new result ≡ confirm counts.now self.old.left node count }
     {
@@ -242,9 +247,9 @@ impl Worker {
                 target,
                 count,
                 place,
-            } => self.load_neighbour(net, counts, Call { target, count }, place),
-            Phase::Swapping { node, count } => self.exchange(counts, node, count),
-            Phase::Confirming { node, count } => self.confirm(counts, node, count),
+            } => self.load_neighbour_count(net, counts, Call { target, count }, place),
+            Phase::Swapping { node, count } => self.exchange_own_count(counts, node, count),
+            Phase::Confirming { node, count } => self.confirm_own_count(counts, node, count),
         }
     }
 }

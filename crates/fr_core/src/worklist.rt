@@ -11,7 +11,7 @@ ghost use Rattle.fr_core.specs.Legal.{NoneCanTurn};
 ghost use Rattle.fr_core.specs.Worklist.{AreLater, Carries, IsWorklist};
 
 use crate::counts::can_turn;
-use crate::cut_off::cap_cut_off;
+use crate::cut_off::cap_cut_off_counts;
 use crate::queue::{ALL_NODES, Queue};
 use fr_graph::{Net, Turns};
 
@@ -76,7 +76,7 @@ fn add_neighbours<const PLACES: usize>(net: &Net, x: u32, work: &mut Queue<PLACE
 
 /// Turns node `x` if it can turn, and adds its neighbours to the worklist, because they may be sinks afterwards. If
 /// there is no room for them, it turns nothing and returns `false`.
-fn visit<const PLACES: usize>(
+fn turn_if_it_can<const PLACES: usize>(
     net: &Net,
     dest: u32,
     turns: &mut Turns,
@@ -109,7 +109,7 @@ struct Stage {
 
 /// Turns nodes from a worklist, and returns how far it came. If it reaches the end of the list, no node can turn any
 /// more. It stops earlier if the worklist is full, or if it would look at more neighbours than the stage allows.
-fn turn_sinks<const PLACES: usize>(
+fn turn_queued_sinks<const PLACES: usize>(
     net: &Net,
     dest: u32,
     turns: &mut Turns,
@@ -127,7 +127,7 @@ fn turn_sinks<const PLACES: usize>(
     while at < work.len() {
         let x = work.node(at);
         let cost = net.degree(x) as usize;
-        if cost > allowance || !visit(net, dest, turns, x, work) {
+        if cost > allowance || !turn_if_it_can(net, dest, turns, x, work) {
             return at;
         }
         allowance -= cost;
@@ -139,7 +139,7 @@ fn turn_sinks<const PLACES: usize>(
 /// Turns nodes from a worklist while that is cheap, and returns how far it came. If it reaches the end of the list, no
 /// node can turn any more. It stops earlier if the worklist is full, or once it has looked at as many neighbours as
 /// there are nodes, and then at as many as all rows have.
-fn turn_listed<const PLACES: usize>(
+fn turn_queued_while_cheap<const PLACES: usize>(
     net: &Net,
     dest: u32,
     turns: &mut Turns,
@@ -160,21 +160,21 @@ fn turn_listed<const PLACES: usize>(
         start: 0,
         allowance: net.nodes() as usize,
     };
-    let start = turn_sinks(net, dest, turns, work, few);
+    let start = turn_queued_sinks(net, dest, turns, work, few);
     if start < work.len() {
-        cap_cut_off(net, dest, turns);
+        cap_cut_off_counts(net, dest, turns);
     }
     let rest = Stage {
         start,
         allowance: 2 * net.link_count(),
     };
-    turn_sinks(net, dest, turns, work, rest)
+    turn_queued_sinks(net, dest, turns, work, rest)
 }
 
 /// Turns nodes while that is cheap, from a long list of all that can turn. Returns whether no node can turn any more.
 /// It is not inlined, so that the list takes no stack while its caller searches.
 #[inline(never)]
-pub(crate) fn turn_few_of_all(net: &Net, dest: u32, turns: &mut Turns) -> bool
+pub(crate) fn turn_all_while_cheap(net: &Net, dest: u32, turns: &mut Turns) -> bool
     requires node { dest < net.now.nodes }
     requires lawful { AreLawful net.now.nodes dest net.now.links turns.old }
     ensures lawful { AreLawful net.now.nodes dest net.now.links turns.new }
@@ -182,14 +182,14 @@ pub(crate) fn turn_few_of_all(net: &Net, dest: u32, turns: &mut Turns) -> bool
 {
     let mut work: Queue<ALL_NODES> = Queue::new();
     add_sinks(net, dest, turns.counts(), &mut work);
-    let end = turn_listed(net, dest, turns, &mut work);
+    let end = turn_queued_while_cheap(net, dest, turns, &mut work);
     end >= work.len()
 }
 
 /// Turns nodes from a list that has room for all, beginning with those of `from` that can turn. Returns whether no node
-/// can turn any more. It is not inlined, because the short list of [`turn_few`] is enough most often.
+/// can turn any more. It is not inlined, because the short list of [`turn_while_cheap`] is enough most often.
 #[inline(never)]
-fn turn_many(net: &Net, dest: u32, turns: &mut Turns, from: &[u32]) -> bool
+fn turn_with_long_list(net: &Net, dest: u32, turns: &mut Turns, from: &[u32]) -> bool
     requires node { dest < net.now.nodes }
     requires lawful { AreLawful net.now.nodes dest net.now.links turns.old }
     requires from { HoldsAllThatCanTurn net.now.nodes dest net.now.links turns.old from.now }
@@ -201,14 +201,14 @@ fn turn_many(net: &Net, dest: u32, turns: &mut Turns, from: &[u32]) -> bool
     if !add_sinks_among(net, dest, turns.counts(), from, &mut work) {
         return false;
     }
-    let end = turn_listed(net, dest, turns, &mut work);
+    let end = turn_queued_while_cheap(net, dest, turns, &mut work);
     end >= work.len()
 }
 
 /// Turns nodes while that is cheap, beginning with those of `from`, which contains all that can turn. Returns whether
-/// no node can turn any more. It tries a short list and then a long one, turns nodes from both as [`turn_listed`] does,
-/// and stops at the end of the long one.
-pub(crate) fn turn_few(net: &Net, dest: u32, turns: &mut Turns, from: &[u32]) -> bool
+/// no node can turn any more. It tries a short list and then a long one, turns nodes from both as
+/// [`turn_queued_while_cheap`] does, and stops at the end of the long one.
+pub(crate) fn turn_while_cheap(net: &Net, dest: u32, turns: &mut Turns, from: &[u32]) -> bool
     requires node { dest < net.now.nodes }
     requires lawful { AreLawful net.now.nodes dest net.now.links turns.old }
     requires from { HoldsAllThatCanTurn net.now.nodes dest net.now.links turns.old from.now }
@@ -218,8 +218,8 @@ pub(crate) fn turn_few(net: &Net, dest: u32, turns: &mut Turns, from: &[u32]) ->
 {
     let mut work: Queue<FEW> = Queue::new();
     if !add_sinks_among(net, dest, turns.counts(), from, &mut work) {
-        return turn_many(net, dest, turns, from);
+        return turn_with_long_list(net, dest, turns, from);
     }
-    let end = turn_listed(net, dest, turns, &mut work);
-    end >= work.len() || turn_many(net, dest, turns, &work.nodes()[end..])
+    let end = turn_queued_while_cheap(net, dest, turns, &mut work);
+    end >= work.len() || turn_with_long_list(net, dest, turns, &work.nodes()[end..])
 }

@@ -4,9 +4,9 @@
 ghost use Rattle.std.specs.Prelude.{◌≡◌, ◌<◌, ◌≤◌, IfSome, length};
 ghost use Rattle.fr_crew.specs.Candidates.{IsCandidate};
 
-use crate::naming::{Candidates, Naming};
-use crate::unshared::Unshared;
-use crate::waiting::Waiting;
+use crate::local_queue::LocalQueue;
+use crate::naming::{CandidateProtocol, Naming};
+use crate::queued_nodes::QueuedNodes;
 use crossbeam_deque::{Steal, Worker};
 use fr_round::Round;
 use rand_core::SeedableRng;
@@ -18,14 +18,14 @@ use std::alloc::{AllocError, Global};
 const TRIES: u32 = 64;
 
 /// The handle with which other workers steal from a deque.
-pub(crate) type Stealer<J> = crossbeam_deque::Stealer<u32, Global, (), Candidates<J>>;
+pub(crate) type Stealer<J> = crossbeam_deque::Stealer<u32, Global, (), CandidateProtocol<J>>;
 
 /// A worker's own deque, in which the first candidate put is the first one taken, and the draws of the deque from which
 /// the worker steals first. A crew of one uses a queue that is not shared instead.
 #[derive(Drop)]
 pub(crate) struct Deque<J: Naming> {
-    own: Worker<u32, Global, (), Candidates<J>>,
-    unshared: Option<Unshared<J>>,
+    own: Worker<u32, Global, (), CandidateProtocol<J>>,
+    local_queue: Option<LocalQueue<J>>,
     number: usize,
     draws: Lcg64Xsh32,
 }
@@ -35,7 +35,7 @@ impl<J: Naming> Deque<J> {
     pub fn new(alloc: Global, room: usize, seed: u64, number: u32) -> Result<Deque<J>, AllocError> {
         Ok(Deque {
             own: Worker::fifo_as(alloc, room)?,
-            unshared: None,
+            local_queue: None,
             number: number as usize,
             draws: Lcg64Xsh32::seed_from_u64(seed.wrapping_add(u64::from(number))),
         })
@@ -47,39 +47,39 @@ impl<J: Naming> Deque<J> {
     }
 
     /// Makes it share nothing from now on: for the only worker of a crew, before any candidate is put.
-    pub fn unshare(&mut self, alloc: Global, round: &Round) -> Result<(), AllocError>
+    pub fn use_local_queue(&mut self, alloc: Global, round: &Round) -> Result<(), AllocError>
         requires { round.now.setup ≡ J.setup }
     {
-        self.unshared = Some(Unshared::new(alloc, round)?);
+        self.local_queue = Some(LocalQueue::new(alloc, round)?);
         Ok(())
     }
 
     /// Puts a candidate at the end, unless it is in a deque. A candidate for which there is no memory is dropped. It is
     /// left to the finisher, or to the worker that puts it next.
     #[inline(always)]
-    pub fn put(&mut self, waiting: &Waiting<J>, x: u32)
+    pub fn put(&mut self, queued_nodes: &QueuedNodes<J>, x: u32)
         requires { IsCandidate J.setup x }
     {
-        if let Some(unshared) = &mut self.unshared {
-            unshared.put(x);
-        } else if !waiting.has(x) {
+        if let Some(local_queue) = &mut self.local_queue {
+            local_queue.put(x);
+        } else if !queued_nodes.is_queued(x) {
             // Most candidates are in a deque already, and a load is cheaper than an exchange.
-            self.share(waiting, x);
+            self.push_shared(queued_nodes, x);
         }
     }
 
     /// Puts a candidate at the end of the shared deque, unless another worker has just put it.
     #[inline(never)]
-    fn share(&mut self, waiting: &Waiting<J>, x: u32)
+    fn push_shared(&mut self, queued_nodes: &QueuedNodes<J>, x: u32)
         requires { IsCandidate J.setup x }
     {
-        if waiting.enters(x) && self.own.push_as::<Candidates<J>>(x).is_err() {
-            waiting.leaves(x);
+        if queued_nodes.mark_queued(x) && self.own.push_as::<CandidateProtocol<J>>(x).is_err() {
+            queued_nodes.unmark_queued(x);
         }
     }
 
     /// Puts all neighbours of a node, except the destination: each of them may be a sink after the node has turned.
-    pub fn put_neighbours(&mut self, waiting: &Waiting<J>, round: &Round, x: u32)
+    pub fn put_neighbours(&mut self, queued_nodes: &QueuedNodes<J>, round: &Round, x: u32)
         requires named { round.now.setup ≡ J.setup }
         requires node { x < J.setup.nodes }
     {
@@ -87,30 +87,30 @@ impl<J: Naming> Deque<J> {
         for (neighbour, _) in round.net().row(x) {
             let neighbour = *neighbour as u32;
             if neighbour != dest {
-                self.put(waiting, neighbour);
+                self.put(queued_nodes, neighbour);
             }
         }
     }
 
     /// Takes the first of its own candidates. The candidate is then in no deque.
-    pub fn take(&mut self, waiting: &Waiting<J>) -> Option<u32>
+    pub fn take(&mut self, queued_nodes: &QueuedNodes<J>) -> Option<u32>
         ensures { IfSome result (IsCandidate J.setup) }
     {
-        if let Some(unshared) = &mut self.unshared {
-            return unshared.take();
+        if let Some(local_queue) = &mut self.local_queue {
+            return local_queue.take();
         }
-        let x = self.own.pop_as::<Candidates<J>>()?;
-        waiting.leaves(x);
+        let x = self.own.pop_as::<CandidateProtocol<J>>()?;
+        queued_nodes.unmark_queued(x);
         Some(x)
     }
 
     /// Steals a candidate of another worker. The candidate is then in no deque.
-    pub fn steal(&mut self, waiting: &Waiting<J>, stealers: &[Stealer<J>]) -> Option<u32>
+    pub fn steal(&mut self, queued_nodes: &QueuedNodes<J>, stealers: &[Stealer<J>]) -> Option<u32>
         requires { 0 < length stealers.now }
         ensures { IfSome result (IsCandidate J.setup) }
     {
         let x = self.steal_from_each(stealers)?;
-        waiting.leaves(x);
+        queued_nodes.unmark_queued(x);
         Some(x)
     }
 
@@ -139,7 +139,7 @@ fn steal<J: Naming>(stealer: &Stealer<J>) -> Option<u32>
 {
     let mut pass = stealer.pass();
     for _ in 0..TRIES {
-        match stealer.steal_as::<Candidates<J>>(&mut pass) {
+        match stealer.steal_as::<CandidateProtocol<J>>(&mut pass) {
             Steal::Success(x) => return Some(x),
             Steal::Empty => return None,
             Steal::Retry => {}

@@ -17,13 +17,13 @@ mod deques;
 mod fault;
 mod gate;
 mod live_walks;
+mod local_queue;
 mod members;
 mod naming;
 mod plan;
+mod queued_nodes;
 mod settlement;
 mod threads;
-mod unshared;
-mod waiting;
 
 pub use fault::CrewFault;
 pub use gate::{Gate, OpenGate};

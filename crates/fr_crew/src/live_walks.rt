@@ -53,7 +53,13 @@ impl From<AllocError> for LiveFault {
 }
 
 /// Continues a walk from node `x`, which is the only one in `nodes`, and appends each node to which it hops.
-fn walk_on(round: &Round, worker: &mut Worker, nodes: &mut Vec<u32>, x: u32, limit: u32) -> LiveEnd
+fn continue_walk(
+    round: &Round,
+    worker: &mut Worker,
+    nodes: &mut Vec<u32>,
+    x: u32,
+    limit: u32,
+) -> LiveEnd
     requires own { IsOwn round.now worker.old }
     requires node { IsLookable round.now.setup.nodes round.now.setup.links x }
     requires room { HasRoomToWalk nodes.old x limit }
@@ -123,6 +129,6 @@ pub fn live_walk(
     }
     let mut nodes = Vec::with_capacity(alloc, limit as usize + 1)?;
     nodes.push_reserved(x);
-    let end = walk_on(round, worker, &mut nodes, x, limit);
+    let end = continue_walk(round, worker, &mut nodes, x, limit);
     Ok(LiveWalk { nodes, end })
 }

@@ -7,7 +7,7 @@ ghost use Rattle.fr_crew.specs.Crews.{IsNew, IsOwnMember};
 
 use crate::deques::{Deque, Stealer};
 use crate::naming::Naming;
-use crate::waiting::Waiting;
+use crate::queued_nodes::QueuedNodes;
 use fr_round::{Round, Worker};
 use std::alloc::{AllocError, Global};
 
@@ -27,7 +27,7 @@ pub(crate) struct Members<J: Naming> {
 
 /// Gives each worker a deque of its own, with room for so many candidates at first. The only worker of a crew shares
 /// nothing.
-pub(crate) fn equip<J: Naming>(
+pub(crate) fn make_deques<J: Naming>(
     alloc: Global,
     round: &Round,
     workers: Vec<Worker>,
@@ -45,7 +45,7 @@ pub(crate) fn equip<J: Naming>(
     let mut stealers = Vec::with_capacity(alloc, workers.len())?;
     for worker in workers {
         let deque = Deque::new(alloc, room, seed, worker.number())?;
-        let (deque, stealer) = with_stealer(alloc, round, deque, is_one)?;
+        let (deque, stealer) = deque_with_stealer(alloc, round, deque, is_one)?;
         stealers.push_reserved(stealer);
         members.push_reserved(Member { worker, deque });
     }
@@ -54,7 +54,7 @@ pub(crate) fn equip<J: Naming>(
 
 /// A new deque, and the handle with which the others steal from it. The deque of an only worker shares nothing from now
 /// on.
-fn with_stealer<J: Naming>(
+fn deque_with_stealer<J: Naming>(
     alloc: Global,
     round: &Round,
     mut deque: Deque<J>,
@@ -64,7 +64,7 @@ fn with_stealer<J: Naming>(
 {
     let stealer = deque.stealer()?;
     if is_one {
-        deque.unshare(alloc, round)?;
+        deque.use_local_queue(alloc, round)?;
     }
     Ok((deque, stealer))
 }
@@ -75,7 +75,7 @@ const SLACK: usize = 64;
 /// How many candidates the deque of each worker has room for at first: as many as are dealt to one worker and some
 /// more, but at most as many as there are nodes, because no node is in a deque twice. A deque grows if that is too
 /// little.
-pub(crate) fn room_for(round: &Round, from: Option<&[u32]>, workers: usize) -> usize
+pub(crate) fn deque_room(round: &Round, from: Option<&[u32]>, workers: usize) -> usize
     requires { 0 < workers }
     ensures { result ≤ round.now.setup.nodes }
 {
@@ -92,7 +92,7 @@ pub(crate) fn room_for(round: &Round, from: Option<&[u32]>, workers: usize) -> u
 /// link, and is not the destination.
 fn deal_node<J: Naming>(
     round: &Round,
-    waiting: &Waiting<J>,
+    queued_nodes: &QueuedNodes<J>,
     members: &mut [Member<J>],
     turn: usize,
     x: u32,
@@ -104,27 +104,31 @@ fn deal_node<J: Naming>(
     let net = round.net();
     if x < net.nodes() && x != round.dest() && net.degree(x) > 0 {
         let to = turn % members.len();
-        members[to].deque.put(waiting, x);
+        members[to].deque.put(queued_nodes, x);
     }
 }
 
 /// Deals all candidates in increasing order, each to the member whose number is the node's modulo the number of
 /// members.
-fn deal_all<J: Naming>(round: &Round, waiting: &Waiting<J>, members: &mut [Member<J>])
+fn deal_all_candidates<J: Naming>(
+    round: &Round,
+    queued_nodes: &QueuedNodes<J>,
+    members: &mut [Member<J>],
+)
     requires named { round.now.setup ≡ J.setup }
     requires some { 0 < length members.old }
     ensures own { (own : OpenRound) → Each (IsOwnMember own) members.old → Each (IsOwnMember own) members.new }
 {
     for x in 0..round.net().nodes() {
-        deal_node(round, waiting, members, x as usize, x);
+        deal_node(round, queued_nodes, members, x as usize, x);
     }
 }
 
 /// Deals the candidates among these nodes, each to the member whose number is the node's place modulo the number of
 /// members.
-fn deal_each<J: Naming>(
+fn deal_listed_candidates<J: Naming>(
     round: &Round,
-    waiting: &Waiting<J>,
+    queued_nodes: &QueuedNodes<J>,
     members: &mut [Member<J>],
     nodes: &[u32],
 )
@@ -133,14 +137,14 @@ fn deal_each<J: Naming>(
     ensures own { (own : OpenRound) → Each (IsOwnMember own) members.old → Each (IsOwnMember own) members.new }
 {
     for (turn, x) in nodes.iter().enumerate() {
-        deal_node(round, waiting, members, turn, *x);
+        deal_node(round, queued_nodes, members, turn, *x);
     }
 }
 
 /// Deals the first candidates: those among the nodes of `from`, or all candidates if there is no `from`.
-pub(crate) fn deal<J: Naming>(
+pub(crate) fn deal_first_candidates<J: Naming>(
     round: &Round,
-    waiting: &Waiting<J>,
+    queued_nodes: &QueuedNodes<J>,
     members: &mut [Member<J>],
     from: Option<&[u32]>,
 )
@@ -149,7 +153,7 @@ pub(crate) fn deal<J: Naming>(
     ensures own { (own : OpenRound) → Each (IsOwnMember own) members.old → Each (IsOwnMember own) members.new }
 {
     match from {
-        Some(from) => deal_each(round, waiting, members, from),
-        None => deal_all(round, waiting, members),
+        Some(from) => deal_listed_candidates(round, queued_nodes, members, from),
+        None => deal_all_candidates(round, queued_nodes, members),
     }
 }

@@ -16,9 +16,9 @@ impl Naming for Brand {
 }
 
 /// The rule of the deques of a round, and what each call on them shows: every task is a candidate of the round.
-pub(crate) struct Candidates<J>(PhantomData<J>);
+pub(crate) struct CandidateProtocol<J>(PhantomData<J>);
 
-impl<J: Naming> Protocol<u32, ()> for Candidates<J> {
+impl<J: Naming> Protocol<u32, ()> for CandidateProtocol<J> {
     ghost use Rattle.std.specs.Prelude.{All};
     ghost use Rattle.fr_crew.specs.Candidates.{IsCandidate};
 
@@ -29,7 +29,7 @@ impl<J: Naming> Protocol<u32, ()> for Candidates<J> {
     ghost guest = { tt };
 }
 
-impl<J: Naming> Outcome<u32, ()> for Candidates<J> {
+impl<J: Naming> Outcome<u32, ()> for CandidateProtocol<J> {
     ghost use Rattle.std.specs.Prelude.{All};
     ghost use Rattle.fr_crew.specs.Candidates.{IsCandidate};
 

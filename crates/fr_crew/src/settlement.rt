@@ -13,7 +13,7 @@ use crate::fault::CrewFault;
 use crate::gate::Gate;
 use crate::plan::{Crew, Plan};
 use crate::threads::run_crew;
-use fr_core::{are_settled, finish_from, finish_soon, finish_turns};
+use fr_core::{are_settled, finish_from, finish_if_few, finish_turns};
 use fr_graph::{Net, Turns};
 use fr_round::{Closed, Round};
 use std::alloc::{AllocError, Global};
@@ -84,9 +84,9 @@ pub fn settle<R: Threads + Wait + Sync, G: Gate + Sync>(
     if plan.budget() == 0 {
         return settle_alone(alloc, net, dest);
     }
-    let turns = none_yet(alloc, &net, dest)?;
+    let turns = empty_turns(alloc, &net, dest)?;
     if are_settled(&net, dest, turns.counts()) {
-        return Ok(finished(net, dest, turns, 0));
+        return Ok(finish_and_turn_links(net, dest, turns, 0));
     }
     let crew = Crew {
         rt,
@@ -94,7 +94,7 @@ pub fn settle<R: Threads + Wait + Sync, G: Gate + Sync>(
         plan,
         gate,
     };
-    let CrewWork { settled, .. } = settled_by(&crew, net, dest, turns)?;
+    let CrewWork { settled, .. } = settle_by_crew(&crew, net, dest, turns)?;
     Ok(settled)
 }
 
@@ -121,11 +121,11 @@ pub fn settle_telling<R: Threads + Wait + Sync, G: Gate + Sync>(
     ensures still { AreSettled net.nodes dest net.links (replicate net.nodes 0)
         → IfErr result (λ fault. fault ≢ Start) }
 {
-    let turns = none_yet(crew.alloc, &net, dest)?;
+    let turns = empty_turns(crew.alloc, &net, dest)?;
     if crew.plan.budget() == 0 || are_settled(&net, dest, turns.counts()) {
-        return settled_by_none(crew, net, dest, turns);
+        return settle_without_workers(crew, net, dest, turns);
     }
-    settled_by(crew, net, dest, turns)
+    settle_by_crew(crew, net, dest, turns)
 }
 
 /// Does the same on the calling thread, by [`finish_turns`](fr_core::finish_turns). The result is that of [`settle`],
@@ -139,8 +139,8 @@ pub fn settle_alone(alloc: Global, net: Net, dest: u32) -> Result<Settled, CrewF
     ensures by_finisher { IfOk result (λ settled. settled.by_workers ≡ 0) }
     ensures no_start { IfErr result (λ fault. fault ≢ Start) }
 {
-    let turns = none_yet(alloc, &net, dest)?;
-    Ok(finished(net, dest, turns, 0))
+    let turns = empty_turns(alloc, &net, dest)?;
+    Ok(finish_and_turn_links(net, dest, turns, 0))
 }
 
 /// The settled counts of a network, which does not change. If a node can turn, the crew turns a copy of the network,
@@ -150,7 +150,7 @@ pub fn settle_alone(alloc: Global, net: Net, dest: u32) -> Result<Settled, CrewF
 ///
 /// `from` is for a caller that knows where sinks can be, for example after an edit of a settled network. It must
 /// contain only nodes, and each sink except the destination; a node may occur twice. If a few turns settle the network,
-/// or none, the calling thread makes them by [`finish_soon`](fr_core::finish_soon). This costs a look at each of these
+/// or none, the calling thread makes them by [`finish_if_few`](fr_core::finish_if_few). This costs a look at each of these
 /// nodes and the turns, and no thread is started. Otherwise these nodes are the workers' first candidates instead of
 /// all nodes, each dealt to the worker whose number is its place in `from` modulo the number of workers. Each worker
 /// then makes at most as many calls as there are nodes, because more calls would take longer than a search.
@@ -178,15 +178,15 @@ pub fn settled_counts<R: Threads + Wait + Sync, G: Gate + Sync>(
     if crew.plan.budget() == 0 {
         return settled_counts_alone(net, dest, from, turns);
     }
-    test_node(net, dest)?;
+    test_destination(net, dest)?;
     // By this law, a settled count is at most the number of nodes.
     net.network_law();
-    if turn_few(net, dest, from, &mut turns) {
+    if settle_if_few(net, dest, from, &mut turns) {
         return Ok(turns);
     }
-    let counts = counts_by(crew, net, dest, from)?;
+    let counts = crew_counts(crew, net, dest, from)?;
     turns.copy_from(&counts);
-    Ok(finished_counts(net, dest, turns, None))
+    Ok(finish_counts(net, dest, turns, None))
 }
 
 /// Does the same on the calling thread, by [`finish_turns`](fr_core::finish_turns), or by
@@ -205,12 +205,12 @@ pub fn settled_counts_alone(
     ensures settled { IfOk result (IsCounted net.now.nodes dest net.now.links) }
     ensures range { IfErr result (λ fault. (fault ≡ Range) × (net.now.nodes ≤ dest)) }
 {
-    test_node(net, dest)?;
-    Ok(finished_counts(net, dest, turns, from))
+    test_destination(net, dest)?;
+    Ok(finish_counts(net, dest, turns, from))
 }
 
 /// Tests that the destination is a node. Fails with `Range` if it is not.
-fn test_node(net: &Net, dest: u32) -> Result<(), CrewFault>
+fn test_destination(net: &Net, dest: u32) -> Result<(), CrewFault>
     ensures node { OnOk result (dest < net.now.nodes) }
     ensures range { IfErr result (λ fault. (fault ≡ Range) × (net.now.nodes ≤ dest)) }
 {
@@ -222,19 +222,19 @@ fn test_node(net: &Net, dest: u32) -> Result<(), CrewFault>
 
 /// The table with which every settlement begins: no node has turned. Fails with `Range` if the destination is not a
 /// node, which is tested first, and with `Memory` if an allocation is refused.
-fn none_yet(alloc: Global, net: &Net, dest: u32) -> Result<Turns, CrewFault>
+fn empty_turns(alloc: Global, net: &Net, dest: u32) -> Result<Turns, CrewFault>
     ensures none { IfOk result (λ turns. (dest < net.now.nodes) × (turns ≡ replicate net.now.nodes 0)) }
     ensures range { IfErr result (λ fault. (fault ≡ Range) ↔ (net.now.nodes ≤ dest)) }
     ensures no_start { IfErr result (λ fault. fault ≢ Start) }
 {
-    test_node(net, dest)?;
+    test_destination(net, dest)?;
     net.network_law();
     Ok(Turns::none(alloc, net.nodes())?)
 }
 
 /// Turns nodes if a few turns settle the network: none at all, or few from the nodes of `from`, if these are given.
 /// Returns whether the network is settled.
-fn turn_few(net: &Net, dest: u32, from: Option<&[u32]>, turns: &mut Turns) -> bool
+fn settle_if_few(net: &Net, dest: u32, from: Option<&[u32]>, turns: &mut Turns) -> bool
     requires node { dest < net.now.nodes }
     requires begin { CanBegin net.now dest from turns.old }
     ensures one_each { length turns.new ≡ net.now.nodes }
@@ -243,13 +243,13 @@ fn turn_few(net: &Net, dest: u32, from: Option<&[u32]>, turns: &mut Turns) -> bo
 {
     net.network_law();
     match from {
-        Some(from) => finish_soon(net, dest, turns, from),
+        Some(from) => finish_if_few(net, dest, turns, from),
         None => are_settled(net, dest, turns.counts()),
     }
 }
 
 /// Settles a network on the calling thread. None of the workers makes a call. No node has turned yet.
-fn settled_by_none<R, G: Gate>(
+fn settle_without_workers<R, G: Gate>(
     crew: &Crew<'_, R, G>,
     net: Net,
     dest: u32,
@@ -266,8 +266,8 @@ fn settled_by_none<R, G: Gate>(
 {
     net.network_law();
     let left = vec![in crew.alloc; 0u64; net.nodes() as usize]?;
-    let turned = no_turns(crew.alloc, crew.plan.workers())?;
-    let settled = finished(net, dest, turns, 0);
+    let turned = no_worker_turns(crew.alloc, crew.plan.workers())?;
+    let settled = finish_and_turn_links(net, dest, turns, 0);
     Ok(CrewWork {
         settled,
         left,
@@ -276,7 +276,7 @@ fn settled_by_none<R, G: Gate>(
 }
 
 /// The pairs of so many workers that turned no node.
-fn no_turns(alloc: Global, workers: u32) -> Result<Vec<(u32, u64)>, AllocError>
+fn no_worker_turns(alloc: Global, workers: u32) -> Result<Vec<(u32, u64)>, AllocError>
     ensures numbered { IfOk result (λ turned. AreNumbered workers turned.items) }
     ensures none { IfOk result (λ turned. Each (λ (p : ℕ × ℕ). p.1 ≡ 0) turned.items) }
 {
@@ -288,7 +288,7 @@ fn no_turns(alloc: Global, workers: u32) -> Result<Vec<(u32, u64)>, AllocError>
 }
 
 /// Settles a network by a crew, and what that leaves on the calling thread. The table has a count for each node.
-fn settled_by<R: Threads + Wait, G: Gate + Sync>(
+fn settle_by_crew<R: Threads + Wait, G: Gate + Sync>(
     crew: &Crew<'_, R, G>,
     net: Net,
     dest: u32,
@@ -308,11 +308,11 @@ fn settled_by<R: Threads + Wait, G: Gate + Sync>(
         net,
         counts,
         turned,
-    } = turned_by(crew, net, dest, None)?;
+    } = run_crew_round(crew, net, dest, None)?;
     net.network_law();
     let by_workers = sum_of_turns(&turned);
     turns.copy_from(&counts);
-    let settled = finished(net, dest, turns, by_workers);
+    let settled = finish_and_turn_links(net, dest, turns, by_workers);
     Ok(CrewWork {
         settled,
         left: counts,
@@ -322,7 +322,7 @@ fn settled_by<R: Threads + Wait, G: Gate + Sync>(
 
 /// The counts that a crew leaves on a copy of a network. If it is known which nodes can turn, each worker makes at most
 /// as many calls as there are nodes: more would take longer than a search.
-fn counts_by<R: Threads + Wait, G: Gate + Sync>(
+fn crew_counts<R: Threads + Wait, G: Gate + Sync>(
     crew: &Crew<'_, R, G>,
     net: &Net,
     dest: u32,
@@ -344,13 +344,13 @@ fn counts_by<R: Threads + Wait, G: Gate + Sync>(
         gate: crew.gate,
     };
     let copy = net.copied(crew.alloc)?;
-    let closed = turned_by(&crew, copy, dest, from)?;
+    let closed = run_crew_round(&crew, copy, dest, from)?;
     Ok(closed.counts)
 }
 
 /// Opens a round, lets a crew turn its nodes, and closes it. Its workers first try the nodes of `from`, or all nodes if
 /// there is no `from`. The network is returned with its first links.
-fn turned_by<R: Threads + Wait, G: Gate + Sync>(
+fn run_crew_round<R: Threads + Wait, G: Gate + Sync>(
     crew: &Crew<'_, R, G>,
     net: Net,
     dest: u32,
@@ -379,7 +379,7 @@ fn sum_of_turns(turned: &[(u32, u64)]) -> u64
 }
 
 /// Finishes on one thread what is left to turn of a network, and turns its links. It does not allocate.
-fn finished(mut net: Net, dest: u32, mut turns: Turns, by_workers: u64) -> Settled
+fn finish_and_turn_links(mut net: Net, dest: u32, mut turns: Turns, by_workers: u64) -> Settled
     requires node { dest < net.nodes }
     requires lawful { AreLawful net.nodes dest net.links turns }
     requires turned { by_workers ≡ sum turns }
@@ -400,7 +400,7 @@ fn finished(mut net: Net, dest: u32, mut turns: Turns, by_workers: u64) -> Settl
 
 /// Finishes on one thread what is left to turn, beginning with the nodes of `from`, if these are given. It does not
 /// change the links, and does not allocate.
-fn finished_counts(net: &Net, dest: u32, mut turns: Turns, from: Option<&[u32]>) -> Turns
+fn finish_counts(net: &Net, dest: u32, mut turns: Turns, from: Option<&[u32]>) -> Turns
     requires node { dest < net.now.nodes }
     requires lawful { AreLawful net.now.nodes dest net.now.links turns }
     requires from { IfSome from (λ from. HoldsAllThatCanTurn net.now.nodes dest net.now.links turns from.now) }

@@ -12,10 +12,10 @@ ghost use Rattle.fr_crew.specs.declared.fault.CrewFault.TheVariants.{Range, Star
 use crate::deques::{Deque, Stealer};
 use crate::fault::CrewFault;
 use crate::gate::Gate;
-use crate::members::{Member, Members, deal, equip, room_for};
+use crate::members::{Member, Members, deal_first_candidates, deque_room, make_deques};
 use crate::naming::Naming;
 use crate::plan::Crew;
-use crate::waiting::Waiting;
+use crate::queued_nodes::QueuedNodes;
 use fr_core::Reply;
 use fr_round::{Round, Worker};
 use std::alloc::{AllocError, Global};
@@ -29,7 +29,7 @@ use std::thread::{Promise, PromisedHandle, Scope, Threads};
 struct Job<J: Naming> {
     round: Round,
     stealers: Vec<Stealer<J>>,
-    waiting: Waiting<J>,
+    queued_nodes: QueuedNodes<J>,
     budget: u64,
     ghost some_stealer: { 0 < vec_len stealers },
 }
@@ -69,9 +69,9 @@ struct Started<G: Gate> {
 fn next_candidate<J: Naming>(job: &Job<J>, deque: &mut Deque<J>) -> Option<u32>
     ensures { IfSome result (IsCandidate J.setup) }
 {
-    match deque.take(&job.waiting) {
+    match deque.take(&job.queued_nodes) {
         Some(x) => Some(x),
-        None => deque.steal(&job.waiting, &job.stealers),
+        None => deque.steal(&job.queued_nodes, &job.stealers),
     }
 }
 
@@ -96,8 +96,8 @@ fn try_candidate<J: Naming, G: Gate>(
     let reply = job.round.try_turn(worker, x);
     gate.after(number, call);
     match reply {
-        Ok(Reply::Turned { .. }) => deque.put_neighbours(&job.waiting, &job.round, x),
-        Ok(Reply::Moved { .. }) => deque.put(&job.waiting, x),
+        Ok(Reply::Turned { .. }) => deque.put_neighbours(&job.queued_nodes, &job.round, x),
+        Ok(Reply::Moved { .. }) => deque.put(&job.queued_nodes, x),
         // The worker that turns the neighbour that held the node will make the node a candidate again.
         Ok(Reply::Held { .. }) | Ok(Reply::Cut) => {}
         // No candidate is refused.
@@ -108,7 +108,7 @@ fn try_candidate<J: Naming, G: Gate>(
 }
 
 /// The work of one worker: it takes candidates and tries to turn them, until it finds none or its budget is spent.
-fn work<J: Naming, G: Gate>(job: &Job<J>, gate: &G, mut member: Member<J>) -> Worker
+fn run_worker<J: Naming, G: Gate>(job: &Job<J>, gate: &G, mut member: Member<J>) -> Worker
     requires named { job.now.round.setup ≡ J.setup }
     requires new { IsNew job.now.round member.worker }
     ensures { HasWorked G.passed gate.now job.now.budget member.worker result }
@@ -143,7 +143,7 @@ fn start_each<'s, 'e, J: Naming + Send + Sync, G: Gate + Sync>(
             gate: Snapshot::of(gate),
             budget: job.budget,
         };
-        match scope.spawn_with(promise, move || work(job, gate, member)) {
+        match scope.spawn_with(promise, move || run_worker(job, gate, member)) {
             Ok(thread) => threads.push_reserved(thread),
             Err(_) => return Started {
                 threads,
@@ -200,11 +200,11 @@ fn run_each<'s, 'e, J: Naming + Send + Sync, R: Threads, G: Gate + Sync>(
     ensures no_start { vec_len members ≡ 1 → IfErr result (λ fault. fault ≢ Start) }
 {
     let rooms = make_room(crew.alloc, members.len())?;
-    run_within(scope, crew, job, members, rooms)
+    run_each_in_rooms(scope, crew, job, members, rooms)
 }
 
 /// Does the same in memory that was allocated before.
-fn run_within<'s, 'e, J: Naming + Send + Sync, R: Threads, G: Gate + Sync>(
+fn run_each_in_rooms<'s, 'e, J: Naming + Send + Sync, R: Threads, G: Gate + Sync>(
     scope: &'s Scope<'s, &'e ()>,
     crew: &'e Crew<'e, R, G>,
     job: &'e Job<J>,
@@ -229,7 +229,7 @@ fn run_within<'s, 'e, J: Naming + Send + Sync, R: Threads, G: Gate + Sync>(
         join_each(crew.rt, threads, back);
         return Err(CrewFault::Start);
     }
-    let last = work(job, crew.gate, last);
+    let last = run_worker(job, crew.gate, last);
     let mut back = join_each(crew.rt, threads, back);
     back.push_reserved(last);
     Ok(back)
@@ -264,10 +264,10 @@ fn run_threads<J: Naming + Send + Sync, R: Threads + Wait, G: Gate + Sync>(
 }
 
 /// The members of a crew, who were dealt their first candidates.
-fn dealt_members<J: Naming, R: Threads, G: Gate>(
+fn members_with_candidates<J: Naming, R: Threads, G: Gate>(
     crew: &Crew<'_, R, G>,
     round: &Round,
-    waiting: &Waiting<J>,
+    queued_nodes: &QueuedNodes<J>,
     workers: Vec<Worker>,
     from: Option<&[u32]>,
 ) -> Result<Members<J>, AllocError>
@@ -278,9 +278,9 @@ fn dealt_members<J: Naming, R: Threads, G: Gate>(
     ensures members { IfOk result (λ all. vec_len all.members ≡ vec_len workers) }
     ensures stealers { IfOk result (λ all. vec_len all.stealers ≡ vec_len workers) }
 {
-    let room = room_for(round, from, workers.len());
-    let mut all = equip::<J>(crew.alloc, round, workers, room, crew.plan.seed())?;
-    deal(round, waiting, &mut all.members, from);
+    let room = deque_room(round, from, workers.len());
+    let mut all = make_deques::<J>(crew.alloc, round, workers, room, crew.plan.seed())?;
+    deal_first_candidates(round, queued_nodes, &mut all.members, from);
     Ok(all)
 }
 
@@ -298,12 +298,18 @@ fn make_job<J: Naming, R: Threads, G: Gate>(
     ensures own { IfOk result (λ made. Each (IsOwnMember round) made.1.items) }
     ensures len { IfOk result (λ made. vec_len made.1 ≡ vec_len workers) }
 {
-    let waiting = Waiting::none(crew.alloc, &round)?;
-    let Members { members, stealers } = dealt_members(crew, &round, &waiting, workers, from)?;
+    let queued_nodes = QueuedNodes::none(crew.alloc, &round)?;
+    let Members { members, stealers } = members_with_candidates(
+        crew,
+        &round,
+        &queued_nodes,
+        workers,
+        from,
+    )?;
     let job = Job {
         round,
         stealers,
-        waiting,
+        queued_nodes,
         budget: crew.plan.budget(),
     };
     Ok((job, members))

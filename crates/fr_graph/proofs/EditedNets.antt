@@ -28,9 +28,9 @@ use Rattle.fr_graph.specs.declared.first.First.TheVariants.{Inward, Outward}
 not_other : (x w y : ℕ) → y ≢ w → x ≢ w → is_between x w (x, y) ≡ false
 not_other x w y a b = rw (eq-eqb x x refl, ne_eqb y w a, ne_eqb x w b) refl
 
-cut_entry : (n : ℕ) (links : List (ℕ × ℕ)) (x w j : ℕ) (f : First) → x ≢ w → j < length (row n links x)
+remove_entry : (n : ℕ) (links : List (ℕ × ℕ)) (x w j : ℕ) (f : First) → x ≢ w → j < length (row n links x)
     → get_or (row n links x) j (w, f) ≡ (w, f) → row n (without x w links) x ≡ remove (row n links x) j
-cut_entry n links x w j f apart l is =
+remove_entry n links x w j f apart l is =
     let es = row n links x in
     let there : (d : ℕ × First) → (get_or es j d).0 ≡ w = λ d. ap (λ (e : ℕ × First). e.0) (get_or_default es j d (w, f) l ∙ is) in
     row_cut n links x w x
@@ -44,10 +44,10 @@ pub cut_end : (n : ℕ) (links : List (ℕ × ℕ)) (x w j : ℕ) → IsNet n li
     → IsPlaceIn (row n links x) w j → (j < length (row n links x)) × (row n (without x w links) x ≡ remove (row n links x) j)
 cut_end n links x w j net apart (inl p) place =
     let t = neighbour_at (row n links x) w j Outward (row_rises n links x) (row_of_out n links x w net p) place.before place.stops in
-    (t.0, cut_entry n links x w j Outward apart t.0 t.1)
+    (t.0, remove_entry n links x w j Outward apart t.0 t.1)
 cut_end n links x w j net apart (inr p) place =
     let t = neighbour_at (row n links x) w j Inward (row_rises n links x) (row_of_in n links x w net p) place.before place.stops in
-    (t.0, cut_entry n links x w j Inward apart t.0 t.1)
+    (t.0, remove_entry n links x w j Inward apart t.0 t.1)
 
 pub joins_back : (links : List (ℕ × ℕ)) (x w : ℕ) → Joins links x w → Joins links w x
 joins_back links x w (inl p) = inr p

@@ -65,9 +65,9 @@ pub fewer_fall : (links fewer : List (ℕ × ℕ)) (heights : Levels) → ((u v 
 fewer_fall links fewer heights among fit known u v stands = fit known u v (among u v stands)
 
 -- so a graph with the rows of links without a fault, their number, and heights along which they fall, has their network
-pub graph_of : (g : Graph) (listed : List (ℕ × ℕ)) → IsFaultless g.nodes listed → g.link_count ≡ length listed
+pub graph_with_order : (g : Graph) (listed : List (ℕ × ℕ)) → IsFaultless g.nodes listed → g.link_count ≡ length listed
     → AreRows g.nodes listed g.rows → length g.heights.heights ≡ g.nodes → Fit listed g.heights → IsGraph g
-graph_of g listed clear count rows height_each fit =
+graph_with_order g listed clear count rows height_each fit =
     let n = g.nodes in
     let is = links_shown n listed g.rows clear.is_net rows in
     record {

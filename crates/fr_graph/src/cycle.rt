@@ -42,7 +42,7 @@ pub(crate) struct Step {
 }
 
 /// The first place of the row, from `from` on, whose link leads to a node that is not done, or the length of the row.
-fn first_not_done(row: &[(u16, First)], marks: &[Mark], from: usize) -> usize
+fn first_unfinished_place(row: &[(u16, First)], marks: &[Mark], from: usize) -> usize
     requires below { All (λ (e : ℕ × First). e.0 < length marks.now) row.now }
     requires from { from ≤ length row.now }
     ensures low { from ≤ result }
@@ -62,7 +62,7 @@ fn first_not_done(row: &[(u16, First)], marks: &[Mark], from: usize) -> usize
 }
 
 /// The place of a node on the path. The node must be on it.
-fn place_on(path: &[Step], node: u32) -> usize
+fn place_on_path(path: &[Step], node: u32) -> usize
     requires { Contains (nodes_of path.now) node }
     ensures inside { result < length path.now }
     ensures is { slice_index (nodes_of path.now) result ≡ node }
@@ -75,12 +75,12 @@ fn place_on(path: &[Step], node: u32) -> usize
 }
 
 /// The cycle that a link from the last node of `path` back to `node` closes.
-fn closed_at(alloc: Global, path: &[Step], node: u32) -> Result<Vec<u32>, AllocError>
+fn cycle_closed_at(alloc: Global, path: &[Step], node: u32) -> Result<Vec<u32>, AllocError>
     requires { Contains (nodes_of path.now) node }
     ensures { IfOk result (λ walk. (k : ℕ) × (k < length path.now) × (slice_index (nodes_of path.now) k ≡ node)
         × (walk.items ≡ drop k (nodes_of path.now) ++ node ∷ [])) }
 {
-    let at = place_on(path, node);
+    let at = place_on_path(path, node);
     let mut walk = Vec::with_capacity(alloc, path.len() - at + 1)?;
     for step in &path[at..] {
         walk.push(step.node)?;
@@ -100,7 +100,7 @@ struct Search {
 
 impl Search {
     /// A search that has met no node.
-    fn begun(alloc: Global, nodes: u32) -> Result<Search, AllocError>
+    fn before_first_visit(alloc: Global, nodes: u32) -> Result<Search, AllocError>
         ensures rest { IfOk result (λ search. (rows : Table) → length rows.rows ≡ nodes
             → AreEntriesBelow nodes rows → AreRowsRising rows → IsAtRest rows search) }
         ensures one_each { IfOk result (λ search. length search.marks.items ≡ nodes) }
@@ -113,7 +113,7 @@ impl Search {
     }
 
     /// Whether the search has met this node.
-    fn has_met(&self, node: u32) -> bool
+    fn has_visited(&self, node: u32) -> bool
         requires { node < length self.now.marks.items }
         ensures met { IsTrue result → mark_of self.now.marks.items node ≢ Mark.Fresh }
         ensures fresh { ¬ IsTrue result → mark_of self.now.marks.items node ≡ Mark.Fresh }
@@ -122,7 +122,7 @@ impl Search {
     }
 
     /// Puts `node` at the end of the path.
-    fn open(&mut self, node: u32) -> Result<(), AllocError>
+    fn push_on_path(&mut self, node: u32) -> Result<(), AllocError>
         requires below { node < length self.old.marks.items }
         requires fresh { mark_of self.old.marks.items node ≡ Mark.Fresh }
         ensures { OnOk result (HasOpened node self.old self.new) }
@@ -134,7 +134,7 @@ impl Search {
 
     /// Continues to read the row of the last node of the path. Returns the head of its next link to a node that is not
     /// done, if there is one.
-    fn next_head(&mut self, rows: &RowTable) -> Option<u32>
+    fn next_unfinished_head(&mut self, rows: &RowTable) -> Option<u32>
         requires search { IsSearch rows.now self.old }
         requires full { 0 < vec_len self.old.path }
         ensures search { IsSearch rows.now self.new }
@@ -145,7 +145,7 @@ impl Search {
         let last = self.path.len() - 1;
         let top = self.path[last];
         let row = rows.row(top.node);
-        let place = first_not_done(row, &self.marks, top.next);
+        let place = first_unfinished_place(row, &self.marks, top.next);
         self.path[last] = Step {
             node: top.node,
             next: place,
@@ -155,7 +155,7 @@ impl Search {
     }
 
     /// Removes the last node, `top`, from the path. All its links must lead to done nodes.
-    fn leave(&mut self, top: u32) -> Result<(), AllocError>
+    fn pop_finished(&mut self, top: u32) -> Result<(), AllocError>
         requires full { 0 < vec_len self.old.path }
         requires top { top ≡ top_of self.old }
         requires below { top < length self.old.marks.items }
@@ -169,33 +169,33 @@ impl Search {
 
     /// Takes a step from the last node of the path: on to a node that has not been met, or back if there is none. If a
     /// link leads back to a node of the path, it takes no step and returns that node.
-    fn step(&mut self, rows: &RowTable) -> Result<Option<u32>, AllocError>
+    fn search_one_step(&mut self, rows: &RowTable) -> Result<Option<u32>, AllocError>
         requires search { IsSearch rows.now self.old }
         requires full { 0 < vec_len self.old.path }
         ensures on { IfOk result (GoesOn rows.now self.old self.new) }
         ensures fewer { IfOk result (λ back. IfNone back (left_count self.new < left_count self.old)) }
     {
         let top = self.path[self.path.len() - 1].node;
-        let Some(head) = self.next_head(rows) else {
-            self.leave(top)?;
+        let Some(head) = self.next_unfinished_head(rows) else {
+            self.pop_finished(top)?;
             return Ok(None);
         };
         match self.marks[head as usize] {
             Mark::Open => return Ok(Some(head)),
-            _ => self.open(head)?,
+            _ => self.push_on_path(head)?,
         }
         Ok(None)
     }
 
     /// Takes steps until the path is empty. If a link leads back to a node of the path, it stops and returns that
     /// node.
-    fn go_on(&mut self, rows: &RowTable) -> Result<Option<u32>, AllocError>
+    fn search_until_empty(&mut self, rows: &RowTable) -> Result<Option<u32>, AllocError>
         requires { IsSearch rows.now self.old }
         ensures on { IfOk result (GoesOn rows.now self.old self.new) }
         ensures empty { IfOk result (λ back. IfNone back (self.new.path.items ≡ [])) }
     {
         'walk: while !self.path.is_empty() {
-            if let Some(node) = self.step(rows)? {
+            if let Some(node) = self.search_one_step(rows)? {
                 return Ok(Some(node));
             }
         }
@@ -204,7 +204,7 @@ impl Search {
 
     /// Searches from `root`, unless the search has met it already. If a link leads back to a node of the path, it
     /// returns that node.
-    fn visit(&mut self, rows: &RowTable, root: u32) -> Result<Option<u32>, AllocError>
+    fn search_from_root(&mut self, rows: &RowTable, root: u32) -> Result<Option<u32>, AllocError>
         requires rest { IsAtRest rows.now self.old }
         requires root { root < length self.old.marks.items }
         requires lower { (w : ℕ) → w < root → mark_of self.old.marks.items w ≢ Mark.Fresh }
@@ -212,15 +212,19 @@ impl Search {
         ensures empty { IfOk result (λ back. IfNone back (self.new.path.items ≡ [])) }
         ensures met { OnOk result (mark_of self.new.marks.items root ≢ Mark.Fresh) }
     {
-        if self.has_met(root) {
+        if self.has_visited(root) {
             return Ok(None);
         }
-        self.open(root)?;
-        self.go_on(rows)
+        self.push_on_path(root)?;
+        self.search_until_empty(rows)
     }
 
     /// Searches from each node. If a link leads back to a node of the path, it returns that node and stops.
-    fn visit_all(&mut self, nodes: u32, rows: &RowTable) -> Result<Option<u32>, AllocError>
+    fn search_from_each_node(
+        &mut self,
+        nodes: u32,
+        rows: &RowTable,
+    ) -> Result<Option<u32>, AllocError>
         requires rest { IsAtRest rows.now self.old }
         requires one_each { length self.old.marks.items ≡ nodes }
         ensures on { IfOk result (GoesOn rows.now self.old self.new) }
@@ -229,7 +233,7 @@ impl Search {
             (net_in rows.now).links self.new.order.items)) }
     {
         for root in 0..nodes {
-            if let Some(node) = self.visit(rows, root)? {
+            if let Some(node) = self.search_from_root(rows, root)? {
                 return Ok(Some(node));
             }
         }
@@ -245,9 +249,9 @@ pub(crate) fn find_cycle(alloc: Global, nodes: u32, rows: &RowTable) -> Result<F
     requires rising { AreRowsRising rows.now }
     ensures { IfOk result (IsFound nodes (net_in rows.now).links) }
 {
-    let mut search = Search::begun(alloc, nodes)?;
-    match search.visit_all(nodes, rows)? {
-        Some(node) => Ok(Found::Walk(closed_at(alloc, &search.path, node)?)),
+    let mut search = Search::before_first_visit(alloc, nodes)?;
+    match search.search_from_each_node(nodes, rows)? {
+        Some(node) => Ok(Found::Walk(cycle_closed_at(alloc, &search.path, node)?)),
         None => Ok(Found::Order(search.order)),
     }
 }

@@ -14,7 +14,7 @@ use crate::row::place_in_row;
 use crate::row_table::RowTable;
 
 /// Removes the entry of `w` from the row of `x`. There must be one.
-fn cut_entry(rows: &mut RowTable, x: u32, w: u32)
+fn remove_entry(rows: &mut RowTable, x: u32, w: u32)
     requires row { x < length rows.old.rows }
     requires rising { IsStrictlyIncreasing (map (λ (e : ℕ × First). e.0) (row_of rows.old x)) }
     requires stands { Contains (map (λ (e : ℕ × First). e.0) (row_of rows.old x)) w }
@@ -26,17 +26,17 @@ fn cut_entry(rows: &mut RowTable, x: u32, w: u32)
 }
 
 /// Removes the link between two nodes, whichever way it points, from the rows of both.
-pub(crate) fn cut_from_rows(rows: &mut RowTable, u: u32, v: u32)
+pub(crate) fn remove_link_from_rows(rows: &mut RowTable, u: u32, v: u32)
     requires { (net : Network) × ShowsLink net u v rows.old }
     ensures rows { (net : Network) → ShowsLink net u v rows.old → AreRows net.nodes (without u v net.links) rows.new }
     ensures rooms { rows.new.rooms ≡ rows.old.rooms }
 {
-    cut_entry(rows, u, v);
-    cut_entry(rows, v, u);
+    remove_entry(rows, u, v);
+    remove_entry(rows, v, u);
 }
 
 /// Inserts an entry for `w` at its place in the row of `x`, which must have room for it.
-fn put_entry(rows: &mut RowTable, x: u32, w: u32, first: First)
+fn insert_entry(rows: &mut RowTable, x: u32, w: u32, first: First)
     requires row { x < length rows.old.rows }
     requires rising { IsStrictlyIncreasing (map (λ (e : ℕ × First). e.0) (row_of rows.old x)) }
     requires few { w < most_nodes }
@@ -49,7 +49,7 @@ fn put_entry(rows: &mut RowTable, x: u32, w: u32, first: First)
 }
 
 /// Inserts a link in the rows of both its ends. No link may join them yet, and both rows must have room.
-pub(crate) fn put_in_rows(rows: &mut RowTable, tail: u32, head: u32)
+pub(crate) fn insert_link_in_rows(rows: &mut RowTable, tail: u32, head: u32)
     requires shown { (net : Network) × ShowsNoLink net tail head rows.old }
     requires few { length rows.old.rows ≤ most_nodes }
     requires room { HaveRoom rows.old tail head }
@@ -57,6 +57,6 @@ pub(crate) fn put_in_rows(rows: &mut RowTable, tail: u32, head: u32)
         → AreRows net.nodes (net.links ++ (tail, head) ∷ []) rows.new }
     ensures rooms { rows.new.rooms ≡ rows.old.rooms }
 {
-    put_entry(rows, tail, head, First::Outward);
-    put_entry(rows, head, tail, First::Inward);
+    insert_entry(rows, tail, head, First::Outward);
+    insert_entry(rows, head, tail, First::Inward);
 }

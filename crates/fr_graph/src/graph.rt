@@ -20,7 +20,7 @@ ghost use Rattle.fr_graph.specs.declared.edit.Edit.TheVariants.{Cut, Add, Join};
 use crate::checks::first_outside;
 use crate::cycle::{Found, find_cycle};
 use crate::edit::Edit;
-use crate::edits::{cut_from_rows, put_in_rows};
+use crate::edits::{insert_link_in_rows, remove_link_from_rows};
 use crate::fault::{EditFault, NetFault};
 use crate::first::First;
 use crate::heights::Heights;
@@ -128,14 +128,14 @@ impl Graph {
     }
 
     /// Removes the link from `tail` to `head`. There must be one.
-    fn take_out(&mut self, tail: u32, head: u32)
+    fn remove_link(&mut self, tail: u32, head: u32)
         requires graph { IsGraph self.old }
         requires stands { Points (shown self.old).links tail head }
         ensures graph { IsGraph self.new }
         ensures taken { IsNetworkOf self.old.nodes (without tail head (shown self.old).links) (shown self.new) }
         ensures rooms { self.new.rows.rooms ≡ self.old.rows.rooms }
     {
-        cut_from_rows(&mut self.rows, tail, head);
+        remove_link_from_rows(&mut self.rows, tail, head);
         self.link_count -= 1;
     }
 
@@ -152,7 +152,7 @@ impl Graph {
     }
 
     /// Adds a link from `tail` to `head`. Both rows must have room for it.
-    fn put(&mut self, tail: u32, head: u32)
+    fn insert_link(&mut self, tail: u32, head: u32)
         requires graph { IsGraph self.old }
         requires link { CanPut (shown self.old) tail head }
         requires room { HaveRoom self.old.rows tail head }
@@ -160,9 +160,9 @@ impl Graph {
         ensures put { IsNetworkOf self.old.nodes ((shown self.old).links ++ (tail, head) ∷ []) (shown self.new) }
         ensures rooms { self.new.rows.rooms ≡ self.old.rows.rooms }
     {
-        put_in_rows(&mut self.rows, tail, head);
+        insert_link_in_rows(&mut self.rows, tail, head);
         self.link_count += 1;
-        self.heights.note_link(tail, head);
+        self.heights.update_for_link(tail, head);
     }
 
     /// Computes the heights again, unless they are known.
@@ -171,20 +171,20 @@ impl Graph {
         ensures same { IsSame self.old self.new }
         ensures known { OnOk result (self.new.heights.known ≡ true) }
     {
-        if self.heights.are_known() {
+        if self.heights.are_valid() {
             return Ok(());
         }
         let Found::Order(order) = find_cycle(alloc, self.nodes, &self.rows)? else {
             unreachable!();
         };
-        self.heights.put_in_order(&order);
+        self.heights.set_from_order(&order);
         Ok(())
     }
 
     /// Whether links lead from `v` to `u`. Most often the heights already show that they do not. If it takes a search
     /// to find that out, the nodes that were met get new heights, so that a link from `u` to `v` falls, if there is
     /// room between the heights.
-    fn path_back(&mut self, alloc: Global, u: u32, v: u32) -> Result<bool, AllocError>
+    fn has_path_back(&mut self, alloc: Global, u: u32, v: u32) -> Result<bool, AllocError>
         requires graph { IsGraph self.old }
         requires nodes { AreUnjoined self.old.nodes (shown self.old).links u v }
         ensures same { IsSame self.old self.new }
@@ -192,7 +192,7 @@ impl Graph {
         ensures known { IfOk result (λ found. IsTrue found → self.new.heights.known ≡ true) }
     {
         self.renew_heights(alloc)?;
-        if self.heights.falls(u, v) {
+        if self.heights.link_would_fall(u, v) {
             return Ok(false);
         }
         match path_between(alloc, &self.rows, &self.heights, v, u)? {
@@ -215,7 +215,7 @@ impl Graph {
             return Err(NetFault::NoLink);
         };
         self.rows.room_law();
-        self.take_out(tail, head);
+        self.remove_link(tail, head);
         Ok(Effect::Removed { tail, head })
     }
 
@@ -228,13 +228,13 @@ impl Graph {
         ensures unchanged { OnErr result (IsSame self.old self.new) }
     {
         self.test_join(u, v)?;
-        if self.path_back(alloc, u, v)? {
+        if self.has_path_back(alloc, u, v)? {
             let walk = lowest_cycle(alloc, &self.rows, &self.heights, u, v)?;
             return Err(NetFault::Cycle(walk));
         }
         self.make_room(alloc, u, v)?;
         self.rows.room_law();
-        self.put(u, v);
+        self.insert_link(u, v);
         Ok(Effect::Added { tail: u, head: v })
     }
 
@@ -247,14 +247,14 @@ impl Graph {
         ensures unchanged { OnErr result (IsSame self.old self.new) }
     {
         self.test_join(u, v)?;
-        let (tail, head) = if self.path_back(alloc, u, v)? {
+        let (tail, head) = if self.has_path_back(alloc, u, v)? {
             (v, u)
         } else {
             (u, v)
         };
         self.make_room(alloc, u, v)?;
         self.rows.room_law();
-        self.put(tail, head);
+        self.insert_link(tail, head);
         Ok(Effect::Added { tail, head })
     }
 
@@ -282,8 +282,8 @@ impl Graph {
         ensures rooms { self.new.rows.rooms ≡ self.old.rows.rooms }
     {
         match done {
-            Effect::Removed { tail, head } => self.put(tail, head),
-            Effect::Added { tail, head } => self.take_out(tail, head),
+            Effect::Removed { tail, head } => self.insert_link(tail, head),
+            Effect::Added { tail, head } => self.remove_link(tail, head),
         }
     }
 

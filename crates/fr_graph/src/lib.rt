@@ -29,7 +29,7 @@ mod network;
 mod path_search;
 mod row;
 mod row_table;
-mod turned;
+mod turned_rows;
 mod turns;
 
 pub use edit::Edit;

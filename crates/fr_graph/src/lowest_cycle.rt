@@ -31,7 +31,7 @@ struct Descent {
 
 impl Descent {
     /// A search from `from` to `to`, among this number of nodes, that has read no row.
-    fn begun(alloc: Global, nodes: usize, from: u32, to: u32) -> Result<Descent, AllocError>
+    fn from_start(alloc: Global, nodes: usize, from: u32, to: u32) -> Result<Descent, AllocError>
         requires { from < nodes }
         ensures { IfOk result (HasBegun nodes from to) }
     {
@@ -46,7 +46,7 @@ impl Descent {
     }
 
     /// The last node of the path.
-    fn last(&self) -> u32
+    fn last_on_path(&self) -> u32
         requires { 0 < vec_len self.now.path }
         ensures { result ≡ last_of self.now }
     {
@@ -55,7 +55,7 @@ impl Descent {
 
     /// The first place of the row, from `from` on, whose link leads to a node that the search does not skip, or the
     /// length of the row. It skips nodes that it has met, and those lower than the node that it looks for.
-    fn first_open(&self, row: &[(u16, First)], heights: &Heights, from: usize) -> usize
+    fn first_allowed_place(&self, row: &[(u16, First)], heights: &Heights, from: usize) -> usize
         requires below { All (λ (e : ℕ × First). e.0 < length self.now.met.items) row.now }
         requires heights { HasHeights heights.now.heights self.now }
         requires from { from ≤ length row.now }
@@ -80,7 +80,7 @@ impl Descent {
 
     /// Goes on from the last node of the path, which must not be the node that it looks for: to the next neighbour that
     /// it does not skip, or back if there is none.
-    fn step(&mut self, rows: &RowTable, heights: &Heights)
+    fn search_one_step(&mut self, rows: &RowTable, heights: &Heights)
         requires rows { AreFallingRows rows.now heights.now.heights }
         requires descent { IsDescent rows.now self.old }
         requires apart { last_of self.old ≢ self.old.to }
@@ -89,7 +89,7 @@ impl Descent {
         let last = self.path.len() - 1;
         let top = self.path[last];
         let row = rows.row(top.node);
-        let place = self.first_open(row, heights, top.next);
+        let place = self.first_allowed_place(row, heights, top.next);
         if place == row.len() {
             let _left = self.path.pop();
             return;
@@ -107,7 +107,7 @@ impl Descent {
     }
 
     /// The walk from the end of the path to its beginning, by a link, and then along the path.
-    fn walk(&self, alloc: Global) -> Result<Vec<u32>, AllocError>
+    fn closed_walk(&self, alloc: Global) -> Result<Vec<u32>, AllocError>
         ensures { IfOk result (λ walk. walk.items ≡ self.now.to ∷ nodes_of self.now.path.items) }
     {
         let mut walk = Vec::with_capacity(alloc, self.path.len() + 1)?;
@@ -134,9 +134,9 @@ pub(crate) fn lowest_cycle(
     requires leads { HasPath (net_in rows.now).links v u }
     ensures { IfOk result (λ walk. IsLowestCycleBy (net_in rows.now).links u v walk.items) }
 {
-    let mut descent = Descent::begun(alloc, rows.len(), v, u)?;
-    while descent.last() != u {
-        descent.step(rows, heights);
+    let mut descent = Descent::from_start(alloc, rows.len(), v, u)?;
+    while descent.last_on_path() != u {
+        descent.search_one_step(rows, heights);
     }
-    descent.walk(alloc)
+    descent.closed_walk(alloc)
 }

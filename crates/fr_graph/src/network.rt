@@ -28,19 +28,19 @@ use crate::edit::Edit;
 use crate::fault::{EditFault, NetFault, NotEdited};
 use crate::first::First;
 use crate::graph::{Effect, Graph};
-use crate::half_links::{HalfLink, entries_of, first_twice, sorted_halves};
+use crate::half_links::{HalfLink, first_duplicate_link, row_entries_of, sorted_half_links};
 use crate::heights::Heights;
 use crate::limits::{MAX_EDITS, MAX_LINKS, MAX_NODES};
 use crate::links::Links;
 use crate::row_table::RowTable;
-use crate::turned::turn_rows;
+use crate::turned_rows::turn_rows;
 use crate::turns::Turns;
 use std::alloc::{AllocError, Global};
 use std::marker::Model;
 
 /// Tests that nodes and links are within the limits, and that each link joins two different nodes. Returns the first
 /// fault if not.
-fn test_ends(nodes: u32, links: &[(u32, u32)]) -> Result<(), NetFault>
+fn test_links(nodes: u32, links: &[(u32, u32)]) -> Result<(), NetFault>
     ensures limits { OnOk result (IsWithinLimits nodes links.now) }
     ensures range { OnOk result (IsInRange nodes links.now) }
     ensures clear { OnOk result (HasNoSelfLink links.now) }
@@ -60,16 +60,20 @@ fn test_ends(nodes: u32, links: &[(u32, u32)]) -> Result<(), NetFault>
 }
 
 /// The rows of links. `halves` are their sorted half-links, and `starts` is where those of each node start.
-fn rows_of(alloc: Global, halves: &[HalfLink], starts: Vec<usize>) -> Result<RowTable, AllocError>
+fn rows_from_half_links(
+    alloc: Global,
+    halves: &[HalfLink],
+    starts: Vec<usize>,
+) -> Result<RowTable, AllocError>
     requires { (nodes : ℕ) × (links : List (ℕ × ℕ)) × AreHalvesOf nodes links halves.now starts.items }
     ensures { IfOk result (λ rows. (nodes : ℕ) (links : List (ℕ × ℕ))
         → AreHalvesOf nodes links halves.now starts.items → AreRows nodes links rows) }
 {
-    RowTable::packed(alloc, starts, entries_of(alloc, halves)?)
+    RowTable::packed(alloc, starts, row_entries_of(alloc, halves)?)
 }
 
 /// The graph of the rows of links that have no fault. `order` lists the head of each link before its tail.
-fn graph_of(
+fn graph_with_order(
     alloc: Global,
     nodes: u32,
     link_count: usize,
@@ -84,7 +88,7 @@ fn graph_of(
         → AreRows nodes links rows → IsNetworkOf nodes links (shown graph)) }
 {
     let mut heights = Heights::unknown(alloc, nodes)?;
-    heights.put_in_order(order);
+    heights.set_from_order(order);
     Ok(Graph {
         nodes,
         link_count,
@@ -94,7 +98,7 @@ fn graph_of(
 }
 
 /// Tests that there are no more edits than the limit.
-fn test_few(edits: &[Edit]) -> Result<(), EditFault>
+fn test_edit_limit(edits: &[Edit]) -> Result<(), EditFault>
     ensures few { OnOk result (length edits.now ≤ most_edits) }
     ensures refused { IfErr result (λ refused. (most_edits < length edits.now) × (refused.at ≡ most_edits)
         × (refused.fault ≡ TooMany)) }
@@ -154,16 +158,16 @@ impl Net {
         ensures memory { IfErr result (λ fault. fault ≡ Memory → PassFirstTests nodes links.now) }
         ensures names { IfErr result (NamesFirst nodes links.now) }
     {
-        test_ends(nodes, links)?;
-        let (halves, starts) = sorted_halves(alloc, nodes, links)?;
-        if let Some((u, v)) = first_twice(&halves) {
+        test_links(nodes, links)?;
+        let (halves, starts) = sorted_half_links(alloc, nodes, links)?;
+        if let Some((u, v)) = first_duplicate_link(&halves) {
             return Err(NetFault::Twice(u, v));
         }
-        let rows = rows_of(alloc, &halves, starts)?;
+        let rows = rows_from_half_links(alloc, &halves, starts)?;
         match find_cycle(alloc, nodes, &rows)? {
             Found::Walk(walk) => Err(NetFault::Cycle(walk)),
             Found::Order(order) => Ok(Net {
-                graph: graph_of(alloc, nodes, links.len(), rows, &order)?,
+                graph: graph_with_order(alloc, nodes, links.len(), rows, &order)?,
                 done: Vec::new(alloc),
             }),
         }
@@ -210,7 +214,7 @@ impl Net {
     }
 
     /// The number of nodes without a link. O(1).
-    pub fn alone(&self) -> u32
+    pub fn isolated_count(&self) -> u32
         ensures { result ≡ alone_count self.now.nodes self.now.links }
     {
         self.graph.rows.empty_rows() as u32
@@ -313,7 +317,7 @@ impl Net {
         ensures memory { IfErr result (λ refused. refused.fault ≡ Memory → length edits.now ≤ most_edits) }
         ensures names { IfErr result (NamesInBatch self.now edits.now) }
     {
-        test_few(edits)?;
+        test_edit_limit(edits)?;
         let mut net = self.copied(alloc)?;
         net.graph.edit_all(alloc, edits, &mut net.done)?;
         Ok(net)
@@ -344,7 +348,7 @@ impl Net {
         ensures names { IfErr result (NamesIfRefused self.old edits.now) }
         ensures unchanged { OnErr result (self.new ≡ self.old) }
     {
-        if let Err(refused) = test_few(edits) {
+        if let Err(refused) = test_edit_limit(edits) {
             return Err(NotEdited::Refused(refused));
         }
         if let Err(refused) = self.graph.edit_all(alloc, edits, &mut self.done) {
@@ -385,6 +389,6 @@ impl Net {
         ensures { IsNetworkOf self.old.nodes (links_at self.old.links turns.now) self.new }
     {
         turn_rows(&mut self.graph.rows, turns);
-        self.graph.heights.raise(turns);
+        self.graph.heights.raise_turned_nodes(turns);
     }
 }

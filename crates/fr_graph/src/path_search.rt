@@ -25,7 +25,7 @@ enum Met {
 
 impl Met {
     /// The mark of the nodes that the side going this way has met.
-    fn by(first: First) -> Met
+    fn of_direction(first: First) -> Met
         ensures { result ≡ met_by first }
     {
         match first {
@@ -71,7 +71,7 @@ struct Side {
 
 impl Side {
     /// The side that goes this way from `start` up to the height `limit`, with room for `nodes` nodes.
-    fn begun(
+    fn from_start(
         alloc: Global,
         first: First,
         start: u32,
@@ -98,7 +98,7 @@ impl Side {
 
     /// Whether the side goes on from a node of height `own` to a neighbour of this height. The link between them must
     /// lead that way, which the heights show because all links fall, and the neighbour must be within the limit.
-    fn goes_on(&self, own: u64, height: u64) -> bool
+    fn may_extend_to(&self, own: u64, height: u64) -> bool
         ensures lies { IsTrue result → LiesOn self.now.first own height }
         ensures within { IsTrue result → ¬ IsBeyond self.now.first self.now.limit height }
         ensures beyond { ¬ IsTrue result → LiesOn self.now.first own height
@@ -111,7 +111,7 @@ impl Side {
     }
 
     /// The nearer of two heights: the edge, and the height of a neighbour if it lies beyond the limit.
-    fn nearer(&self, edge: u64, height: u64) -> u64
+    fn nearer_height(&self, edge: u64, height: u64) -> u64
         ensures past { IsBeyond self.now.first self.now.limit height → IsPast self.now.first result height }
         ensures nearer { (other : ℕ) → IsPast self.now.first edge other → IsPast self.now.first result other }
     {
@@ -123,14 +123,14 @@ impl Side {
     }
 
     /// Whether it has met a node whose row it has not read.
-    fn has_unread(&self) -> bool
+    fn has_unread_rows(&self) -> bool
         ensures { IsTrue result ↔ self.now.read < length self.now.nodes.items }
     {
         self.read < self.nodes.len()
     }
 
     /// How many nodes it has met whose rows it has not read.
-    fn unread(&self) -> usize
+    fn unread_row_count(&self) -> usize
         ensures { result ≡ unread_count self.now }
     {
         self.nodes.len().saturating_sub(self.read)
@@ -138,8 +138,8 @@ impl Side {
 
     /// Whether this side reads the next row. The side with fewer rows left to read does, because it is likely to be
     /// done first, unless it has already read far more rows.
-    fn goes_next(&self, other: &Side) -> bool {
-        if self.unread() <= other.unread() {
+    fn should_read_next(&self, other: &Side) -> bool {
+        if self.unread_row_count() <= other.unread_row_count() {
             self.read / LEAD <= other.read
         } else {
             other.read / LEAD > self.read
@@ -148,7 +148,7 @@ impl Side {
 
     /// Marks a node as met, unless a side has met it. The node is within the limit and in the row that this side reads.
     /// Returns whether the other side has met it.
-    fn meet(&mut self, node: u32, met: &mut [Met]) -> bool
+    fn mark_if_unmet(&mut self, node: u32, met: &mut [Met]) -> bool
         requires node { node < length met.old }
         requires room { HasRoom self.old met.old }
         ensures other { IsTrue result → HasMet (opposite self.old.first) met.new node }
@@ -156,7 +156,7 @@ impl Side {
         ensures change { ((self.new ≡ self.old) × (met.new ≡ met.old))
             ⊎ MeetsNew self.old self.new met.old met.new node }
     {
-        let own = Met::by(self.first);
+        let own = Met::of_direction(self.first);
         match met[node as usize] {
             Met::Never => {
                 met[node as usize] = own;
@@ -168,7 +168,7 @@ impl Side {
     }
 
     /// The answer if this side has nothing left to read: its nodes, and the heights between which they can be put.
-    fn ended(self) -> PathAnswer
+    fn answer_without_path(self) -> PathAnswer
         ensures { result ≡ answer_of_ended self }
     {
         let (low, high) = match self.first {
@@ -184,7 +184,7 @@ impl Side {
 
     /// Reads the row of the next node, up to the first link that leads on to a node of the other side. Returns whether
     /// there is one.
-    fn read_next(&mut self, rows: &RowTable, heights: &Heights, met: &mut [Met]) -> bool
+    fn read_next_row(&mut self, rows: &RowTable, heights: &Heights, met: &mut [Met]) -> bool
         requires rows { AreFallingRows rows.now heights.now.heights }
         requires side { IsSide (net_in rows.now) heights.now.heights self.old.first
             (start_of self.old) self.old.limit met.old self.old }
@@ -202,8 +202,8 @@ impl Side {
         for (neighbour, _) in row {
             let neighbour = *neighbour as u32;
             let height = heights.height(neighbour);
-            edge = self.nearer(edge, height);
-            if self.goes_on(own, height) && self.meet(neighbour, met) {
+            edge = self.nearer_height(edge, height);
+            if self.may_extend_to(own, height) && self.mark_if_unmet(neighbour, met) {
                 return true;
             }
         }
@@ -234,21 +234,21 @@ pub(crate) fn path_between(
     met[from as usize] = Met::Forward;
     met[to as usize] = Met::Backward;
     let (high, low) = (heights.height(from), heights.height(to));
-    let mut ahead = Side::begun(alloc, First::Outward, from, low, nodes)?;
-    let mut behind = Side::begun(alloc, First::Inward, to, high, nodes)?;
-    while ahead.has_unread() && behind.has_unread() {
-        let meets = if ahead.goes_next(&behind) {
-            ahead.read_next(rows, heights, met)
+    let mut ahead = Side::from_start(alloc, First::Outward, from, low, nodes)?;
+    let mut behind = Side::from_start(alloc, First::Inward, to, high, nodes)?;
+    while ahead.has_unread_rows() && behind.has_unread_rows() {
+        let meets = if ahead.should_read_next(&behind) {
+            ahead.read_next_row(rows, heights, met)
         } else {
-            behind.read_next(rows, heights, met)
+            behind.read_next_row(rows, heights, met)
         };
         if meets {
             return Ok(PathAnswer::Leads);
         }
     }
-    Ok(if ahead.has_unread() {
-        behind.ended()
+    Ok(if ahead.has_unread_rows() {
+        behind.answer_without_path()
     } else {
-        ahead.ended()
+        ahead.answer_without_path()
     })
 }

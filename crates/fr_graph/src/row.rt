@@ -18,7 +18,7 @@ pub(crate) fn place_in_row(row: &[(u16, First)], w: u32) -> usize
 }
 
 /// An entry of the row of `x`, turned as the counts say.
-fn turned_at(entry: (u16, First), x: u32, counts: &[u64]) -> (u16, First)
+fn entry_after_turns(entry: (u16, First), x: u32, counts: &[u64]) -> (u16, First)
     requires node { x < length counts.now }
     requires neighbour { entry.0 < length counts.now }
     ensures { result ≡ turned_entry counts.now x entry }
@@ -38,7 +38,7 @@ pub(crate) fn turn_row(row: &mut [(u16, First)], x: u32, counts: &[u64])
     ensures { row.new ≡ map (turned_entry counts.now x) row.old }
 {
     for entry in row.iter_mut() {
-        *entry = turned_at(*entry, x, counts);
+        *entry = entry_after_turns(*entry, x, counts);
     }
 }
 

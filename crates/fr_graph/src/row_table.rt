@@ -56,7 +56,7 @@ impl Model for RowTable {
 }
 
 /// The places of rows that follow each other without gaps: each row ends where the next one starts.
-fn places_between(alloc: Global, starts: &[usize]) -> Result<Vec<Place>, AllocError>
+fn adjacent_row_places(alloc: Global, starts: &[usize]) -> Result<Vec<Place>, AllocError>
     ensures { IfOk result (λ places. places.items ≡ places_of starts.now) }
 {
     let mut places = Vec::with_capacity(alloc, starts.len())?;
@@ -71,7 +71,7 @@ fn places_between(alloc: Global, starts: &[usize]) -> Result<Vec<Place>, AllocEr
 }
 
 /// How many of the rows at these places are empty. The last place is not that of a row.
-fn empty_between(places: &[Place]) -> usize
+fn count_empty_rows(places: &[Place]) -> usize
     requires { 0 < length places.now }
     ensures { result ≡ count_by (λ x. start_at places.now x == end_at places.now x) (range_with_len 0
         (length places.now - 1)) }
@@ -85,7 +85,7 @@ fn empty_between(places: &[Place]) -> usize
 }
 
 /// Puts the entry first and moves each other entry one place on. The last entry is lost.
-fn shift_in(entries: &mut [(u16, First)], entry: (u16, First))
+fn insert_at_front(entries: &mut [(u16, First)], entry: (u16, First))
     requires { 0 < length entries.old }
     ensures { entries.new ≡ take (length entries.old) (entry ∷ entries.old) }
 {
@@ -98,7 +98,7 @@ fn shift_in(entries: &mut [(u16, First)], entry: (u16, First))
 }
 
 /// Moves each entry but the first one place back. The first entry is lost, and the last place keeps its entry.
-fn shift_out(entries: &mut [(u16, First)])
+fn remove_from_front(entries: &mut [(u16, First)])
     requires { 0 < length entries.old }
     ensures one_each { length entries.new ≡ length entries.old }
     ensures rest { take (length entries.old - 1) entries.new ≡ drop 1 entries.old }
@@ -109,7 +109,7 @@ fn shift_out(entries: &mut [(u16, First)])
 }
 
 /// Keeps the entries up to `start`, and puts the row after them, with room up to `next`.
-fn lay_behind(
+fn write_row_behind(
     entries: &mut Vec<(u16, First)>,
     start: usize,
     next: usize,
@@ -141,7 +141,7 @@ impl RowTable {
     }
 
     /// The table with one more row at the end, which has room for so many entries.
-    fn with_row_behind(self, row: &[(u16, First)], room: usize) -> Result<RowTable, AllocError>
+    fn with_row_appended(self, row: &[(u16, First)], room: usize) -> Result<RowTable, AllocError>
         requires { length row.now ≤ room }
         ensures rows { IfOk result (λ table. table.rows ≡ self.rows ++ row.now ∷ []) }
         ensures rooms { IfOk result (λ table. table.rooms ≡ self.rooms ++ room ∷ []) }
@@ -155,7 +155,7 @@ impl RowTable {
         let start = places[last].start;
         let next = start.checked_add(room).ok_or(AllocError)?;
         // Entries after the room of the last row belong to no row.
-        lay_behind(&mut entries, start, next, row)?;
+        write_row_behind(&mut entries, start, next, row)?;
         places[last] = Place {
             start,
             end: start + row.len(),
@@ -183,7 +183,7 @@ impl RowTable {
 
     /// For how many entries the row at this place has room after all rows are laid out again: an eighth more than it
     /// has, and six more, because short rows gain links as often as long ones. With `keeps_room`, never fewer than now.
-    fn room_anew(&self, x: usize, keeps_room: bool) -> usize
+    fn new_row_room(&self, x: usize, keeps_room: bool) -> usize
         requires { x < length self.now.rows }
         ensures room { length (row_of self.now x) < result }
         ensures kept { IsTrue keeps_room → room_of self.now x ≤ result }
@@ -195,25 +195,25 @@ impl RowTable {
     }
 
     /// For how many entries all rows together have room after they are laid out again.
-    fn whole_room_anew(&self, keeps_room: bool) -> usize {
+    fn new_total_room(&self, keeps_room: bool) -> usize {
         let mut whole: usize = 0;
         for x in 0..self.len() {
-            whole = whole.saturating_add(self.room_anew(x, keeps_room));
+            whole = whole.saturating_add(self.new_row_room(x, keeps_room));
         }
         whole
     }
 
     /// The same rows laid out again, each with room to grow by an eighth and six more. With `keeps_room`, no row has
     /// less room than now.
-    fn laid_out(&self, alloc: Global, keeps_room: bool) -> Result<RowTable, AllocError>
+    fn with_new_room(&self, alloc: Global, keeps_room: bool) -> Result<RowTable, AllocError>
         ensures rows { IfOk result (λ table. table.rows ≡ self.now.rows) }
         ensures room { IfOk result (λ table. (x : ℕ) → x < length self.now.rows → HasRoomIn table x) }
         ensures kept { IsTrue keeps_room → IfOk result (KeepsRooms self.now) }
     {
         let rows = self.places.len() - 1;
-        let mut table = RowTable::with_capacity(alloc, rows, self.whole_room_anew(keeps_room))?;
+        let mut table = RowTable::with_capacity(alloc, rows, self.new_total_room(keeps_room))?;
         for x in 0..rows {
-            table = table.with_row_behind(self.row_at(x), self.room_anew(x, keeps_room))?;
+            table = table.with_row_appended(self.row_at(x), self.new_row_room(x, keeps_room))?;
         }
         Ok(table)
     }
@@ -230,8 +230,8 @@ impl RowTable {
             → row_of table x ≡ slice_range entries.items (slice_index starts.items x)
             (slice_index starts.items (x + 1))) }
     {
-        let places = places_between(alloc, &starts)?;
-        let empty = empty_between(&places);
+        let places = adjacent_row_places(alloc, &starts)?;
+        let empty = count_empty_rows(&places);
         Ok(RowTable {
             places,
             entries,
@@ -289,7 +289,7 @@ impl RowTable {
         ensures unchanged { OnErr result (self.new ≡ self.old) }
     {
         if self.places[x as usize].end == self.places[x as usize + 1].start {
-            *self = self.laid_out(alloc, true)?;
+            *self = self.with_new_room(alloc, true)?;
         }
         Ok(())
     }
@@ -300,7 +300,7 @@ impl RowTable {
         ensures rows { self.new.rows ≡ self.old.rows }
     {
         if self.entries.len() > MOST_ROOM {
-            *self = self.laid_out(alloc, false)?;
+            *self = self.with_new_room(alloc, false)?;
         }
         Ok(())
     }
@@ -313,7 +313,7 @@ impl RowTable {
         ensures { self.new ≡ with_row self.old x (insert (row_of self.old x) place entry) }
     {
         let Place { start, end } = self.places[x as usize];
-        shift_in(&mut self.entries[start + place..end + 1], entry);
+        insert_at_front(&mut self.entries[start + place..end + 1], entry);
         self.places[x as usize] = Place {
             start,
             end: end + 1,
@@ -328,7 +328,7 @@ impl RowTable {
         ensures { self.new ≡ with_row self.old x (remove (row_of self.old x) place) }
     {
         let Place { start, end } = self.places[x as usize];
-        shift_out(&mut self.entries[start + place..end]);
+        remove_from_front(&mut self.entries[start + place..end]);
         let end = end - 1;
         self.places[x as usize] = Place { start, end };
         self.empty += usize::from(start == end);

@@ -40,7 +40,7 @@ fn make_room(alloc: Global, count: usize) -> Result<Parts, AllocError>
 }
 
 /// Takes recorders apart, in order.
-fn take_apart(recorders: Vec<Recorder>, mut parts: Parts) -> Parts
+fn split_recorders(recorders: Vec<Recorder>, mut parts: Parts) -> Parts
     requires workers { (parts.workers.items ≡ []) × (length recorders.items ≤ vec_capacity parts.workers) }
     requires logs { (parts.logs.items ≡ []) × (length recorders.items ≤ vec_capacity parts.logs) }
     ensures workers { result.workers.items ≡ workers_of recorders.items }
@@ -73,7 +73,7 @@ pub fn close_logged(
 {
     match make_room(alloc, recorders.len()) {
         Ok(room) => {
-            let Parts { workers, logs } = take_apart(recorders, room);
+            let Parts { workers, logs } = split_recorders(recorders, room);
             Ok(Logged {
                 closed: round.close(workers),
                 logs,

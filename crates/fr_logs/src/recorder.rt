@@ -36,7 +36,7 @@ impl Model for Recorder {
 }
 
 /// The node of a target.
-fn node(target: Target) -> u32
+fn node_of_target(target: Target) -> u32
     ensures { result ≡ node_of target }
 {
     match target {
@@ -45,7 +45,7 @@ fn node(target: Target) -> u32
 }
 
 /// The call that a target asks for.
-fn ask(round: &Round, worker: &mut Worker, target: Target) -> Result<Reply, Refusal>
+fn make_call_for(round: &Round, worker: &mut Worker, target: Target) -> Result<Reply, Refusal>
     requires { IsOwn round.now worker.old }
     ensures keeps { KeepsWorker worker.old worker.new }
     ensures accepted { IfOk result (λ _. ¬ IsRefused round.now.setup target) }
@@ -60,7 +60,7 @@ fn ask(round: &Round, worker: &mut Worker, target: Target) -> Result<Reply, Refu
 }
 
 /// The entry of a call that a worker made.
-fn entry(worker: &Worker, node: u32, reply: Reply) -> Entry
+fn entry_of_call(worker: &Worker, node: u32, reply: Reply) -> Entry
     ensures { result ≡ entry worker.now.number node reply }
 {
     Entry {
@@ -144,10 +144,10 @@ impl Recorder {
         if self.room() == 0 {
             return Err(CallFault::Full);
         }
-        match ask(round, &mut self.worker, target) {
+        match make_call_for(round, &mut self.worker, target) {
             Ok(reply) => {
                 self.log
-                    .push_reserved(entry(&self.worker, node(target), reply));
+                    .push_reserved(entry_of_call(&self.worker, node_of_target(target), reply));
                 Ok(reply)
             }
             Err(why) => Err(CallFault::Refused(why)),

@@ -46,13 +46,13 @@ fn make_jobs<'p>(
 }
 
 /// Follows the plan of a job, and returns the recorder.
-fn follow(round: &Round, job: Job<'_>) -> Recorder
+fn follow_job(round: &Round, job: Job<'_>) -> Recorder
     requires own { IsOwnRecorder round.now job.recorder }
     requires room { length job.plan.now ≤ job.recorder.room }
     ensures { HasFollowed round.now.setup job.entry.recorder job.entry.plan.now result }
 {
     let Job { mut recorder, plan } = job;
-    recorder.follow(round, plan);
+    recorder.follow_job(round, plan);
     recorder
 }
 
@@ -73,7 +73,7 @@ fn follow_each<R: Threads + Sync>(
             requires own { IsOwnRecorder round.now job.recorder }
             requires room { length job.plan.now ≤ job.recorder.room }
             ensures { HasFollowed round.entry.now.setup job.entry.recorder job.entry.plan.now result }
-        { follow(round, job) },
+        { follow_job(round, job) },
     )
 }
 
@@ -93,7 +93,7 @@ fn follow_all<R: Threads + Sync>(
 }
 
 /// Gives a run up for want of memory, and takes the network back.
-fn give_up(alloc: Global, round: Round) -> RunFault
+fn abandon_run(alloc: Global, round: Round) -> RunFault
     ensures net { (result.net.nodes ≡ round.setup.nodes) × (result.net.links ≡ round.setup.links) }
     ensures why { result.why ≡ Memory }
 {
@@ -118,7 +118,7 @@ fn close_run(
 {
     match close_logged(alloc, round, recorders) {
         Ok(logged) => Ok(logged),
-        Err(fault) => Err(give_up(alloc, fault.round)),
+        Err(fault) => Err(abandon_run(alloc, fault.round)),
     }
 }
 
@@ -156,6 +156,6 @@ pub fn run_logged<R: Threads + Sync>(
     let (round, workers) = Round::open(alloc, net, dest, plans.len() as u32)?;
     match follow_all(rt, alloc, &round, workers, plans) {
         Ok(recorders) => close_run(alloc, round, recorders, plans),
-        Err(_) => Err(give_up(alloc, round)),
+        Err(_) => Err(abandon_run(alloc, round)),
     }
 }

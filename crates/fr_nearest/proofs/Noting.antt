@@ -7,7 +7,7 @@ use Rattle.std.proofs.lemmas.List.Elements.{Contains-append_left, Contains-push,
 use Rattle.fr_graph.proofs.Lists.{once_more}
 use Rattle.fr_graph.proofs.Members.{Contains-none, cases_some}
 use Rattle.fr_nearest.specs.Changes.{AreAllNoted, AreNoted, IsForgotten, IsNoted, IsTakenOver, NotesOne}
-use Rattle.fr_nearest.specs.declared.changes.Changes.{Changes}
+use Rattle.fr_nearest.specs.declared.distance_changes.DistanceChanges.{DistanceChanges}
 use Rattle.fr_nearest.specs.Distances.{AreChanged}
 use Rattle.fr_nearest.specs.Update.{KeepsOthers}
 
@@ -18,7 +18,7 @@ in_or_out x list = ⊎_elim
     (cases_some (λ (y : ℕ). y ≡ x) (λ y. cases_eq y x) list)
 
 -- x is noted, and was not
-pub notes_it : {table : List ℕ} {x : ℕ} {before after : Changes} → AreNoted table before → x < length table
+pub notes_it : {table : List ℕ} {x : ℕ} {before after : DistanceChanges} → AreNoted table before → x < length table
     → slice_index table x ≢ slice_index before.before.items x → ¬ IsNoted before x → after.before ≡ before.before
     → after.noted.items ≡ set before.noted.items x true → after.nodes.items ≡ before.nodes.items ++ x ∷ []
     → vec_capacity after.nodes ≡ vec_capacity before.nodes → NotesOne table x before after
@@ -54,7 +54,7 @@ notes_it {table} {x} {before} {after} was low other fresh same_before noted_are 
   };
 }
 
-pub notes_none : {table : List ℕ} {x : ℕ} {changes : Changes} → (slice_index table x ≢ slice_index changes.before.items x → Contains changes.nodes.items x)
+pub notes_none : {table : List ℕ} {x : ℕ} {changes : DistanceChanges} → (slice_index table x ≢ slice_index changes.before.items x → Contains changes.nodes.items x)
     → NotesOne table x changes changes
 notes_none known = record {
   same_before = refl;
@@ -66,7 +66,7 @@ notes_none known = record {
 }
 
 -- nothing is noted yet
-pub noted_first : {old table : List ℕ} {changes : Changes} → IsForgotten old changes → length old ≡ length table → AreNoted table changes
+pub noted_first : {old table : List ℕ} {changes : DistanceChanges} → IsForgotten old changes → length old ≡ length table → AreNoted table changes
 noted_first {old} {table} {changes} f same = record {
   before = rw f.before same;
   noted = f.noted ∙ same;
@@ -77,14 +77,14 @@ noted_first {old} {table} {changes} f same = record {
 }
 
 -- if nothing has changed, all is noted
-pub noted_forgotten : {table : List ℕ} {changes : Changes} → IsForgotten table changes → AreAllNoted table changes
+pub noted_forgotten : {table : List ℕ} {changes : DistanceChanges} → IsForgotten table changes → AreAllNoted table changes
 noted_forgotten {table} {changes} f = record {
   noted = noted_first f refl;
   all = λ x low other. absurd (other (rw f.before refl));
 }
 
 -- the noted nodes are those at which the tables differ
-pub changed_of : {table : List ℕ} {changes : Changes} → AreAllNoted table changes → AreChanged changes.before.items table changes.nodes.items
+pub changed_of : {table : List ℕ} {changes : DistanceChanges} → AreAllNoted table changes → AreChanged changes.before.items table changes.nodes.items
 changed_of all = record {
   one_each = all.noted.before;
   once = all.noted.once;
@@ -92,10 +92,10 @@ changed_of all = record {
 }
 
 -- the changes at the nodes of a list, up to a place, are noted
-abbrev pub HasNoted : List ℕ → Changes → List ℕ → Type 0
+abbrev pub HasNoted : List ℕ → DistanceChanges → List ℕ → Type 0
 HasNoted table changes nodes = (x : ℕ) → Contains nodes x → slice_index table x ≢ slice_index changes.before.items x → Contains changes.nodes.items x
 
-pub noted_more : {table : List ℕ} (nodes : List ℕ) (place : ℕ) {before after : Changes} → place < length nodes → NotesOne table (slice_index nodes place) before after
+pub noted_more : {table : List ℕ} (nodes : List ℕ) (place : ℕ) {before after : DistanceChanges} → place < length nodes → NotesOne table (slice_index nodes place) before after
     → HasNoted table before (take place nodes) → HasNoted table after (take (place + 1) nodes)
 noted_more {table} nodes place {before} {after} l one noted x h other =
     let was : slice_index table x ≢ slice_index before.before.items x = rw one.same_before at other in
@@ -105,7 +105,7 @@ noted_more {table} nodes place {before} {after} l one noted x h other =
     ]
 
 -- what an update makes of forgotten changes
-pub all_noted : {old table : List ℕ} {changes first : Changes} (nodes : List ℕ) → IsForgotten old first → changes.before ≡ first.before → KeepsOthers old table nodes
+pub all_noted : {old table : List ℕ} {changes first : DistanceChanges} (nodes : List ℕ) → IsForgotten old first → changes.before ≡ first.before → KeepsOthers old table nodes
     → AreNoted table changes → HasNoted table changes nodes → AreAllNoted table changes
 all_noted {old} {table} {changes} {first} nodes f same keeps noted has = record {
   noted = noted;
@@ -148,7 +148,7 @@ taken_more {table} nodes {first} {before} {marks} {noted} place inside low t =
           (get_or-set_other before x y v 0 apart ∙ was.0, get_or-set_other noted x y false false apart ∙ was.1);
     }
 
-pub forgotten : {table before : List ℕ} {noted : List Bool} {changes after : Changes} → AreAllNoted table changes
+pub forgotten : {table before : List ℕ} {noted : List Bool} {changes after : DistanceChanges} → AreAllNoted table changes
     → IsTakenOver table changes.nodes.items changes.before.items changes.noted.items before noted
     → after.before.items ≡ before → after.noted.items ≡ noted → after.nodes.items ≡ [] → vec_capacity after.nodes ≡ vec_capacity changes.nodes → IsForgotten table after
 forgotten {table} {before} {noted} {changes} {after} all t before_is noted_is empty room = record {

@@ -7,11 +7,11 @@ use Rattle.std.specs.declared.vec.Vec.{Vec}
 use Rattle.fr_graph.specs.Network.{Network}
 use Rattle.fr_nearest.specs.Changes.{AreAllNoted}
 use Rattle.fr_nearest.specs.Distances.{AreDistances, IsRenewed, Measured}
-use Rattle.fr_nearest.specs.declared.changes.Changes.{Changes}
+use Rattle.fr_nearest.specs.declared.distance_changes.DistanceChanges.{DistanceChanges}
 use Rattle.fr_nearest.proofs.Noting.{changed_of}
 
 -- The vector has got the distances `now` as its elements, and the changes are noted of what is read from it
-pub renewed : (net : Network) (d : ℕ) (old : Measured) (of : Vec ℕ Global) {first now read : List ℕ} {changes : Changes}
+pub renewed : (net : Network) (d : ℕ) (old : Measured) (of : Vec ℕ Global) {first now read : List ℕ} {changes : DistanceChanges}
     → first ≡ old.table → length now ≡ length of.items → AreDistances net.nodes net.links d now
     → read ≡ (with_items of now).items → AreAllNoted read changes → changes.before.items ≡ first
     → IsRenewed net d old

@@ -2,14 +2,14 @@
 use Rattle.std.specs.Prelude.{◌≡◌, ◌≢◌, ℕ, ◌<◌, ◌≤◌, ◌+◌, ◌↔◌, Bool, List, [], false, true, length}
 use Rattle.std.specs.Prelude.{slice_index, slice_index_or, vec_capacity}
 use Rattle.std.specs.List.{Contains}
-use Rattle.fr_nearest.specs.declared.changes.Changes.{Changes}
+use Rattle.fr_nearest.specs.declared.distance_changes.DistanceChanges.{DistanceChanges}
 
 -- whether a node is noted
-abbrev pub IsNoted : Changes → ℕ → Type 0
+abbrev pub IsNoted : DistanceChanges → ℕ → Type 0
 IsNoted changes x = slice_index_or changes.noted.items x false ≡ true
 
 -- the noted nodes are those in the list, each is there once, and its number has changed
-pub record AreNoted (table : List ℕ) (changes : Changes) : Type 0 where
+pub record AreNoted (table : List ℕ) (changes : DistanceChanges) : Type 0 where
   pub before : length changes.before.items ≡ length table
   pub noted : length changes.noted.items ≡ length table
   pub room : length table ≤ vec_capacity changes.nodes
@@ -20,7 +20,7 @@ pub record AreNoted (table : List ℕ) (changes : Changes) : Type 0 where
       → slice_index changes.nodes.items i ≢ slice_index changes.nodes.items j
 
 -- all nodes whose number has changed are noted
-pub record AreAllNoted (table : List ℕ) (changes : Changes) : Type 0 where
+pub record AreAllNoted (table : List ℕ) (changes : DistanceChanges) : Type 0 where
   pub noted : AreNoted table changes
   pub all : (x : ℕ) → x < length table → slice_index table x ≢ slice_index changes.before.items x
       → Contains changes.nodes.items x
@@ -36,7 +36,7 @@ pub record IsTakenOver (table nodes before : List ℕ) (noted : List Bool) (afte
       → (slice_index after x ≡ slice_index before x) × (slice_index_or more x false ≡ slice_index_or noted x false)
 
 -- no node is noted, and the numbers before are those of the table
-pub record IsForgotten (table : List ℕ) (changes : Changes) : Type 0 where
+pub record IsForgotten (table : List ℕ) (changes : DistanceChanges) : Type 0 where
   pub before : changes.before.items ≡ table
   pub noted : length changes.noted.items ≡ length table
   pub room : length table ≤ vec_capacity changes.nodes
@@ -44,7 +44,7 @@ pub record IsForgotten (table : List ℕ) (changes : Changes) : Type 0 where
   pub empty : changes.nodes.items ≡ []
 
 -- x is noted if its number has changed, and the other nodes are noted as before
-pub record NotesOne (table : List ℕ) (x : ℕ) (before after : Changes) : Type 0 where
+pub record NotesOne (table : List ℕ) (x : ℕ) (before after : DistanceChanges) : Type 0 where
   pub same_before : after.before ≡ before.before
   pub room : vec_capacity after.nodes ≡ vec_capacity before.nodes
   pub keeps : (y : ℕ) → Contains before.nodes.items y → Contains after.nodes.items y

@@ -10,7 +10,7 @@ ghost use Rattle.fr_nearest.specs.Touched.{HasEndsBelow};
 
 use crate::distances::{Distances, NONE};
 use crate::update::Touched;
-use crate::ways::rank;
+use crate::ways::way_rank;
 use fr_graph::{Edit, First, Net};
 use std::alloc::{AllocError, Global};
 use std::marker::Model;
@@ -92,12 +92,12 @@ impl Marks {
             self.old self.new }
     {
         for x in turned {
-            self.mark_near(net, *x);
+            self.mark_with_neighbours(net, *x);
         }
     }
 
     /// Lists node `x` and its neighbours.
-    fn mark_near(&mut self, net: &Net, x: u32)
+    fn mark_with_neighbours(&mut self, net: &Net, x: u32)
         requires marks { AreMarks self.old }
         requires room { net.now.nodes ≤ length self.old.marked.items }
         requires node { x < net.now.nodes }
@@ -122,12 +122,12 @@ impl Marks {
             (HasOne (IsBehind net.now.links) changed.now) self.old self.new }
     {
         for w in changed {
-            self.mark_behind(net, *w, distances);
+            self.mark_neighbours_of(net, *w, distances);
         }
     }
 
     /// Does this for one node `w`.
-    fn mark_behind(&mut self, net: &Net, w: u16, distances: &Distances)
+    fn mark_neighbours_of(&mut self, net: &Net, w: u16, distances: &Distances)
         requires marks { AreMarks self.old }
         requires room { net.now.nodes ≤ length self.old.marked.items }
         requires node { w < net.now.nodes }
@@ -164,11 +164,11 @@ fn comes_first(table: &[u16], w: u16, u: u16) -> bool
     requires { (w < length table.now) × (u < length table.now) }
     ensures { IsTrue result ↔ ComesFirst table.now w u }
 {
-    rank(table[w as usize], w) < rank(table[u as usize], u)
+    way_rank(table[w as usize], w) < way_rank(table[u as usize], u)
 }
 
 /// Whether node `w` comes before node `u` by both tables, or by neither.
-fn is_alike(before: &[u16], table: &[u16], w: u16, u: u16) -> bool
+fn has_same_order(before: &[u16], table: &[u16], w: u16, u: u16) -> bool
     requires before { (w < length before.now) × (u < length before.now) }
     requires table { (w < length table.now) × (u < length table.now) }
     ensures { IsTrue result → ComesFirst before.now w u ↔ ComesFirst table.now w u }
@@ -195,7 +195,7 @@ fn keeps_order(net: &Net, x: u16, w: u16, distances: &Distances) -> bool
     }
     let row = net.row(x as u32);
     for (u, first) in row {
-        if *first == First::Outward && !is_alike(before, table, w, *u) {
+        if *first == First::Outward && !has_same_order(before, table, w, *u) {
             return false;
         }
     }

@@ -4,7 +4,7 @@ ghost use Rattle.std.specs.Prelude.{◌≡◌, ◌<◌, [], IfOk, length, slice_
 ghost use Rattle.fr_nearest.specs.Distances.{AreChanged, IsMeasureOf, IsRenewed, distance_of};
 ghost use Rattle.fr_nearest.specs.Touched.{IsOutOfDate};
 
-use crate::changes::Changes;
+use crate::distance_changes::DistanceChanges;
 use crate::search::measure_all;
 use crate::update::{Touched, update};
 use fr_graph::Net;
@@ -20,7 +20,7 @@ pub(crate) const NONE: u16 = u16::MAX;
 pub struct Distances {
     dest: u32,
     of: Vec<u16>,
-    changes: Changes,
+    changes: DistanceChanges,
     // Its capacity is the number of nodes.
     list: Vec<u16>,
 }
@@ -54,7 +54,7 @@ impl Model for Distances {
 }
 
 /// The distance that this number stands for.
-fn distance_in(number: u16) -> Option<u32>
+fn distance_of_number(number: u16) -> Option<u32>
     ensures { result ≡ distance_of number }
 {
     if number == NONE {
@@ -79,7 +79,7 @@ impl Distances {
         let mut of = vec![in alloc; NONE; nodes]?;
         let mut list = Vec::with_capacity(alloc, nodes)?;
         measure_all(net, dest, &mut of, &mut list);
-        let changes = Changes::none(alloc, &of)?;
+        let changes = DistanceChanges::none(alloc, &of)?;
         Ok(Distances {
             dest,
             of,
@@ -97,7 +97,7 @@ impl Distances {
         let nodes = net.nodes() as usize;
         let of = vec![in alloc; NONE; nodes]?;
         let list = Vec::with_capacity(alloc, nodes)?;
-        let changes = Changes::none(alloc, &of)?;
+        let changes = DistanceChanges::none(alloc, &of)?;
         Ok(Distances {
             dest: 0,
             of,
@@ -114,9 +114,9 @@ impl Distances {
         ensures { IsRenewed net.now dest self.old self.new }
     {
         self.dest = dest;
-        self.changes.forget(&self.of);
+        self.changes.reset(&self.of);
         measure_all(net, dest, &mut self.of, &mut self.list);
-        self.changes.note_all(&self.of);
+        self.changes.note_all_changed(&self.of);
     }
 
     /// Updates the distances after a change of the links or of the destination. Each earlier link must be removed by
@@ -136,12 +136,12 @@ impl Distances {
         net.network_law();
         let last = self.dest;
         self.dest = dest;
-        self.changes.forget(&self.of);
+        self.changes.reset(&self.of);
         if update(net, last, dest, touched, &mut self.of, &mut self.list) {
-            self.changes.note_some(&self.of, &self.list);
+            self.changes.note_changed_among(&self.of, &self.list);
         } else {
             measure_all(net, dest, &mut self.of, &mut self.list);
-            self.changes.note_all(&self.of);
+            self.changes.note_all_changed(&self.of);
         }
     }
 
@@ -158,7 +158,7 @@ impl Distances {
         requires { x < length self.now.table }
         ensures { result ≡ distance_of (slice_index self.now.table x) }
     {
-        distance_in(self.of[x as usize])
+        distance_of_number(self.of[x as usize])
     }
 
     /// The distance that node `x` had before the last update, or the same as now if there was none. The node must be in
@@ -167,7 +167,7 @@ impl Distances {
         requires { x < length self.now.before }
         ensures { result ≡ distance_of (slice_index self.now.before x) }
     {
-        distance_in(self.changes.before[x as usize])
+        distance_of_number(self.changes.before[x as usize])
     }
 
     /// The nodes whose distance the last update has changed, each once, in no particular order. They are `u16`, as in

@@ -12,7 +12,7 @@
 #![tactic(auto)]
 
 mod affected;
-mod changes;
+mod distance_changes;
 mod distances;
 pub mod laws;
 mod search;

@@ -38,7 +38,7 @@ enum Event {
 fn is_affected(own: u16, old: u16, new: u16) -> bool
     ensures { ¬ IsTrue result → IsUnaffected own old new }
 {
-    (old < own && own <= new) || own > one_more(new)
+    (old < own && own <= new) || own > one_link_farther(new)
 }
 
 /// Whether the distance `own` of a node can be wrong after this has happened at a way with the distance `way`.
@@ -52,7 +52,7 @@ fn is_affected_by(event: Event, own: u16, way: u16) -> bool
 }
 
 /// The distance of a node whose nearest way has this distance.
-fn one_more(distance: u16) -> u16
+fn one_link_farther(distance: u16) -> u16
     ensures { result ≡ one_farther distance }
 {
     distance.saturating_add(1)
@@ -61,7 +61,7 @@ fn one_more(distance: u16) -> u16
 /// Appends node `x` if its distance can be wrong after that of one of its ways has changed from `old` to `new`: a way
 /// that is lost has `NONE` as `new`, and a way that is gained has `NONE` as `old`. Returns `false` if the list has no
 /// room.
-fn list_one(x: u32, old: u16, new: u16, distances: &[u16], list: &mut Vec<u16>) -> bool
+fn list_if_affected(x: u32, old: u16, new: u16, distances: &[u16], list: &mut Vec<u16>) -> bool
     requires node { x < length distances.now }
     requires few { length distances.now ≤ most_nodes }
     requires listed { IsListed (length distances.now) list.old.items }
@@ -81,7 +81,7 @@ fn list_one(x: u32, old: u16, new: u16, distances: &[u16], list: &mut Vec<u16>) 
 
 /// Appends the ends of an edited link that have lost or gained a way by this, if their distance can be wrong. That can
 /// only be the farther end. Returns `false` if the list has no room.
-fn list_ends(edit: Edit, event: Event, distances: &[u16], list: &mut Vec<u16>) -> bool
+fn list_edit_ends(edit: Edit, event: Event, distances: &[u16], list: &mut Vec<u16>) -> bool
     requires below { HasEndsBelow (length distances.now) edit }
     requires few { length distances.now ≤ most_nodes }
     requires listed { IsListed (length distances.now) list.old.items }
@@ -93,16 +93,16 @@ fn list_ends(edit: Edit, event: Event, distances: &[u16], list: &mut Vec<u16>) -
     match edit {
         Edit::Cut { u, v } => match event {
             Event::Lost => {
-                list_one(u, distances[v as usize], NONE, distances, list)
-                    && list_one(v, distances[u as usize], NONE, distances, list)
+                list_if_affected(u, distances[v as usize], NONE, distances, list)
+                    && list_if_affected(v, distances[u as usize], NONE, distances, list)
             }
             Event::Gained => true,
         },
         Edit::Add { u, v } | Edit::Join { u, v } => match event {
             Event::Lost => true,
             Event::Gained => {
-                list_one(u, NONE, distances[v as usize], distances, list)
-                    && list_one(v, NONE, distances[u as usize], distances, list)
+                list_if_affected(u, NONE, distances[v as usize], distances, list)
+                    && list_if_affected(v, NONE, distances[u as usize], distances, list)
             }
         },
     }
@@ -119,7 +119,7 @@ fn list_edits(edits: &[Edit], event: Event, distances: &[u16], list: &mut Vec<u1
     ensures room { vec_capacity list.new ≡ vec_capacity list.old }
 {
     for edit in edits {
-        if !list_ends(*edit, event, distances, list) {
+        if !list_edit_ends(*edit, event, distances, list) {
             return false;
         }
     }
@@ -127,7 +127,7 @@ fn list_edits(edits: &[Edit], event: Event, distances: &[u16], list: &mut Vec<u1
 }
 
 /// The direction in which a node that has turned sees its link to a neighbour that has lost or gained it as a way.
-fn direction(event: Event) -> First
+fn direction_for_turned(event: Event) -> First
     ensures { result ≡ direction_of event }
 {
     match event {
@@ -138,7 +138,7 @@ fn direction(event: Event) -> First
 
 /// Appends node `x`, which has turned, and the neighbours that have lost or gained it as a way, if their distance can
 /// be wrong. Returns `false` if the list has no room for all neighbours.
-fn list_near(net: &Net, x: u32, event: Event, distances: &[u16], list: &mut Vec<u16>) -> bool
+fn list_turned_node(net: &Net, x: u32, event: Event, distances: &[u16], list: &mut Vec<u16>) -> bool
     requires node { x < net.now.nodes }
     requires one_each { length distances.now ≡ net.now.nodes }
     requires listed { IsListed net.now.nodes list.old.items }
@@ -150,7 +150,7 @@ fn list_near(net: &Net, x: u32, event: Event, distances: &[u16], list: &mut Vec<
 {
     net.network_law();
     let own = distances[x as usize];
-    let seen = direction(event);
+    let seen = direction_for_turned(event);
     let row = net.row(x);
     if list.len() + row.len() >= distances.len() {
         return false;
@@ -180,7 +180,7 @@ fn list_turned(
     ensures room { vec_capacity list.new ≡ vec_capacity list.old }
 {
     for x in turned {
-        if !list_near(net, *x, event, distances, list) {
+        if !list_turned_node(net, *x, event, distances, list) {
             return false;
         }
     }
@@ -237,7 +237,7 @@ fn raise_listed(net: &Net, dest: u32, distances: &mut [u16], list: &mut Vec<u16>
     net.network_law();
     let mut read = 0;
     while read < list.len() {
-        if !raise_one(net, dest, list[read], distances, list) {
+        if !raise_distance(net, dest, list[read], distances, list) {
             return false;
         }
         read += 1;
@@ -247,7 +247,7 @@ fn raise_listed(net: &Net, dest: u32, distances: &mut [u16], list: &mut Vec<u16>
 
 /// Raises the distance of node `x` if it has no nearer way. Then appends the neighbours whose distance this can make
 /// wrong. Returns `false` as `set_distance` does.
-fn raise_one(net: &Net, dest: u32, x: u16, distances: &mut [u16], list: &mut Vec<u16>) -> bool
+fn raise_distance(net: &Net, dest: u32, x: u16, distances: &mut [u16], list: &mut Vec<u16>) -> bool
     requires node { x < net.now.nodes }
     requires one_each { length distances.old ≡ net.now.nodes }
     requires small { IsSmall net.now.nodes distances.old }
@@ -263,8 +263,8 @@ fn raise_one(net: &Net, dest: u32, x: u16, distances: &mut [u16], list: &mut Vec
     if x as u32 == dest || old == NONE {
         return true;
     }
-    let least = least_way(net, x, old, distances);
-    least < old || set_distance(net, x, one_more(least), distances, list)
+    let least = least_way_distance(net, x, old, distances);
+    least < old || set_distance(net, x, one_link_farther(least), distances, list)
 }
 
 /// Updates the distances of the listed nodes from the place `read` on, and of all nodes that this makes wrong. Returns
@@ -286,7 +286,7 @@ fn update_listed(
     net.network_law();
     let mut at = read;
     while at < list.len() {
-        if !update_one(net, dest, list[at], distances, list) {
+        if !update_distance(net, dest, list[at], distances, list) {
             return false;
         }
         at += 1;
@@ -296,7 +296,7 @@ fn update_listed(
 
 /// Updates the distance of node `x`. If it changes, appends the neighbours whose distance it can make wrong. Returns
 /// `false` as `set_distance` does.
-fn update_one(net: &Net, dest: u32, x: u16, distances: &mut [u16], list: &mut Vec<u16>) -> bool
+fn update_distance(net: &Net, dest: u32, x: u16, distances: &mut [u16], list: &mut Vec<u16>) -> bool
     requires node { x < net.now.nodes }
     requires one_each { length distances.old ≡ net.now.nodes }
     requires small { IsSmall net.now.nodes distances.old }
@@ -322,12 +322,12 @@ fn distance_by_links(net: &Net, dest: u32, x: u16, distances: &[u16]) -> u16
     if x as u32 == dest {
         return 0;
     }
-    one_more(least_way(net, x, 0, distances))
+    one_link_farther(least_way_distance(net, x, 0, distances))
 }
 
 /// The least distance of the nodes to which the links of node `x` point. Or one that is less than `enough`: it stops at
 /// the first of these.
-fn least_way(net: &Net, x: u16, enough: u16, distances: &[u16]) -> u16
+fn least_way_distance(net: &Net, x: u16, enough: u16, distances: &[u16]) -> u16
     requires node { x < net.now.nodes }
     requires one_each { length distances.now ≡ net.now.nodes }
     ensures { IsLeastWay net.now.links distances.now x enough result }
@@ -382,7 +382,7 @@ fn list_affected(net: &Net, x: u16, old: u16, distances: &[u16], list: &mut Vec<
     let new = distances[x as usize];
     let row = net.row(x as u32);
     for (y, first) in row {
-        if *first == First::Inward && !list_one(*y as u32, old, new, distances, list) {
+        if *first == First::Inward && !list_if_affected(*y as u32, old, new, distances, list) {
             return false;
         }
     }

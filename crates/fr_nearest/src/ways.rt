@@ -15,7 +15,7 @@ use fr_graph::{First, Net};
 use std::alloc::{AllocError, Global};
 
 /// The key by which ways are sorted: nearer ways first, and ways of the same distance by number.
-pub(crate) fn rank(distance: u16, w: u16) -> u32
+pub(crate) fn way_rank(distance: u16, w: u16) -> u32
     ensures { result ≡ distance * 2 ^ 16 + w }
 {
     (distance as u32) * (1 << 16) + w as u32
@@ -33,7 +33,7 @@ fn points_away(first: First) -> bool
 
 /// Writes the rank of a neighbour `w` at the place `count`. Returns how many ranks are kept then: one more if the link
 /// points to `w` and `w` has a distance.
-fn put_rank(ranks: &mut [u32], count: usize, distance: u16, w: u16, is_out: bool) -> usize
+fn write_rank_if_way(ranks: &mut [u32], count: usize, distance: u16, w: u16, is_out: bool) -> usize
     requires { count < length ranks.old }
     ensures written { ranks.new ≡ slice_set ranks.old count (distance * 2 ^ 16 + w) }
     ensures way { IsTrue is_out → distance ≢ no_distance → result ≡ count + 1 }
@@ -41,7 +41,7 @@ fn put_rank(ranks: &mut [u32], count: usize, distance: u16, w: u16, is_out: bool
     ensures few { result ≤ count + 1 }
 {
     // Whether this is a way is hard to predict, and a store costs less than a branch that was predicted wrongly.
-    ranks[count] = rank(distance, w);
+    ranks[count] = way_rank(distance, w);
     if is_out && distance != NONE {
         count + 1
     } else {
@@ -63,7 +63,7 @@ fn rank_ways(net: &Net, x: u32, distances: &[u16], ranks: &mut [u32]) -> usize
     let row = net.row(x);
     for (w, first) in row {
         let is_out = points_away(*first);
-        count = put_rank(ranks, count, distances[*w as usize], *w, is_out);
+        count = write_rank_if_way(ranks, count, distances[*w as usize], *w, is_out);
     }
     count
 }
@@ -103,13 +103,13 @@ fn rank_ways_before(
     let row = net.row(x);
     for (w, first) in row {
         let is_out = pointed_away(*first, own, counts[*w as usize]);
-        count = put_rank(ranks, count, distances[*w as usize], *w, is_out);
+        count = write_rank_if_way(ranks, count, distances[*w as usize], *w, is_out);
     }
     count
 }
 
 /// Replaces each rank by the number of its node.
-fn take_numbers(ranks: &mut [u32])
+fn ranks_to_numbers(ranks: &mut [u32])
     ensures { ranks.new ≡ map number_of ranks.old }
 {
     for rank in ranks.iter_mut() {
@@ -118,13 +118,13 @@ fn take_numbers(ranks: &mut [u32])
 }
 
 /// Sorts the first `count` ranks of a slice, and replaces each of them by the number of its node.
-fn sort_first(ranks: &mut [u32], count: usize)
+fn sort_ways(ranks: &mut [u32], count: usize)
     requires { count ≤ length ranks.old }
     ensures { AreSortedTo count ranks.old ranks.new }
 {
     let first = &mut ranks[..count];
     first.sort_unstable();
-    take_numbers(first);
+    ranks_to_numbers(first);
 }
 
 impl Distances {
@@ -144,7 +144,7 @@ impl Distances {
         let count = rank_ways(net, x, self.numbers(), list);
         list.truncate(count);
         list.sort_unstable();
-        take_numbers(list);
+        ranks_to_numbers(list);
         Ok(())
     }
 
@@ -162,7 +162,7 @@ impl Distances {
     {
         net.network_law();
         let count = rank_ways(net, x, self.numbers(), space);
-        sort_first(space, count);
+        sort_ways(space, count);
         count
     }
 
@@ -183,7 +183,7 @@ impl Distances {
     {
         net.network_law();
         let count = rank_ways_before(net, x, counts, self.numbers_before(), space);
-        sort_first(space, count);
+        sort_ways(space, count);
         count
     }
 

@@ -71,12 +71,12 @@ open_no own l stays = ⊎_elim
     (λ down. rw down refl)
     (cases_Bool l.up)
 
-pub stay_open : (own : Own) (ls ks : List Link) (r : Bool) → ks ≡ ls
+pub will_gates_stay_open : (own : Own) (ls ks : List Link) (r : Bool) → ks ≡ ls
     → r ≡ list_all (λ l. not (l.up && has_answered own l) || nat_le own.announced_since l.acked) ks
     → (r ≡ true → All (λ l. l.up ≡ true → has_answered own l ≡ true → own.announced_since ≤ l.acked) ls)
     × (All (λ l. l.up ≡ true → has_answered own l ≡ true → own.announced_since ≤ l.acked) ls → r ≡ true)
 unfolding open_test StaysOpen
-stay_open own ls ks r same e = let found = e ∙ ap (list_all (open_test own)) same in (
+will_gates_stay_open own ls ks r same e = let found = e ∙ ap (list_all (open_test own)) same in (
   λ t. all_pass (open_test own) (StaysOpen own) (open_yes own) (open_no own) ls (sym found ∙ t),
   λ all. found ∙ pass_all (open_test own) (StaysOpen own) (open_yes own) (open_no own) ls all,
 )

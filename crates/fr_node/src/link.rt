@@ -56,22 +56,24 @@ impl Link {
 
     /// After a message from this neighbour. What it says of an earlier start, of its own or of the router's, is
     /// ignored.
-    pub(crate) fn after(self, message: &Message, own: &Own) -> Link
+    pub(crate) fn after_message(self, message: &Message, own: &Own) -> Link
         ensures { IsHeard own.now message.now self result }
     {
         if message.boot < self.peer {
             return self;
         }
-        let known = self.of_start(message.boot);
+        let known = self.for_start(message.boot);
         if message.echo == own.boot {
-            known.answered(message, own).informed(message)
+            known
+                .with_acknowledgement(message, own)
+                .with_announcement(message)
         } else {
             known
         }
     }
 
     /// With what is known of this start of the neighbour: nothing, if it is greater.
-    fn of_start(self, boot: u64) -> Link
+    fn for_start(self, boot: u64) -> Link
         ensures same { boot ≡ self.peer → result ≡ self }
         ensures other { boot ≢ self.peer
             → result ≡ record self { peer = boot; heard = 0; seen = 0; distance = CUT_OFF; acked = 0 } }
@@ -90,7 +92,7 @@ impl Link {
     }
 
     /// With the neighbour's acknowledgement. One of a number that was not announced is ignored.
-    fn answered(self, message: &Message, own: &Own) -> Link
+    fn with_acknowledgement(self, message: &Message, own: &Own) -> Link
         ensures kept { (own.now.number < message.now.heard) ⊎ (message.now.heard ≤ self.acked) → result ≡ self }
         ensures taken { message.now.heard ≤ own.now.number → self.acked < message.now.heard
             → result ≡ record self { acked = message.now.heard } }
@@ -105,7 +107,7 @@ impl Link {
     }
 
     /// With the neighbour's announcement, if no later one was heard. The same one may come with another distance.
-    fn informed(self, message: &Message) -> Link
+    fn with_announcement(self, message: &Message) -> Link
         ensures kept { message.now.number < self.heard → result ≡ self }
         ensures taken { self.heard ≤ message.now.number → result ≡ record self {
           heard = message.now.number;
@@ -163,7 +165,7 @@ impl Link {
     }
 
     /// Whether this was the last message that was said to the neighbour.
-    pub(crate) fn has_said(&self, message: &Message) -> bool
+    pub(crate) fn was_last_said(&self, message: &Message) -> bool
         ensures { IsTrue result ↔ (self.now.said ≡ Some message.now) }
     {
         match &self.said {

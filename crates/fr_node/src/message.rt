@@ -51,10 +51,10 @@ impl Message {
         requires { length bytes.old ≡ MESSAGE_LENGTH }
         ensures { take 16 bytes.new ≡ head_of self.now }
     {
-        put_4(bytes, 0, HEADER);
-        put_4(bytes, 4, self.from);
-        put_4(bytes, 8, self.to);
-        put_4(bytes, 12, self.distance);
+        write_u32(bytes, 0, HEADER);
+        write_u32(bytes, 4, self.from);
+        write_u32(bytes, 8, self.to);
+        write_u32(bytes, 12, self.distance);
     }
 
     /// Writes the bytes from the 17th on.
@@ -63,35 +63,35 @@ impl Message {
         requires head { take 16 bytes.old ≡ head_of self.now }
         ensures { bytes.new ≡ bytes_of self.now }
     {
-        put_8(bytes, 16, self.boot);
-        put_8(bytes, 24, self.echo);
-        put_8(bytes, 32, self.number);
-        put_8(bytes, 40, self.height);
-        put_8(bytes, 48, self.heard);
+        write_u64(bytes, 16, self.boot);
+        write_u64(bytes, 24, self.echo);
+        write_u64(bytes, 32, self.number);
+        write_u64(bytes, 40, self.height);
+        write_u64(bytes, 48, self.heard);
     }
 
     /// Reads a message. Returns `None` if the bytes are not a message, because of their number or their header. O(1).
     pub fn read(bytes: &[u8]) -> Option<Message>
         ensures { MatchOption result ((m : Message) → bytes_of m ≢ bytes.now) (λ m. bytes_of m ≡ bytes.now) }
     {
-        if bytes.len() != MESSAGE_LENGTH || number_4(bytes, 0) != HEADER {
+        if bytes.len() != MESSAGE_LENGTH || read_u32(bytes, 0) != HEADER {
             return None;
         }
         Some(Message {
-            from: number_4(bytes, 4),
-            to: number_4(bytes, 8),
-            distance: number_4(bytes, 12),
-            boot: number_8(bytes, 16),
-            echo: number_8(bytes, 24),
-            number: number_8(bytes, 32),
-            height: number_8(bytes, 40),
-            heard: number_8(bytes, 48),
+            from: read_u32(bytes, 4),
+            to: read_u32(bytes, 8),
+            distance: read_u32(bytes, 12),
+            boot: read_u64(bytes, 16),
+            echo: read_u64(bytes, 24),
+            number: read_u64(bytes, 32),
+            height: read_u64(bytes, 40),
+            heard: read_u64(bytes, 48),
         })
     }
 }
 
 /// Writes a number in 4 bytes, from an index on.
-fn put_4(bytes: &mut [u8], at: usize, number: u32)
+fn write_u32(bytes: &mut [u8], at: usize, number: u32)
     requires { at + 4 ≤ length bytes.old }
     ensures { take (at + 4) bytes.new ≡ take at bytes.old ++ bytes_4 number }
 {
@@ -99,7 +99,7 @@ fn put_4(bytes: &mut [u8], at: usize, number: u32)
 }
 
 /// Writes a number in 8 bytes, from an index on.
-fn put_8(bytes: &mut [u8], at: usize, number: u64)
+fn write_u64(bytes: &mut [u8], at: usize, number: u64)
     requires { at + 8 ≤ length bytes.old }
     ensures { take (at + 8) bytes.new ≡ take at bytes.old ++ bytes_8 number }
 {
@@ -107,7 +107,7 @@ fn put_8(bytes: &mut [u8], at: usize, number: u64)
 }
 
 /// The number in the 4 bytes from an index on.
-fn number_4(bytes: &[u8], at: usize) -> u32
+fn read_u32(bytes: &[u8], at: usize) -> u32
     requires { at + 4 ≤ length bytes.now }
     ensures { take (at + 4) bytes.now ≡ take at bytes.now ++ bytes_4 result }
 {
@@ -117,7 +117,7 @@ fn number_4(bytes: &[u8], at: usize) -> u32
 }
 
 /// The number in the 8 bytes from an index on.
-fn number_8(bytes: &[u8], at: usize) -> u64
+fn read_u64(bytes: &[u8], at: usize) -> u64
     requires { at + 8 ≤ length bytes.now }
     ensures { take (at + 8) bytes.now ≡ take at bytes.now ++ bytes_8 result }
 {

@@ -16,7 +16,7 @@ use crate::link::Link;
 use crate::message::{CUT_OFF, Message};
 use crate::own::Own;
 use crate::policy::{Policy, Rise};
-use crate::way::{Way, sort};
+use crate::way::{Way, sort_ways};
 use std::alloc::Global;
 
 /// One router, for one destination. Its table is written, so its messages may be sent.
@@ -107,8 +107,8 @@ impl Node {
         ensures policy { Acts (record self { links = result.node.links }) result.node.own }
         ensures step { Steps [] self result.node }
     {
-        self.set_up(neighbour, true);
-        self.act();
+        self.set_link_up(neighbour, true);
+        self.apply_policy();
         Unwritten { node: self }
     }
 
@@ -120,8 +120,8 @@ impl Node {
         ensures policy { Acts (record self { links = result.node.links }) result.node.own }
         ensures step { Steps [] self result.node }
     {
-        self.set_up(neighbour, false);
-        self.act();
+        self.set_link_up(neighbour, false);
+        self.apply_policy();
         Unwritten { node: self }
     }
 
@@ -133,8 +133,8 @@ impl Node {
         ensures policy { Acts (record self { links = result.node.links }) result.node.own }
         ensures step { Steps (message.now ∷ []) self result.node }
     {
-        self.take(message);
-        self.act();
+        self.take_message(message);
+        self.apply_policy();
         Unwritten { node: self }
     }
 
@@ -169,7 +169,7 @@ impl Node {
             × (IsTrue result ↔ ((link_to self.now.links.items neighbour).said ≢ Some m)) }
     {
         match self.index_of(neighbour) {
-            Some(i) => self.links[i].up && !self.links[i].has_said(&self.message_at(i)),
+            Some(i) => self.links[i].up && !self.links[i].was_last_said(&self.message_at(i)),
             None => false,
         }
     }
@@ -210,7 +210,7 @@ impl Node {
         if !self.gateway {
             push_ways(&self.links, &self.own, ways);
         }
-        sort(ways);
+        sort_ways(ways);
     }
 
     /// How many neighbours are known.
@@ -236,7 +236,7 @@ impl Node {
             return 0;
         }
         let cap = self.policy.rise.cap();
-        match nearest(&self.links, &self.own) {
+        match nearest_way_distance(&self.links, &self.own) {
             Some(nearest) if nearest < cap => nearest + 1,
             _ => CUT_OFF,
         }
@@ -269,7 +269,7 @@ impl Node {
         }
     }
 
-    fn set_up(&mut self, neighbour: u32, up: bool)
+    fn set_link_up(&mut self, neighbour: u32, up: bool)
         ensures same { self.new ≡ record self.old { links = self.new.links } }
         ensures set { SetsUp neighbour up self.old.links.items self.new.links.items }
     {
@@ -278,7 +278,7 @@ impl Node {
         }
     }
 
-    fn take(&mut self, message: &Message)
+    fn take_message(&mut self, message: &Message)
         ensures same { self.new ≡ record self.old { links = self.new.links } }
         ensures heard { Hears self.old.own message.now self.old.links.items self.new.links.items }
     {
@@ -286,45 +286,45 @@ impl Node {
             return;
         }
         if let Some(i) = self.index_of(message.from) {
-            self.links[i] = self.links[i].after(message, &self.own);
+            self.links[i] = self.links[i].after_message(message, &self.own);
         }
     }
 
     /// Changes the height by the policy.
-    fn act(&mut self)
+    fn apply_policy(&mut self)
         ensures same { self.new ≡ record self.old { own = self.new.own } }
         ensures own { Announces self.old.own self.new.own }
         ensures policy { Acts self.old self.new.own }
     {
-        self.own = self.announced();
-        if self.may_settle() {
-            self.own = self.own.settled();
+        self.own = self.after_announcement();
+        if self.may_use_announced() {
+            self.own = self.own.with_announced_used();
         }
     }
 
     /// What the router knows of itself after an announcement, if the policy wants one.
-    fn announced(&self) -> Own
+    fn after_announcement(&self) -> Own
         ensures own { Announces self.now.own result }
         ensures policy { Announcement self.now result }
     {
-        if self.gateway || self.own.number == u64::MAX || !self.own.is_settled() {
+        if self.gateway || self.own.number == u64::MAX || !self.own.uses_announced() {
             return self.own;
         }
         if let Some(height) = self.lower_height() {
-            return self.own.lowered(height);
+            return self.own.announce_lowered(height);
         }
         match self.greater_height() {
-            Some(height) if height > self.own.announced => self.own.raised(height),
+            Some(height) if height > self.own.announced => self.own.announce_raised(height),
             _ => self.own,
         }
     }
 
     /// Whether the last height that was announced may be used: always if the policy does not wait, and otherwise if each
     /// open gate stays open.
-    fn may_settle(&self) -> bool
+    fn may_use_announced(&self) -> bool
         ensures { IsTrue result ↔ MaySettle self.now }
     {
-        !self.policy.wait || stay_open(&self.links, &self.own)
+        !self.policy.wait || will_gates_stay_open(&self.links, &self.own)
     }
 
     /// The distance, if the router lowers its height to it.
@@ -352,24 +352,24 @@ impl Node {
         ensures { MatchOption result ((v : ℕ) → ¬ RisesTo self.now v) (RisesTo self.now) }
     {
         match self.policy.rise {
-            Rise::Full => self.above_all(),
-            Rise::Jump(cap) => self.above_nearest(cap),
+            Rise::Full => self.height_above_all(),
+            Rise::Jump(cap) => self.height_above_nearest(cap),
         }
     }
 
     /// Above all neighbours, if all are known to be higher.
-    fn above_all(&self) -> Option<u64>
+    fn height_above_all(&self) -> Option<u64>
         ensures { MatchOption result ((v : ℕ) → ¬ IsAboveAll self.now v) (IsAboveAll self.now) }
     {
         if !is_sink(&self.links, &self.own) {
             return None;
         }
-        let highest = highest(&self.links)?;
+        let highest = highest_link(&self.links)?;
         highest.seen.checked_add(1)
     }
 
     /// Above the neighbour with the least distance below the cap, if the router knows no distance.
-    fn above_nearest(&self, cap: u32) -> Option<u64>
+    fn height_above_nearest(&self, cap: u32) -> Option<u64>
         ensures { MatchOption result ((v : ℕ) → ¬ IsAboveNearest self.now cap v) (IsAboveNearest self.now cap) }
     {
         if self.distance() != CUT_OFF {
@@ -385,7 +385,7 @@ impl Node {
 }
 
 /// Whether each neighbour that is let in has acknowledged the last height that was announced.
-fn stay_open(links: &[Link], own: &Own) -> bool
+fn will_gates_stay_open(links: &[Link], own: &Own) -> bool
     ensures { result
         ≡ list_all (λ l. not (l.up && has_answered own.now l) || nat_le own.now.announced_since l.acked) links.now }
 {
@@ -412,20 +412,20 @@ fn is_sink(links: &[Link], own: &Own) -> bool
 }
 
 /// A link that is up, with the greatest height that was heard on such links.
-fn highest(links: &[Link]) -> Option<Link>
+fn highest_link(links: &[Link]) -> Option<Link>
     ensures { IsBestOrNone is_up is_higher links.now result }
 {
     let mut best = None;
     for link in links {
         if link.up {
-            best = Some(higher(best, *link));
+            best = Some(higher_link(best, *link));
         }
     }
     best
 }
 
 /// The link with the greater height, of which the first may not be known.
-fn higher(best: Option<Link>, link: Link) -> Link
+fn higher_link(best: Option<Link>, link: Link) -> Link
     ensures { MatchOption best (result ≡ link) (λ b. result ≡ better_of is_higher b link) }
 {
     match best {
@@ -441,14 +441,14 @@ fn nearest_below(links: &[Link], cap: u32) -> Option<Link>
     let mut best = None;
     for link in links {
         if link.has_distance(cap) {
-            best = Some(closer(best, *link));
+            best = Some(nearer_link(best, *link));
         }
     }
     best
 }
 
 /// The link to the nearer neighbour, of which the first may not be known.
-fn closer(best: Option<Link>, link: Link) -> Link
+fn nearer_link(best: Option<Link>, link: Link) -> Link
     ensures { MatchOption best (result ≡ link) (λ b. result ≡ better_of is_nearer b link) }
 {
     match best {
@@ -472,20 +472,20 @@ fn push_ways(links: &[Link], own: &Own, ways: &mut Vec<Way>)
 }
 
 /// The least distance of a neighbour to which packets may be sent.
-fn nearest(links: &[Link], own: &Own) -> Option<u32>
+fn nearest_way_distance(links: &[Link], own: &Own) -> Option<u32>
     ensures { MatchOption result (HasNoWay own.now links.now) (IsNearest own.now links.now) }
 {
     let mut nearest = None;
     for link in links {
         if link.is_way(own) {
-            nearest = Some(nearer(nearest, link.distance));
+            nearest = Some(lesser_distance(nearest, link.distance));
         }
     }
     nearest
 }
 
 /// The lesser of two distances, of which the first may not be known.
-fn nearer(nearest: Option<u32>, distance: u32) -> u32
+fn lesser_distance(nearest: Option<u32>, distance: u32) -> u32
     ensures { MatchOption nearest (result ≡ distance) (λ d. result ≡ min d distance) }
 {
     match nearest {

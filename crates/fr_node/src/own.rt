@@ -40,14 +40,14 @@ impl Own {
     }
 
     /// Whether the last height that was announced is in use.
-    pub(crate) fn is_settled(&self) -> bool
+    pub(crate) fn uses_announced(&self) -> bool
         ensures { IsTrue result ↔ (self.now.used ≡ self.now.announced) }
     {
         self.used == self.announced
     }
 
     /// After the announcement of a greater height, which is not in use yet.
-    pub(crate) fn raised(self, height: u64) -> Own
+    pub(crate) fn announce_raised(self, height: u64) -> Own
         requires { self.number + 1 < 2 ^ 64 }
         ensures { result ≡ record self {
           announced = height;
@@ -64,7 +64,7 @@ impl Own {
     }
 
     /// After the announcement of a height that is not greater. It is in use at once.
-    pub(crate) fn lowered(self, height: u64) -> Own
+    pub(crate) fn announce_lowered(self, height: u64) -> Own
         requires { self.number + 1 < 2 ^ 64 }
         ensures { result ≡ record self { used = height; announced = height; number = self.number + 1 } }
     {
@@ -77,7 +77,7 @@ impl Own {
     }
 
     /// With the last height that was announced in use.
-    pub(crate) fn settled(self) -> Own
+    pub(crate) fn with_announced_used(self) -> Own
         ensures { result ≡ record self { used = self.announced; used_since = self.announced_since } }
     {
         Own {

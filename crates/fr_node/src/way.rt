@@ -15,7 +15,7 @@ pub struct Way {
 
 impl Way {
     /// The number by which ways are sorted.
-    fn rank(&self) -> u64
+    fn sort_key(&self) -> u64
         ensures { result ≡ rank_of self.now }
     {
         self.distance as u64 * (1 << 32) + self.neighbour as u64
@@ -23,9 +23,9 @@ impl Way {
 }
 
 /// Sorts ways, the nearest first, and equally near ones by number.
-pub(crate) fn sort(ways: &mut [Way])
+pub(crate) fn sort_ways(ways: &mut [Way])
     ensures same { IsPermutation ways.old ways.new }
     ensures order { IsNonDecreasingBy rank_of ways.new }
 {
-    ways.sort_unstable_by_key(|way| way.rank());
+    ways.sort_unstable_by_key(|way| way.sort_key());
 }

@@ -59,7 +59,7 @@ pub(crate) fn push_nodes(list: &mut Vec<u32>, nodes: &[u32])
 }
 
 /// No pushes.
-fn nothing() -> PushList<'static>
+fn empty_pushes() -> PushList<'static>
     ensures { AreListed [] result }
 {
     PushList {
@@ -70,27 +70,27 @@ fn nothing() -> PushList<'static>
 }
 
 /// The first phase of these reroutes; nothing if there are none.
-pub(crate) fn shrink_in(reroutes: &Option<Reroutes>) -> PushList<'_>
+pub(crate) fn shrink_of(reroutes: &Option<Reroutes>) -> PushList<'_>
     ensures { AreListed (pushes_in reroutes.now).shrink result }
 {
     match reroutes {
         Some(reroutes) => reroutes.shrink(),
-        None => nothing(),
+        None => empty_pushes(),
     }
 }
 
 /// Their second phase.
-pub(crate) fn grow_in(reroutes: &Option<Reroutes>) -> PushList<'_>
+pub(crate) fn grow_of(reroutes: &Option<Reroutes>) -> PushList<'_>
     ensures { AreListed (pushes_in reroutes.now).grow result }
 {
     match reroutes {
         Some(reroutes) => reroutes.grow(),
-        None => nothing(),
+        None => empty_pushes(),
     }
 }
 
 /// Changes a router, lists the nodes that this reroutes, and notes what it does to the ways of nodes.
-pub(crate) fn change_noting(
+pub(crate) fn change_and_note(
     alloc: Global,
     router: &mut Router,
     change: Change,

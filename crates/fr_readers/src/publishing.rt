@@ -33,7 +33,7 @@ pub(crate) fn session_law(session: &Session)
 }
 
 /// The nodes that a router reroutes when it replaces the one before it, if there was one.
-pub(crate) fn replaced(
+pub(crate) fn nodes_rerouted_by(
     alloc: Global,
     before: Option<&Router>,
     router: &Router,
@@ -95,7 +95,11 @@ fn push_rerouted_hops(publisher: &mut Publisher, session: &Session, rerouted: &[
 }
 
 /// Does the same if there is a table.
-pub(crate) fn publish(publisher: &mut Option<Publisher>, session: &Session, rerouted: &[u32])
+pub(crate) fn publish_rerouted_hops(
+    publisher: &mut Option<Publisher>,
+    session: &Session,
+    rerouted: &[u32],
+)
     requires settled { IsSettledSession session.now }
     requires can { IfSome publisher.old (λ k. CanPublish k session.now rerouted.now) }
     ensures { PublishesIn publisher.old session.now rerouted.now publisher.new }
@@ -106,13 +110,13 @@ pub(crate) fn publish(publisher: &mut Option<Publisher>, session: &Session, rero
 }
 
 /// Opens a table with the hops of a session, for as many nodes as the largest network has.
-pub(crate) fn opened(alloc: Global, session: &Session) -> Result<Publisher, AllocError>
+pub(crate) fn open_hop_table(alloc: Global, session: &Session) -> Result<Publisher, AllocError>
     ensures { IfOk result (HasHopsOf session.now) }
 {
     let (mut publisher, _) = open(alloc, MAX_NODES)?;
     session_law(session);
     if let Some(router) = session.router() {
-        let rerouted = replaced(alloc, None, router)?;
+        let rerouted = nodes_rerouted_by(alloc, None, router)?;
         push_rerouted_hops(&mut publisher, session, &rerouted);
     }
     Ok(publisher)

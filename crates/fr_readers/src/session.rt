@@ -11,8 +11,8 @@ ghost use Rattle.fr_ways.specs.PushLists.{AreListed};
 ghost use Rattle.fr_route.specs.NodeWays.{AreNodeWays, HasDistance, IsNearest};
 ghost use Rattle.fr_route.specs.declared.fault.RouteFault.TheVariants.{Memory};
 
-use crate::noting::{change_noting, grow_in, is_round_report, shrink_in};
-use crate::publishing::{opened, publish, replaced, session_law};
+use crate::noting::{change_and_note, grow_of, is_round_report, shrink_of};
+use crate::publishing::{nodes_rerouted_by, open_hop_table, publish_rerouted_hops, session_law};
 use crate::ways::{WayTables, publish_changes, publish_ways};
 use fr_route::{
     AnswerFault, Change, NotMade, Report, Reroutes, RouteFault, Router, Session, Walked,
@@ -86,7 +86,7 @@ impl PublishedSession {
     pub fn shrink(&self) -> PushList<'_>
         ensures { AreListed self.now.pushes.shrink result }
     {
-        shrink_in(&self.reroutes)
+        shrink_of(&self.reroutes)
     }
 
     /// What to push once routers have confirmed all pushes of [`shrink`](PublishedSession::shrink): the nodes whose list
@@ -95,7 +95,7 @@ impl PublishedSession {
     pub fn grow(&self) -> PushList<'_>
         ensures { AreListed self.now.pushes.grow result }
     {
-        grow_in(&self.reroutes)
+        grow_of(&self.reroutes)
     }
 
     /// Between two calls, the tables of the readers have the hops and the ways of the session. The function does
@@ -125,7 +125,7 @@ impl PublishedSession {
         if let Some(publisher) = &mut self.publisher {
             return publisher.reader();
         }
-        let mut publisher = opened(alloc, &self.session)?;
+        let mut publisher = open_hop_table(alloc, &self.session)?;
         let reader = publisher.reader()?;
         self.publisher = Some(publisher);
         Ok(reader)
@@ -155,7 +155,7 @@ impl PublishedSession {
         }
         session_law(&self.session);
         let mut ways = WayTables::open(alloc)?;
-        ways.bring(&mut self.session);
+        ways.push_session_ways(&mut self.session);
         let reader = ways.reader()?;
         self.ways = Some(ways);
         Ok(reader)
@@ -243,7 +243,7 @@ impl PublishedSession {
             .session
             .answer_line_telling_alone(alloc, line, &mut self.rerouted);
         session_law(&self.session);
-        publish(&mut self.publisher, &self.session, &self.rerouted);
+        publish_rerouted_hops(&mut self.publisher, &self.session, &self.rerouted);
         publish_ways(&mut self.ways, &mut self.session, is_round_report(&answer));
         answer
     }
@@ -301,7 +301,7 @@ impl PublishedSession {
         let router = self.session.router_mut()?;
         let answer = router.change_telling_alone(alloc, change, &mut self.rerouted);
         session_law(&self.session);
-        publish(&mut self.publisher, &self.session, &self.rerouted);
+        publish_rerouted_hops(&mut self.publisher, &self.session, &self.rerouted);
         Some(answer)
     }
 
@@ -318,10 +318,10 @@ impl PublishedSession {
     {
         session_law(&self.session);
         let router = self.session.router_mut()?;
-        let answer = change_noting(alloc, router, change, &mut self.rerouted, reroutes);
+        let answer = change_and_note(alloc, router, change, &mut self.rerouted, reroutes);
         publish_changes(&mut self.ways, router, reroutes, answer.is_ok());
         session_law(&self.session);
-        publish(&mut self.publisher, &self.session, &self.rerouted);
+        publish_rerouted_hops(&mut self.publisher, &self.session, &self.rerouted);
         Some(answer)
     }
 
@@ -335,11 +335,11 @@ impl PublishedSession {
         ensures { PutsRouter self.old router result self.new }
     {
         session_law(&self.session);
-        let rerouted = replaced(alloc, self.session.router(), &router)?;
+        let rerouted = nodes_rerouted_by(alloc, self.session.router(), &router)?;
         self.rerouted = rerouted;
         self.session.put_router(router);
         session_law(&self.session);
-        publish(&mut self.publisher, &self.session, &self.rerouted);
+        publish_rerouted_hops(&mut self.publisher, &self.session, &self.rerouted);
         publish_ways(&mut self.ways, &mut self.session, true);
         Ok(())
     }

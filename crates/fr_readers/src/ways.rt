@@ -13,7 +13,7 @@ ghost use Rattle.fr_readers.specs.Published.{AreFirstWays, HasWaysOf};
 ghost use Rattle.fr_readers.specs.Publishing.{AlterWays, IsSettled, IsSettledSession, PublishesWays};
 ghost use Rattle.fr_readers.specs.Publishing.{PublishesWaysIn};
 
-use crate::noting::{grow_in, push_nodes, shrink_in};
+use crate::noting::{grow_of, push_nodes, shrink_of};
 use crate::publishing::router_law;
 use fr_graph::MAX_NODES;
 use fr_route::{Reroutes, Router, Session};
@@ -61,22 +61,22 @@ impl WayTables {
     }
 
     /// Pushes the ways of a session.
-    pub(crate) fn bring(&mut self, session: &mut Session)
+    pub(crate) fn push_session_ways(&mut self, session: &mut Session)
         requires { IsSettledSession session.old }
         ensures same { session.new ≡ session.old }
         ensures published { PublishesWays self.old session.old self.new }
     {
-        want(&mut self.wanted, &mut self.space, session);
+        set_session_ways(&mut self.wanted, &mut self.space, session);
         self.publisher.push_all(&self.wanted);
     }
 
     /// Pushes the ways of a router that a change has altered, which these reroutes note. It looks at no other node.
-    fn bring_changes(&mut self, router: &mut Router, reroutes: &Option<Reroutes>)
+    fn push_changed_ways(&mut self, router: &mut Router, reroutes: &Option<Reroutes>)
         requires { AlterWays (last_table self.old) router.old (pushes_in reroutes.now) }
         ensures same { router.new ≡ router.old }
         ensures published { PublishesWays self.old (Some router.old) self.new }
     {
-        want_changes(
+        set_changed_ways(
             &mut self.wanted,
             &mut self.space,
             &mut self.listed,
@@ -104,7 +104,7 @@ impl WayTables {
 }
 
 /// Puts the first ways of a session into a table.
-fn want(wanted: &mut FirstWays, space: &mut [u32], session: &mut Session)
+fn set_session_ways(wanted: &mut FirstWays, space: &mut [u32], session: &mut Session)
     requires settled { IsSettledSession session.old }
     requires long { length wanted.old ≡ most_nodes }
     requires space { length space.old ≡ most_nodes }
@@ -115,7 +115,7 @@ fn want(wanted: &mut FirstWays, space: &mut [u32], session: &mut Session)
 {
     match session.router_mut() {
         Some(router) => {
-            want_ways(wanted, space, router);
+            set_router_ways(wanted, space, router);
             clear_ways_from(wanted, router.net().nodes());
         }
         None => clear_ways_from(wanted, 0),
@@ -123,7 +123,7 @@ fn want(wanted: &mut FirstWays, space: &mut [u32], session: &mut Session)
 }
 
 /// Puts the first ways of each node of a router into a table.
-fn want_ways(wanted: &mut FirstWays, space: &mut [u32], router: &mut Router)
+fn set_router_ways(wanted: &mut FirstWays, space: &mut [u32], router: &mut Router)
     requires settled { IsSettled router.old }
     requires long { length wanted.old ≡ most_nodes }
     requires space { length space.old ≡ most_nodes }
@@ -140,7 +140,7 @@ fn want_ways(wanted: &mut FirstWays, space: &mut [u32], router: &mut Router)
 }
 
 /// Puts the first ways after a change into the table of those before it, and lists the nodes that these reroutes note.
-fn want_changes(
+fn set_changed_ways(
     wanted: &mut FirstWays,
     space: &mut [u32],
     listed: &mut Vec<u32>,
@@ -156,8 +156,8 @@ fn want_changes(
     ensures listed { ListsChanges listed.new.items wanted.old wanted.new }
 {
     router_law(router);
-    list_nodes(listed, shrink_in(reroutes).nodes, grow_in(reroutes).nodes);
-    want_listed(wanted, space, router, listed);
+    list_nodes(listed, shrink_of(reroutes).nodes, grow_of(reroutes).nodes);
+    set_listed_ways(wanted, space, router, listed);
 }
 
 /// Lists the nodes of two lists by number. A node that is in both is listed twice.
@@ -174,7 +174,7 @@ fn list_nodes(list: &mut Vec<u32>, some: &[u32], others: &[u32])
 }
 
 /// Puts the first ways of these nodes of a router into a table.
-fn want_listed(wanted: &mut FirstWays, space: &mut [u32], router: &mut Router, nodes: &[u32])
+fn set_listed_ways(wanted: &mut FirstWays, space: &mut [u32], router: &mut Router, nodes: &[u32])
     requires settled { IsSettled router.old }
     requires long { length wanted.old ≡ most_nodes }
     requires space { length space.old ≡ most_nodes }
@@ -214,7 +214,7 @@ pub(crate) fn publish_ways(tables: &mut Option<WayTables>, session: &mut Session
         return;
     }
     if let Some(tables) = tables {
-        tables.bring(session);
+        tables.push_session_ways(session);
     }
 }
 
@@ -235,6 +235,6 @@ pub(crate) fn publish_changes(
         return;
     }
     if let Some(tables) = tables {
-        tables.bring_changes(router, reroutes);
+        tables.push_changed_ways(router, reroutes);
     }
 }

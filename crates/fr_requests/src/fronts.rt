@@ -10,18 +10,18 @@ const TENTH: u64 = 429_496_729;
 
 /// The text after any white space at its front. Most lines have none.
 #[inline(always)]
-pub(crate) fn behind_space(text: &[u8]) -> &[u8]
+pub(crate) fn skip_space(text: &[u8]) -> &[u8]
     ensures { result.now ≡ unspaced text.now }
 {
     match text {
         [] | [b'!'..=u8::MAX, ..] => text,
-        _ => behind_some_space(text),
+        _ => skip_some_space(text),
     }
 }
 
 /// The text after white space. It is not inlined, so that it does not slow down lines without white space.
 #[inline(never)]
-fn behind_some_space(text: &[u8]) -> &[u8]
+fn skip_some_space(text: &[u8]) -> &[u8]
     ensures { result.now ≡ unspaced text.now }
 {
     let mut rest = text;
@@ -33,7 +33,7 @@ fn behind_some_space(text: &[u8]) -> &[u8]
 
 /// The text after this mark, if the mark comes next.
 #[inline(always)]
-pub(crate) fn behind_mark(mark: u8, text: &[u8]) -> Option<&[u8]>
+pub(crate) fn skip_mark(mark: u8, text: &[u8]) -> Option<&[u8]>
     requires { is_operator mark ≡ true }
     ensures bytes { IfSome result (λ behind. unspaced text.now ≡ mark ∷ behind.now) }
     ensures read { IfSome result (λ behind. Begins text.now (operator_lexeme mark ∷ []) behind.now) }
@@ -41,16 +41,16 @@ pub(crate) fn behind_mark(mark: u8, text: &[u8]) -> Option<&[u8]>
     match text {
         [first, behind @ ..] if *first == mark => Some(behind),
         [] | [b'!'..=u8::MAX, ..] => None,
-        _ => behind_spaced_mark(mark, text),
+        _ => skip_space_and_mark(mark, text),
     }
 }
 
 /// The text after this mark, if the mark comes next after white space.
 #[inline(always)]
-fn behind_spaced_mark(mark: u8, text: &[u8]) -> Option<&[u8]>
+fn skip_space_and_mark(mark: u8, text: &[u8]) -> Option<&[u8]>
     ensures { IfSome result (λ behind. unspaced text.now ≡ mark ∷ behind.now) }
 {
-    match behind_some_space(text) {
+    match skip_some_space(text) {
         [first, behind @ ..] if *first == mark => Some(behind),
         _ => None,
     }
@@ -58,11 +58,11 @@ fn behind_spaced_mark(mark: u8, text: &[u8]) -> Option<&[u8]>
 
 /// Whether only white space is left.
 #[inline(always)]
-pub(crate) fn is_over(text: &[u8]) -> bool
+pub(crate) fn is_only_space(text: &[u8]) -> bool
     ensures bytes { result ≡ true → unspaced text.now ≡ [] }
     ensures read { result ≡ true → Begins text.now [] [] }
 {
-    behind_space(text).is_empty()
+    skip_space(text).is_empty()
 }
 
 /// Whether only this mark and white space are left.
@@ -70,8 +70,8 @@ pub(crate) fn ends_line(mark: u8, text: &[u8]) -> bool
     requires { is_operator mark ≡ true }
     ensures { result ≡ true → Begins text.now (operator_lexeme mark ∷ []) [] }
 {
-    match behind_mark(mark, text) {
-        Some(behind) => is_over(behind),
+    match skip_mark(mark, text) {
+        Some(behind) => is_only_space(behind),
         None => false,
     }
 }
@@ -82,8 +82,8 @@ pub(crate) fn number_before(mark: u8, text: &[u8]) -> Option<(u32, &[u8])>
     requires { is_operator mark ≡ true }
     ensures { IfSome result (λ next. Begins text.now (number_lexeme next.0 ∷ operator_lexeme mark ∷ []) next.1.now) }
 {
-    let (n, rest) = number(behind_space(text))?;
-    let behind = behind_mark(mark, rest)?;
+    let (n, rest) = number(skip_space(text))?;
+    let behind = skip_mark(mark, rest)?;
     Some((n, behind))
 }
 

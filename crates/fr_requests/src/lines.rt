@@ -7,7 +7,7 @@ ghost use Rattle.fr_requests.specs.Requests.{plain, reading};
 use crate::no_requests::is_no_request;
 use crate::read::read_value;
 use crate::requests::{LineFault, Request};
-use crate::word_lines::{brief_after, listed_after, request_of};
+use crate::word_lines::{list_request_after, request_of, short_request_after};
 use crate::words::opening_word;
 use std::alloc::Global;
 
@@ -22,7 +22,7 @@ pub fn read_line(alloc: Global, line: &[u8]) -> Result<Request, LineFault>
     ensures refused { IfErr result (λ fault. fault ≢ Memory → reading line.now ≡ Err fault) }
 {
     if let Some((word, rest)) = opening_word(line) {
-        if let Some(brief) = brief_after(word, rest) {
+        if let Some(brief) = short_request_after(word, rest) {
             return Ok(request_of(brief));
         }
     } else if is_no_request(line) {
@@ -39,7 +39,7 @@ fn read_long_line(alloc: Global, line: &[u8]) -> Result<Request, LineFault>
     ensures refused { IfErr result (λ fault. fault ≢ Memory → reading line.now ≡ Err fault) }
 {
     if let Some((word, rest)) = opening_word(line) {
-        if let Some(request) = listed_after(alloc, word, rest)? {
+        if let Some(request) = list_request_after(alloc, word, rest)? {
             return Ok(request);
         }
     }

@@ -10,7 +10,7 @@ ghost use Rattle.fr_requests.specs.declared.requests.LineFault.TheVariants.{Memo
 ghost use Rattle.fr_requests.specs.LineLexemes.{Begins, Each, AreSmall, HasSmallEnds, letters_of_edit, ends_lexemes};
 ghost use Rattle.fr_requests.specs.LineLexemes.{link_lexemes, edit_lexemes, list_lexemes, word_of, edit_ends};
 
-use crate::fronts::{behind_mark, ends_line, number_before};
+use crate::fronts::{ends_line, number_before, skip_mark};
 use crate::read::{edit, hop, link, number};
 use crate::requests::LineFault;
 use crate::words::{EditWord, Word, opening_word};
@@ -26,7 +26,7 @@ pub(crate) trait Item: Drop {
     ghost IsSmall: { Self → Type 0 };
 
     /// The item at the front, and the text after it.
-    fn at_front(text: &[u8]) -> Option<(Self, &[u8])>
+    fn parse_front(text: &[u8]) -> Option<(Self, &[u8])>
         ensures read { IfSome result (λ next. Begins text.now (lexemes next.0) next.1.now) }
         ensures small { IfSome result (λ next. IsSmall next.0) };
 }
@@ -36,7 +36,7 @@ pub(crate) trait OfValue: Drop {
     ghost in_data: { Data → Option Self };
 
     /// The item that a value of JSON describes.
-    fn of_value(value: &Value) -> Option<Self>
+    fn from_value(value: &Value) -> Option<Self>
         ensures { result ≡ in_data (view value.now) };
 }
 
@@ -46,15 +46,15 @@ impl Item for (u32, u32) {
     ghost IsSmall = { AreSmall };
 
     #[inline(always)]
-    fn at_front(text: &[u8]) -> Option<((u32, u32), &[u8])> {
-        ends(behind_mark(b'[', text)?)
+    fn parse_front(text: &[u8]) -> Option<((u32, u32), &[u8])> {
+        link_ends(skip_mark(b'[', text)?)
     }
 }
 
 impl OfValue for (u32, u32) {
     ghost in_data = { link_in };
 
-    fn of_value(value: &Value) -> Option<(u32, u32)> {
+    fn from_value(value: &Value) -> Option<(u32, u32)> {
         link(value)
     }
 }
@@ -65,7 +65,7 @@ impl Item for Edit {
     ghost IsSmall = { HasSmallEnds };
 
     #[inline(always)]
-    fn at_front(text: &[u8]) -> Option<(Edit, &[u8])> {
+    fn parse_front(text: &[u8]) -> Option<(Edit, &[u8])> {
         let (Word::Edit(word), rest) = opening_word(text)? else {
             return None;
         };
@@ -76,7 +76,7 @@ impl Item for Edit {
 impl OfValue for Edit {
     ghost in_data = { edit_in };
 
-    fn of_value(value: &Value) -> Option<Edit> {
+    fn from_value(value: &Value) -> Option<Edit> {
         edit(value)
     }
 }
@@ -84,7 +84,7 @@ impl OfValue for Edit {
 impl OfValue for Hop {
     ghost in_data = { hop_in };
 
-    fn of_value(value: &Value) -> Option<Hop> {
+    fn from_value(value: &Value) -> Option<Hop> {
         hop(value)
     }
 }
@@ -92,7 +92,7 @@ impl OfValue for Hop {
 impl OfValue for u32 {
     ghost in_data = { number_in };
 
-    fn of_value(value: &Value) -> Option<u32> {
+    fn from_value(value: &Value) -> Option<u32> {
         number(value)
     }
 }
@@ -107,11 +107,11 @@ pub(crate) fn items_to_end<T: Item>(alloc: Global, text: &[u8]) -> Result<Option
     let mut items = Vec::new(alloc);
     let mut rest = text;
     'items: loop {
-        let Some((item, behind)) = T::at_front(rest) else {
+        let Some((item, behind)) = T::parse_front(rest) else {
             return Ok(None);
         };
         items.push(item)?;
-        match behind_mark(b',', behind) {
+        match skip_mark(b',', behind) {
             Some(next) => rest = next,
             None => return Ok(ends_list(behind).then_some(items)),
         }
@@ -122,7 +122,7 @@ pub(crate) fn items_to_end<T: Item>(alloc: Global, text: &[u8]) -> Result<Option
 fn ends_list(text: &[u8]) -> bool
     ensures { result ≡ true → Begins text.now (token end_array ∷ token end_array ∷ []) [] }
 {
-    match behind_mark(b']', text) {
+    match skip_mark(b']', text) {
         Some(behind) => ends_line(b']', behind),
         None => false,
     }
@@ -135,7 +135,7 @@ pub(crate) fn edit_after(word: EditWord, rest: &[u8]) -> Option<(Edit, &[u8])>
     ensures ends { IfSome result (λ next. Begins rest.now (comma ∷ ends_lexemes (edit_ends next.0)) next.1.now) }
     ensures small { IfSome result (λ next. HasSmallEnds next.0) }
 {
-    let ((u, v), behind) = ends(behind_mark(b',', rest)?)?;
+    let ((u, v), behind) = link_ends(skip_mark(b',', rest)?)?;
     Some((edit_of(word, u, v), behind))
 }
 
@@ -154,7 +154,7 @@ fn edit_of(word: EditWord, u: u32, v: u32) -> Edit
 
 /// The two ends of a link, and the text after the bracket that closes its array.
 #[inline(always)]
-fn ends(text: &[u8]) -> Option<((u32, u32), &[u8])>
+fn link_ends(text: &[u8]) -> Option<((u32, u32), &[u8])>
     ensures read { IfSome result (λ next. Begins text.now (ends_lexemes next.0) next.1.now) }
     ensures small { IfSome result (λ next. AreSmall next.0) }
 {

@@ -6,7 +6,7 @@ ghost use Rattle.fr_requests.specs.declared.requests.LineFault.TheVariants.{NotR
 ghost use Rattle.fr_requests.specs.LineLexemes.{AreNumbers, AsksNothing, IsNumber, IsUnknownWord, is_small_word};
 ghost use Rattle.fr_requests.specs.Requests.{reading};
 
-use crate::fronts::{behind_mark, behind_space, ends_line, is_over, number, number_before};
+use crate::fronts::{ends_line, is_only_space, number, number_before, skip_mark, skip_space};
 
 /// Whether a line is a number, an array of numbers (or empty), an array of one word of small letters that is no
 /// question, or an empty object. Numbers have no sign, fraction or exponent here. Such a line is JSON and not a
@@ -15,10 +15,10 @@ use crate::fronts::{behind_mark, behind_space, ends_line, is_over, number, numbe
 pub(crate) fn is_no_request(line: &[u8]) -> bool
     ensures { result ≡ true → reading line.now ≡ Err NotRequest }
 {
-    if let Some(items) = behind_mark(b'[', line) {
+    if let Some(items) = skip_mark(b'[', line) {
         return are_numbers(items) || is_unknown_word(items);
     }
-    if let Some(members) = behind_mark(b'{', line) {
+    if let Some(members) = skip_mark(b'{', line) {
         return ends_line(b'}', members);
     }
     is_number(line)
@@ -28,7 +28,7 @@ pub(crate) fn is_no_request(line: &[u8]) -> bool
 fn is_unknown_word(items: &[u8]) -> bool
     ensures { result ≡ true → IsUnknownWord items.now }
 {
-    match quoted_word(behind_space(items)) {
+    match quoted_word(skip_space(items)) {
         Some((word, behind)) => asks_nothing(word) && ends_line(b']', behind),
         None => false,
     }
@@ -38,13 +38,13 @@ fn is_unknown_word(items: &[u8]) -> bool
 fn quoted_word(text: &[u8]) -> Option<(&[u8], &[u8])>
     ensures { IfSome result (λ next. text.now ≡ (34 ∷ (next.0.now ++ 34 ∷ [])) ++ next.1.now) }
 {
-    let letters = behind_quote(text)?;
+    let letters = skip_quote(text)?;
     let end = first_quote(letters)?;
     Some((&letters[..end], &letters[end + 1..]))
 }
 
 /// The text after a quote, if it comes next.
-fn behind_quote(text: &[u8]) -> Option<&[u8]>
+fn skip_quote(text: &[u8]) -> Option<&[u8]>
     ensures { IfSome result (λ behind. text.now ≡ 34 ∷ behind.now) }
 {
     match text {
@@ -92,8 +92,8 @@ fn is_same(word: &[u8], other: &str) -> bool
 fn is_number(line: &[u8]) -> bool
     ensures { result ≡ true → IsNumber line.now }
 {
-    match number(behind_space(line)) {
-        Some((_number, behind)) => is_over(behind),
+    match number(skip_space(line)) {
+        Some((_number, behind)) => is_only_space(behind),
         None => false,
     }
 }
@@ -110,7 +110,7 @@ fn are_numbers(items: &[u8]) -> bool
         rest = behind;
     }
     match number_before(b']', rest) {
-        Some((_last, behind)) => is_over(behind),
+        Some((_last, behind)) => is_only_space(behind),
         None => false,
     }
 }

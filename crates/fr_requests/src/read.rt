@@ -53,25 +53,25 @@ fn request_by_word(alloc: Global, word: &str, rest: &[Value]) -> Result<Request,
     ensures { Tells (ok_or (request_of_word word.now (map view rest.now)) NotRequest) result }
 {
     match word {
-        "net" => network(alloc, rest),
-        "cut" => cut(rest),
-        "add" => add(rest),
-        "join" => join(rest),
-        "batch" => batch(alloc, rest),
-        "dest" => destination(rest),
-        "walk" => walk(rest),
-        "links" => ask(Question::Links, rest),
-        "counts" => ask(Question::Counts, rest),
-        "hops" => ask(Question::Hops, rest),
-        "ways" => ways(rest),
-        "nearest" => ask_node(NodeQuestion::Nearest, rest),
-        "pushes" => pushes(alloc, rest),
+        "net" => read_network(alloc, rest),
+        "cut" => read_cut(rest),
+        "add" => read_add(rest),
+        "join" => read_join(rest),
+        "batch" => read_batch(alloc, rest),
+        "dest" => read_destination(rest),
+        "walk" => read_walk(rest),
+        "links" => read_question(Question::Links, rest),
+        "counts" => read_question(Question::Counts, rest),
+        "hops" => read_question(Question::Hops, rest),
+        "ways" => read_ways(rest),
+        "nearest" => read_node_question(NodeQuestion::Nearest, rest),
+        "pushes" => read_pushes(alloc, rest),
         _ => Err(LineFault::NotRequest),
     }
 }
 
 /// A cut, if exactly the two ends of a link follow its word.
-fn cut(rest: &[Value]) -> Result<Request, LineFault>
+fn read_cut(rest: &[Value]) -> Result<Request, LineFault>
     ensures ok { IfOk result (λ request. pair_request cut_link (map view rest.now) ≡ Some (plain request)) }
     ensures refused { IfErr result (λ fault. ok_or (pair_request cut_link (map view rest.now)) NotRequest ≡ Err fault) }
 {
@@ -80,7 +80,7 @@ fn cut(rest: &[Value]) -> Result<Request, LineFault>
 }
 
 /// An added link, if exactly its tail and its head follow the word.
-fn add(rest: &[Value]) -> Result<Request, LineFault>
+fn read_add(rest: &[Value]) -> Result<Request, LineFault>
     ensures ok { IfOk result (λ request. pair_request add_link (map view rest.now) ≡ Some (plain request)) }
     ensures refused { IfErr result (λ fault. ok_or (pair_request add_link (map view rest.now)) NotRequest ≡ Err fault) }
 {
@@ -89,7 +89,7 @@ fn add(rest: &[Value]) -> Result<Request, LineFault>
 }
 
 /// A join, if exactly the two nodes follow its word.
-fn join(rest: &[Value]) -> Result<Request, LineFault>
+fn read_join(rest: &[Value]) -> Result<Request, LineFault>
     ensures ok { IfOk result (λ request. pair_request join_nodes (map view rest.now) ≡ Some (plain request)) }
     ensures refused { IfErr result
         (λ fault. ok_or (pair_request join_nodes (map view rest.now)) NotRequest ≡ Err fault) }
@@ -99,7 +99,7 @@ fn join(rest: &[Value]) -> Result<Request, LineFault>
 }
 
 /// A walk, if exactly its first node follows the word.
-fn walk(rest: &[Value]) -> Result<Request, LineFault>
+fn read_walk(rest: &[Value]) -> Result<Request, LineFault>
     ensures ok { IfOk result (λ request. node_request walk_from (map view rest.now) ≡ Some (plain request)) }
     ensures refused { IfErr result
         (λ fault. ok_or (node_request walk_from (map view rest.now)) NotRequest ≡ Err fault) }
@@ -109,7 +109,7 @@ fn walk(rest: &[Value]) -> Result<Request, LineFault>
 }
 
 /// A batch, if exactly an array of edits follows the word.
-fn batch(alloc: Global, rest: &[Value]) -> Result<Request, LineFault>
+fn read_batch(alloc: Global, rest: &[Value]) -> Result<Request, LineFault>
     ensures { Tells (ok_or (batch_request (map view rest.now)) NotRequest) result }
 {
     let [edits] = rest else {
@@ -120,7 +120,7 @@ fn batch(alloc: Global, rest: &[Value]) -> Result<Request, LineFault>
 }
 
 /// Another destination, if exactly its number follows the word.
-fn destination(rest: &[Value]) -> Result<Request, LineFault>
+fn read_destination(rest: &[Value]) -> Result<Request, LineFault>
     ensures ok { IfOk result (λ request. node_request move_dest (map view rest.now) ≡ Some (plain request)) }
     ensures refused { IfErr result
         (λ fault. ok_or (node_request move_dest (map view rest.now)) NotRequest ≡ Err fault) }
@@ -130,7 +130,7 @@ fn destination(rest: &[Value]) -> Result<Request, LineFault>
 }
 
 /// A question, if nothing follows its word.
-fn ask(question: Question, rest: &[Value]) -> Result<Request, LineFault>
+fn read_question(question: Question, rest: &[Value]) -> Result<Request, LineFault>
     ensures ok { IfOk result (λ request. ask_request question (map view rest.now) ≡ Some (plain request)) }
     ensures refused { IfErr result (λ fault. ok_or (ask_request question (map view rest.now)) NotRequest ≡ Err fault) }
 {
@@ -141,7 +141,7 @@ fn ask(question: Question, rest: &[Value]) -> Result<Request, LineFault>
 }
 
 /// A question about one node, if exactly this node follows its word.
-fn ask_node(question: NodeQuestion, rest: &[Value]) -> Result<Request, LineFault>
+fn read_node_question(question: NodeQuestion, rest: &[Value]) -> Result<Request, LineFault>
     ensures ok { IfOk result
         (λ request. node_request (ask_node question) (map view rest.now) ≡ Some (plain request)) }
     ensures refused { IfErr result
@@ -152,18 +152,18 @@ fn ask_node(question: NodeQuestion, rest: &[Value]) -> Result<Request, LineFault
 }
 
 /// The ways of all nodes, if nothing follows the word, or those of the node that follows it.
-fn ways(rest: &[Value]) -> Result<Request, LineFault>
+fn read_ways(rest: &[Value]) -> Result<Request, LineFault>
     ensures ok { IfOk result (λ request. ways_request (map view rest.now) ≡ Some (plain request)) }
     ensures refused { IfErr result (λ fault. ok_or (ways_request (map view rest.now)) NotRequest ≡ Err fault) }
 {
     if rest.is_empty() {
         return Ok(Request::Ask(Question::Ways));
     }
-    ask_node(NodeQuestion::Ways, rest)
+    read_node_question(NodeQuestion::Ways, rest)
 }
 
 /// A network, if exactly three items follow the word: the number of nodes, the destination, the links.
-fn network(alloc: Global, rest: &[Value]) -> Result<Request, LineFault>
+fn read_network(alloc: Global, rest: &[Value]) -> Result<Request, LineFault>
     ensures { Tells (ok_or (network_request (map view rest.now)) NotRequest) result }
 {
     let [nodes, dest, links] = rest else {
@@ -177,7 +177,7 @@ fn network(alloc: Global, rest: &[Value]) -> Result<Request, LineFault>
 }
 
 /// Pushes, if exactly a table or two tables of hops follow the word.
-fn pushes(alloc: Global, rest: &[Value]) -> Result<Request, LineFault>
+fn read_pushes(alloc: Global, rest: &[Value]) -> Result<Request, LineFault>
     ensures { Tells (ok_or (pushes_request (map view rest.now)) NotRequest) result }
 {
     match rest {
@@ -279,7 +279,7 @@ fn push_item<T: OfValue>(items: &mut Vec<T>, value: &Value) -> Result<(), LineFa
     ensures refused { IfErr result (λ fault. fault ≢ Memory
         → (fault ≡ NotRequest) × (T.in_data (view value.now) ≡ None)) }
 {
-    let Some(item) = T::of_value(value) else {
+    let Some(item) = T::from_value(value) else {
         return Err(LineFault::NotRequest);
     };
     items.push(item)?;

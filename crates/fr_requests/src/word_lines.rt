@@ -8,7 +8,7 @@ ghost use Rattle.fr_requests.specs.declared.words.Word.TheVariants.{Network, Bat
 ghost use Rattle.fr_requests.specs.LineLexemes.{Begins, IsReadAs, letters, letters_of_edit, number_lexeme, plain_brief};
 ghost use Rattle.fr_requests.specs.Requests.{plain};
 
-use crate::fronts::{behind_mark, ends_line, is_over, number_before};
+use crate::fronts::{ends_line, is_only_space, number_before, skip_mark};
 use crate::lists::{edit_after, items_to_end};
 use crate::requests::{LineFault, Question, Request};
 use crate::words::{EditWord, Word};
@@ -27,13 +27,13 @@ pub(crate) enum ShortRequest {
 /// The request without a list of a line that begins with this word. Returns `None` for a line with a list, signs,
 /// fractions, exponents or escapes, although it may be a request.
 #[inline(always)]
-pub(crate) fn brief_after(word: Word, rest: &[u8]) -> Option<ShortRequest>
+pub(crate) fn short_request_after(word: Word, rest: &[u8]) -> Option<ShortRequest>
     ensures { IfSome result (λ brief. IsReadAs (letters word) rest.now (plain_brief brief)) }
 {
     match word {
-        Word::Edit(word) => edit(word, rest),
-        Word::Destination => destination(rest),
-        Word::Walk => walk(rest),
+        Word::Edit(word) => edit_request(word, rest),
+        Word::Destination => destination_request(rest),
+        Word::Walk => walk_request(rest),
         Word::Ask(question) => short_question(question, rest),
         Word::Network | Word::Batch => None,
     }
@@ -41,7 +41,7 @@ pub(crate) fn brief_after(word: Word, rest: &[u8]) -> Option<ShortRequest>
 
 /// The request with a list of a line that begins with this word. Returns `None` for a line without a list, or with
 /// signs, fractions, exponents, escapes or an empty list, although it may be a request.
-pub(crate) fn listed_after(
+pub(crate) fn list_request_after(
     alloc: Global,
     word: Word,
     rest: &[u8],
@@ -50,8 +50,8 @@ pub(crate) fn listed_after(
     ensures refused { IfErr result (λ fault. fault ≡ Memory) }
 {
     match word {
-        Word::Network => network(alloc, rest),
-        Word::Batch => batch(alloc, rest),
+        Word::Network => network_request(alloc, rest),
+        Word::Batch => batch_request(alloc, rest),
         Word::Edit(_) | Word::Destination | Word::Walk | Word::Ask(_) => Ok(None),
     }
 }
@@ -73,16 +73,16 @@ pub(crate) fn request_of(brief: ShortRequest) -> Request
 
 /// An edit: `["cut",u,v]`, `["add",u,v]` or `["join",u,v]`.
 #[inline(always)]
-fn edit(word: EditWord, rest: &[u8]) -> Option<ShortRequest>
+fn edit_request(word: EditWord, rest: &[u8]) -> Option<ShortRequest>
     ensures { IfSome result (λ brief. IsReadAs (letters_of_edit word) rest.now (plain_brief brief)) }
 {
     let (edit, behind) = edit_after(word, rest)?;
-    is_over(behind).then_some(ShortRequest::Edit(edit))
+    is_only_space(behind).then_some(ShortRequest::Edit(edit))
 }
 
 /// Another destination: `["dest",d]`.
 #[inline(always)]
-fn destination(rest: &[u8]) -> Option<ShortRequest>
+fn destination_request(rest: &[u8]) -> Option<ShortRequest>
     ensures { IfSome result (λ brief. IsReadAs (letters Destination) rest.now (plain_brief brief)) }
 {
     let dest = last_number(rest)?;
@@ -91,7 +91,7 @@ fn destination(rest: &[u8]) -> Option<ShortRequest>
 
 /// A walk: `["walk",x]`.
 #[inline(always)]
-fn walk(rest: &[u8]) -> Option<ShortRequest>
+fn walk_request(rest: &[u8]) -> Option<ShortRequest>
     ensures { IfSome result (λ brief. IsReadAs (letters Walk) rest.now (plain_brief brief)) }
 {
     let x = last_number(rest)?;
@@ -103,8 +103,8 @@ fn walk(rest: &[u8]) -> Option<ShortRequest>
 fn last_number(rest: &[u8]) -> Option<u32>
     ensures { IfSome result (λ n. Begins rest.now (comma ∷ number_lexeme n ∷ token end_array ∷ []) []) }
 {
-    let (n, behind) = number_before(b']', behind_mark(b',', rest)?)?;
-    is_over(behind).then_some(n)
+    let (n, behind) = number_before(b']', skip_mark(b',', rest)?)?;
+    is_only_space(behind).then_some(n)
 }
 
 /// A question about all nodes: `["links"]`, `["counts"]`, `["hops"]` or `["ways"]`.
@@ -117,7 +117,7 @@ fn short_question(question: Question, rest: &[u8]) -> Option<ShortRequest>
 
 /// A network with at least one link: `["net",n,d,[[u,v],..]]`.
 #[inline(never)]
-fn network(alloc: Global, rest: &[u8]) -> Result<Option<Request>, LineFault>
+fn network_request(alloc: Global, rest: &[u8]) -> Result<Option<Request>, LineFault>
     ensures ok { IfOk result (λ found. IfSome found (λ request. IsReadAs (letters Network) rest.now (plain request))) }
     ensures refused { IfErr result (λ fault. fault ≡ Memory) }
 {
@@ -136,14 +136,14 @@ fn network_head(rest: &[u8]) -> Option<(u32, u32, &[u8])>
         (λ head. Begins rest.now (comma ∷ number_lexeme head.0 ∷ comma ∷ number_lexeme head.1 ∷ comma
         ∷ token begin_array ∷ []) head.2.now) }
 {
-    let (nodes, rest) = number_before(b',', behind_mark(b',', rest)?)?;
+    let (nodes, rest) = number_before(b',', skip_mark(b',', rest)?)?;
     let (dest, rest) = number_before(b',', rest)?;
-    Some((nodes, dest, behind_mark(b'[', rest)?))
+    Some((nodes, dest, skip_mark(b'[', rest)?))
 }
 
 /// A batch with at least one edit: `["batch",[["cut",u,v],..]]`.
 #[inline(never)]
-fn batch(alloc: Global, rest: &[u8]) -> Result<Option<Request>, LineFault>
+fn batch_request(alloc: Global, rest: &[u8]) -> Result<Option<Request>, LineFault>
     ensures ok { IfOk result (λ found. IfSome found (λ request. IsReadAs (letters Batch) rest.now (plain request))) }
     ensures refused { IfErr result (λ fault. fault ≡ Memory) }
 {
@@ -160,5 +160,5 @@ fn batch(alloc: Global, rest: &[u8]) -> Result<Option<Request>, LineFault>
 fn batch_head(rest: &[u8]) -> Option<&[u8]>
     ensures { IfSome result (λ items. Begins rest.now (comma ∷ token begin_array ∷ []) items.now) }
 {
-    behind_mark(b'[', behind_mark(b',', rest)?)
+    skip_mark(b'[', skip_mark(b',', rest)?)
 }

@@ -3,7 +3,7 @@
 ghost use Rattle.std.specs.Prelude.{◌≡◌, ◌∷◌, ◌++◌, [], IfSome};
 ghost use Rattle.fr_requests.specs.LineLexemes.{Begins, letters, opening};
 
-use crate::fronts::{behind_mark, behind_space};
+use crate::fronts::{skip_mark, skip_space};
 use crate::requests::Question;
 
 /// The word of a request.
@@ -30,7 +30,7 @@ pub(crate) enum EditWord {
 pub(crate) fn opening_word(text: &[u8]) -> Option<(Word, &[u8])>
     ensures { IfSome result (λ next. Begins text.now (opening (letters next.0)) next.1.now) }
 {
-    let (word, rest) = word_at_front(behind_space(behind_mark(b'[', text)?))?;
+    let (word, rest) = word_at_front(skip_space(skip_mark(b'[', text)?))?;
     Some((word, rest))
 }
 

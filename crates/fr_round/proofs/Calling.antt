@@ -13,7 +13,7 @@ use Rattle.fr_core.specs.Machine.{bound_of, neighbour_at}
 use Rattle.fr_core.specs.declared.entry.Reply.TheVariants.{Held}
 use Rattle.fr_round.specs.declared.view.Setup.{Setup}
 use Rattle.fr_round.specs.declared.view.View.{View}
-use Rattle.fr_round.specs.declared.seen.Seen.{Seen}
+use Rattle.fr_round.specs.declared.seen_counts.Seen.{Seen}
 use Rattle.fr_round.specs.Missing.{IsCounted, misses}
 use Rattle.fr_round.specs.Steps.{EndsCall, noted}
 use Rattle.fr_round.specs.Calls.{AreEnough, IsUnderWay, AllMeet}
@@ -62,9 +62,9 @@ meet_by_row n links x c seen net each =
     }
 
 -- as it does once the whole row was looked at,
-pub all_meet : (b : Setup) (x c j : ℕ) (seen : List ℕ) → IsNet b.nodes b.links → length (row b.nodes b.links x) ≤ j
+pub all_meet_bounds : (b : Setup) (x c j : ℕ) (seen : List ℕ) → IsNet b.nodes b.links → length (row b.nodes b.links x) ≤ j
     → AreEnough (row b.nodes b.links x) j seen c → AllMeet b.links seen x c
-all_meet b x c j seen net all enough =
+all_meet_bounds b x c j seen net all enough =
     meet_by_row b.nodes b.links x c seen net
     (All-from_get_or (λ (e : ℕ × First). bound_of e.1 c ≤ slice_index seen e.0) (row b.nodes b.links x) (0, Outward) (λ k lt. enough k (omega arith)))
 

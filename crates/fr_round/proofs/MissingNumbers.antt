@@ -18,7 +18,7 @@ use Rattle.fr_graph.specs.Rows.{has_link, row, row_entry}
 use Rattle.fr_graph.specs.declared.first.First.{First}
 use Rattle.fr_graph.specs.declared.first.First.TheVariants.{Inward, Outward}
 use Rattle.fr_core.specs.Machine.{bound_of}
-use Rattle.fr_round.specs.declared.seen.Seen.{Seen}
+use Rattle.fr_round.specs.declared.seen_counts.Seen.{Seen}
 use Rattle.fr_round.specs.Missing.{IsCounted, misses, missing_of}
 
 -- how many entries pass
@@ -74,14 +74,14 @@ abbrev pub begins_by : ℕ → ℕ → ℕ → First → Bool
 begins_by had count own f = nat_lt had (bound_of f own) && not (nat_lt count (bound_of f own))
 
 -- whether node y, of which `had` was seen, does so for this entry of its row
-abbrev pub newly_meets : List ℕ → ℕ → ℕ → ℕ × First → Bool
-newly_meets counts had count e = begins_by had count (slice_index counts e.0) (opposite e.1)
+abbrev pub newly_meets_bound : List ℕ → ℕ → ℕ → ℕ × First → Bool
+newly_meets_bound counts had count e = begins_by had count (slice_index counts e.0) (opposite e.1)
 
 -- the same for the neighbour z
 abbrev pub lowers : List ℕ → ℕ → ℕ → ℕ → ℕ × First → Bool
-lowers counts had count z e = eqb e.0 z && newly_meets counts had count e
+lowers counts had count z e = eqb e.0 z && newly_meets_bound counts had count e
 
-lowers_at : (counts : List ℕ) (had count z : ℕ) (f : First) → lowers counts had count z (z, f) ≡ newly_meets counts had count (z, f)
+lowers_at : (counts : List ℕ) (had count z : ℕ) (f : First) → lowers counts had count z (z, f) ≡ newly_meets_bound counts had count (z, f)
 lowers_at counts had count z f = rw (eq-eqb z z refl) refl
 
 lowers_else : (counts : List ℕ) (had count z : ℕ) (e : ℕ × First) → e.0 ≢ z → lowers counts had count z e ≡ false
@@ -193,7 +193,7 @@ other_node n links y list j net is =
 pub room_to_lower : (n : ℕ) (links : List (ℕ × ℕ)) (list : List (ℕ × First)) (counts missing : List ℕ) (y count j : ℕ)
     → IsNet n links → list ≡ row n links y → y < n → length counts ≡ n → slice_index counts y ≤ count
     → IsLoweredTo n links list counts missing y count j → j < length list
-    → newly_meets counts (slice_index counts y) count (get_or list j (0, Outward)) ≡ true → 1 ≤ slice_index missing (get_or list j (0, Outward)).0
+    → newly_meets_bound counts (slice_index counts y) count (get_or list j (0, Outward)) ≡ true → 1 ≤ slice_index missing (get_or list j (0, Outward)).0
 room_to_lower n links list counts missing y count j net is y_in long up t inside begins =
     let e : ℕ × First = get_or list j (0, Outward) in
     let D : ℕ × First → Bool = lowers counts (slice_index counts y) count e.0 in
@@ -207,7 +207,7 @@ room_to_lower n links list counts missing y count j net is y_in long up t inside
 
 pub lowered_yes : (n : ℕ) (links : List (ℕ × ℕ)) (list : List (ℕ × First)) (counts missing : List ℕ) (y count j : ℕ) → IsNet n links → list ≡ row n links y
     → IsLoweredTo n links list counts missing y count j → j < length list
-    → newly_meets counts (slice_index counts y) count (get_or list j (0, Outward)) ≡ true
+    → newly_meets_bound counts (slice_index counts y) count (get_or list j (0, Outward)) ≡ true
     → 1 ≤ slice_index missing (get_or list j (0, Outward)).0
     → IsLoweredTo n links list counts
     (slice_set missing (get_or list j (0, Outward)).0 (slice_index missing (get_or list j (0, Outward)).0 - 1)) y count (j + 1)
@@ -235,7 +235,7 @@ lowered_yes n links list counts missing y count j net is t inside begins room =
 -- and else all numbers stay
 pub lowered_no : (n : ℕ) (links : List (ℕ × ℕ)) (list : List (ℕ × First)) (counts missing : List ℕ) (y count j : ℕ)
     → IsLoweredTo n links list counts missing y count j → j < length list
-    → newly_meets counts (slice_index counts y) count (get_or list j (0, Outward)) ≡ false → IsLoweredTo n links list counts missing y count (j + 1)
+    → newly_meets_bound counts (slice_index counts y) count (get_or list j (0, Outward)) ≡ false → IsLoweredTo n links list counts missing y count (j + 1)
 lowered_no n links list counts missing y count j t inside stays =
     let e : ℕ × First = get_or list j (0, Outward) in
     let had : ℕ = slice_index counts y in

@@ -5,7 +5,7 @@ use Rattle.fr_graph.specs.Links.{IsNet}
 use Rattle.fr_core.specs.History.{part, turn_count}
 use Rattle.fr_core.specs.declared.entry.Entry.{Entry}
 use Rattle.fr_core.specs.declared.entry.Reply.{Reply}
-use Rattle.fr_round.specs.declared.steps.Caller.{Caller}
+use Rattle.fr_round.specs.declared.turn_call.Caller.{Caller}
 use Rattle.fr_round.specs.declared.view.Setup.{Setup}
 use Rattle.fr_round.specs.declared.view.View.{View}
 use Rattle.fr_round.specs.declared.words.Words.{Words}
@@ -32,7 +32,7 @@ abbrev pub with_caller : Inside → Caller → ℕ → Inside
 with_caller w p turned = record { caller = p; number = w.number; turned = turned }
 
 module _ (words : Words) (w : Inside) (p : Caller) (x : ℕ) (reply : Reply) (s : IsSoundWorker w)
-    (of : w.caller.seat.me.0.setup ≡ setup_of words.terms) (made : Makes words w.caller x reply p) where
+    (of : w.caller.seat.me.0.setup ≡ setup_of words.round_setup) (made : Makes words w.caller x reply p) where
   turned_more : turn_count (part w.number p.seat.me.0.known) ≡ w.turned + turn_of reply
   turned_more =
       let v = w.caller.seat.me.0 in
@@ -42,9 +42,9 @@ module _ (words : Words) (w : Inside) (p : Caller) (x : ℕ) (reply : Reply) (s 
       subst (λ (k : ℕ). part k w'.known ≡ part k v.known ++ e ∷ []) s.numbered made.call.extends.own in
       omega (arith, ap (λ (h : List Entry). turn_count h) own, turn_count_push (part w.number v.known) e, s.counted)
 
-  pub turned_fits : IsNet words.terms.net.nodes words.terms.net.links → words.terms.net.nodes < 2 ^ 32 → w.turned + turn_of reply < 2 ^ 64
+  pub turned_fits : IsNet words.round_setup.net.nodes words.round_setup.net.links → words.round_setup.net.nodes < 2 ^ 32 → w.turned + turn_of reply < 2 ^ 64
   turned_fits net small =
-      let b = setup_of words.terms in
+      let b = setup_of words.round_setup in
       let run = subst (λ (z : Setup). IsHistory z p.seat.me.0.known) of made.call.extends.run in
       turns_fit b.nodes (w.turned + turn_of reply) small (omega (arith, turned_more, few_turns b p.seat.me.0.known w.number net run))
 

@@ -4,7 +4,7 @@ use Rattle.fr_graph.specs.declared.first.First.{First}
 use Rattle.fr_core.specs.Machine.{bound_of}
 use Rattle.fr_core.specs.declared.entry.Reply.{Reply}
 use Rattle.fr_core.specs.declared.entry.Reply.TheVariants.{Held}
-use Rattle.fr_round.specs.declared.steps.Caller.{Caller}
+use Rattle.fr_round.specs.declared.turn_call.Caller.{Caller}
 use Rattle.fr_round.specs.declared.words.Words.{Words}
 use Rattle.fr_round.specs.Setups.{setup_of}
 use Rattle.fr_round.specs.Missing.{IsCounted}
@@ -15,19 +15,19 @@ use Rattle.fr_round.specs.Calls.{AllMeet, IsAtWords, IsCallMade, IsLooking, IsSa
 -- what a caller has seen is what its seat knows, and its numbers are right
 pub record ShowsSeen (words : Words) (p : Caller) : Type 0 where
   pub counts : p.seat.me.0.seen ≡ p.seen.counts.items
-  pub numbers : IsCounted words.terms.net.nodes words.terms.net.links p.seen
+  pub numbers : IsCounted words.round_setup.net.nodes words.round_setup.net.links p.seen
 
 -- a worker of these words
 pub record IsCaller (words : Words) (p : Caller) : Type 0 where
   pub table : IsAtWords words p.seat
-  pub worker : IsWorker (setup_of words.terms) p.seat.me.0
+  pub worker : IsWorker (setup_of words.round_setup) p.seat.me.0
   pub seen : ShowsSeen words p
 
 -- the same, for the value of a worker in contracts
 pub record IsOfWords (words : Words) (k : Knowledge) : Type 0 where
   pub table : k.table ≡ words.table.shared.table_id
-  pub one_each : words.table.shared.table_id.words ≡ words.terms.net.nodes
-  pub setup : k.setup ≡ setup_of words.terms
+  pub one_each : words.table.shared.table_id.words ≡ words.round_setup.net.nodes
+  pub setup : k.setup ≡ setup_of words.round_setup
 
 -- a caller keeps its seat, and has what it has seen
 pub record Stays (words : Words) (p q : Caller) : Type 0 where
@@ -56,7 +56,7 @@ pub record Tests (words : Words) (p : Caller) (x c : ℕ) (entry : ℕ × First)
 pub record Passes (words : Words) (p : Caller) (x c : ℕ) (q : Caller) : Type 0 where
   pub stays : Stays words p q
   pub looking : IsLooking p.seat.me.0 x c q.seat.me.0
-  pub met : AllMeet words.terms.net.links q.seat.me.0.seen x c
+  pub met : AllMeet words.round_setup.net.links q.seat.me.0.seen x c
 
 -- a call on x was made
 pub record Makes (words : Words) (p : Caller) (x : ℕ) (reply : Reply) (q : Caller) : Type 0 where

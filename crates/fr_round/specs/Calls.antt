@@ -66,7 +66,7 @@ pub record IsInCall (b : Setup) (x c : ℕ) (w : View) : Type 0 where
 -- a seat at the words of a round
 pub record IsAtWords (words : Words) (seat : RoundSeat) : Type 0 where
   pub same : seat.table_id ≡ words.table.shared.table_id
-  pub one_each : words.table.shared.table_id.words ≡ words.terms.net.nodes
+  pub one_each : words.table.shared.table_id.words ≡ words.round_setup.net.nodes
 
 -- a seat that takes workers back, at a table of words
 pub record IsClosing (table : TableId) (seat : RoundSeat) : Type 0 where

@@ -3,7 +3,7 @@ use Rattle.std.specs.Prelude.{◌≡◌, ℕ, ◌<◌, Bool, nat_lt, List, lengt
 use Rattle.fr_graph.specs.Rows.{row}
 use Rattle.fr_graph.specs.declared.first.First.{First}
 use Rattle.fr_core.specs.Machine.{bound_of}
-use Rattle.fr_round.specs.declared.seen.Seen.{Seen}
+use Rattle.fr_round.specs.declared.seen_counts.Seen.{Seen}
 
 -- whether the seen count of a neighbour misses its bound for the count c
 abbrev pub misses : List ℕ → ℕ → ℕ × First → Bool

@@ -8,7 +8,7 @@ ghost use Rattle.fr_round.specs.Knowledge.{Knowledge};
 ghost use Rattle.fr_round.specs.Closing.{number_and_known, number_and_turns};
 
 use crate::rule::TakeWorker;
-use crate::steps::RoundSeat;
+use crate::turn_call::RoundSeat;
 use crate::words::RoundTable;
 use crate::worker::Worker;
 use atomic_table::Closed as ClosedWords;
@@ -27,7 +27,7 @@ pub struct Closed {
 }
 
 /// Takes the workers back at a closing seat, and lists their numbers and turns.
-pub(crate) fn take_over(
+pub(crate) fn take_back_workers(
     table: &RoundTable,
     seat: &mut RoundSeat,
     turned: &mut Vec<(u32, u64)>,

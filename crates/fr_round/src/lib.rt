@@ -15,16 +15,16 @@
 mod closing;
 mod faults;
 mod laws;
-mod looks;
+mod look_call;
 mod opening;
 mod past;
 mod round;
+mod round_setup;
 mod rule;
-mod seen;
-mod steps;
-mod terms;
+mod seen_counts;
 #[cfg(test)]
 mod tests;
+mod turn_call;
 mod view;
 mod words;
 mod worker;

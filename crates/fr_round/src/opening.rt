@@ -6,9 +6,9 @@ ghost use Rattle.fr_round.specs.Knowledge.{new_workers};
 ghost use Rattle.fr_round.specs.Setups.{setup_of};
 ghost use Rattle.fr_round.specs.Seated.{IsTableOf};
 
+use crate::round_setup::RoundSetup;
 use crate::rule::NumberWorker;
-use crate::seen::Seen;
-use crate::terms::Terms;
+use crate::seen_counts::Seen;
 use crate::words::RoundTable;
 use crate::worker::Worker;
 use atomic_table::Table;
@@ -28,19 +28,19 @@ fn zeros(alloc: Global, count: u32) -> Result<Vec<u64>, AllocError>
 
 /// The words, all 0, and the workers. The seat that gives out their numbers is dropped at the end, because threads
 /// could not share it.
-fn make_table(alloc: Global, terms: &Terms) -> Result<Seated, AllocError>
-    requires dest { terms.now.dest < terms.now.net.nodes }
-    requires net { IsNet terms.now.net.nodes terms.now.net.links }
-    ensures table { IfOk result (λ d. IsTableOf terms.now d.table.shared) }
+fn make_table(alloc: Global, round_setup: &RoundSetup) -> Result<Seated, AllocError>
+    requires dest { round_setup.now.dest < round_setup.now.net.nodes }
+    requires net { IsNet round_setup.now.net.nodes round_setup.now.net.links }
+    ensures table { IfOk result (λ d. IsTableOf round_setup.now d.table.shared) }
     ensures workers { IfOk result
-        (λ d. d.workers.items ≡ new_workers d.table.shared.table_id (setup_of terms.now) terms.now.workers) }
+        (λ d. d.workers.items ≡ new_workers d.table.shared.table_id (setup_of round_setup.now) round_setup.now.workers) }
 {
-    let nodes = terms.net.nodes();
+    let nodes = round_setup.net.nodes();
     let words = zeros(alloc, nodes)?;
-    let (table, mut opening) = Table::of_words(alloc, words.as_slice(), terms)?;
-    let unseen = Seen::new(alloc, &terms.net)?;
+    let (table, mut opening) = Table::of_words(alloc, words.as_slice(), round_setup)?;
+    let unseen = Seen::new(alloc, &round_setup.net)?;
     let mut workers = Vec::new(alloc);
-    for number in 0..terms.workers {
+    for number in 0..round_setup.workers {
         let seen = unseen.to_copy(alloc)?;
         let seat = table.shared.split_seat::<NumberWorker>(&mut opening);
         workers.push(Worker::new(seat, number, seen))?;
@@ -56,18 +56,18 @@ pub(crate) struct Prepared {
     pub turned: Vec<(u32, u64)>,
 }
 
-pub(crate) fn prepare(alloc: Global, terms: &Terms) -> Result<Prepared, AllocError>
-    requires dest { terms.now.dest < terms.now.net.nodes }
-    requires net { IsNet terms.now.net.nodes terms.now.net.links }
-    ensures table { IfOk result (λ p. IsTableOf terms.now p.table.shared) }
+pub(crate) fn prepare_round(alloc: Global, round_setup: &RoundSetup) -> Result<Prepared, AllocError>
+    requires dest { round_setup.now.dest < round_setup.now.net.nodes }
+    requires net { IsNet round_setup.now.net.nodes round_setup.now.net.links }
+    ensures table { IfOk result (λ p. IsTableOf round_setup.now p.table.shared) }
     ensures workers { IfOk result
-        (λ p. p.workers.items ≡ new_workers p.table.shared.table_id (setup_of terms.now) terms.now.workers) }
-    ensures counts { IfOk result (λ p. length p.counts.items ≡ terms.now.net.nodes) }
-    ensures turned { IfOk result (λ p. (p.turned.items ≡ []) × (terms.now.workers ≤ vec_capacity p.turned)) }
+        (λ p. p.workers.items ≡ new_workers p.table.shared.table_id (setup_of round_setup.now) round_setup.now.workers) }
+    ensures counts { IfOk result (λ p. length p.counts.items ≡ round_setup.now.net.nodes) }
+    ensures turned { IfOk result (λ p. (p.turned.items ≡ []) × (round_setup.now.workers ≤ vec_capacity p.turned)) }
 {
-    let counts = zeros(alloc, terms.net.nodes())?;
-    let turned = Vec::with_capacity(alloc, terms.workers as usize)?;
-    let Seated { table, workers } = make_table(alloc, terms)?;
+    let counts = zeros(alloc, round_setup.net.nodes())?;
+    let turned = Vec::with_capacity(alloc, round_setup.workers as usize)?;
+    let Seated { table, workers } = make_table(alloc, round_setup)?;
     Ok(Prepared {
         table,
         workers,

@@ -2,7 +2,7 @@
 
 ghost use Rattle.std.specs.Prelude.{◌≡◌, []};
 
-use crate::steps::RoundSeat;
+use crate::turn_call::RoundSeat;
 use std::marker::Model;
 
 /// What a worker knew at one moment: the list of calls up to its last one. One thread gives it to another, whose worker

@@ -10,12 +10,12 @@ ghost use Rattle.fr_round.specs.Knowledge.{RefusesLook, new_workers, past_of};
 ghost use Rattle.fr_round.specs.Closing.{Closes};
 ghost use Rattle.fr_round.specs.Opening.{HasNotBegun};
 
-use crate::closing::{Closed, read_counts, take_over};
+use crate::closing::{Closed, read_counts, take_back_workers};
 use crate::faults::{OpenFault, OpenWhy, Refusal};
-use crate::opening::{Prepared, prepare};
+use crate::opening::{Prepared, prepare_round};
 use crate::past::Past;
+use crate::round_setup::RoundSetup;
 use crate::rule::BeginClosing;
-use crate::terms::Terms;
 use crate::words::Words;
 use crate::worker::Worker;
 use fr_core::{MAX_WORKERS, Reply};
@@ -76,8 +76,8 @@ impl Round {
                 why: OpenWhy::Range,
             });
         }
-        let terms = Terms { net, dest, workers };
-        match prepare(alloc, &terms) {
+        let round_setup = RoundSetup { net, dest, workers };
+        match prepare_round(alloc, &round_setup) {
             Ok(
                 Prepared {
                     table,
@@ -87,14 +87,14 @@ impl Round {
                 },
             ) => {
                 let round = Round {
-                    words: Words { terms, table },
+                    words: Words { round_setup, table },
                     counts,
                     turned,
                 };
                 Ok((round, workers))
             }
             Err(_) => Err(OpenFault {
-                net: terms.into_net(),
+                net: round_setup.into_network(),
                 why: OpenWhy::Memory,
             }),
         }
@@ -104,7 +104,7 @@ impl Round {
     pub fn workers(&self) -> u32
         ensures { result ≡ self.now.setup.workers }
     {
-        self.words.terms.workers
+        self.words.round_setup.workers
     }
 
     /// The network, with its first links. It takes no step, and does not allocate. O(1).
@@ -112,14 +112,14 @@ impl Round {
         ensures nodes { result.now.nodes ≡ self.now.setup.nodes }
         ensures links { result.now.links ≡ self.now.setup.links }
     {
-        &self.words.terms.net
+        &self.words.round_setup.net
     }
 
     /// The destination. It takes no step, and does not allocate. O(1).
     pub fn dest(&self) -> u32
         ensures { result ≡ self.now.setup.dest }
     {
-        self.words.terms.dest
+        self.words.round_setup.dest
     }
 
     /// Turns node `x` if it is a sink: full reversal (E. Gafni and D. Bertsekas, 1981), by single atomic loads and one
@@ -146,7 +146,7 @@ impl Round {
         ensures kind { IfOk result IsReplyToTurn }
         ensures learns { IfOk result (λ reply. LearnsReply worker.old x reply worker.new) }
     {
-        self.words.terms.check_turn(x)?;
+        self.words.round_setup.check_turn(x)?;
         Ok(worker.turn(&self.words, x))
     }
 
@@ -172,7 +172,7 @@ impl Round {
         ensures kind { IfOk result IsReplyToLook }
         ensures learns { IfOk result (λ reply. LearnsReply worker.old x reply worker.new) }
     {
-        self.words.terms.check_look(x)?;
+        self.words.round_setup.check_look(x)?;
         Ok(worker.look(&self.words, x))
     }
 
@@ -213,17 +213,17 @@ impl Round {
         ensures history { Closes self workers.items result.counts.items result.turned.items }
     {
         let Round {
-            words: Words { terms, table },
+            words: Words { round_setup, table },
             mut counts,
             mut turned,
         } = self;
         let (_, mut seat) = table.shared.load_new_seat::<BeginClosing>(0);
-        take_over(&table, &mut seat, &mut turned, workers);
+        take_back_workers(&table, &mut seat, &mut turned, workers);
         let closed = table.close_with(seat);
         read_counts(&closed, counts.as_mut_slice());
         closed.free();
         Closed {
-            net: terms.into_net(),
+            net: round_setup.into_network(),
             counts,
             turned,
         }

@@ -1,14 +1,14 @@
 //! The rule: what holds of the words of a round, and of what its seats know, between any two steps. The steps: what
 //! each one shows the seat that takes it.
 
-use crate::terms::Terms;
+use crate::round_setup::RoundSetup;
 use crate::view::View;
 use atomic_table::{Join, Play, Split, TableRule};
 
 /// One history explains the words and all that the seats know.
 pub struct Rule;
 
-impl TableRule<(), View, Terms> for Rule {
+impl TableRule<(), View, RoundSetup> for Rule {
     ghost use Rattle.fr_round.specs.Rule.{KeepsRule, opening_view};
     ghost use Rattle.fr_round.specs.Setups.{setup_of};
 
@@ -27,18 +27,18 @@ impl Play<(), View> for LoadOwn {
 }
 
 /// The load of the count of a neighbour to which the link pointed first.
-pub struct LoadAlong;
+pub struct LoadOutwardNeighbour;
 
-impl Play<(), View> for LoadAlong {
+impl Play<(), View> for LoadOutwardNeighbour {
     ghost use Rattle.fr_round.specs.Steps.{neighbour_loaded};
 
     ghost then = { neighbour_loaded 1 };
 }
 
 /// The load of the count of a neighbour from which the link pointed first.
-pub struct LoadAgainst;
+pub struct LoadInwardNeighbour;
 
-impl Play<(), View> for LoadAgainst {
+impl Play<(), View> for LoadInwardNeighbour {
     ghost use Rattle.fr_round.specs.Steps.{neighbour_loaded};
 
     ghost then = { neighbour_loaded 0 };
@@ -63,9 +63,9 @@ impl Play<(), View> for LoadToLook {
 }
 
 /// A look's second load of its node's own count.
-pub struct LoadAgain;
+pub struct LoadToConfirm;
 
-impl Play<(), View> for LoadAgain {
+impl Play<(), View> for LoadToConfirm {
     ghost use Rattle.fr_round.specs.Steps.{look_ended};
 
     ghost then = { look_ended };

@@ -12,8 +12,8 @@ ghost use Rattle.fr_round.specs.Closing.{number_and_known};
 
 use crate::past::Past;
 use crate::rule::{CatchUp, HandOn, Receive};
-use crate::seen::Seen;
-use crate::steps::{Caller, RoundSeat};
+use crate::seen_counts::Seen;
+use crate::turn_call::{Caller, RoundSeat};
 use crate::words::Words;
 use fr_core::Reply;
 use std::marker::Model;
@@ -40,7 +40,7 @@ impl Model for Worker {
 }
 
 /// How many turns a call with this reply made: 1 or 0.
-fn turns(reply: Reply) -> u64
+fn turns_of_reply(reply: Reply) -> u64
     ensures { result ≡ cond (is_turned reply) 1 0 }
 {
     match reply {
@@ -104,21 +104,21 @@ impl Worker {
     /// Makes one call to turn node `x`, on the words of the worker's round.
     pub(crate) fn turn(&mut self, words: &Words, x: u32) -> Reply
         requires own { IsOfWords words.now self.old }
-        requires node { IsTurnable words.now.terms.net.nodes words.now.terms.dest words.now.terms.net.links x }
+        requires node { IsTurnable words.now.round_setup.net.nodes words.now.round_setup.dest words.now.round_setup.net.links x }
         ensures keeps { KeepsWorker self.old self.new }
         ensures learns { LearnsReply self.old x result self.new }
         ensures kind { IsReplyToTurn result }
     {
-        words.terms.net.network_law();
+        words.round_setup.net.network_law();
         let reply = self.caller.turn_at(words, x);
-        self.turned += turns(reply);
+        self.turned += turns_of_reply(reply);
         reply
     }
 
     /// What it knows, as a value of its own.
     pub(crate) fn past(&mut self, words: &Words) -> Past
         requires own { IsOfWords words.now self.old }
-        requires some { 0 < words.now.terms.net.nodes }
+        requires some { 0 < words.now.round_setup.net.nodes }
         ensures kept { self.new ≡ self.old }
         ensures past { result ≡ past_of self.old }
     {
@@ -130,7 +130,7 @@ impl Worker {
     pub(crate) fn learn(&mut self, words: &Words, past: Past)
         requires own { IsOfWords words.now self.old }
         requires past { past.table ≡ self.old.table }
-        requires some { 0 < words.now.terms.net.nodes }
+        requires some { 0 < words.now.round_setup.net.nodes }
         ensures { LearnsPast self.old past self.new }
     {
         let shared = &words.table.shared;
@@ -141,7 +141,7 @@ impl Worker {
     /// Makes one look at node `x`, on the words of the worker's round.
     pub(crate) fn look(&mut self, words: &Words, x: u32) -> Reply
         requires own { IsOfWords words.now self.old }
-        requires node { IsLookable words.now.terms.net.nodes words.now.terms.net.links x }
+        requires node { IsLookable words.now.round_setup.net.nodes words.now.round_setup.net.links x }
         ensures keeps { KeepsWorker self.old self.new }
         ensures learns { LearnsReply self.old x result self.new }
         ensures kind { IsReplyToLook result }

@@ -22,8 +22,8 @@ use Rattle.fr_tables.specs.Tables.{IsInRange, IsLoopFree}
 use Rattle.fr_tables.specs.declared.hop.Hop.{Hop}
 use Rattle.fr_tables.specs.declared.hop.Hop.TheVariants.{To}
 use Rattle.fr_route.specs.declared.hops.AfterRound.{AfterRound}
-use Rattle.fr_route.specs.declared.movable.Movable.{Movable}
-use Rattle.fr_route.specs.declared.movable.Movable.TheVariants.{Few, Many}
+use Rattle.fr_route.specs.declared.turn_candidates.TurnCandidates.{TurnCandidates}
+use Rattle.fr_route.specs.declared.turn_candidates.TurnCandidates.TheVariants.{Few, Many}
 use Rattle.fr_route.specs.declared.outcome.Outcome.{Outcome}
 use Rattle.fr_route.specs.declared.changed_nodes.ChangedNodes.{ChangedNodes}
 
@@ -66,7 +66,7 @@ abbrev pub movable : State → ℕ → List Edit → List ℕ
 movable s d edits = touched s d edits ++ cut_off_nodes s
 
 -- the nodes in such a list
-abbrev pub nodes_listed : Movable → List ℕ
+abbrev pub nodes_listed : TurnCandidates → List ℕ
 nodes_listed (Few nodes) = nodes
 nodes_listed (Many nodes) = nodes.items
 

@@ -31,7 +31,7 @@ pub(crate) enum ChangedNodes {
 
 impl ChangedNodes {
     /// Takes the caller's list, which is empty meanwhile.
-    pub fn taken(list: &mut Vec<u32>, alloc: Global) -> ChangedNodes
+    pub fn from_list(list: &mut Vec<u32>, alloc: Global) -> ChangedNodes
         ensures listing { IsListing result }
         ensures same { nodes_told result ≡ list.old.items }
     {
@@ -59,7 +59,7 @@ impl ChangedNodes {
     }
 
     /// Replaces the list, if there is one.
-    pub fn put_list(&mut self, nodes: Vec<u32>)
+    pub fn replace_list(&mut self, nodes: Vec<u32>)
         ensures { IsListing self.old → nodes_told self.new ≡ nodes.items }
     {
         match self {
@@ -126,7 +126,7 @@ impl ChangedNodes {
     }
 
     /// Whether the caller asks what changes do to the ways of nodes.
-    pub fn asks_ways(&self) -> bool
+    pub fn wants_ways(&self) -> bool
         ensures { IsTrue result ↔ AsksWays self.now }
     {
         match self {
@@ -160,7 +160,7 @@ impl ChangedNodes {
         ensures list { HasSameList self.old self.new }
     {
         match self {
-            ChangedNodes::InList(_, Some(notes)) => notes.begin(net, distances, edits),
+            ChangedNodes::InList(_, Some(notes)) => notes.note_ways_before(net, distances, edits),
             _ => Ok(()),
         }
     }

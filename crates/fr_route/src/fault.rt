@@ -113,7 +113,7 @@ impl From<NotEdited<RouteFault>> for NotMade {
 }
 
 /// Drops the index of the refused edit.
-pub(crate) fn placeless<T>(tried: Result<T, NotMade>) -> Result<T, RouteFault>
+pub(crate) fn without_edit_place<T>(tried: Result<T, NotMade>) -> Result<T, RouteFault>
     ensures { result ≡ without_place tried }
 {
     match tried {

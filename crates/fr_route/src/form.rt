@@ -58,7 +58,7 @@ impl Draft {
 }
 
 /// The answer to a request that is accepted.
-pub(crate) fn accepted(text: String) -> Answer
+pub(crate) fn accepted_answer(text: String) -> Answer
     ensures { (result.text ≡ text) × (result.refused ≡ false) }
 {
     let refused = false;

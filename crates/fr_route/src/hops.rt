@@ -31,7 +31,7 @@ pub(crate) struct AfterRound<'a> {
 }
 
 /// The node with the lowest number to which a link from node `x` points.
-pub(crate) fn least_out(net: &Net, x: u32) -> Option<u32>
+pub(crate) fn lowest_outward_neighbour(net: &Net, x: u32) -> Option<u32>
     requires { x < net.now.nodes }
     ensures { MatchOption result ((w : ℕ) → ¬ Points net.now.links x w) (IsNextHop net.now.links x) }
 {
@@ -57,7 +57,7 @@ fn hop_of(round: &AfterRound<'_>, x: u32) -> Hop
     if round.turns.counts()[x as usize] == u64::from(round.net.nodes()) {
         return Hop::CutOff;
     }
-    match least_out(round.net, x) {
+    match lowest_outward_neighbour(round.net, x) {
         Some(next) => Hop::To(next),
         // The node has no link. With a link, it would have turned until a link points away from it.
         None => Hop::CutOff,
@@ -90,7 +90,7 @@ pub(crate) fn renew_hops(
     ensures noted { NotesMore (state_after round.now) hops.old told.old hops.new told.new }
 {
     renew_turned(hops, round, told);
-    renew_some(hops, round, moved, told);
+    renew_listed(hops, round, moved, told);
 }
 
 /// Updates the hop of each node that has turned, and of each neighbour that sends on to such a node. The links of all
@@ -103,12 +103,12 @@ fn renew_turned(hops: &mut [Hop], round: &AfterRound<'_>, told: &mut ChangedNode
     ensures noted { NotesMore (state_after round.now) hops.old told.old hops.new told.new }
 {
     for x in round.turns.nodes() {
-        renew_near(hops, round, *x, told);
+        renew_node_and_senders(hops, round, *x, told);
     }
 }
 
 /// Updates the hop of node `x`, and of each neighbour that sends on to it.
-fn renew_near(hops: &mut [Hop], round: &AfterRound<'_>, x: u32, told: &mut ChangedNodes)
+fn renew_node_and_senders(hops: &mut [Hop], round: &AfterRound<'_>, x: u32, told: &mut ChangedNodes)
     requires round { IsAfterRound (state_after round.now) }
     requires one_each { length hops.old ≡ round.now.net.now.nodes }
     requires node { x < round.now.net.now.nodes }
@@ -118,7 +118,7 @@ fn renew_near(hops: &mut [Hop], round: &AfterRound<'_>, x: u32, told: &mut Chang
 {
     // By this law, the row has each link of `x`.
     round.net.network_law();
-    renew_one(hops, round, x, told);
+    renew_hop(hops, round, x, told);
     let row = round.net.row(x);
     for (w, _) in row {
         renew_sender(hops, round, *w as u32, x, told);
@@ -134,12 +134,12 @@ fn renew_sender(hops: &mut [Hop], round: &AfterRound<'_>, w: u32, x: u32, told: 
     ensures noted { NotesMore (state_after round.now) hops.old told.old hops.new told.new }
 {
     if hops[w as usize] == Hop::To(x) {
-        renew_one(hops, round, w, told);
+        renew_hop(hops, round, w, told);
     }
 }
 
 /// Updates the hops of these nodes.
-fn renew_some(hops: &mut [Hop], round: &AfterRound<'_>, moved: &[u32], told: &mut ChangedNodes)
+fn renew_listed(hops: &mut [Hop], round: &AfterRound<'_>, moved: &[u32], told: &mut ChangedNodes)
     requires round { IsAfterRound (state_after round.now) }
     requires one_each { length hops.old ≡ round.now.net.now.nodes }
     requires nodes { All (λ (x : ℕ). x < round.now.net.now.nodes) moved.now }
@@ -147,12 +147,12 @@ fn renew_some(hops: &mut [Hop], round: &AfterRound<'_>, moved: &[u32], told: &mu
     ensures noted { NotesMore (state_after round.now) hops.old told.old hops.new told.new }
 {
     for x in moved {
-        renew_one(hops, round, *x, told);
+        renew_hop(hops, round, *x, told);
     }
 }
 
 /// Updates the hop of node `x`, and notes the node if the hop changes.
-fn renew_one(hops: &mut [Hop], round: &AfterRound<'_>, x: u32, told: &mut ChangedNodes)
+fn renew_hop(hops: &mut [Hop], round: &AfterRound<'_>, x: u32, told: &mut ChangedNodes)
     requires round { IsAfterRound (state_after round.now) }
     requires one_each { length hops.old ≡ round.now.net.now.nodes }
     requires node { x < round.now.net.now.nodes }
@@ -160,7 +160,7 @@ fn renew_one(hops: &mut [Hop], round: &AfterRound<'_>, x: u32, told: &mut Change
     ensures noted { NotesMore (state_after round.now) hops.old told.old hops.new told.new }
 {
     let hop = hop_of(round, x);
-    if is_same(hops[x as usize], hop) {
+    if is_same_hop(hops[x as usize], hop) {
         return;
     }
     hops[x as usize] = hop;
@@ -168,14 +168,14 @@ fn renew_one(hops: &mut [Hop], round: &AfterRound<'_>, x: u32, told: &mut Change
 }
 
 /// Whether two hops are equal.
-fn is_same(some: Hop, other: Hop) -> bool
+fn is_same_hop(some: Hop, other: Hop) -> bool
     ensures { IsTrue result ↔ (some ≡ other) }
 {
     some == other
 }
 
 /// A copy of a table with `count` hops: nodes past the end of the table are cut off.
-pub(crate) fn resized(alloc: Global, table: &[Hop], count: u32) -> Result<Vec<Hop>, AllocError>
+pub(crate) fn resized_hops(alloc: Global, table: &[Hop], count: u32) -> Result<Vec<Hop>, AllocError>
     ensures { IfOk result (λ hops. hops.items ≡ take count table.now ++ replicate (count - length table.now) CutOff) }
 {
     let mut hops = Vec::with_capacity(alloc, count as usize)?;

@@ -16,7 +16,7 @@ ghost use Rattle.fr_route.specs.Rooms.{Fits, lists_size};
 ghost use Rattle.fr_route.specs.Separated.{comma_before, listed};
 
 use crate::change::Report;
-use crate::listed::Listed;
+use crate::listed_phases::ListedPhases;
 use crate::refusals::Refusal;
 use fr_graph::Links;
 use fr_tables::Hop;
@@ -28,7 +28,7 @@ use std::alloc::AllocError;
 const NUMBER_ROOM: usize = 5;
 
 /// A line that begins with this text, with room for so many numbers and an end, in the memory of this one.
-fn begun(mut line: String, text: &str, numbers: usize) -> Result<String, AllocError>
+fn start_line(mut line: String, text: &str, numbers: usize) -> Result<String, AllocError>
     ensures { IfOk result (λ line. string_bytes line ≡ text.now) }
 {
     let room = numbers.saturating_mul(NUMBER_ROOM).saturating_add(16);
@@ -117,7 +117,7 @@ fn push_link(
 pub(crate) fn links_object(spare: String, links: Links<'_>) -> Result<String, AllocError>
     ensures { IfOk result (λ line. string_bytes line ≡ links_json links.entry) }
 {
-    let mut line = begun(spare, "{\"links\":[", links.len().saturating_mul(2))?;
+    let mut line = start_line(spare, "{\"links\":[", links.len().saturating_mul(2))?;
     let mut buffer = Buffer::new();
     let mut first = true;
     for link in links {
@@ -147,7 +147,7 @@ fn push_counts(line: &mut String, counts: &[u64]) -> Result<(), AllocError>
 pub(crate) fn counts_object(spare: String, counts: &[u64]) -> Result<String, AllocError>
     ensures { IfOk result (λ line. string_bytes line ≡ counts_json counts.now) }
 {
-    let mut line = begun(spare, "{\"counts\":[", counts.len())?;
+    let mut line = start_line(spare, "{\"counts\":[", counts.len())?;
     push_counts(&mut line, counts)?;
     line.push_str("]}")?;
     Ok(line)
@@ -172,7 +172,7 @@ fn push_hops(line: &mut String, hops: &[Hop]) -> Result<(), AllocError>
 pub(crate) fn hops_object(spare: String, hops: &[Hop]) -> Result<String, AllocError>
     ensures { IfOk result (λ line. string_bytes line ≡ hops_json hops.now) }
 {
-    let mut line = begun(spare, "{\"hops\":[", hops.len())?;
+    let mut line = start_line(spare, "{\"hops\":[", hops.len())?;
     push_hops(&mut line, hops)?;
     line.push_str("]}")?;
     Ok(line)
@@ -183,7 +183,7 @@ pub(crate) fn hops_object(spare: String, hops: &[Hop]) -> Result<String, AllocEr
 pub(crate) fn walk_object(spare: String, nodes: &[u32]) -> Result<String, AllocError>
     ensures { IfOk result (λ line. string_bytes line ≡ walk_json nodes.now) }
 {
-    let mut line = begun(spare, "{\"walk\":[", nodes.len())?;
+    let mut line = start_line(spare, "{\"walk\":[", nodes.len())?;
     push_nodes(&mut line, nodes, &mut Buffer::new())?;
     line.push_str("]}")?;
     Ok(line)
@@ -194,7 +194,7 @@ pub(crate) fn walk_object(spare: String, nodes: &[u32]) -> Result<String, AllocE
 pub(crate) fn no_walk_object(spare: String) -> Result<String, AllocError>
     ensures { IfOk result (λ line. string_bytes line ≡ no_walk_json) }
 {
-    begun(spare, "{\"walk\":null}", 0)
+    start_line(spare, "{\"walk\":null}", 0)
 }
 
 /// Appends the ways of a node: `"here"` for the destination, `"cut"` without a way, or the ways in brackets.
@@ -238,7 +238,7 @@ pub(crate) fn ways_object(spare: String, dest: u32, table: &WayTable) -> Result<
     requires { length table.now < 2 ^ 32 }
     ensures { IfOk result (λ line. string_bytes line ≡ ways_json dest table.now) }
 {
-    let mut line = begun(spare, "{\"ways\":[", table.list().len())?;
+    let mut line = start_line(spare, "{\"ways\":[", table.list().len())?;
     push_table(&mut line, dest, table)?;
     line.push_str("]}")?;
     Ok(line)
@@ -253,7 +253,7 @@ pub(crate) fn node_ways_object(
 ) -> Result<String, AllocError>
     ensures { IfOk result (λ line. string_bytes line ≡ node_ways_json home ways.now) }
 {
-    let mut line = begun(spare, "{\"ways\":", ways.len())?;
+    let mut line = start_line(spare, "{\"ways\":", ways.len())?;
     push_ways(&mut line, home, ways, &mut Buffer::new())?;
     line.push_str("}")?;
     Ok(line)
@@ -300,7 +300,11 @@ fn push_lists(
 }
 
 /// Appends the pushes of two phases, up to the end of the object: `[5,[2]],[3,[]]],"grow":[[3,[5,7]]]}`.
-fn push_phases(line: &mut String, phases: Listed<'_>, buffer: &mut Buffer) -> Result<(), AllocError>
+fn push_phases(
+    line: &mut String,
+    phases: ListedPhases<'_>,
+    buffer: &mut Buffer,
+) -> Result<(), AllocError>
     requires { (shrink grow : List (ℕ × List ℕ)) × ArePhasesListed shrink grow phases }
     ensures text { (shrink grow : List (ℕ × List ℕ)) → ArePhasesListed shrink grow phases.entry
         → OnOk result (string_bytes line.new ≡ string_bytes line.old ++ lists_json shrink grow) }
@@ -315,12 +319,12 @@ fn push_phases(line: &mut String, phases: Listed<'_>, buffer: &mut Buffer) -> Re
 
 /// `{"shrink":[[5,[2]],[3,[]]],"grow":[[3,[5,7]]]}`: the pushes of two phases.
 #[inline(never)]
-pub(crate) fn phases_object(spare: String, phases: Listed<'_>) -> Result<String, AllocError>
+pub(crate) fn phases_object(spare: String, phases: ListedPhases<'_>) -> Result<String, AllocError>
     requires { (shrink grow : List (ℕ × List ℕ)) × ArePhasesListed shrink grow phases }
     ensures { (shrink grow : List (ℕ × List ℕ)) → ArePhasesListed shrink grow phases.entry
         → IfOk result (λ line. string_bytes line ≡ phases_json shrink grow) }
 {
-    let mut line = begun(spare, "{\"shrink\":[", 0)?;
+    let mut line = start_line(spare, "{\"shrink\":[", 0)?;
     push_phases(&mut line, phases, &mut Buffer::new())?;
     Ok(line)
 }
@@ -330,7 +334,7 @@ pub(crate) fn phases_object(spare: String, phases: Listed<'_>) -> Result<String,
 pub(crate) fn nearest_object(spare: String, nodes: &[u32]) -> Result<String, AllocError>
     ensures { IfOk result (λ line. string_bytes line ≡ nearest_json nodes.now) }
 {
-    let mut line = begun(spare, "{\"nearest\":[", nodes.len())?;
+    let mut line = start_line(spare, "{\"nearest\":[", nodes.len())?;
     push_nodes(&mut line, nodes, &mut Buffer::new())?;
     line.push_str("]}")?;
     Ok(line)
@@ -341,7 +345,7 @@ pub(crate) fn nearest_object(spare: String, nodes: &[u32]) -> Result<String, All
 pub(crate) fn no_nearest_object(spare: String) -> Result<String, AllocError>
     ensures { IfOk result (λ line. string_bytes line ≡ no_nearest_json) }
 {
-    begun(spare, "{\"nearest\":null}", 0)
+    start_line(spare, "{\"nearest\":null}", 0)
 }
 
 /// The hop of a number. A number that is not a node is cut off.
@@ -355,7 +359,7 @@ pub(crate) fn hop_at(hops: &[Hop], x: u32) -> Hop
 }
 
 /// Appends a number with its hop, after a comma unless it is the first.
-fn push_change(
+fn push_node_hop(
     line: &mut String,
     first: bool,
     change: (u32, Hop),
@@ -386,7 +390,7 @@ fn push_changes(
 {
     let mut first = true;
     for x in changed {
-        push_change(line, first, (*x, hop_at(hops, *x)), buffer)?;
+        push_node_hop(line, first, (*x, hop_at(hops, *x)), buffer)?;
         first = false;
     }
     Ok(())
@@ -400,7 +404,7 @@ pub(crate) fn pushes_object(
 ) -> Result<String, AllocError>
     ensures { IfOk result (λ line. string_bytes line ≡ pushes_json (changes_of hops.now nodes.now)) }
 {
-    let mut line = begun(spare, "{\"pushes\":[", nodes.len().saturating_mul(3))?;
+    let mut line = start_line(spare, "{\"pushes\":[", nodes.len().saturating_mul(3))?;
     push_changes(&mut line, nodes, hops, &mut Buffer::new())?;
     line.push_str("]}")?;
     Ok(line)
@@ -463,7 +467,7 @@ pub(crate) fn push_report_with_ways(
     report: Report,
     changed: &[u32],
     hops: &[Hop],
-    phases: Listed<'_>,
+    phases: ListedPhases<'_>,
 ) -> Result<(), AllocError>
     requires { (shrink grow : List (ℕ × List ℕ)) × ArePhasesListed shrink grow phases }
     ensures text { (shrink grow : List (ℕ × List ℕ)) → ArePhasesListed shrink grow phases.entry
@@ -490,8 +494,8 @@ pub(crate) fn refusal_object(
     ensures { IfOk result (λ line. string_bytes line ≡ refusal_json (plain_refusal refusal.now) number) }
 {
     let mut buffer = Buffer::new();
-    let mut line = refused(spare, refusal, &mut buffer)?;
-    push_shown(&mut line, refusal, &mut buffer)?;
+    let mut line = start_refusal(spare, refusal, &mut buffer)?;
+    push_fault_nodes(&mut line, refusal, &mut buffer)?;
     line.push_str(",\"line\":")?;
     push_number(&mut line, number, &mut buffer)?;
     line.push_str("}")?;
@@ -499,10 +503,14 @@ pub(crate) fn refusal_object(
 }
 
 /// A line that begins with the number and the name of the fault, with room for the rest.
-fn refused(spare: String, refusal: &Refusal<'_>, buffer: &mut Buffer) -> Result<String, AllocError>
+fn start_refusal(
+    spare: String,
+    refusal: &Refusal<'_>,
+    buffer: &mut Buffer,
+) -> Result<String, AllocError>
     ensures { IfOk result (λ line. string_bytes line ≡ refused_json (number_of refusal.now.reason)) }
 {
-    let mut line = begun(
+    let mut line = start_line(
         spare,
         "{\"refused\":",
         refusal.nodes.len().saturating_add(16),
@@ -514,7 +522,7 @@ fn refused(spare: String, refusal: &Refusal<'_>, buffer: &mut Buffer) -> Result<
 }
 
 /// Appends the nodes that show the fault, and the place of the refused edit of a batch.
-fn push_shown(
+fn push_fault_nodes(
     line: &mut String,
     refusal: &Refusal<'_>,
     buffer: &mut Buffer,
@@ -524,12 +532,16 @@ fn push_shown(
 {
     line.push_str("\",\"nodes\":[")?;
     push_nodes(line, refusal.nodes, buffer)?;
-    push_place(line, refusal.edit, buffer)?;
+    push_edit_place(line, refusal.edit, buffer)?;
     Ok(())
 }
 
 /// Appends the end of the nodes, and the place of the refused edit of a batch.
-fn push_place(line: &mut String, edit: Option<usize>, buffer: &mut Buffer) -> Result<(), AllocError>
+fn push_edit_place(
+    line: &mut String,
+    edit: Option<usize>,
+    buffer: &mut Buffer,
+) -> Result<(), AllocError>
     ensures { OnOk result (string_bytes line.new ≡ string_bytes line.old ++ (codes "]" ++ place_json edit)) }
 {
     let Some(at) = edit else {

@@ -42,7 +42,7 @@ impl KeptDistances {
     }
 
     /// Keeps the distances from now on. Measures them if they were not kept.
-    pub(crate) fn keep(&mut self, net: &Net, dest: u32)
+    pub(crate) fn keep_from_now(&mut self, net: &Net, dest: u32)
         requires node { dest < net.now.nodes }
         requires one_each { length self.old.table.table ≡ net.now.nodes }
         requires old { IsTrue self.old.are_kept → IsMeasureOf net.now self.old.table × (self.old.table.dest ≡ dest) }
@@ -57,7 +57,7 @@ impl KeptDistances {
     }
 
     /// Does the same, if this is asked for.
-    pub(crate) fn keep_if(&mut self, is_asked: bool, net: &Net, dest: u32)
+    pub(crate) fn keep_if_asked(&mut self, is_asked: bool, net: &Net, dest: u32)
         requires node { dest < net.now.nodes }
         requires one_each { length self.old.table.table ≡ net.now.nodes }
         requires old { IsTrue self.old.are_kept → IsMeasureOf net.now self.old.table × (self.old.table.dest ≡ dest) }
@@ -66,7 +66,7 @@ impl KeptDistances {
         ensures one_each { length self.new.table.table ≡ net.now.nodes }
     {
         if is_asked {
-            self.keep(net, dest);
+            self.keep_from_now(net, dest);
         }
     }
 

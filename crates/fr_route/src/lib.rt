@@ -27,8 +27,7 @@ mod hops;
 mod json;
 mod kept_distances;
 pub mod laws;
-mod listed;
-mod movable;
+mod listed_phases;
 mod outcome;
 mod pushing;
 mod questions;
@@ -44,6 +43,7 @@ mod settling;
 mod space;
 mod spare_turns;
 mod texts;
+mod turn_candidates;
 mod version;
 mod way_notes;
 

@@ -56,16 +56,17 @@ pub(crate) fn report_of(net: &Net, dest: u32, turns: &Turns) -> Report
     let turned = turns.total();
     Report {
         turned,
-        cut: alone_nodes(net, dest) + capped_nodes(net.nodes(), turns.counts(), turned),
+        cut: count_isolated_nodes(net, dest)
+            + count_capped_nodes(net.nodes(), turns.counts(), turned),
     }
 }
 
 /// How many nodes other than the destination have no link.
-pub(crate) fn alone_nodes(net: &Net, dest: u32) -> u64
+pub(crate) fn count_isolated_nodes(net: &Net, dest: u32) -> u64
     requires { dest < net.now.nodes }
     ensures { result ≡ lone_count net.now.nodes net.now.links dest }
 {
-    let alone = u64::from(net.alone());
+    let alone = u64::from(net.isolated_count());
     if net.degree(dest) == 0 {
         alone - 1
     } else {
@@ -74,7 +75,7 @@ pub(crate) fn alone_nodes(net: &Net, dest: u32) -> u64
 }
 
 /// How many nodes have turned as often as there are nodes. There is none if there are fewer turns than nodes.
-fn capped_nodes(nodes: u32, counts: &[u64], turned: u64) -> u64
+fn count_capped_nodes(nodes: u32, counts: &[u64], turned: u64) -> u64
     requires one_each { length counts.now ≡ nodes }
     requires turned { turned ≡ sum counts.now }
     ensures { result ≡ count_by (λ count. count == nodes) counts.now }
@@ -88,7 +89,7 @@ fn capped_nodes(nodes: u32, counts: &[u64], turned: u64) -> u64
 
 /// Puts a round in place: turns the links, and updates the hops of the moved nodes and those that turns have made
 /// stale. Lists the nodes whose hop has changed, if the caller asks for them.
-pub(crate) fn put_in_place(
+pub(crate) fn apply_outcome(
     net: &mut Net,
     hops: &mut [Hop],
     outcome: &Outcome,
@@ -136,7 +137,7 @@ pub(crate) fn push_ends(nodes: &mut Vec<u32>, edits: &[Edit]) -> Result<(), Allo
     ensures { OnOk result (nodes.new.items ≡ nodes.old.items ++ ends_of edits.now) }
 {
     for edit in edits {
-        let (u, v) = ends(*edit);
+        let (u, v) = ends_of_edit(*edit);
         nodes.push(u)?;
         nodes.push(v)?;
     }
@@ -164,7 +165,7 @@ pub(crate) fn push_capped_nodes(
 }
 
 /// The ends of the link that an edit removes or adds.
-pub(crate) fn ends(edit: Edit) -> (u32, u32)
+pub(crate) fn ends_of_edit(edit: Edit) -> (u32, u32)
     ensures { ends_of (edit ∷ []) ≡ result.0 ∷ (result.1 ∷ []) }
 {
     match edit {

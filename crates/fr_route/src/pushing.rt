@@ -10,8 +10,8 @@ ghost use Rattle.fr_route.specs.declared.fault.AnswerFault.TheVariants.{Memory};
 ghost use Rattle.fr_tables.specs.Faults.{IsFaultOf};
 
 use crate::fault::AnswerFault;
-use crate::form::{Answer, Draft, Form, accepted};
-use crate::hops::resized;
+use crate::form::{Answer, Draft, Form, accepted_answer};
+use crate::hops::resized_hops;
 use crate::json::pushes_object;
 use crate::refusals::Reason;
 use crate::refusing::refuse;
@@ -36,7 +36,7 @@ pub(crate) fn pushes_between(
     if nodes > MAX_NODES as usize {
         return refuse(draft, Reason::TooMany, &[], None);
     }
-    let hops = resized(alloc, wanted, nodes as u32)?;
+    let hops = resized_hops(alloc, wanted, nodes as u32)?;
     pushes_from(alloc, draft, table, &hops)
 }
 
@@ -57,9 +57,9 @@ pub(crate) fn pushes_from(
     if table.len() > hops.len() {
         return refuse(draft, Reason::NoNode, &[nodes], None);
     }
-    let old = resized(alloc, table, nodes)?;
+    let old = resized_hops(alloc, table, nodes)?;
     match push_order(alloc, &old, hops) {
-        Ok(order) => Ok(accepted(pushes_text(draft, &order, hops)?)),
+        Ok(order) => Ok(accepted_answer(pushes_text(draft, &order, hops)?)),
         Err(fault) => refuse_tables(draft, fault, &old, hops),
     }
 }
@@ -90,7 +90,7 @@ fn refuse_tables(
     match fault {
         TableFault::Range(x) => refuse(draft, Reason::NoNode, &[x], None),
         TableFault::Loop(nodes) => {
-            let nodes = closed(nodes)?;
+            let nodes = closed_loop(nodes)?;
             refuse(draft, Reason::Cycle, &nodes, None)
         }
         TableFault::Length | TableFault::Memory => Err(AnswerFault::Memory),
@@ -98,7 +98,7 @@ fn refuse_tables(
 }
 
 /// A loop with its first node again at its end, as all cycles are named.
-fn closed(mut nodes: Vec<u32>) -> Result<Vec<u32>, AllocError>
+fn closed_loop(mut nodes: Vec<u32>) -> Result<Vec<u32>, AllocError>
     requires { 0 < length nodes.items }
     ensures { IfOk result (λ named. named.items ≡ nodes.items ++ slice_index nodes.items 0 ∷ []) }
 {

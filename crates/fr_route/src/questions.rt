@@ -18,11 +18,11 @@ use crate::json::{
     counts_object, hops_object, links_object, nearest_object, no_nearest_object, no_walk_object,
     node_ways_object, phases_object, walk_object, ways_object,
 };
-use crate::listed::planned;
+use crate::listed_phases::from_plan;
 use crate::router::{ROUTE_ROOM, Router};
 use crate::texts::{
-    begun, counts_in, hops_line, links_in, nearest_line, no_nearest_line, no_walk_line,
-    node_ways_line, phases_line, push_number, ways_line,
+    counts_line_into, hops_line, links_line_into, nearest_line, no_nearest_line, no_walk_line,
+    node_ways_line, phases_line, push_number, start_line, ways_line,
 };
 use fr_requests::{NodeQuestion, Question};
 use fr_tables::Hop;
@@ -31,7 +31,7 @@ use itoa::Buffer;
 use std::alloc::{AllocError, Global};
 
 /// The answer to a question.
-pub(crate) fn question_in(
+pub(crate) fn question_in_form(
     alloc: Global,
     draft: Draft,
     router: &Router,
@@ -45,10 +45,10 @@ pub(crate) fn question_in(
         spare,
     } = draft;
     match (form, question) {
-        (Form::Text, Question::Links) => links_in(spare, router.net().links()),
-        (Form::Text, Question::Counts) => counts_in(spare, router.counts()),
+        (Form::Text, Question::Links) => links_line_into(spare, router.net().links()),
+        (Form::Text, Question::Counts) => counts_line_into(spare, router.counts()),
         (Form::Text, Question::Hops) => hops_line(spare, router.hops()),
-        (_, Question::Ways) => all_ways_in(alloc, form, router, spare),
+        (_, Question::Ways) => all_ways_in_form(alloc, form, router, spare),
         (_, Question::Links) => links_object(spare, router.net().links()),
         (_, Question::Counts) => counts_object(spare, router.counts()),
         (_, Question::Hops) => hops_object(spare, router.hops()),
@@ -56,7 +56,7 @@ pub(crate) fn question_in(
 }
 
 /// The answer to a request for the ways of each node.
-fn all_ways_in(
+fn all_ways_in_form(
     alloc: Global,
     form: Form,
     router: &Router,
@@ -74,7 +74,7 @@ fn all_ways_in(
 }
 
 /// The answer to a request for the pushes from these ways to those of each node.
-pub(crate) fn phases_in(
+pub(crate) fn phases_in_form(
     alloc: Global,
     draft: Draft,
     router: &Router,
@@ -88,12 +88,12 @@ pub(crate) fn phases_in(
     let phases = known_phases(alloc, table, &wanted)?;
     match draft.form {
         Form::Text => phases_line(draft.spare, &phases),
-        _ => phases_object(draft.spare, planned(&phases)),
+        _ => phases_object(draft.spare, from_plan(&phases)),
     }
 }
 
 /// The answer to a request for the route from a node of the network.
-pub(crate) fn walk_in(
+pub(crate) fn walk_in_form(
     alloc: Global,
     draft: Draft,
     router: &Router,
@@ -121,7 +121,7 @@ fn route_line(spare: String, router: &Router, x: u32) -> Result<String, AllocErr
     if router.next_hop(x) == Hop::CutOff {
         return no_walk_line(spare, x);
     }
-    let mut line = begun(spare, "walk", ROUTE_ROOM)?;
+    let mut line = start_line(spare, "walk", ROUTE_ROOM)?;
     let mut buffer = Buffer::new();
     push_number(&mut line, " ", u64::from(x), &mut buffer)?;
     let mut at = x;
@@ -154,7 +154,7 @@ fn route_object(
 }
 
 /// The answer to a question about a node of the network.
-pub(crate) fn node_question_in(
+pub(crate) fn node_question_in_form(
     alloc: Global,
     draft: Draft,
     router: &mut Router,
@@ -170,19 +170,19 @@ pub(crate) fn node_question_in(
         NodeQuestion::Ways => {
             let mut ways = Vec::new(alloc);
             router.ways(x, &mut ways)?;
-            Ok(ways_in(draft, x == router.dest(), &ways)?)
+            Ok(node_ways_in_form(draft, x == router.dest(), &ways)?)
         }
         NodeQuestion::Nearest => {
             let Ok(walked) = router.nearest(alloc, x) else {
                 return Err(AnswerFault::Memory);
             };
-            Ok(nearest_in(draft, x, &walked)?)
+            Ok(nearest_in_form(draft, x, &walked)?)
         }
     }
 }
 
 /// The answer for these ways of a node. `home` says whether it is the destination.
-fn ways_in(draft: Draft, home: bool, ways: &[u32]) -> Result<String, AllocError>
+fn node_ways_in_form(draft: Draft, home: bool, ways: &[u32]) -> Result<String, AllocError>
     ensures { IfOk result (λ text. (s : State) (x : ℕ) → AreNodeWays s x ways.now → home ≡ (x == s.dest)
         → IsTextIn draft.form None (ask_node Ways x) s (string_bytes text)) }
 {
@@ -193,7 +193,7 @@ fn ways_in(draft: Draft, home: bool, ways: &[u32]) -> Result<String, AllocError>
 }
 
 /// The answer for this nearest route from node `x`.
-fn nearest_in(draft: Draft, x: u32, walked: &Walked) -> Result<String, AllocError>
+fn nearest_in_form(draft: Draft, x: u32, walked: &Walked) -> Result<String, AllocError>
     ensures { IfOk result (λ text. (s : State) → IsNearest s x walked.now
         → IsTextIn draft.form None (ask_node Nearest x) s (string_bytes text)) }
 {

@@ -26,13 +26,13 @@ ghost use Rattle.fr_route.specs.declared.form.Form.TheVariants.{JsonWithWays, Te
 use crate::blank::is_blank;
 use crate::changed_nodes::ChangedNodes;
 use crate::fault::{AnswerFault, NotMade, RouteFault};
-use crate::form::{Answer, Draft, Form, Line, accepted};
-use crate::outcome::ends as ends_of;
+use crate::form::{Answer, Draft, Form, Line, accepted_answer};
+use crate::outcome::ends_of_edit as ends_of;
 use crate::pushing::{pushes_between, pushes_from};
-use crate::questions::{node_question_in, phases_in, question_in, walk_in};
+use crate::questions::{node_question_in_form, phases_in_form, question_in_form, walk_in_form};
 use crate::refusals::Reason;
 use crate::refusing::{refuse, refuse_for};
-use crate::reports::{begin_report, new_report, push_report_in};
+use crate::reports::{begin_report, new_report, push_report_in_form};
 use crate::revision::Revision;
 use crate::router::Router;
 use crate::session::Session;
@@ -48,7 +48,7 @@ use std::alloc::Global;
 impl Session {
     /// Puts a router in place once its answer is made, and lists the nodes whose hop has changed if the caller asks for
     /// them.
-    fn put(
+    fn replace_router(
         &mut self,
         alloc: Global,
         draft: Draft,
@@ -66,7 +66,7 @@ impl Session {
         router.state_law();
         let replaced = replaced_nodes(alloc, self.router.as_ref(), &router, told)?;
         let text = new_report(alloc, draft, self.router.as_ref(), &router, &replaced)?;
-        told.put_list(replaced);
+        told.replace_list(replaced);
         self.put_router(router);
         Ok(text)
     }
@@ -82,7 +82,7 @@ impl Session {
         if x >= router.net().nodes() {
             return refuse(draft, Reason::NoNode, &[x], None);
         }
-        Ok(accepted(walk_in(alloc, draft, router, x)?))
+        Ok(accepted_answer(walk_in_form(alloc, draft, router, x)?))
     }
 
     /// The answer to a question.
@@ -98,7 +98,7 @@ impl Session {
         let Some(router) = &self.router else {
             return refuse(draft, Reason::NoNetwork, &[], None);
         };
-        Ok(accepted(question_in(alloc, draft, router, question)?))
+        Ok(accepted_answer(question_in_form(alloc, draft, router, question)?))
     }
 
     /// The answer to a question about one node.
@@ -119,7 +119,7 @@ impl Session {
         if x >= router.net().nodes() {
             return refuse(draft, Reason::NoNode, &[x], None);
         }
-        Ok(accepted(node_question_in(alloc, draft, router, question, x)?))
+        Ok(accepted_answer(node_question_in_form(alloc, draft, router, question, x)?))
     }
 
     /// The answer to a request for the pushes from a table to the wanted one, or to the next hops if none is given.
@@ -176,7 +176,7 @@ impl Session {
         if table.len() > nodes as usize {
             return refuse(draft, Reason::NoNode, &[nodes], None);
         }
-        Ok(accepted(phases_in(alloc, draft, router, table)?))
+        Ok(accepted_answer(phases_in_form(alloc, draft, router, table)?))
     }
 }
 
@@ -210,7 +210,7 @@ fn replaced_nodes(
 }
 
 /// The ends of the edit at a place.
-fn ends_at(edits: &[Edit], at: usize) -> [u32; 2]
+fn ends_of_edit_at(edits: &[Edit], at: usize) -> [u32; 2]
     ensures { IfSome (slice_get edits.now at) (λ edit. result ≡ ends edit) }
 {
     match edits.get(at) {
@@ -277,9 +277,9 @@ impl<'a, F: Fn(&Net, u32, Option<&[u32]>, Turns) -> Result<Turns, CrewFault>> Se
         match form {
             Form::Text => self.reply_line(session, draft, line.bytes, &mut ChangedNodes::Unlisted),
             Form::Json => {
-                let mut told = space.listing(self.alloc);
+                let mut told = space.take_list(self.alloc);
                 let answer = self.reply_line(session, draft, line.bytes, &mut told);
-                space.keep(told);
+                space.put_back(told);
                 answer
             }
             Form::JsonWithWays => self.reply_with_ways(session, draft, line.bytes, space),
@@ -304,9 +304,9 @@ impl<'a, F: Fn(&Net, u32, Option<&[u32]>, Turns) -> Result<Turns, CrewFault>> Se
         if is_blank(line) {
             return Ok(None);
         }
-        let mut told = space.asking(self.alloc)?;
+        let mut told = space.take_with_notes(self.alloc)?;
         let answer = self.reply_line(session, draft, line, &mut told);
-        space.keep(told);
+        space.put_back(told);
         answer
     }
 
@@ -326,11 +326,11 @@ impl<'a, F: Fn(&Net, u32, Option<&[u32]>, Turns) -> Result<Turns, CrewFault>> Se
         if is_blank(line) {
             return Ok(None);
         }
-        Ok(Some(self.reply_read(session, draft, line, told)?))
+        Ok(Some(self.reply_nonblank_line(session, draft, line, told)?))
     }
 
     /// The answer to a line that is not blank.
-    fn reply_read(
+    fn reply_nonblank_line(
         &self,
         session: &mut Session,
         draft: Draft,
@@ -411,7 +411,9 @@ impl<'a, F: Fn(&Net, u32, Option<&[u32]>, Turns) -> Result<Turns, CrewFault>> Se
     {
         let Parts { nodes, dest, links } = parts;
         match self.open_network(nodes, dest, links) {
-            Ok(router) => Ok(accepted(session.put(self.alloc, draft, router, told)?)),
+            Ok(router) => Ok(accepted_answer(session.replace_router(
+                self.alloc, draft, router, told,
+            )?)),
             Err(fault) => refuse_for(draft, fault, &[dest], None),
         }
     }
@@ -450,9 +452,9 @@ impl<'a, F: Fn(&Net, u32, Option<&[u32]>, Turns) -> Result<Turns, CrewFault>> Se
         };
         let dest = router.dest();
         let edits = &[edit];
-        match self.revise(router, &Revision { edits, dest }, &mut draft, told) {
-            Ok(()) => Ok(accepted(draft.spare)),
-            Err(undone) => refuse_for(draft, undone.fault, &ends_at(edits, 0), None),
+        match self.edit_and_report(router, &Revision { edits, dest }, &mut draft, told) {
+            Ok(()) => Ok(accepted_answer(draft.spare)),
+            Err(undone) => refuse_for(draft, undone.fault, &ends_of_edit_at(edits, 0), None),
         }
     }
 
@@ -474,11 +476,11 @@ impl<'a, F: Fn(&Net, u32, Option<&[u32]>, Turns) -> Result<Turns, CrewFault>> Se
             return refuse(draft, Reason::NoNetwork, &[], None);
         };
         let dest = router.dest();
-        match self.revise(router, &Revision { edits, dest }, &mut draft, told) {
-            Ok(()) => Ok(accepted(draft.spare)),
+        match self.edit_and_report(router, &Revision { edits, dest }, &mut draft, told) {
+            Ok(()) => Ok(accepted_answer(draft.spare)),
             Err(undone) => {
                 let at = undone.at;
-                refuse_for(draft, undone.fault, &ends_at(edits, at), Some(at))
+                refuse_for(draft, undone.fault, &ends_of_edit_at(edits, at), Some(at))
             }
         }
     }
@@ -504,15 +506,15 @@ impl<'a, F: Fn(&Net, u32, Option<&[u32]>, Turns) -> Result<Turns, CrewFault>> Se
             return refuse(draft, Reason::NoNode, &[dest], None);
         }
         let edits = &[];
-        match self.revise(router, &Revision { edits, dest }, &mut draft, told) {
-            Ok(()) => Ok(accepted(draft.spare)),
+        match self.edit_and_report(router, &Revision { edits, dest }, &mut draft, told) {
+            Ok(()) => Ok(accepted_answer(draft.spare)),
             Err(undone) => refuse_for(draft, undone.fault, &[], None),
         }
     }
 
     /// Makes these edits, and writes the report of the round as the text of the draft. Room for the report is taken before
     /// anything is changed, but only for edits within the limit.
-    fn revise(
+    fn edit_and_report(
         &self,
         router: &mut Router,
         revision: &Revision<'_>,
@@ -539,7 +541,7 @@ impl<'a, F: Fn(&Net, u32, Option<&[u32]>, Turns) -> Result<Turns, CrewFault>> Se
         let report = self.edit(router, revision, told)?;
         router.state_law();
         // There is room, so this does not fail.
-        push_report_in(&mut draft.spare, draft.form, report, told, router.hops())?;
+        push_report_in_form(&mut draft.spare, draft.form, report, told, router.hops())?;
         Ok(())
     }
 }

@@ -14,7 +14,7 @@ use crate::change::Report;
 use crate::changed_nodes::ChangedNodes;
 use crate::form::{Draft, Form};
 use crate::json::{push_report_object, push_report_with_ways};
-use crate::listed::{noted, planned};
+use crate::listed_phases::{from_changes, from_plan};
 use crate::router::Router;
 use crate::texts::push_report;
 use fr_tables::Hop;
@@ -33,11 +33,11 @@ pub(crate) fn begin_report(
     ensures room { OnOk result (report_room form nodes links ≤ string_capacity line.new) }
 {
     line.clear();
-    line.reserve(room_of(form, nodes, links))
+    line.reserve(bytes_for_report(form, nodes, links))
 }
 
 /// The bytes of the longest such report.
-fn room_of(form: Form, nodes: u32, links: usize) -> usize
+fn bytes_for_report(form: Form, nodes: u32, links: usize) -> usize
     requires { links < 2 ^ 32 }
     ensures { result ≡ report_room form nodes links }
 {
@@ -49,7 +49,7 @@ fn room_of(form: Form, nodes: u32, links: usize) -> usize
 }
 
 /// Appends the report of a round, with what a change told of it, and all hops after it.
-pub(crate) fn push_report_in(
+pub(crate) fn push_report_in_form(
     line: &mut String,
     form: Form,
     report: Report,
@@ -66,7 +66,7 @@ pub(crate) fn push_report_in(
         Form::Text => push_report(line, report),
         Form::Json => push_report_object(line, report, told.nodes(), hops),
         Form::JsonWithWays => {
-            let phases = noted(told.way_changes());
+            let phases = from_changes(told.way_changes());
             push_report_with_ways(line, report, told.nodes(), hops, phases)
         }
     }
@@ -127,5 +127,5 @@ fn push_new_report(
     router.state_law();
     let phases = router.phases_since(alloc, before)?;
     let report = router.report();
-    push_report_with_ways(line, report, replaced, router.hops(), planned(&phases))
+    push_report_with_ways(line, report, replaced, router.hops(), from_plan(&phases))
 }

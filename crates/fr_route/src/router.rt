@@ -23,17 +23,17 @@ ghost use Rattle.fr_route.specs.Outcomes.{IsSettledTable, cut_off_nodes, movable
 
 use crate::change::{Change, Report};
 use crate::changed_nodes::ChangedNodes;
-use crate::fault::{NotMade, RouteFault, placeless};
-use crate::hops::{AfterRound, Walked, hop_table, resized};
+use crate::fault::{NotMade, RouteFault, without_edit_place};
+use crate::hops::{AfterRound, Walked, hop_table, resized_hops};
 use crate::kept_distances::{KeptDistances, table_of_ways};
-use crate::movable::Movable;
 use crate::outcome::{
-    alone_nodes, ends, push_capped_nodes, put_in_place, report_of, touched_nodes,
+    apply_outcome, count_isolated_nodes, ends_of_edit, push_capped_nodes, report_of, touched_nodes,
 };
 use crate::reroutes::Reroutes;
 use crate::revision::Revision;
-use crate::settling::{Settler, counts_alone};
+use crate::settling::{Settler, counts_without_crew};
 use crate::spare_turns::SpareTurns;
+use crate::turn_candidates::TurnCandidates;
 use fr_crew::{Crew, CrewFault, Gate, Plan, settled_counts};
 use fr_graph::{Edit, MAX_EDITS, Net, NetFault, Turns};
 use fr_nearest::Distances;
@@ -100,7 +100,7 @@ impl Model for Router {
 fn keep_turns(last: &mut Turns, spare: &mut SpareTurns, turns: Turns)
     ensures { last.new ≡ turns }
 {
-    spare.keep(mem::replace(last, turns));
+    spare.store_cleared(mem::replace(last, turns));
 }
 
 /// What a router keeps to forward packets, beside its network: the next hops, and room for what changes need.
@@ -219,10 +219,10 @@ impl<'a, F: Fn(&Net, u32, Option<&[u32]>, Turns) -> Result<Turns, CrewFault>> Se
         ensures { IsTried (NeverStarts F.post self.now.settle.now) (revision_of router.old revision.now)
             router.old told.old result router.new told.new }
     {
-        let movable = router.movable(self.alloc, revision)?;
+        let movable = router.turn_candidates(self.alloc, revision)?;
         told.make_room(router.net.nodes())?;
         let distances = &mut router.distances;
-        distances.keep_if(told.asks_ways(), &router.net, router.dest);
+        distances.keep_if_asked(told.wants_ways(), &router.net, router.dest);
         told.begin_ways(&router.net, &distances.table, revision.edits)?;
         let from = movable.nodes();
         let dest = revision.dest;
@@ -242,7 +242,7 @@ impl<'a, F: Fn(&Net, u32, Option<&[u32]>, Turns) -> Result<Turns, CrewFault>> Se
                 self.outcome(net, dest, from, turns)
             },
         )?;
-        put_in_place(&mut router.net, &mut router.hops, &outcome, from, told);
+        apply_outcome(&mut router.net, &mut router.hops, &outcome, from, told);
         let distances = &mut router.distances;
         distances.renew(&router.net, &outcome, revision.edits);
         told.put_in_order(&mut router.room, &router.hops);
@@ -304,7 +304,7 @@ impl Router {
         ensures fault { IfErr result (IsOpenFault net.nodes dest) }
         ensures no_start { IfErr result (λ fault. fault ≢ Start) }
     {
-        Settler::new(alloc, &counts_alone).open(net, dest)
+        Settler::new(alloc, &counts_without_crew).open(net, dest)
     }
 
     /// The router of a network with these settled counts.
@@ -380,7 +380,7 @@ impl Router {
             plan,
             gate,
         };
-        placeless(Settler::new(
+        without_edit_place(Settler::new(
             alloc,
             &|net, dest, from, turns|
                 requires { CanBegin net.now dest from turns }
@@ -398,7 +398,7 @@ impl Router {
         ensures unchanged { OnErr result (self.new ≡ self.old) }
         ensures no_start { IfErr result (λ fault. fault ≢ Start) }
     {
-        placeless(Settler::new(alloc, &counts_alone).change(
+        without_edit_place(Settler::new(alloc, &counts_without_crew).change(
             self,
             &change,
             &mut ChangedNodes::Unlisted,
@@ -427,8 +427,8 @@ impl Router {
         ensures unchanged { OnErr result (self.new ≡ self.old) }
         ensures no_start { IfErr result (λ undone. undone.fault ≢ Start) }
     {
-        let mut told = ChangedNodes::taken(rerouted, alloc);
-        let report = Settler::new(alloc, &counts_alone).change(self, &change, &mut told);
+        let mut told = ChangedNodes::from_list(rerouted, alloc);
+        let report = Settler::new(alloc, &counts_without_crew).change(self, &change, &mut told);
         *rerouted = told.into_list(alloc);
         report
     }
@@ -455,14 +455,18 @@ impl Router {
         ensures unchanged { OnErr result (self.new ≡ self.old) }
         ensures no_start { IfErr result (λ undone. undone.fault ≢ Start) }
     {
-        Settler::new(alloc, &counts_alone).change(self, &change, &mut reroutes.told)
+        Settler::new(alloc, &counts_without_crew).change(self, &change, &mut reroutes.told)
     }
 
     /// The nodes that can be sinks after these edits and the move of the destination, and whose hops can be wrong even
     /// if no node turns: those that the edits and the new destination touch, and those with links that the last round
     /// cut off. Every other node with a link still has a link that points away from it. Too many edits are refused
     /// before anything is allocated.
-    fn movable(&self, alloc: Global, revision: &Revision<'_>) -> Result<Movable, NotMade>
+    fn turn_candidates(
+        &self,
+        alloc: Global,
+        revision: &Revision<'_>,
+    ) -> Result<TurnCandidates, NotMade>
         ensures movable { IfOk result
             (λ them. nodes_listed them ≡ movable self.now revision.now.dest revision.now.edits.now) }
         ensures few { OnOk result (length revision.now.edits.now ≤ most_edits) }
@@ -477,15 +481,15 @@ impl Router {
         }
         let cut_off = self.linked_cut_off();
         if cut_off == 0 && revision.edits.len() == 1 {
-            let (u, v) = ends(revision.edits[0]);
-            return Ok(Movable::Few([self.dest, revision.dest, u, v]));
+            let (u, v) = ends_of_edit(revision.edits[0]);
+            return Ok(TurnCandidates::Few([self.dest, revision.dest, u, v]));
         }
         let mut nodes = touched_nodes(alloc, self.dest, revision.dest, revision.edits)?;
         if cut_off > 0 {
             nodes.reserve(cut_off as usize)?;
             push_capped_nodes(&mut nodes, self.net.nodes(), self.turns.counts())?;
         }
-        Ok(Movable::Many(nodes))
+        Ok(TurnCandidates::Many(nodes))
     }
 
     /// How many nodes with links the last round cut off. Each such node has turned as often as there are nodes.
@@ -493,7 +497,7 @@ impl Router {
         ensures { result ≡ length (cut_off_nodes self.now) }
     {
         self.net.network_law();
-        self.report.cut - alone_nodes(&self.net, self.dest)
+        self.report.cut - count_isolated_nodes(&self.net, self.dest)
     }
 
     /// The report of the last round: how many turns it took, and how many nodes are cut off. O(1).
@@ -557,7 +561,7 @@ impl Router {
         ensures changed { IfOk result (λ nodes. AreReplaced (option_copied before.entry) self.now nodes.items) }
         ensures memory { IfErr result (λ fault. fault ≡ Memory) }
     {
-        let count = self.numbers_with(before);
+        let count = self.larger_node_count(before);
         let old = hops_before(alloc, before, count)?;
         let new = self.hops_below(alloc, count)?;
         Ok(known_push_order(alloc, &old, &new)?)
@@ -574,12 +578,12 @@ impl Router {
     {
         self.net.network_law();
         let old = ways_before(alloc, before)?;
-        let new = self.ways_below(alloc, self.numbers_with(before))?;
+        let new = self.ways_below(alloc, self.larger_node_count(before))?;
         known_phases(alloc, &old, &new)
     }
 
     /// How many numbers are nodes of this router or of the one that it replaces.
-    fn numbers_with(&self, before: Option<&Router>) -> u32
+    fn larger_node_count(&self, before: Option<&Router>) -> u32
         ensures { result ≡ max self.now.nodes (nodes_in (option_copied before.entry)) }
     {
         let nodes = self.net.nodes();
@@ -608,7 +612,7 @@ impl Router {
         requires { self.now.nodes ≤ count }
         ensures { IfOk result (λ hops. IsSettledTable self.now count hops.items) }
     {
-        resized(alloc, &self.hops, count)
+        resized_hops(alloc, &self.hops, count)
     }
 
     /// Lists the nodes whose hop in `table` differs from the hop here, in push order: each one comes after those of
@@ -668,7 +672,7 @@ impl Router {
         ensures ways { OnOk result (AreNodeWays self.old x list.new.items) }
         ensures empty { OnErr result (list.new.items ≡ []) }
     {
-        self.distances.keep(&self.net, self.dest);
+        self.distances.keep_from_now(&self.net, self.dest);
         self.distances.table.ways(&self.net, x, list)
     }
 
@@ -686,7 +690,7 @@ impl Router {
         ensures few { result ≤ length space.new }
         ensures length { length space.new ≡ length space.old }
     {
-        self.distances.keep(&self.net, self.dest);
+        self.distances.keep_from_now(&self.net, self.dest);
         self.distances.table.ways_in(&self.net, x, space)
     }
 
@@ -697,7 +701,7 @@ impl Router {
         ensures same { self.new ≡ self.old }
         ensures distance { HasDistance self.old x result }
     {
-        self.distances.keep(&self.net, self.dest);
+        self.distances.keep_from_now(&self.net, self.dest);
         self.distances.table.distance(x)
     }
 
@@ -743,7 +747,7 @@ impl Router {
         ensures walked { IfOk result (IsNearest self.old x) }
         ensures memory { IfErr result (λ fault. fault ≡ Memory) }
     {
-        self.distances.keep(&self.net, self.dest);
+        self.distances.keep_from_now(&self.net, self.dest);
         match self.distances.table.walk(alloc, &self.net, x)? {
             Some(route) => Ok(Walked::Route(route)),
             None => Ok(Walked::CutOff),

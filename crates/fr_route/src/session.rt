@@ -19,7 +19,7 @@ use crate::changed_nodes::ChangedNodes;
 use crate::fault::AnswerFault;
 use crate::form::{Answer, Draft, Form, Line};
 use crate::router::Router;
-use crate::settling::{Settler, counts_alone};
+use crate::settling::{Settler, counts_without_crew};
 use crate::space::AnswerSpace;
 use fr_crew::{Crew, Gate, Plan, settled_counts};
 use fr_graph::Net;
@@ -147,7 +147,11 @@ impl Session {
             (λ answer. IfSome answer (λ text. (self.new ≡ self.old) ⊎ (length (string_bytes text) ≤ longest_report))) }
         ensures no_start { IfErr result (λ fault. fault ≢ Start) }
     {
-        Settler::new(alloc, &counts_alone).text_for_line(self, line, &mut ChangedNodes::Unlisted)
+        Settler::new(alloc, &counts_without_crew).text_for_line(
+            self,
+            line,
+            &mut ChangedNodes::Unlisted,
+        )
     }
 
     /// Does the same, and lists the nodes that the line reroutes in the caller's list, in push order: after a change as
@@ -171,8 +175,8 @@ impl Session {
             ⊎ (length (string_bytes text) ≤ longest_report))) }
         ensures no_start { IfErr result (λ fault. fault ≢ Start) }
     {
-        let mut told = ChangedNodes::taken(rerouted, alloc);
-        let answer = Settler::new(alloc, &counts_alone).text_for_line(self, line, &mut told);
+        let mut told = ChangedNodes::from_list(rerouted, alloc);
+        let answer = Settler::new(alloc, &counts_without_crew).text_for_line(self, line, &mut told);
         *rerouted = told.into_list(alloc);
         answer
     }
@@ -217,7 +221,7 @@ impl Session {
         ensures short { IfOk result (λ text. (self.new ≡ self.old) ⊎ (length (string_bytes text) ≤ longest_report)) }
         ensures no_start { IfErr result (λ fault. fault ≢ Start) }
     {
-        Settler::new(alloc, &counts_alone).text_for_request(
+        Settler::new(alloc, &counts_without_crew).text_for_request(
             self,
             request,
             &mut ChangedNodes::Unlisted,
@@ -241,8 +245,10 @@ impl Session {
             ⊎ (length (string_bytes text) ≤ longest_report)) }
         ensures no_start { IfErr result (λ fault. fault ≢ Start) }
     {
-        let mut told = ChangedNodes::taken(rerouted, alloc);
-        let answer = Settler::new(alloc, &counts_alone).text_for_request(self, request, &mut told);
+        let mut told = ChangedNodes::from_list(rerouted, alloc);
+        let answer = Settler::new(alloc, &counts_without_crew).text_for_request(
+            self, request, &mut told,
+        );
         *rerouted = told.into_list(alloc);
         answer
     }
@@ -304,7 +310,7 @@ impl Session {
         ensures unchanged { OnErr result ((is_blank_line line.entry.bytes.now ≡ false) × (self.new ≡ self.old)) }
         ensures no_start { IfErr result (λ fault. fault ≢ Start) }
     {
-        Settler::new(alloc, &counts_alone).reply_line_in(self, form, line, space)
+        Settler::new(alloc, &counts_without_crew).reply_line_in(self, form, line, space)
     }
 
     /// Answers a question, as [`Session::answer`] does. This changes nothing. Fails only with `Memory`. O(b) for b

@@ -14,7 +14,7 @@ use fr_graph::{Net, Turns};
 use std::alloc::Global;
 
 /// Settles networks by a crew, or on the calling thread: a closure over [`settled_counts`](fr_crew::settled_counts), or
-/// [`counts_alone`], with an allocator. Everything that is the same in both ways is a method of this type.
+/// [`counts_without_crew`], with an allocator. Everything that is the same in both ways is a method of this type.
 #[derive(Drop)]
 pub(crate) struct Settler<'a, F> {
     pub(crate) alloc: Global,
@@ -23,7 +23,7 @@ pub(crate) struct Settler<'a, F> {
 
 /// The settled counts of a network, on the calling thread, for a [`Settler`]. It is a function of this crate because a
 /// function of another crate has no proof as a value, and because a closure is proved again at each place.
-pub(crate) fn counts_alone(
+pub(crate) fn counts_without_crew(
     net: &Net,
     dest: u32,
     from: Option<&[u32]>,

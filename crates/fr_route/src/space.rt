@@ -51,15 +51,15 @@ impl AnswerSpace {
         mem::replace(&mut self.text, String::new(alloc))
     }
 
-    /// Takes the list. It comes back by `keep`.
-    pub(crate) fn listing(&mut self, alloc: Global) -> ChangedNodes
+    /// Takes the list. It comes back by `put_back`.
+    pub(crate) fn take_list(&mut self, alloc: Global) -> ChangedNodes
         ensures { IsListing result }
     {
         ChangedNodes::InList(mem::replace(&mut self.list, Vec::new(alloc)), None)
     }
 
-    /// Takes the list and the notes, and makes the notes if there are none yet. They come back by `keep`.
-    pub(crate) fn asking(&mut self, alloc: Global) -> Result<ChangedNodes, AllocError>
+    /// Takes the list and the notes, and makes the notes if there are none yet. They come back by `put_back`.
+    pub(crate) fn take_with_notes(&mut self, alloc: Global) -> Result<ChangedNodes, AllocError>
         ensures { IfOk result AsksWays }
     {
         let notes = match mem::replace(&mut self.notes, None) {
@@ -71,7 +71,7 @@ impl AnswerSpace {
     }
 
     /// Keeps what was taken for the next line.
-    pub(crate) fn keep(&mut self, told: ChangedNodes) {
+    pub(crate) fn put_back(&mut self, told: ChangedNodes) {
         if let ChangedNodes::InList(list, notes) = told {
             self.list = list;
             if notes.is_some() {

@@ -33,7 +33,7 @@ impl SpareTurns {
     }
 
     /// Clears a table and keeps it.
-    pub fn keep(&mut self, mut turns: Turns) {
+    pub fn store_cleared(&mut self, mut turns: Turns) {
         turns.clear();
         self.table = Some(turns);
     }

@@ -28,7 +28,7 @@ const _: () = prove!(MAX_NODES < 10_000);
 /// A line that begins with this word, with room for so many numbers and a line end after it, in the memory of this one. It
 /// is inlined, so that a word is copied as a constant.
 #[inline(always)]
-pub(crate) fn begun(mut line: String, word: &str, numbers: usize) -> Result<String, AllocError>
+pub(crate) fn start_line(mut line: String, word: &str, numbers: usize) -> Result<String, AllocError>
     ensures { IfOk result (λ line. string_bytes line ≡ word.now) }
 {
     let room = numbers.saturating_mul(NUMBER_ROOM).saturating_add(8);
@@ -71,14 +71,14 @@ fn push_digits(line: &mut String, number: u64, buffer: &mut Buffer) -> Result<()
 pub fn links_line(alloc: Global, links: Links<'_>) -> Result<String, AllocError>
     ensures { IfOk result (λ line. string_bytes line ≡ links_text links.entry) }
 {
-    links_in(String::new(alloc), links)
+    links_line_into(String::new(alloc), links)
 }
 
 /// The same, in the memory of this string.
-pub(crate) fn links_in(spare: String, links: Links<'_>) -> Result<String, AllocError>
+pub(crate) fn links_line_into(spare: String, links: Links<'_>) -> Result<String, AllocError>
     ensures { IfOk result (λ line. string_bytes line ≡ links_text links.entry) }
 {
-    let mut line = begun(spare, "links", links.len().saturating_mul(2))?;
+    let mut line = start_line(spare, "links", links.len().saturating_mul(2))?;
     push_links(&mut line, links)?;
     Ok(line)
 }
@@ -100,14 +100,14 @@ fn push_links(line: &mut String, links: Links<'_>) -> Result<(), AllocError>
 pub fn counts_line(alloc: Global, counts: &[u64]) -> Result<String, AllocError>
     ensures { IfOk result (λ line. string_bytes line ≡ counts_text counts.now) }
 {
-    counts_in(String::new(alloc), counts)
+    counts_line_into(String::new(alloc), counts)
 }
 
 /// The same, in the memory of this string.
-pub(crate) fn counts_in(spare: String, counts: &[u64]) -> Result<String, AllocError>
+pub(crate) fn counts_line_into(spare: String, counts: &[u64]) -> Result<String, AllocError>
     ensures { IfOk result (λ line. string_bytes line ≡ counts_text counts.now) }
 {
-    let mut line = begun(spare, "counts", counts.len())?;
+    let mut line = start_line(spare, "counts", counts.len())?;
     let mut buffer = Buffer::new();
     for count in counts {
         push_number(&mut line, " ", *count, &mut buffer)?;
@@ -130,7 +130,7 @@ fn push_hop(line: &mut String, hop: Hop, buffer: &mut Buffer) -> Result<(), Allo
 pub(crate) fn hops_line(spare: String, hops: &[Hop]) -> Result<String, AllocError>
     ensures { IfOk result (λ line. string_bytes line ≡ hops_text hops.now) }
 {
-    let mut line = begun(spare, "hops", hops.len())?;
+    let mut line = start_line(spare, "hops", hops.len())?;
     let mut buffer = Buffer::new();
     for hop in hops {
         push_hop(&mut line, *hop, &mut buffer)?;
@@ -153,7 +153,7 @@ fn push_new_hop(line: &mut String, hop: Hop, buffer: &mut Buffer) -> Result<(), 
 pub(crate) fn pushes_line(spare: String, nodes: &[u32], hops: &[Hop]) -> Result<String, AllocError>
     ensures { IfOk result (λ line. string_bytes line ≡ pushes_text (changes_of hops.now nodes.now)) }
 {
-    let mut line = begun(spare, "pushes", nodes.len().saturating_mul(2))?;
+    let mut line = start_line(spare, "pushes", nodes.len().saturating_mul(2))?;
     let mut buffer = Buffer::new();
     for node in nodes {
         push_number(&mut line, " ", u64::from(*node), &mut buffer)?;
@@ -166,7 +166,7 @@ pub(crate) fn pushes_line(spare: String, nodes: &[u32], hops: &[Hop]) -> Result<
 pub(crate) fn no_walk_line(spare: String, node: u32) -> Result<String, AllocError>
     ensures { IfOk result (λ line. string_bytes line ≡ no_walk_text node) }
 {
-    let mut line = begun(spare, "walk", 1)?;
+    let mut line = start_line(spare, "walk", 1)?;
     push_number(&mut line, " ", u64::from(node), &mut Buffer::new())?;
     line.push_str(" cut")?;
     Ok(line)
@@ -209,7 +209,7 @@ pub(crate) fn ways_line(spare: String, dest: u32, table: &WayTable) -> Result<St
     requires { length table.now < 2 ^ 32 }
     ensures { IfOk result (λ line. string_bytes line ≡ ways_text dest table.now) }
 {
-    let mut line = begun(spare, "ways", table.list().len())?;
+    let mut line = start_line(spare, "ways", table.list().len())?;
     push_table(&mut line, dest, table)?;
     Ok(line)
 }
@@ -219,7 +219,7 @@ pub(crate) fn ways_line(spare: String, dest: u32, table: &WayTable) -> Result<St
 pub(crate) fn node_ways_line(spare: String, home: bool, ways: &[u32]) -> Result<String, AllocError>
     ensures { IfOk result (λ line. string_bytes line ≡ node_ways_text home ways.now) }
 {
-    let mut line = begun(spare, "ways ", ways.len())?;
+    let mut line = start_line(spare, "ways ", ways.len())?;
     push_ways(&mut line, home, ways, &mut Buffer::new())?;
     Ok(line)
 }
@@ -254,7 +254,7 @@ pub(crate) fn phases_line(spare: String, phases: &TwoPhases) -> Result<String, A
     ensures { IfOk result (λ line. string_bytes line
         ≡ phases_text (pairs phases.now.shrink) (pairs phases.now.grow)) }
 {
-    let mut line = begun(spare, "pushes shrink", 0)?;
+    let mut line = start_line(spare, "pushes shrink", 0)?;
     let mut buffer = Buffer::new();
     push_lists(&mut line, &phases.shrink, &mut buffer)?;
     line.push_str(" grow")?;
@@ -267,7 +267,7 @@ pub(crate) fn phases_line(spare: String, phases: &TwoPhases) -> Result<String, A
 pub(crate) fn nearest_line(spare: String, nodes: &[u32]) -> Result<String, AllocError>
     ensures { IfOk result (λ line. string_bytes line ≡ nearest_text nodes.now) }
 {
-    let mut line = begun(spare, "nearest", nodes.len())?;
+    let mut line = start_line(spare, "nearest", nodes.len())?;
     let mut buffer = Buffer::new();
     for node in nodes {
         push_number(&mut line, " ", u64::from(*node), &mut buffer)?;
@@ -280,7 +280,7 @@ pub(crate) fn nearest_line(spare: String, nodes: &[u32]) -> Result<String, Alloc
 pub(crate) fn no_nearest_line(spare: String, node: u32) -> Result<String, AllocError>
     ensures { IfOk result (λ line. string_bytes line ≡ no_nearest_text node) }
 {
-    let mut line = begun(spare, "nearest", 1)?;
+    let mut line = start_line(spare, "nearest", 1)?;
     push_number(&mut line, " ", u64::from(node), &mut Buffer::new())?;
     line.push_str(" cut")?;
     Ok(line)
@@ -302,5 +302,5 @@ pub(crate) fn push_report(line: &mut String, report: Report) -> Result<(), Alloc
 pub(crate) fn refusal_line(spare: String, refusal: Reason) -> Result<String, AllocError>
     ensures { IfOk result (λ line. string_bytes line ≡ refusal_text (number_of refusal)) }
 {
-    begun(spare, refusal.answer(), 1)
+    start_line(spare, refusal.answer(), 1)
 }

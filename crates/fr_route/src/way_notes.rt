@@ -88,7 +88,7 @@ fn list_ways(
 }
 
 /// Makes a list as long as there are nodes, or leaves it if it is longer.
-fn lengthen(list: &mut Vec<u32>, nodes: usize) -> Result<(), AllocError>
+fn lengthen_list(list: &mut Vec<u32>, nodes: usize) -> Result<(), AllocError>
     ensures { OnOk result (nodes ≤ length list.new.items) }
 {
     if list.len() < nodes {
@@ -115,7 +115,7 @@ impl WayNotes {
     /// Takes the memory for a change of this network by these edits, and lists the ways of their ends before it. It is not
     /// inlined, so that changes that nobody asks the ways of do not pay for its local variables.
     #[inline(never)]
-    pub(crate) fn begin(
+    pub(crate) fn note_ways_before(
         &mut self,
         net: &Net,
         distances: &Distances,
@@ -128,8 +128,8 @@ impl WayNotes {
     {
         net.network_law();
         let nodes = net.nodes() as usize;
-        lengthen(&mut self.before, nodes)?;
-        lengthen(&mut self.after, nodes)?;
+        lengthen_list(&mut self.before, nodes)?;
+        lengthen_list(&mut self.after, nodes)?;
         self.affected.make_room(nodes)?;
         self.changes
             .make_room(nodes, net.link_count() + edits.len())?;
@@ -163,14 +163,14 @@ impl WayNotes {
         let mut read = 0;
         while read < self.affected.nodes().len() {
             let x = self.affected.nodes()[read];
-            self.note_one(net, turns.counts(), distances, x);
+            self.note_node(net, turns.counts(), distances, x);
             read += 1;
         }
         self.changes.finish();
     }
 
     /// Notes what has to be pushed to node `x`, which has a higher number than those before.
-    fn note_one(&mut self, net: &Net, counts: &[u64], distances: &Distances, x: u32)
+    fn note_node(&mut self, net: &Net, counts: &[u64], distances: &Distances, x: u32)
         requires { (s : State) × (edits : List Edit) × (before : List (List ℕ)) × (after : List (List ℕ))
             × IsNext s (state_with net.now distances.now.dest counts.now) edits distances.now before after x self.old }
         ensures noted { (s : State) (edits : List Edit) (before after : List (List ℕ))

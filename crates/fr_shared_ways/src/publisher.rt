@@ -13,9 +13,9 @@ use crate::first::FirstWays;
 use crate::opening::Words;
 use crate::past::Past;
 use crate::reader::Reader;
-use crate::rule::{AddReader, Compare, Meet, Recall, Write};
+use crate::rule::{AddReader, Compare, Meet, Reload, Write};
 use crate::view::View;
-use crate::words::{MOST, kept_by_loser, ways_in, word};
+use crate::words::{MOST, kept_ways_of_loser, ways_in, word};
 use atomic_table::Seat;
 use std::alloc::AllocError;
 use std::marker::Model;
@@ -148,7 +148,7 @@ impl Publisher {
     {
         self.history_law();
         let mut list = [0; MOST];
-        let Some(count) = kept_by_loser(self.word(x), new.word(x), &mut list) else {
+        let Some(count) = kept_ways_of_loser(self.word(x), new.word(x), &mut list) else {
             return;
         };
         if (count == 0) == emptied {
@@ -214,7 +214,7 @@ impl Publisher {
         ensures held { ways_of result ≡ ways (last_table self.old) x }
     {
         self.history_law();
-        self.table.shared.load::<Recall>(&mut self.seat, x as usize)
+        self.table.shared.load::<Reload>(&mut self.seat, x as usize)
     }
 
     /// Pushes the ways of one node. With them the table must have no cycle.
@@ -259,7 +259,7 @@ impl Publisher {
         ensures kept { self.new ≡ self.old }
         ensures reader_kept { reader.new ≡ reader.old }
     {
-        let seat = reader.twin();
+        let seat = reader.copy_seat();
         self.table.shared.join_seat::<Meet>(&mut self.seat, seat);
         self.table.shared.load::<Compare>(&mut self.seat, 0);
     }

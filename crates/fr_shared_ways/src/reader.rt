@@ -9,7 +9,7 @@ ghost use Rattle.fr_shared_ways.specs.Inside.{IsSoundPlace};
 
 use crate::opening::Words;
 use crate::past::Past;
-use crate::rule::{AddReader, CatchUp, Look, Meet};
+use crate::rule::{AddReader, CatchUp, Load, Meet};
 use crate::view::View;
 use crate::words::{MOST, count_in, way_in, ways_in};
 use atomic_table::Seat;
@@ -103,7 +103,7 @@ impl Reader {
         requires { x < self.old.nodes }
         ensures { HasRead self.old self.new x (ways_of result) }
     {
-        self.table.shared.load::<Look>(&mut self.seat, x as usize)
+        self.table.shared.load::<Load>(&mut self.seat, x as usize)
     }
 
     /// What the reader knows, to hand to another reader's thread.
@@ -113,7 +113,7 @@ impl Reader {
         ensures kept { self.new ≡ self.old }
         ensures past { result ≡ past_of self.old }
     {
-        Past::new(self.twin())
+        Past::new(self.copy_seat())
     }
 
     /// Learns what the publisher, or another reader, knew. From then on the reader never answers from an earlier table.
@@ -133,7 +133,7 @@ impl Reader {
     }
 
     /// A seat that knows what this reader knows.
-    pub(crate) fn twin(&mut self) -> Seat<(), View>
+    pub(crate) fn copy_seat(&mut self) -> Seat<(), View>
         ensures kept { self.new ≡ self.old }
         ensures table { (result.table_id ≡ self.old.table) × (result.me.1 ≡ []) }
         ensures known { result.me.0.known ≡ self.old.known }

@@ -16,9 +16,9 @@ impl TableRule<(), View, u32> for Rule {
 }
 
 /// A reader's load.
-pub struct Look;
+pub struct Load;
 
-impl Play<(), View> for Look {
+impl Play<(), View> for Load {
     ghost use Rattle.fr_shared_ways.specs.Steps.{looked};
 
     ghost then = { looked };
@@ -34,9 +34,9 @@ impl Play<(), View> for Write {
 }
 
 /// The publisher's load.
-pub struct Recall;
+pub struct Reload;
 
-impl Play<(), View> for Recall {
+impl Play<(), View> for Reload {
     ghost use Rattle.fr_shared_ways.specs.Steps.{recalled};
 
     ghost then = { recalled };

@@ -55,14 +55,14 @@ pub(crate) fn ways_in(word: u64, list: &mut [u32; MOST]) -> usize
 }
 
 /// Whether one of the old ways is none of the new ones.
-fn loses(old: &[u32], new: &[u32]) -> bool
+fn loses_way(old: &[u32], new: &[u32]) -> bool
     ensures { result ≡ list_any (λ y. not (is_way new.now y)) old.now }
 {
     old.iter().any(|y| !new.contains(y))
 }
 
 /// Writes those of the new ways that are old ones too to the front of a list, and returns how many they are.
-fn keep(old: &[u32], new: &[u32], list: &mut [u32; MOST]) -> usize
+fn copy_kept_ways(old: &[u32], new: &[u32], list: &mut [u32; MOST]) -> usize
     requires { length new.now ≤ 5 }
     ensures few { result ≤ 5 }
     ensures kept { take result list.new ≡ filter (is_way old.now) new.now }
@@ -79,7 +79,7 @@ fn keep(old: &[u32], new: &[u32], list: &mut [u32; MOST]) -> usize
 
 /// If a node that has the ways of one word loses a way when it gets those of another: writes the ways that it keeps to
 /// the front of a list, and returns how many they are. `None` if it loses no way.
-pub(crate) fn kept_by_loser(old: u64, new: u64, list: &mut [u32; MOST]) -> Option<usize>
+pub(crate) fn kept_ways_of_loser(old: u64, new: u64, list: &mut [u32; MOST]) -> Option<usize>
     requires old { length (ways_of old) ≤ 5 }
     requires new { length (ways_of new) ≤ 5 }
     ensures none { IfNone result (list_any (λ y. not (is_way (ways_of new) y)) (ways_of old) ≡ false) }
@@ -91,8 +91,8 @@ pub(crate) fn kept_by_loser(old: u64, new: u64, list: &mut [u32; MOST]) -> Optio
     let mut after = [0; MOST];
     let before_count = ways_in(old, &mut before);
     let after_count = ways_in(new, &mut after);
-    if !loses(&before[..before_count], &after[..after_count]) {
+    if !loses_way(&before[..before_count], &after[..after_count]) {
         return None;
     }
-    Some(keep(&before[..before_count], &after[..after_count], list))
+    Some(copy_kept_ways(&before[..before_count], &after[..after_count], list))
 }

@@ -8,7 +8,7 @@ use Rattle.fr_ways.specs.Held.{Held, all_ways, paired}
 use Rattle.fr_ways.specs.HeldInside.{IsHeld, held_in}
 use Rattle.fr_ways.specs.Rows.{AreRows, rows_of}
 use Rattle.fr_ways.specs.Phases.{is_empty}
-use Rattle.fr_ways.specs.declared.reserved.Rows.TheInside.{Inside}
+use Rattle.fr_ways.specs.declared.reserved_rows.Rows.TheInside.{Inside}
 use Rattle.fr_ways.proofs.Rows.{concat_rows, length_rows, row_pushed, still_rows}
 
 firsts : (xs : List ℕ) (rows : List (List ℕ)) → length xs ≡ length rows

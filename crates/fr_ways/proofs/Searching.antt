@@ -19,9 +19,9 @@ use Rattle.fr_ways.specs.Searches.{AreRead, HasReadOn, IsBack, IsDone, IsGrounde
 use Rattle.fr_ways.specs.Searches.{mark_of}
 use Rattle.fr_ways.specs.Searches.IsGrounded.{grounded}
 use Rattle.fr_ways.specs.Ways.{HasNoCycle, IsInRange, Sends, ways}
-use Rattle.fr_ways.specs.declared.search.Mark.{Mark}
-use Rattle.fr_ways.specs.declared.search.Mark.TheVariants.{Done, Fresh, Open}
-use Rattle.fr_ways.specs.declared.search.Search.{Search}
+use Rattle.fr_ways.specs.declared.cycle_search.Mark.{Mark}
+use Rattle.fr_ways.specs.declared.cycle_search.Mark.TheVariants.{Done, Fresh, Open}
+use Rattle.fr_ways.specs.declared.cycle_search.Search.{Search}
 
 -- no cycle goes through a node from which every walk ends
 pub grounded_no_cycle : (new : List (List ℕ)) (x : ℕ) → IsGrounded new x → (xs : List ℕ)

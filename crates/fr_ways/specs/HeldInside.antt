@@ -2,7 +2,7 @@
 use Rattle.std.specs.Prelude.{◌≡◌, ◌+◌, ◌-◌, length, min, vec_capacity}
 use Rattle.fr_ways.specs.Held.{Held, paired}
 use Rattle.fr_ways.specs.Rows.{AreRows, rows_of}
-use Rattle.fr_ways.specs.declared.reserved.Rows.TheInside.{Inside}
+use Rattle.fr_ways.specs.declared.reserved_rows.Rows.TheInside.{Inside}
 
 abbrev pub held_in : Inside → Held
 held_in s = record {

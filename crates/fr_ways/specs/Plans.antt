@@ -5,7 +5,7 @@ use Rattle.std.specs.List.{range_with_len}
 use Rattle.fr_ways.specs.Faults.{ArePushes}
 use Rattle.fr_ways.specs.Phases.{empties, grows, kept, sheds}
 use Rattle.fr_ways.specs.Ways.{ways}
-use Rattle.fr_ways.specs.declared.kept.Comparison.{Comparison}
+use Rattle.fr_ways.specs.declared.kept_ways.Comparison.{Comparison}
 use Rattle.fr_ways.specs.declared.plan.Plan.{Plan}
 use Rattle.fr_ways.specs.declared.plan.Pushes.{Pushes}
 

@@ -4,9 +4,9 @@ use Rattle.std.specs.Prelude.{Contains, IfNone, IfSome, Option, length, slice_in
 use Rattle.std.specs.List.{IsDistinct}
 use Rattle.fr_tables.specs.Walks.{IsTrail}
 use Rattle.fr_ways.specs.Ways.{IsInRange, Sends, ways}
-use Rattle.fr_ways.specs.declared.search.Mark.{Mark}
-use Rattle.fr_ways.specs.declared.search.Mark.TheVariants.{Done, Fresh, Open}
-use Rattle.fr_ways.specs.declared.search.Search.{Search}
+use Rattle.fr_ways.specs.declared.cycle_search.Mark.{Mark}
+use Rattle.fr_ways.specs.declared.cycle_search.Mark.TheVariants.{Done, Fresh, Open}
+use Rattle.fr_ways.specs.declared.cycle_search.Search.{Search}
 
 abbrev pub mark_of : List Mark → ℕ → Mark
 mark_of marks x = slice_index_or marks x Fresh

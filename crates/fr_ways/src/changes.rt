@@ -6,9 +6,9 @@ ghost use Rattle.fr_ways.specs.Changes.{HasNoPushes, HasSameRoom, IsNotedTo, Kee
 ghost use Rattle.fr_ways.specs.Phases.{growths, shrinks};
 ghost use Rattle.fr_ways.specs.PushLists.{AreListed};
 
-use crate::kept::loses;
+use crate::kept_ways::loses_way;
 use crate::push_list::PushList;
-use crate::reserved::{Rows, have_room};
+use crate::reserved_rows::{Rows, reserve_room};
 use std::alloc::{AllocError, Global};
 use std::marker::Model;
 
@@ -68,7 +68,7 @@ impl WayChanges {
     {
         self.shrink.make_room(nodes, ways)?;
         self.grow.make_room(nodes, ways)?;
-        have_room(&mut self.emptied, nodes)?;
+        reserve_room(&mut self.emptied, nodes)?;
         add_marks(&mut self.marks, nodes)
     }
 
@@ -94,7 +94,7 @@ impl WayChanges {
         if old == new {
             return;
         }
-        if !loses(&mut self.marks, old, new) {
+        if !loses_way(&mut self.marks, old, new) {
             self.grow.push(x, new);
             return;
         }

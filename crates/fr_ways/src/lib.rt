@@ -10,14 +10,14 @@
 #![tactic(auto)]
 
 mod changes;
+mod cycle_search;
 mod fault;
-mod kept;
+mod kept_ways;
 pub mod laws;
 mod plan;
 mod push_list;
 mod range;
-mod reserved;
-mod search;
+mod reserved_rows;
 mod table;
 #[cfg(test)]
 mod tests;

@@ -8,11 +8,11 @@ ghost use Rattle.fr_ways.specs.Plans.{IsClear, IsPlan, IsPushedIf};
 ghost use Rattle.fr_ways.specs.PushLists.{AreListed};
 ghost use Rattle.fr_ways.specs.Ways.{IsInRange};
 
+use crate::cycle_search::find_cycle;
 use crate::fault::WaysFault;
-use crate::kept::Comparison;
+use crate::kept_ways::Comparison;
 use crate::push_list::PushList;
 use crate::range::first_outside;
-use crate::search::find_cycle;
 use crate::table::WayTable;
 use std::alloc::{AllocError, Global};
 
@@ -158,18 +158,18 @@ impl Plan {
         if was == now {
             return Ok(());
         }
-        if !spare.loses(was, now) {
-            self.grow(x, was, now)?;
+        if !spare.loses_way(was, now) {
+            self.add_growing(x, was, now)?;
             return Ok(());
         }
-        spare.keep(was, now)?;
-        self.shrink(x, &spare.kept)?;
-        self.grow(x, &spare.kept, now)?;
+        spare.keep_common_ways(was, now)?;
+        self.add_shrinking(x, &spare.kept)?;
+        self.add_growing(x, &spare.kept, now)?;
         Ok(())
     }
 
     /// Adds a node that loses ways, and keeps these.
-    fn shrink(&mut self, x: u32, kept: &[u32]) -> Result<(), AllocError>
+    fn add_shrinking(&mut self, x: u32, kept: &[u32]) -> Result<(), AllocError>
         ensures shrink { OnOk result (IsPushedIf (not (is_empty kept.now)) x kept.now self.old.phases.shrink
             self.new.phases.shrink) }
         ensures emptied { OnOk result (self.new.emptied.items
@@ -185,7 +185,7 @@ impl Plan {
     }
 
     /// Adds a node to the second phase, if its new ways differ from those after the first.
-    fn grow(&mut self, x: u32, after: &[u32], now: &[u32]) -> Result<(), AllocError>
+    fn add_growing(&mut self, x: u32, after: &[u32], now: &[u32]) -> Result<(), AllocError>
         ensures grow { OnOk result (IsPushedIf (differs after.now now.now) x now.now self.old.phases.grow
             self.new.phases.grow) }
         ensures shrink { OnOk result (self.new.phases.shrink ≡ self.old.phases.shrink) }

@@ -5,8 +5,8 @@ ghost use Rattle.fr_bytes.specs.Bytes.{ReadsAtMostOneTooMany};
 ghost use Rattle.revdot.specs.Drawings.{IsDrawing, IsPictureOf};
 ghost use Rattle.revdot.specs.Written.{WritesText, IsTextFault};
 
+use crate::answered_session::session_after;
 use crate::settled::{push_settled, push_settled_ways};
-use crate::standing::session_after;
 use crate::strips::push_strip;
 use fr_bytes::{RunFault, read_input, write_out};
 use fr_route::Session;
@@ -40,12 +40,12 @@ pub fn draw<R: Read, W: Write>(
         (W.contents writer.old) (W.contents writer.new)) }
 {
     let input = read_input(alloc, reader)?;
-    let text = drawn(alloc, &input, picture)?;
+    let text = picture_of_input(alloc, &input, picture)?;
     write_out(writer, text.as_bytes())
 }
 
 /// The picture of the network that an input leaves.
-fn drawn(alloc: Global, input: &[u8], picture: Picture) -> Result<String, AllocError>
+fn picture_of_input(alloc: Global, input: &[u8], picture: Picture) -> Result<String, AllocError>
     ensures { IfOk result (λ text. IsDrawing picture input.now (string_bytes text)) }
 {
     let session = session_after(alloc, input)?;

@@ -2,6 +2,7 @@
 //! or writes a page for a browser with the story of these lines.
 #![tactic(auto)]
 
+mod answered_session;
 mod asked;
 mod changes;
 mod drawing;
@@ -10,7 +11,6 @@ mod links;
 mod page;
 mod rounds;
 mod settled;
-mod standing;
 mod story;
 mod strips;
 mod turns;

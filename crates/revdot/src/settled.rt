@@ -132,7 +132,7 @@ fn style_of_way(hop: Hop, ways: &[u32], head: u32) -> LinkStyle
 {
     match hop {
         Hop::Here => LinkStyle::Plain,
-        Hop::To(next) => match (is_first(ways, head), next == head) {
+        Hop::To(next) => match (is_first_way(ways, head), next == head) {
             (true, true) => LinkStyle::FirstWayToHop,
             (true, false) => LinkStyle::FirstWay,
             (false, true) => LinkStyle::WayToHop,
@@ -143,7 +143,7 @@ fn style_of_way(hop: Hop, ways: &[u32], head: u32) -> LinkStyle
 }
 
 /// Whether the first of these ways is `head`.
-fn is_first(ways: &[u32], head: u32) -> bool
+fn is_first_way(ways: &[u32], head: u32) -> bool
     ensures { result ≡ is_first_of (slice_get ways.now 0) head }
 {
     match ways.get(0) {

@@ -99,16 +99,16 @@ fn push_line(
                 number,
                 bytes: line,
             };
-            push_answered(story, alloc, session, line, &request)
+            push_answered_line(story, alloc, session, line, &request)
         }
-        Err(LineFault::NotJson) => push_unread(story, number, Reason::NotJson),
-        Err(LineFault::NotRequest) => push_unread(story, number, Reason::NotRequest),
+        Err(LineFault::NotJson) => push_unreadable_line(story, number, Reason::NotJson),
+        Err(LineFault::NotRequest) => push_unreadable_line(story, number, Reason::NotRequest),
         Err(LineFault::Memory) => Err(AllocError),
     }
 }
 
 /// Appends the number of a line that is not a request, and its answer.
-fn push_unread(story: &mut String, number: u64, refusal: Reason) -> Result<(), AllocError>
+fn push_unreadable_line(story: &mut String, number: u64, refusal: Reason) -> Result<(), AllocError>
     ensures { OnOk result (string_bytes story.new
         ≡ string_bytes story.old ++ answer_text number (refusal_text (number_of refusal))) }
 {
@@ -117,7 +117,7 @@ fn push_unread(story: &mut String, number: u64, refusal: Reason) -> Result<(), A
 
 /// Appends the number of a line, the answer to its request, what it asks, and why it was refused or the round that it
 /// began.
-fn push_answered(
+fn push_answered_line(
     story: &mut String,
     alloc: Global,
     session: &mut Session,
@@ -203,7 +203,7 @@ fn net_before(alloc: Global, session: &Session, request: &Request) -> Result<Bef
         (λ before. AreWaysBefore session.now (net_before_of session.now (plain request.now)) before.ways) }
 {
     let Some(router) = session.router() else {
-        return nothing_before(alloc);
+        return no_network_before(alloc);
     };
     if matches!(
         request,
@@ -215,7 +215,7 @@ fn net_before(alloc: Global, session: &Session, request: &Request) -> Result<Bef
             | Request::WayPushes { .. }
     ) || !is_told(router)
     {
-        return nothing_before(alloc);
+        return no_network_before(alloc);
     }
     let ways = router.all_ways(alloc)?;
     let net = Some(router.net().copied(alloc)?);
@@ -223,7 +223,7 @@ fn net_before(alloc: Global, session: &Session, request: &Request) -> Result<Bef
 }
 
 /// What a request may change that changes no network whose rounds are told.
-fn nothing_before(alloc: Global) -> Result<Before, AllocError>
+fn no_network_before(alloc: Global) -> Result<Before, AllocError>
     ensures net { IfOk result (λ before. before.net ≡ None) }
     ensures ways { IfOk result (λ before. before.ways ≡ []) }
 {

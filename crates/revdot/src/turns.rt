@@ -160,12 +160,12 @@ fn turn_node(links: &mut [(u32, u32)], x: u32)
     ensures { links.new ≡ turn_of x links.old }
 {
     for link in links.iter_mut() {
-        *link = turned(*link, x);
+        *link = link_after_turn(*link, x);
     }
 }
 
 /// The link after the turn of `x`.
-fn turned(link: (u32, u32), x: u32) -> (u32, u32)
+fn link_after_turn(link: (u32, u32), x: u32) -> (u32, u32)
     ensures { result ≡ turned_link x link }
 {
     if link.1 == x { (x, link.0) } else { link }

@@ -11,7 +11,7 @@ use denote.Steps.{nothing}
 use denote.Struct.Struct.{within}
 use denote.Struct.Owning.{shape}
 use Rattle.revroute_c.specs.Machines.{HeldNode}
-use Rattle.revroute_c.specs.contracts.machine.Machine.{the_row as S}
+use Rattle.revroute_c.specs.contracts.node_state.NodeState.{the_row as S}
 use Rattle.revroute_c.proofs.Owned.{word}
 use Rattle.revroute_c.specs.Owning.{owned_at}
 use Rattle.revroute_c.specs.Machines.{no_machine}

@@ -5,7 +5,7 @@ use denote.RawPtr.{null_ptr}
 use Rattle.std.specs.Borrow.{Fml, MutBor, LendsIf}
 use Rattle.fr_readers.specs.Published.{published}
 use Rattle.revroute_c.specs.Engines.{Held, held, no_engine}
-use Rattle.revroute_c.specs.contracts.engine.Engine.{the_row as engine_row}
+use Rattle.revroute_c.specs.contracts.session_state.SessionState.{the_row as engine_row}
 use Rattle.revroute_c.specs.declared.handle.Handle.{Handle}
 use Rattle.revroute_c.specs.contracts.handle.Handle.{the_row}
 

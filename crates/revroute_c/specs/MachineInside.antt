@@ -1,7 +1,7 @@
--- The value of a `Machine` in contracts, and what holds of its fields. For proofs only.
+-- The value of a `NodeState` in contracts, and what holds of its fields. For proofs only.
 use Rattle.std.specs.Prelude.{Some, vec_capacity, vec_len, ◌≡◌, ◌≤◌}
 use Rattle.revroute_c.specs.Machines.{HeldNode}
-use Rattle.revroute_c.specs.declared.machine.Machine.TheInside.{Inside}
+use Rattle.revroute_c.specs.declared.node_state.NodeState.TheInside.{Inside}
 
 abbrev pub kept_in : Inside → HeldNode
 kept_in m = Some (record { node = m.node; is_written = m.is_written })

@@ -3,7 +3,7 @@
 use Rattle.std.specs.Prelude.{◌≡◌, Option}
 use Rattle.std.specs.Borrow.{Fml, MutBor, LendsIf}
 use Rattle.revroute_c.specs.Machines.{HeldNode}
-use Rattle.revroute_c.specs.contracts.machine.Machine.{the_row as machine_row}
+use Rattle.revroute_c.specs.contracts.node_state.NodeState.{the_row as machine_row}
 use Rattle.revroute_c.specs.declared.node_handle.NodeHandle.{NodeHandle}
 use Rattle.revroute_c.specs.contracts.node_handle.NodeHandle.{the_row}
 

@@ -13,7 +13,7 @@ ghost use Rattle.revroute_c.specs.Replies.{outcome, GivesList};
 use crate::link_faults::early_fault;
 use crate::records::{Link, LinkEdit, first_unknown};
 use crate::replies::hand_out;
-use crate::rounds::{edited, network_of};
+use crate::rounds::{network_of, network_with_edits};
 use crate::statuses::{ANSWERED, NO_MEMORY, NO_NETWORK, NO_WALK, TOO_SHORT};
 use fr_graph::{EditFault, MAX_EDITS, NetFault};
 use fr_route::Session;
@@ -40,7 +40,7 @@ pub(crate) fn walk_of_change(
     if edits.len() > MAX_EDITS || first_unknown(edits).is_some() {
         return NO_WALK;
     }
-    match edited(router.net(), alloc, edits) {
+    match network_with_edits(router.net(), alloc, edits) {
         Ok(_edited) => NO_WALK,
         Err(EditFault { at: _, fault }) => hand_out_walk(&fault, nodes, size),
     }

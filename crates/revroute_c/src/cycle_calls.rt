@@ -41,7 +41,7 @@ pub extern "C" fn revroute_closed_walk(
         ⊎ (result ≡ REVROUTE_NO_WALK) }
 {
     *size = 0;
-    match handle.engine_mut() {
+    match handle.session_state_mut() {
         Some(engine) => walk_of_change(engine.session(), alloc, edits, nodes, size),
         None => NO_NETWORK,
     }

@@ -11,7 +11,7 @@ ghost use Rattle.revroute_c.specs.Engines.{no_engine, held};
 ghost use Rattle.revroute_c.specs.Holding.{holds};
 
 use crate::box_parts::BoxParts;
-use crate::engine::Engine;
+use crate::session_state::SessionState;
 use std::alloc::Global;
 use std::marker::{Model, Send};
 use std::mem::replace;
@@ -51,7 +51,7 @@ impl Handle {
     }
 
     /// The handle of an engine.
-    fn of(loose: BoxParts<Engine, Global>) -> Handle
+    fn of(loose: BoxParts<SessionState, Global>) -> Handle
         ensures { held_by result ≡ loose.value }
     {
         let BoxParts { at, alloc: _ } = loose;
@@ -61,7 +61,7 @@ impl Handle {
     }
 
     /// The engine of a handle, unless the handle is null.
-    fn into_box_parts(self, alloc: Global) -> Option<BoxParts<Engine, Global>>
+    fn into_box_parts(self, alloc: Global) -> Option<BoxParts<SessionState, Global>>
         ensures { MatchOption result (held_by self ≡ no_engine) (λ loose. held_by self ≡ loose.value) }
     {
         let Handle { at } = self;
@@ -69,14 +69,14 @@ impl Handle {
             None
         } else {
             Some(BoxParts {
-                at: at.cast::<Engine>(),
+                at: at.cast::<SessionState>(),
                 alloc,
             })
         }
     }
 
     /// Takes the engine out of a handle, which is then null. `None` if it was null before.
-    pub(crate) fn taken(handle: &mut Handle, alloc: Global) -> Option<Box<Engine>>
+    pub(crate) fn taken(handle: &mut Handle, alloc: Global) -> Option<Box<SessionState>>
         ensures held { MatchOption result (held_by handle.old ≡ no_engine)
             (λ engine. held_by handle.old ≡ engine.value) }
         ensures left { held_by handle.new ≡ no_engine }
@@ -90,7 +90,7 @@ impl Handle {
     }
 
     /// The engine of a handle, in place. `None` if the handle is null.
-    pub(crate) fn engine_mut(&mut self) -> Option<&mut Engine>
+    pub(crate) fn session_state_mut(&mut self) -> Option<&mut SessionState>
         ensures* writes_back { sem 𝓛 (LendsEngine self.entry result) }
         ensures value { MatchOption result ((self.old.at ≡ null_ptr) × (held_by self.old ≡ no_engine))
             (λ engine. engine.now ≡ held_by self.old) }
@@ -98,11 +98,11 @@ impl Handle {
         if self.at.is_null() {
             return None;
         }
-        unsafe { Some(&mut *self.at.cast::<Engine>()) }
+        unsafe { Some(&mut *self.at.cast::<SessionState>()) }
     }
 
     /// Puts an engine into a null handle.
-    pub(crate) fn put(handle: &mut Handle, engine: Box<Engine>)
+    pub(crate) fn put(handle: &mut Handle, engine: Box<SessionState>)
         requires { handle.old.at ≡ null_ptr }
         ensures { held_by handle.new ≡ engine.value }
     {

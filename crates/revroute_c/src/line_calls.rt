@@ -8,8 +8,8 @@ ghost use Rattle.revroute_c.specs.Statuses.{REVROUTE_ANSWERED, REVROUTE_BLANK};
 ghost use Rattle.revroute_c.specs.Statuses.{REVROUTE_BEGUN};
 
 use crate::handle::Handle;
-use crate::pieces::{finish_line, take_anew, take_front};
-use crate::replies::{LEAST_ROOM, reply, reply_anew};
+use crate::pieces::{finish_line, take_front, take_in_new_session};
+use crate::replies::{LEAST_ROOM, reply, reply_in_new_session};
 use crate::statuses::{ANSWERED, BLANK, NO_MEMORY, TOO_SHORT};
 use fr_route::is_blank;
 use std::alloc::Global;
@@ -44,9 +44,9 @@ pub extern "C" fn revroute_answer(
     if is_blank(line) {
         return BLANK;
     }
-    match handle.engine_mut() {
+    match handle.session_state_mut() {
         Some(engine) => reply(engine, alloc, line, answer, size),
-        None => reply_anew(handle, alloc, line, answer, size),
+        None => reply_in_new_session(handle, alloc, line, answer, size),
     }
 }
 
@@ -79,9 +79,9 @@ pub extern "C" fn revroute_take(
         *size = LEAST_ROOM;
         return TOO_SHORT;
     }
-    match handle.engine_mut() {
+    match handle.session_state_mut() {
         Some(engine) => take_front(engine, alloc, piece, answer, size).tell(taken),
-        None => take_anew(handle, alloc, piece, answer, size).tell(taken),
+        None => take_in_new_session(handle, alloc, piece, answer, size).tell(taken),
     }
 }
 
@@ -105,7 +105,7 @@ pub extern "C" fn revroute_finish(
         *size = LEAST_ROOM;
         return TOO_SHORT;
     }
-    match handle.engine_mut() {
+    match handle.session_state_mut() {
         Some(engine) => finish_line(engine, alloc, answer, size),
         None => BLANK,
     }

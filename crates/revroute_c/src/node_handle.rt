@@ -5,10 +5,10 @@ ghost use Rattle.std.specs.Borrow.{sem};
 ghost use denote.RawPtr.{null_ptr};
 ghost use Rattle.revroute_c.specs.Machines.{HeldNode, no_machine};
 ghost use Rattle.revroute_c.specs.Owning.{owned_at};
-ghost use Rattle.revroute_c.specs.contracts.machine.Machine.{the_row as machine_row};
+ghost use Rattle.revroute_c.specs.contracts.node_state.NodeState.{the_row as machine_row};
 
 use crate::box_parts::BoxParts;
-use crate::machine::Machine;
+use crate::node_state::NodeState;
 use std::alloc::Global;
 use std::marker::{Model, Send};
 use std::mem::replace;
@@ -42,7 +42,7 @@ impl NodeHandle {
     }
 
     /// The handle of a machine.
-    fn of(loose: BoxParts<Machine, Global>) -> NodeHandle
+    fn of(loose: BoxParts<NodeState, Global>) -> NodeHandle
         ensures { kept_by result ≡ loose.value }
     {
         let BoxParts { at, alloc: _ } = loose;
@@ -52,7 +52,7 @@ impl NodeHandle {
     }
 
     /// The machine of a handle, unless the handle is null.
-    fn into_box_parts(self, alloc: Global) -> Option<BoxParts<Machine, Global>>
+    fn into_box_parts(self, alloc: Global) -> Option<BoxParts<NodeState, Global>>
         ensures { MatchOption result (kept_by self ≡ no_machine) (λ loose. kept_by self ≡ loose.value) }
     {
         let NodeHandle { at } = self;
@@ -60,14 +60,14 @@ impl NodeHandle {
             None
         } else {
             Some(BoxParts {
-                at: at.cast::<Machine>(),
+                at: at.cast::<NodeState>(),
                 alloc,
             })
         }
     }
 
     /// Takes the machine out of a handle, which is then null. `None` if it was null before.
-    pub(crate) fn taken(handle: &mut NodeHandle, alloc: Global) -> Option<Box<Machine>>
+    pub(crate) fn taken(handle: &mut NodeHandle, alloc: Global) -> Option<Box<NodeState>>
         ensures held { MatchOption result (kept_by handle.old ≡ no_machine)
             (λ machine. kept_by handle.old ≡ machine.value) }
         ensures left { kept_by handle.new ≡ no_machine }
@@ -81,7 +81,7 @@ impl NodeHandle {
     }
 
     /// The machine of a handle, in place. `None` if the handle is null.
-    pub(crate) fn machine_mut(&mut self) -> Option<&mut Machine>
+    pub(crate) fn node_state_mut(&mut self) -> Option<&mut NodeState>
         ensures* writes_back { sem 𝓛 (LendsMachine self.entry result) }
         ensures value { MatchOption result ((self.old.at ≡ null_ptr) × (kept_by self.old ≡ no_machine))
             (λ machine. (self.old.at ≢ null_ptr) × (machine.now ≡ kept_by self.old)) }
@@ -89,11 +89,11 @@ impl NodeHandle {
         if self.at.is_null() {
             return None;
         }
-        unsafe { Some(&mut *self.at.cast::<Machine>()) }
+        unsafe { Some(&mut *self.at.cast::<NodeState>()) }
     }
 
     /// Puts a machine into a handle. A node that was there is closed.
-    pub(crate) fn put(handle: &mut NodeHandle, alloc: Global, machine: Box<Machine>)
+    pub(crate) fn put(handle: &mut NodeHandle, alloc: Global, machine: Box<NodeState>)
         ensures { kept_by handle.new ≡ machine.value }
     {
         drop(NodeHandle::taken(handle, alloc));

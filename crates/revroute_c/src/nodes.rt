@@ -11,8 +11,8 @@ ghost use Rattle.revroute_c.specs.Replies.{outcome, GivesList};
 ghost use Rattle.revroute_c.specs.Statuses.{REVROUTE_ANSWERED, REVROUTE_NO_MEMORY};
 ghost use Rattle.revroute_c.specs.Statuses.{REVROUTE_NO_NETWORK, REVROUTE_REFUSED, REVROUTE_TOO_SHORT};
 
-use crate::machine::Machine;
 use crate::node_handle::NodeHandle;
+use crate::node_state::NodeState;
 use crate::statuses::{ANSWERED, NO_MEMORY, NO_NETWORK, REFUSED};
 use fr_node::{Node, Policy, Rise};
 use std::alloc::Global;
@@ -79,7 +79,7 @@ pub extern "C" fn revroute_node_open(
         return REFUSED;
     }
     let node = Node::new(alloc, me, boot, height, policy_in(*policy));
-    match Box::new(alloc, Machine::new(alloc, me, node)) {
+    match Box::new(alloc, NodeState::new(alloc, me, node)) {
         Ok(machine) => {
             NodeHandle::put(handle, alloc, machine);
             ANSWERED
@@ -102,7 +102,7 @@ pub extern "C" fn revroute_node_open_gateway(
     ensures status { (result ≡ REVROUTE_ANSWERED) ⊎ (result ≡ REVROUTE_NO_MEMORY) }
 {
     let node = Node::gateway(alloc, me, boot);
-    match Box::new(alloc, Machine::new(alloc, me, node)) {
+    match Box::new(alloc, NodeState::new(alloc, me, node)) {
         Ok(machine) => {
             NodeHandle::put(handle, alloc, machine);
             ANSWERED
@@ -125,7 +125,7 @@ pub extern "C" fn revroute_node_know(handle: &mut NodeHandle, neighbour: u32) ->
         handle.old.machine handle.new.machine }
     ensures same_handle { handle.new.at ≡ handle.old.at }
 {
-    match handle.machine_mut() {
+    match handle.node_state_mut() {
         Some(machine) => machine.know(neighbour),
         None => NO_NETWORK,
     }
@@ -144,7 +144,7 @@ pub extern "C" fn revroute_node_link_up(
         handle.old.machine handle.new.machine }
     ensures same_handle { handle.new.at ≡ handle.old.at }
 {
-    match handle.machine_mut() {
+    match handle.node_state_mut() {
         Some(machine) => machine.set_link_state(alloc, neighbour, true),
         None => NO_NETWORK,
     }
@@ -161,7 +161,7 @@ pub extern "C" fn revroute_node_link_down(
         handle.old.machine handle.new.machine }
     ensures same_handle { handle.new.at ≡ handle.old.at }
 {
-    match handle.machine_mut() {
+    match handle.node_state_mut() {
         Some(machine) => machine.set_link_state(alloc, neighbour, false),
         None => NO_NETWORK,
     }
@@ -180,7 +180,7 @@ pub extern "C" fn revroute_node_hear(alloc: Global, handle: &mut NodeHandle, byt
         handle.old.machine handle.new.machine }
     ensures same_handle { handle.new.at ≡ handle.old.at }
 {
-    match handle.machine_mut() {
+    match handle.node_state_mut() {
         Some(machine) => machine.hear(alloc, bytes),
         None => NO_NETWORK,
     }
@@ -194,7 +194,7 @@ pub extern "C" fn revroute_node_written(handle: &mut NodeHandle) -> u32
         handle.old.machine handle.new.machine }
     ensures same_handle { handle.new.at ≡ handle.old.at }
 {
-    match handle.machine_mut() {
+    match handle.node_state_mut() {
         Some(machine) => {
             machine.written();
             ANSWERED
@@ -225,7 +225,7 @@ pub extern "C" fn revroute_node_say(
     ensures same_handle { handle.new.at ≡ handle.old.at }
 {
     *size = 0;
-    match handle.machine_mut() {
+    match handle.node_state_mut() {
         Some(machine) => machine.say(neighbour, message, size),
         None => NO_NETWORK,
     }
@@ -248,7 +248,7 @@ pub extern "C" fn revroute_node_has_news(
         ((result ≡ REVROUTE_NO_NETWORK) × (news.new ≡ news.old)) handle.old.machine }
     ensures same { IsSameNode handle.old handle.new }
 {
-    match handle.machine_mut() {
+    match handle.node_state_mut() {
         Some(machine) => machine.tell_news(neighbour, news),
         None => NO_NETWORK,
     }
@@ -273,7 +273,7 @@ pub extern "C" fn revroute_node_ways(
     ensures status { (result ≡ REVROUTE_ANSWERED) ⊎ (result ≡ REVROUTE_TOO_SHORT) ⊎ (result ≡ REVROUTE_NO_NETWORK) }
 {
     *size = 0;
-    match handle.machine_mut() {
+    match handle.node_state_mut() {
         Some(machine) => machine.list_ways(ways, size),
         None => NO_NETWORK,
     }
@@ -292,7 +292,7 @@ pub extern "C" fn revroute_node_distance(handle: &mut NodeHandle, distance: &mut
         ((result ≡ REVROUTE_NO_NETWORK) × (distance.new ≡ distance.old)) handle.old.machine }
     ensures same { IsSameNode handle.old handle.new }
 {
-    match handle.machine_mut() {
+    match handle.node_state_mut() {
         Some(machine) => machine.tell_distance(distance),
         None => NO_NETWORK,
     }
@@ -305,7 +305,7 @@ pub extern "C" fn revroute_node_height(handle: &mut NodeHandle, height: &mut u64
         ((result ≡ REVROUTE_NO_NETWORK) × (height.new ≡ height.old)) handle.old.machine }
     ensures same { IsSameNode handle.old handle.new }
 {
-    match handle.machine_mut() {
+    match handle.node_state_mut() {
         Some(machine) => {
             *height = machine.height();
             ANSWERED
@@ -321,7 +321,7 @@ pub extern "C" fn revroute_node_lets_in(handle: &mut NodeHandle, neighbour: u32)
     ensures safe { OfNode (IsSafeGate neighbour result) ⊤ handle.old.machine }
     ensures same { IsSameNode handle.old handle.new }
 {
-    match handle.machine_mut() {
+    match handle.node_state_mut() {
         Some(machine) => machine.lets_in(neighbour),
         None => 0,
     }
@@ -334,7 +334,7 @@ pub extern "C" fn revroute_node_sends_to(handle: &mut NodeHandle, neighbour: u32
     ensures safe { OfNode (IsSafeWay neighbour result) ⊤ handle.old.machine }
     ensures same { IsSameNode handle.old handle.new }
 {
-    match handle.machine_mut() {
+    match handle.node_state_mut() {
         Some(machine) => machine.sends_to(neighbour),
         None => 0,
     }

@@ -58,7 +58,7 @@ fn phases_from(session: &Session, alloc: Global, asked: &PhaseRequest<'_>) -> Re
 
 /// The pushes of a phase as numbers: for each push its node, how many ways the node gets, and these ways. Fails also for
 /// more ways of a node than fit into a number. No network has so many.
-fn numbers(alloc: Global, list: &PushList<'_>) -> Result<Vec<u32>, AllocError>
+fn numbers_of_pushes(alloc: Global, list: &PushList<'_>) -> Result<Vec<u32>, AllocError>
     requires { (pushes : List (ℕ × List ℕ)) × AreListed pushes list.now }
     ensures { IfOk result (λ numbers. (pushes : List (ℕ × List ℕ)) → AreListed pushes list.now
         → numbers.items ≡ numbers_of pushes) }
@@ -91,7 +91,7 @@ pub(crate) fn hand_out_pushes(
         → GivesList (λ numbers. numbers ≡ numbers_of pushes) (outcome result place.old place.new size.new) }
     ensures status { (result ≡ ANSWERED) ⊎ (result ≡ TOO_SHORT) ⊎ (result ≡ NO_MEMORY) }
 {
-    match numbers(alloc, list) {
+    match numbers_of_pushes(alloc, list) {
         Ok(numbers) => hand_out(&numbers, place, size),
         Err(_memory) => NO_MEMORY,
     }

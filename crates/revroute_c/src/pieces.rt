@@ -7,9 +7,9 @@ ghost use Rattle.revroute_c.specs.Lending.{held_by, IsNull};
 ghost use Rattle.revroute_c.specs.Pieces.{TakesPiece};
 ghost use Rattle.revroute_c.specs.Replies.{least_room, outcome, AnswersLine};
 
-use crate::engine::Engine;
 use crate::handle::Handle;
 use crate::replies::reply;
+use crate::session_state::SessionState;
 use crate::statuses::{ANSWERED, BEGUN, BLANK, NO_MEMORY, TOO_LONG};
 use fr_bytes::{MAX_BYTES, front_size};
 use fr_route::is_blank;
@@ -37,7 +37,7 @@ impl Taken {
 /// Takes a piece up to its first newline, and answers the line that ends there. Without a newline, the whole piece is
 /// kept after what had begun. `size` must be 0.
 pub(crate) fn take_front(
-    engine: &mut Engine,
+    engine: &mut SessionState,
     alloc: Global,
     piece: &[u8],
     answer: &mut [u8],
@@ -58,7 +58,7 @@ pub(crate) fn take_front(
             count: end + 1,
         };
     }
-    let held = hold(&mut engine.begun, &piece[..end]);
+    let held = keep_unfinished_line(&mut engine.begun, &piece[..end]);
     if held != BEGUN {
         return Taken {
             status: held,
@@ -83,7 +83,7 @@ pub(crate) fn take_front(
 }
 
 /// Does the same in a new session. The null handle gets the session if it holds anything then.
-pub(crate) fn take_anew(
+pub(crate) fn take_in_new_session(
     handle: &mut Handle,
     alloc: Global,
     piece: &[u8],
@@ -104,7 +104,7 @@ pub(crate) fn take_anew(
             count: end + 1,
         };
     }
-    let Ok(mut engine) = Box::new(alloc, Engine::new(alloc)) else {
+    let Ok(mut engine) = Box::new(alloc, SessionState::new(alloc)) else {
         return Taken {
             status: NO_MEMORY,
             count: 0,
@@ -119,7 +119,7 @@ pub(crate) fn take_anew(
 
 /// Ends the line that has begun, and answers it. The line stays if it cannot be answered.
 pub(crate) fn finish_line(
-    engine: &mut Engine,
+    engine: &mut SessionState,
     alloc: Global,
     answer: &mut [u8],
     size: &mut usize,
@@ -153,7 +153,7 @@ fn is_blank_with(begun: &[u8], end: &[u8]) -> bool
 }
 
 /// Keeps bytes without a newline after what has begun.
-fn hold(begun: &mut Vec<u8>, bytes: &[u8]) -> u32
+fn keep_unfinished_line(begun: &mut Vec<u8>, bytes: &[u8]) -> u32
     ensures held { result ≡ BEGUN → begun.new.items ≡ begun.old.items ++ bytes.now }
     ensures within { result ≡ BEGUN → length begun.new.items ≤ most_bytes }
     ensures unchanged { result ≢ BEGUN → begun.new.items ≡ begun.old.items }

@@ -35,7 +35,7 @@ impl<'a> Tables<'a> {
     }
 
     /// The first of their numbers that names no hop.
-    fn outside(&self) -> Option<u32>
+    fn first_invalid_hop(&self) -> Option<u32>
         requires { nodes_of self.now.old.now self.now.new.now ≤ most_nodes }
         ensures { result ≡ find (is_outside (nodes_of self.now.old.now self.now.new.now))
             (self.now.old.now ++ self.now.new.now) }
@@ -52,7 +52,7 @@ impl<'a> Tables<'a> {
         if self.nodes() > MAX_NODES as usize {
             return Some(refusal_for(0, &NetFault::TooMany, (0, 0)));
         }
-        let x = self.outside()?;
+        let x = self.first_invalid_hop()?;
         Some(refusal_for(0, &NetFault::Range(x), (x, x)))
     }
 

@@ -31,7 +31,7 @@ pub extern "C" fn revroute_next_hop(handle: &mut Handle, node: u32) -> u32
     ensures hop { TellsHop handle.old.session node result }
     ensures same { IsUnchanged handle.old handle.new }
 {
-    match handle.engine_mut() {
+    match handle.session_state_mut() {
         Some(engine) => hop_in(engine.session(), node),
         None => HOP_OF_NO_NETWORK,
     }
@@ -49,7 +49,7 @@ pub extern "C" fn revroute_hops(handle: &mut Handle, hops: &mut [u32], size: &mu
     ensures status { (result ≡ REVROUTE_ANSWERED) ⊎ (result ≡ REVROUTE_TOO_SHORT) ⊎ (result ≡ REVROUTE_NO_NETWORK) }
 {
     *size = 0;
-    match handle.engine_mut() {
+    match handle.session_state_mut() {
         Some(engine) => hops_in(engine.session(), hops, size),
         None => NO_NETWORK,
     }
@@ -65,7 +65,7 @@ pub extern "C" fn revroute_changed(handle: &mut Handle, nodes: &mut [u32], size:
     ensures gives { GivesList (λ listed. listed ≡ handle.old.rerouted) (outcome result nodes.old nodes.new size.new) }
     ensures status { (result ≡ REVROUTE_ANSWERED) ⊎ (result ≡ REVROUTE_TOO_SHORT) }
 {
-    match handle.engine_mut() {
+    match handle.session_state_mut() {
         Some(engine) => hand_out(engine.published.rerouted(), nodes, size),
         None => hand_out(&[], nodes, size),
     }
@@ -98,7 +98,7 @@ pub extern "C" fn revroute_pushes(
         ⊎ (result ≡ REVROUTE_NO_TABLE) }
 {
     *size = 0;
-    match handle.engine_mut() {
+    match handle.session_state_mut() {
         Some(engine) => pushes_in(engine.session(), alloc, table, nodes, size),
         None => NO_NETWORK,
     }
@@ -142,7 +142,7 @@ pub extern "C" fn revroute_counts(handle: &mut Handle, counts: &mut [u64], size:
     ensures status { (result ≡ REVROUTE_ANSWERED) ⊎ (result ≡ REVROUTE_TOO_SHORT) ⊎ (result ≡ REVROUTE_NO_NETWORK) }
 {
     *size = 0;
-    match handle.engine_mut() {
+    match handle.session_state_mut() {
         Some(engine) => counts_in(engine.session(), counts, size),
         None => NO_NETWORK,
     }
@@ -173,7 +173,7 @@ pub extern "C" fn revroute_walk(
     ensures status { (result ≡ REVROUTE_ANSWERED) ⊎ ((REVROUTE_TOO_SHORT ≤ result) × (result ≤ REVROUTE_NO_ROUTE)) }
 {
     *size = 0;
-    match handle.engine_mut() {
+    match handle.session_state_mut() {
         Some(engine) => walk_in(engine.session(), alloc, node, nodes, size),
         None => NO_NETWORK,
     }
@@ -200,7 +200,7 @@ pub extern "C" fn revroute_links(
     ensures status { (result ≡ REVROUTE_ANSWERED) ⊎ ((REVROUTE_TOO_SHORT ≤ result) × (result ≤ REVROUTE_NO_NETWORK)) }
 {
     *size = 0;
-    match handle.engine_mut() {
+    match handle.session_state_mut() {
         Some(engine) => links_in(engine.session(), alloc, links, size),
         None => NO_NETWORK,
     }
@@ -221,7 +221,7 @@ pub extern "C" fn revroute_report(handle: &mut Handle, round: &mut Round) -> u32
         turned: 0,
         cut_off: 0,
     };
-    match handle.engine_mut() {
+    match handle.session_state_mut() {
         Some(engine) => report_in(engine.session(), round),
         None => NO_NETWORK,
     }
@@ -233,7 +233,7 @@ pub extern "C" fn revroute_dest(handle: &mut Handle) -> u32
     ensures dest { TellsDest handle.old.session result }
     ensures same { IsUnchanged handle.old handle.new }
 {
-    match handle.engine_mut() {
+    match handle.session_state_mut() {
         Some(engine) => dest_in(engine.session()),
         None => HOP_OF_NO_NETWORK,
     }
@@ -252,7 +252,7 @@ pub extern "C" fn revroute_size(handle: &mut Handle, nodes: &mut u32, links: &mu
 {
     *nodes = 0;
     *links = 0;
-    match handle.engine_mut() {
+    match handle.session_state_mut() {
         Some(engine) => size_in(engine.session(), nodes, links),
         None => NO_NETWORK,
     }

@@ -16,8 +16,8 @@ ghost use Rattle.revroute_c.specs.Statuses.{REVROUTE_NO_MEMORY, REVROUTE_NO_NETW
 use crate::handle::Handle;
 use crate::questions::HOP_OF_NO_NETWORK;
 use crate::reader_handle::ReaderHandle;
-use crate::reader_opening::{reader_anew, reader_in};
-use crate::readers::{copied, hop_read, walk_read};
+use crate::reader_opening::{reader_in, reader_of_new_session};
+use crate::readers::{copy_reader, read_hop, read_walk};
 use crate::statuses::{ANSWERED, NO_MEMORY, NO_NETWORK, TOO_SHORT};
 use std::alloc::Global;
 
@@ -41,9 +41,9 @@ pub extern "C" fn revroute_reader_open(
     ensures handle { (handle.new.at ≡ handle.old.at) ⊎ ((handle.old.at ≡ null_ptr) × (result ≡ REVROUTE_ANSWERED)) }
     ensures status { (result ≡ REVROUTE_ANSWERED) ⊎ (result ≡ REVROUTE_NO_MEMORY) }
 {
-    let opened = match handle.engine_mut() {
+    let opened = match handle.session_state_mut() {
         Some(engine) => reader_in(engine, alloc),
-        None => reader_anew(handle, alloc),
+        None => reader_of_new_session(handle, alloc),
     };
     match opened {
         Ok(opened) => {
@@ -76,7 +76,7 @@ pub extern "C" fn revroute_reader_copy(
     let Some(held) = reader.reader_mut() else {
         return NO_NETWORK;
     };
-    let Ok(copy) = copied(held, alloc) else {
+    let Ok(copy) = copy_reader(held, alloc) else {
         return NO_MEMORY;
     };
     ReaderHandle::put(other, alloc, copy);
@@ -122,7 +122,7 @@ pub extern "C" fn revroute_reader_next_hop(reader: &mut ReaderHandle, node: u32)
     ensures same_handle { reader.new.at ≡ reader.old.at }
 {
     match reader.reader_mut() {
-        Some(held) => hop_read(held, node),
+        Some(held) => read_hop(held, node),
         None => HOP_OF_NO_NETWORK,
     }
 }
@@ -155,7 +155,7 @@ pub extern "C" fn revroute_reader_walk(
 {
     *size = 0;
     match reader.reader_mut() {
-        Some(held) => walk_read(held, node, nodes, size),
+        Some(held) => read_walk(held, node, nodes, size),
         None => NO_NETWORK,
     }
 }

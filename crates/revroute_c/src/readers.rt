@@ -12,7 +12,7 @@ use fr_shared::{Reader, WalkEnd};
 use std::alloc::{AllocError, Global};
 
 /// One more reader of the same table.
-pub(crate) fn copied(reader: &mut Reader, alloc: Global) -> Result<Box<Reader>, AllocError>
+pub(crate) fn copy_reader(reader: &mut Reader, alloc: Global) -> Result<Box<Reader>, AllocError>
     ensures same { reader.new ≡ reader.old }
     ensures other { IfOk result (λ other. other.value ≡ reader.old) }
 {
@@ -21,7 +21,7 @@ pub(crate) fn copied(reader: &mut Reader, alloc: Global) -> Result<Box<Reader>, 
 }
 
 /// The hop of a node as a number.
-pub(crate) fn hop_read(reader: &mut Reader, node: u32) -> u32
+pub(crate) fn read_hop(reader: &mut Reader, node: u32) -> u32
     ensures { TellsHopRead reader.old reader.new node result }
 {
     if node >= reader.nodes() {
@@ -44,7 +44,7 @@ fn number_in(word: u64) -> u32
 }
 
 /// Walks from a node hop by hop, and writes it and the nodes after it to the front of the place. `size` must be 0.
-pub(crate) fn walk_read(reader: &mut Reader, node: u32, place: &mut [u32], size: &mut usize) -> u32
+pub(crate) fn read_walk(reader: &mut Reader, node: u32, place: &mut [u32], size: &mut usize) -> u32
     requires { size.old ≡ 0 }
     ensures reads_on { ReadsOn reader.old reader.new }
     ensures walk { TellsWalk reader.old reader.new node (outcome result place.old place.new size.new) }

@@ -5,8 +5,8 @@ ghost use Rattle.fr_route.specs.Blank.{is_blank};
 ghost use Rattle.revroute_c.specs.Lending.{held_by, IsNull};
 ghost use Rattle.revroute_c.specs.Replies.{least_room, outcome, AnswersApart, IsWritten};
 
-use crate::engine::Engine;
 use crate::handle::Handle;
+use crate::session_state::SessionState;
 use crate::statuses::{ANSWERED, BLANK, NO_MEMORY, TOO_SHORT};
 use fr_route::AnswerFault;
 use std::alloc::Global;
@@ -33,7 +33,7 @@ pub(crate) fn hand_out<T: Copy>(items: &[T], buffer: &mut [T], size: &mut usize)
 /// Answers a line that is not blank, in a buffer of at least [`LEAST_ROOM`] bytes. `size` must be 0, and stays 0 if
 /// there is no memory.
 pub(crate) fn reply(
-    engine: &mut Engine,
+    engine: &mut SessionState,
     alloc: Global,
     line: &[u8],
     answer: &mut [u8],
@@ -53,7 +53,7 @@ pub(crate) fn reply(
 }
 
 /// Does the same in a new session. The null handle gets the session if the line is answered.
-pub(crate) fn reply_anew(
+pub(crate) fn reply_in_new_session(
     handle: &mut Handle,
     alloc: Global,
     line: &[u8],
@@ -68,7 +68,7 @@ pub(crate) fn reply_anew(
         (outcome result answer.old answer.new size.new) }
     ensures kept { ¬ (result ≡ ANSWERED) → handle.new ≡ handle.old }
 {
-    let Ok(mut engine) = Box::new(alloc, Engine::new(alloc)) else {
+    let Ok(mut engine) = Box::new(alloc, SessionState::new(alloc)) else {
         return NO_MEMORY;
     };
     let status = reply(&mut engine, alloc, line, answer, size);

@@ -17,7 +17,7 @@ use crate::handle::Handle;
 use crate::link_faults::early_fault;
 use crate::records::{Link, LinkEdit, Refusal, Round, first_unknown, unknown_at};
 use crate::rounds::{
-    NewEdits, NewNetwork, change_in, move_dest_in, open_anew, open_in, refuse_links,
+    NewEdits, NewNetwork, change_in, move_dest_in, open_in, open_in_new_session, refuse_links,
 };
 use crate::statuses::{ANSWERED, NO_MEMORY, NO_NETWORK, REFUSED};
 use std::alloc::Global;
@@ -55,9 +55,9 @@ pub extern "C" fn revroute_open(
         return refuse_links(refusal, &fault);
     }
     let asked = NewNetwork { nodes, dest, links };
-    match handle.engine_mut() {
+    match handle.session_state_mut() {
         Some(engine) => open_in(engine, alloc, &asked, round, refusal),
-        None => open_anew(handle, alloc, &asked, round, refusal),
+        None => open_in_new_session(handle, alloc, &asked, round, refusal),
     }
 }
 
@@ -96,7 +96,7 @@ pub extern "C" fn revroute_change(
         *refusal = unknown_at(at);
         return REFUSED;
     }
-    match handle.engine_mut() {
+    match handle.session_state_mut() {
         Some(engine) => {
             let asked = NewEdits {
                 edits,
@@ -139,7 +139,7 @@ pub extern "C" fn revroute_change_with_ways(
         *refusal = unknown_at(at);
         return REFUSED;
     }
-    match handle.engine_mut() {
+    match handle.session_state_mut() {
         Some(engine) => {
             let asked = NewEdits {
                 edits,
@@ -170,7 +170,7 @@ pub extern "C" fn revroute_move_dest(
     ensures status { (result ≡ REVROUTE_ANSWERED) ⊎ (result ≡ REVROUTE_NO_MEMORY) ⊎ (result ≡ REVROUTE_NO_NETWORK)
         ⊎ (result ≡ REVROUTE_REFUSED) }
 {
-    match handle.engine_mut() {
+    match handle.session_state_mut() {
         Some(engine) => move_dest_in(engine, alloc, dest, round, refusal),
         None => NO_NETWORK,
     }

@@ -19,9 +19,9 @@ ghost use Rattle.revroute_c.specs.Rounds.{round_outcome, BeginsRound, IsChangeRe
 ghost use Rattle.revroute_c.specs.Rounds.{IsNewFault, IsNewRefused, KeepsPushes, first_step, nodes_named, nodes_of_edit};
 ghost use Rattle.revroute_c.specs.Rounds.{refusal_at};
 
-use crate::engine::Engine;
 use crate::handle::Handle;
 use crate::records::{Link, LinkEdit, Refusal, Round, edits_of, pairs_of, round_of};
+use crate::session_state::SessionState;
 use crate::statuses::{ANSWERED, NO_MEMORY, NO_NETWORK, REFUSED};
 use fr_graph::{EditFault, MAX_EDITS, Net, NetFault};
 use fr_readers::PublishedSession;
@@ -93,7 +93,7 @@ pub(crate) struct NewNetwork<'a> {
 
 impl<'a> NewNetwork<'a> {
     /// The router of the network. Fails with `Range` if the destination is not a node.
-    fn opened(&self, alloc: Global) -> Result<Router, NetFault>
+    fn open_router(&self, alloc: Global) -> Result<Router, NetFault>
         ensures accepted { IfOk result (IsAccepted None
             (new_network self.now.nodes self.now.dest (map link_of self.now.links.now))) }
         ensures refused { IfErr result (λ fault. fault ≢ Memory
@@ -122,7 +122,7 @@ pub(crate) fn refuse_links(refusal: &mut Refusal, fault: &NetFault) -> u32
 
 /// Replaces the network, and lists the nodes whose hop has changed.
 pub(crate) fn open_in(
-    engine: &mut Engine,
+    engine: &mut SessionState,
     alloc: Global,
     asked: &NewNetwork,
     round: &mut Round,
@@ -134,7 +134,7 @@ pub(crate) fn open_in(
     ensures pushes { engine.new.pushes ≡ engine.old.pushes }
     ensures status { (result ≡ ANSWERED) ⊎ (result ≡ NO_MEMORY) ⊎ (result ≡ REFUSED) }
 {
-    let router = match asked.opened(alloc) {
+    let router = match asked.open_router(alloc) {
         Ok(router) => router,
         Err(NetFault::Memory) => return NO_MEMORY,
         Err(fault) => return refuse_links(refusal, &fault),
@@ -148,7 +148,7 @@ pub(crate) fn open_in(
 }
 
 /// Does the same in a new session. The null handle gets the session if the network is accepted.
-pub(crate) fn open_anew(
+pub(crate) fn open_in_new_session(
     handle: &mut Handle,
     alloc: Global,
     asked: &NewNetwork,
@@ -164,7 +164,7 @@ pub(crate) fn open_anew(
     ensures kept { ¬ (result ≡ ANSWERED) → handle.new ≡ handle.old }
     ensures status { (result ≡ ANSWERED) ⊎ (result ≡ NO_MEMORY) ⊎ (result ≡ REFUSED) }
 {
-    let Ok(mut engine) = Box::new(alloc, Engine::new(alloc)) else {
+    let Ok(mut engine) = Box::new(alloc, SessionState::new(alloc)) else {
         return NO_MEMORY;
     };
     let status = open_in(&mut engine, alloc, asked, round, refusal);
@@ -175,7 +175,11 @@ pub(crate) fn open_anew(
 }
 
 /// The network with these edits made, or the first edit that is refused. Each kind must be known.
-pub(crate) fn edited(net: &Net, alloc: Global, edits: &[LinkEdit]) -> Result<Net, EditFault>
+pub(crate) fn network_with_edits(
+    net: &Net,
+    alloc: Global,
+    edits: &[LinkEdit],
+) -> Result<Net, EditFault>
     ensures few { IfOk result (λ _. length edits.now ≤ most_edits) }
     ensures made { IfOk result (AreMade net.now (map edit_of edits.now)) }
     ensures refused { IfErr result (λ refused. refused.fault ≢ Memory
@@ -186,7 +190,7 @@ pub(crate) fn edited(net: &Net, alloc: Global, edits: &[LinkEdit]) -> Result<Net
 }
 
 /// Writes why edits of a network are not made, and which of them is refused.
-fn tell_undone(edits: &[LinkEdit], undone: NotMade, refusal: &mut Refusal) -> u32
+fn report_refused_edit(edits: &[LinkEdit], undone: NotMade, refusal: &mut Refusal) -> u32
     requires few { length edits.now ≤ most_edits }
     requires undone { (s : State) × IsPlaced s (map edit_of edits.now) s.dest undone × (undone.fault ≢ Start) }
     ensures refused { result ≡ REFUSED → (s : State) → IsPlaced s (map edit_of edits.now) s.dest undone
@@ -232,7 +236,7 @@ fn change_published(
 
 /// Makes edits of known kinds, with one round after the last, and lists the nodes that it reroutes.
 pub(crate) fn change_in(
-    engine: &mut Engine,
+    engine: &mut SessionState,
     alloc: Global,
     asked: &NewEdits<'_>,
     round: &mut Round,
@@ -264,14 +268,14 @@ pub(crate) fn change_in(
             *round = round_of(report);
             ANSWERED
         }
-        Some(Err(undone)) => tell_undone(edits, undone, refusal),
+        Some(Err(undone)) => report_refused_edit(edits, undone, refusal),
         None => unreachable!(),
     }
 }
 
 /// Moves the destination, with one round after it, and lists the nodes that it reroutes.
 pub(crate) fn move_dest_in(
-    engine: &mut Engine,
+    engine: &mut SessionState,
     alloc: Global,
     dest: u32,
     round: &mut Round,

@@ -39,7 +39,7 @@ pub extern "C" fn revroute_ways(
     ensures status { (result ≡ REVROUTE_ANSWERED) ⊎ ((REVROUTE_TOO_SHORT ≤ result) × (result ≤ REVROUTE_NO_ROUTE)) }
 {
     *size = 0;
-    match handle.engine_mut() {
+    match handle.session_state_mut() {
         Some(engine) => ways_in(&mut engine.published, &mut engine.ways, node, ways, size),
         None => NO_NETWORK,
     }
@@ -53,7 +53,7 @@ pub extern "C" fn revroute_distance(handle: &mut Handle, node: u32) -> u32
     ensures distance { TellsDistance handle.old.session node result }
     ensures same { IsUnchanged handle.old handle.new }
 {
-    match handle.engine_mut() {
+    match handle.session_state_mut() {
         Some(engine) => distance_in(&mut engine.published, node),
         None => HOP_OF_NO_NETWORK,
     }
@@ -78,7 +78,7 @@ pub extern "C" fn revroute_nearest(
     ensures status { (result ≡ REVROUTE_ANSWERED) ⊎ ((REVROUTE_TOO_SHORT ≤ result) × (result ≤ REVROUTE_NO_ROUTE)) }
 {
     *size = 0;
-    match handle.engine_mut() {
+    match handle.session_state_mut() {
         Some(engine) => nearest_in(&mut engine.published, alloc, node, nodes, size),
         None => NO_NETWORK,
     }
@@ -109,7 +109,7 @@ pub extern "C" fn revroute_all_ways(
     ensures status { (result ≡ REVROUTE_ANSWERED) ⊎ ((REVROUTE_TOO_SHORT ≤ result) × (result ≤ REVROUTE_NO_NETWORK)) }
 {
     *size = 0;
-    match handle.engine_mut() {
+    match handle.session_state_mut() {
         Some(engine) => all_ways_in(engine.session(), alloc, starts, ways, size),
         None => NO_NETWORK,
     }
@@ -149,7 +149,7 @@ pub extern "C" fn revroute_shrink(
         ⊎ (result ≡ REVROUTE_NO_TABLE) }
 {
     *size = 0;
-    match handle.engine_mut() {
+    match handle.session_state_mut() {
         Some(engine) => way_pushes_in(
             engine.session(),
             alloc,
@@ -187,7 +187,7 @@ pub extern "C" fn revroute_grow(
         ⊎ (result ≡ REVROUTE_NO_TABLE) }
 {
     *size = 0;
-    match handle.engine_mut() {
+    match handle.session_state_mut() {
         Some(engine) => way_pushes_in(
             engine.session(),
             alloc,
@@ -225,7 +225,7 @@ pub extern "C" fn revroute_change_shrink(
     ensures status { (result ≡ REVROUTE_ANSWERED) ⊎ (result ≡ REVROUTE_TOO_SHORT) ⊎ (result ≡ REVROUTE_NO_MEMORY) }
 {
     *size = 0;
-    match handle.engine_mut() {
+    match handle.session_state_mut() {
         Some(engine) => hand_out_pushes(alloc, &engine.published.shrink(), pushes, size),
         None => hand_out(&[], pushes, size),
     }
@@ -246,7 +246,7 @@ pub extern "C" fn revroute_change_grow(
     ensures status { (result ≡ REVROUTE_ANSWERED) ⊎ (result ≡ REVROUTE_TOO_SHORT) ⊎ (result ≡ REVROUTE_NO_MEMORY) }
 {
     *size = 0;
-    match handle.engine_mut() {
+    match handle.session_state_mut() {
         Some(engine) => hand_out_pushes(alloc, &engine.published.grow(), pushes, size),
         None => hand_out(&[], pushes, size),
     }

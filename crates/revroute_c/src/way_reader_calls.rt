@@ -18,8 +18,8 @@ use crate::handle::Handle;
 use crate::questions::HOP_OF_NO_NETWORK;
 use crate::statuses::{ANSWERED, NO_MEMORY, NO_NETWORK};
 use crate::way_reader_handle::WayReaderHandle;
-use crate::way_reader_opening::{way_reader_anew, way_reader_in};
-use crate::way_readers::{way_read, ways_copied, ways_read};
+use crate::way_reader_opening::{way_reader_in, way_reader_of_new_session};
+use crate::way_readers::{copy_way_reader, read_way, read_ways};
 use std::alloc::Global;
 
 /// Opens a reader of the session's ways, which knows all pushes made so far, and puts it into `reader`. A reader that
@@ -42,9 +42,9 @@ pub extern "C" fn revroute_way_reader_open(
     ensures handle { (handle.new.at ≡ handle.old.at) ⊎ ((handle.old.at ≡ null_ptr) × (result ≡ REVROUTE_ANSWERED)) }
     ensures status { (result ≡ REVROUTE_ANSWERED) ⊎ (result ≡ REVROUTE_NO_MEMORY) }
 {
-    let opened = match handle.engine_mut() {
+    let opened = match handle.session_state_mut() {
         Some(engine) => way_reader_in(engine, alloc),
-        None => way_reader_anew(handle, alloc),
+        None => way_reader_of_new_session(handle, alloc),
     };
     match opened {
         Ok(opened) => {
@@ -72,7 +72,7 @@ pub extern "C" fn revroute_way_reader_copy(
     let Some(held) = reader.reader_mut() else {
         return NO_NETWORK;
     };
-    let Ok(copy) = ways_copied(held, alloc) else {
+    let Ok(copy) = copy_way_reader(held, alloc) else {
         return NO_MEMORY;
     };
     WayReaderHandle::put(other, alloc, copy);
@@ -132,7 +132,7 @@ pub extern "C" fn revroute_way_reader_ways(
 {
     *size = 0;
     match reader.reader_mut() {
-        Some(held) => ways_read(held, node, ways, size),
+        Some(held) => read_ways(held, node, ways, size),
         None => NO_NETWORK,
     }
 }
@@ -153,7 +153,7 @@ pub extern "C" fn revroute_way_reader_way(
     ensures same_handle { reader.new.at ≡ reader.old.at }
 {
     match reader.reader_mut() {
-        Some(held) => way_read(held, node, choice),
+        Some(held) => read_way(held, node, choice),
         None => HOP_OF_NO_NETWORK,
     }
 }

@@ -4,13 +4,16 @@ ghost use Rattle.std.specs.Prelude.{◌≡◌, IfOk, OnErr};
 ghost use Rattle.revroute_c.specs.Lending.{held_by, IsNull};
 ghost use Rattle.revroute_c.specs.ReaderOpening.{OpensWays, ReadsWaysOf};
 
-use crate::engine::Engine;
 use crate::handle::Handle;
+use crate::session_state::SessionState;
 use fr_shared_ways::Reader;
 use std::alloc::{AllocError, Global};
 
 /// A reader of the session's ways.
-pub(crate) fn way_reader_in(engine: &mut Engine, alloc: Global) -> Result<Box<Reader>, AllocError>
+pub(crate) fn way_reader_in(
+    engine: &mut SessionState,
+    alloc: Global,
+) -> Result<Box<Reader>, AllocError>
     ensures opens { OpensWays engine.old engine.new }
     ensures reader { IfOk result (λ reader. ReadsWaysOf engine.new reader.value) }
 {
@@ -21,13 +24,16 @@ pub(crate) fn way_reader_in(engine: &mut Engine, alloc: Global) -> Result<Box<Re
 }
 
 /// Makes a reader of the ways of a new session, which the null handle gets.
-pub(crate) fn way_reader_anew(handle: &mut Handle, alloc: Global) -> Result<Box<Reader>, AllocError>
+pub(crate) fn way_reader_of_new_session(
+    handle: &mut Handle,
+    alloc: Global,
+) -> Result<Box<Reader>, AllocError>
     requires { IsNull handle.old }
     ensures opens { OpensWays (held_by handle.old) (held_by handle.new) }
     ensures reader { IfOk result (λ reader. ReadsWaysOf (held_by handle.new) reader.value) }
     ensures kept { OnErr result (handle.new ≡ handle.old) }
 {
-    let mut engine = Box::new(alloc, Engine::new(alloc))?;
+    let mut engine = Box::new(alloc, SessionState::new(alloc))?;
     let reader = way_reader_in(&mut engine, alloc)?;
     Handle::put(handle, engine);
     Ok(reader)

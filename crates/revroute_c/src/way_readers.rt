@@ -11,7 +11,7 @@ use fr_shared_ways::Reader;
 use std::alloc::{AllocError, Global};
 
 /// One more reader of the same table.
-pub(crate) fn ways_copied(reader: &mut Reader, alloc: Global) -> Result<Box<Reader>, AllocError>
+pub(crate) fn copy_way_reader(reader: &mut Reader, alloc: Global) -> Result<Box<Reader>, AllocError>
     ensures same { reader.new ≡ reader.old }
     ensures other { IfOk result (λ other. other.value ≡ reader.old) }
 {
@@ -20,7 +20,7 @@ pub(crate) fn ways_copied(reader: &mut Reader, alloc: Global) -> Result<Box<Read
 }
 
 /// Writes the first ways of a node to the front of a place. `size` must be 0.
-pub(crate) fn ways_read(reader: &mut Reader, node: u32, ways: &mut [u32], size: &mut usize) -> u32
+pub(crate) fn read_ways(reader: &mut Reader, node: u32, ways: &mut [u32], size: &mut usize) -> u32
     requires { size.old ≡ 0 }
     ensures ways { TellsWaysRead reader.old reader.new node (outcome result ways.old ways.new size.new) }
     ensures status { (result ≡ ANSWERED) ⊎ (result ≡ TOO_SHORT) ⊎ (result ≡ NO_ROUTE) }
@@ -34,7 +34,7 @@ pub(crate) fn ways_read(reader: &mut Reader, node: u32, ways: &mut [u32], size: 
 }
 
 /// The chosen way of a node as a number.
-pub(crate) fn way_read(reader: &mut Reader, node: u32, choice: u32) -> u32
+pub(crate) fn read_way(reader: &mut Reader, node: u32, choice: u32) -> u32
     ensures { TellsWayRead reader.old reader.new node choice result }
 {
     if node >= reader.nodes() {

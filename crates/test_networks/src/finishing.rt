@@ -1,4 +1,4 @@
-//! Counts: which are lawful, the results of `finish`, `finish_turns`, `finish_from` and `finish_soon`, which nodes are
+//! Counts: which are lawful, the results of `finish`, `finish_turns`, `finish_from` and `finish_if_few`, which nodes are
 //! sinks, and in which direction a link points.
 
 ghost use Rattle.std.specs.Prelude.{◌≡◌, ℕ, ◌<◌, IsTrue, All, false};
@@ -12,7 +12,7 @@ use crate::answers::Answer;
 use crate::cases::{count, counts, items, number, numbers, word};
 use crate::tables::none;
 use fr_core::{
-    are_settled, can_turn, finish, finish_from, finish_soon, finish_turns, is_sink, lawful, sense,
+    are_settled, can_turn, finish, finish_from, finish_if_few, finish_turns, is_sink, lawful, sense,
 };
 use fr_net::{First, Net, Turns};
 use serde_json::Value;
@@ -146,7 +146,7 @@ fn go_on(
     answer.comma();
     match word(answer, asked) {
         "from" => finish_from(net, dest, turns, &from),
-        "soon" => answer.say(if finish_soon(net, dest, turns, &from) {
+        "soon" => answer.say(if finish_if_few(net, dest, turns, &from) {
             "all turned, "
         } else {
             "gave up, "
@@ -167,7 +167,7 @@ fn tell_state(answer: &mut Answer, net: &Net, dest: u32, counts: &[u64]) {
     });
 }
 
-/// Whether these are nodes that include all that can turn, as `finish_from` and `finish_soon` require.
+/// Whether these are nodes that include all that can turn, as `finish_from` and `finish_if_few` require.
 fn hold_all(net: &Net, dest: u32, counts: &[u64], from: &[u32]) -> bool
     requires { AreLawful net.now.nodes dest net.now.links counts.now }
     ensures { IsTrue result → HoldsAllThatCanTurn net.now.nodes dest net.now.links counts.now from.now }

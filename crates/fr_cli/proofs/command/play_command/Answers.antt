@@ -10,4 +10,4 @@ returns c =
     (makes_rule _ _ _ _ _ (c.option-seed.ensures.rule ∙ (λ i. option_of (codes "seed") (codes "0") (c.value_parser.ensures i)))
     c.with_option-2.ensures
     (makes_rule _ _ _ _ _ (c.option-workers.ensures.rule ∙ (λ i. option_of (codes "workers") (codes "2") (c.worker_numbers.ensures i)))
-    c.with_option.ensures c.described-command.ensures))
+    c.with_option.ensures c.described_command-command.ensures))

@@ -4,5 +4,5 @@ pub returns : goal.returns
 returns c =
     c.with_subcommand.ensures _ _
     (c.with_subcommand-command-2.ensures _ _
-    (c.with_subcommand-command.ensures _ _ c.bare_command-command.ensures c.answering.ensures)
-    c.answering-2.ensures) c.play_command.ensures
+    (c.with_subcommand-command.ensures _ _ c.bare_command-command.ensures c.answering_command.ensures)
+    c.answering_command-2.ensures) c.play_command.ensures

@@ -28,27 +28,27 @@ loop-done-preserved g c =
     let done : ℕ = c.loop-done.done in
     let count : ℕ = c.in_ok-count.count in
     let old = g.S.Stream.traffic c.args.stream.now in
-    let new = g.S.Stream.traffic c.answer_front.new.stream in
+    let new = g.S.Stream.traffic c.answer_first_line.new.stream in
     let size : count ≡ line_size (drop done piece) = rw (rest_is piece done) at c.in_ok-count.ensures.count in
     let more = rw (rest_is piece done) at c.in_ok-count.ensures.ok in
-    let told = tells_on c.args.conversation.now c.loop-done.conversation c.answer_front.new.conversation
+    let told = tells_on c.args.conversation.now c.loop-done.conversation c.answer_first_line.new.conversation
     (take done piece) (take count (drop done piece)) old (g.S.Stream.traffic c.loop-done.stream) new
     c.loop-done.invariant.tells more in
     record {
       in_range = omega (arith, size, length-drop done piece);
-      tells = subst (λ (l : List ℕ). Tells c.args.conversation.now l c.answer_front.new.conversation old new)
+      tells = subst (λ (l : List ℕ). Tells c.args.conversation.now l c.answer_first_line.new.conversation old new)
           (sym (take-add done count piece)) told;
     }
 
 pub returns-in_err-count-clause-fault : goal.returns-in_err-count-clause-fault
 returns-in_err-count-clause-fault g c =
     let first = c.args.conversation.now in
-    let last = c.answer_front.new.conversation in
+    let last = c.answer_first_line.new.conversation in
     let piece = c.args.piece.now in
     let done = c.loop-done.done in
     let old = g.S.Stream.traffic c.args.stream.now in
     let mid = g.S.Stream.traffic c.loop-done.stream in
-    let new = g.S.Stream.traffic c.answer_front.new.stream in
+    let new = g.S.Stream.traffic c.answer_first_line.new.stream in
     let fault = c.in_err-count.field-0.0 in
     let why = rw (rest_is piece done) at c.in_err-count.ensures.fault in
     let says = tells_says first c.loop-done.conversation (take done piece) old mid c.loop-done.invariant.tells in
@@ -60,7 +60,7 @@ pub returns-in_err-count-clause-unread : goal.returns-in_err-count-clause-unread
 returns-in_err-count-clause-unread g c =
     let old = g.S.Stream.traffic c.args.stream.now in
     let mid = g.S.Stream.traffic c.loop-done.stream in
-    nothing_on old mid (g.S.Stream.traffic c.answer_front.new.stream)
+    nothing_on old mid (g.S.Stream.traffic c.answer_first_line.new.stream)
     (write_reads_nothing old mid c.loop-done.invariant.tells.text c.loop-done.invariant.tells.writes)
     c.in_err-count.ensures.unread
 

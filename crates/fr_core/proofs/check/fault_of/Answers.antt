@@ -42,24 +42,24 @@ returns-in-Held-clause-some c =
 pub returns-in-Moved-clause-none : goal.returns-in-Moved-clause-none
 returns-in-Moved-clause-none c =
     legal_as c.args.net.now.nodes c.args.dest (moment_of c.args.net.now.links c.args.counts.now)
-    c.args.entry _ c.moved_fault.result (omega (arith, c.if-x-nodes.false, c.nodes-nodes.ensures.value)) c.in-Moved.is c.moved_fault.ensures.none
+    c.args.entry _ c.new_count_fault.result (omega (arith, c.if-x-nodes.false, c.nodes-nodes.ensures.value)) c.in-Moved.is c.new_count_fault.ensures.none
 
 pub returns-in-Moved-clause-some : goal.returns-in-Moved-clause-some
 returns-in-Moved-clause-some c =
     fails_as c.args.net.now.nodes c.args.dest (moment_of c.args.net.now.links c.args.counts.now)
-    c.args.entry _ c.moved_fault.result (omega (arith, c.if-x-nodes.false, c.nodes-nodes.ensures.value)) c.in-Moved.is c.moved_fault.ensures.some
+    c.args.entry _ c.new_count_fault.result (omega (arith, c.if-x-nodes.false, c.nodes-nodes.ensures.value)) c.in-Moved.is c.new_count_fault.ensures.some
 
 pub returns-in-Cut-clause-none : goal.returns-in-Cut-clause-none
 returns-in-Cut-clause-none c =
     legal_as c.args.net.now.nodes c.args.dest (moment_of c.args.net.now.links c.args.counts.now)
-    c.args.entry _ c.cut_fault.result (omega (arith, c.if-x-nodes.false, c.nodes-nodes.ensures.value)) c.in-Cut.is
-    (rw c.nodes-nodes.ensures.value at c.cut_fault.ensures.none)
+    c.args.entry _ c.cut_off_fault.result (omega (arith, c.if-x-nodes.false, c.nodes-nodes.ensures.value)) c.in-Cut.is
+    (rw c.nodes-nodes.ensures.value at c.cut_off_fault.ensures.none)
 
 pub returns-in-Cut-clause-some : goal.returns-in-Cut-clause-some
 returns-in-Cut-clause-some c =
     fails_as c.args.net.now.nodes c.args.dest (moment_of c.args.net.now.links c.args.counts.now)
-    c.args.entry _ c.cut_fault.result (omega (arith, c.if-x-nodes.false, c.nodes-nodes.ensures.value)) c.in-Cut.is
-    (rw c.nodes-nodes.ensures.value at c.cut_fault.ensures.some)
+    c.args.entry _ c.cut_off_fault.result (omega (arith, c.if-x-nodes.false, c.nodes-nodes.ensures.value)) c.in-Cut.is
+    (rw c.nodes-nodes.ensures.value at c.cut_off_fault.ensures.some)
 
 pub returns-in-Sink-clause-none : goal.returns-in-Sink-clause-none
 returns-in-Sink-clause-none c =

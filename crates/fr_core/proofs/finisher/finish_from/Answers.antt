@@ -1,9 +1,9 @@
 use Rattle.fr_core.proofs.Settling.{settled_from_none}
 use Rattle.fr_core.proofs.finisher.finish_from.Goals as goal
 
-pub returns-else-not-turn_few : goal.returns-else-not-turn_few
-returns-else-not-turn_few c =
+pub returns-else-not-turn_while_cheap : goal.returns-else-not-turn_while_cheap
+returns-else-not-turn_while_cheap c =
     let net = c.args.net.now in
-    let turned = c.turn_few in
+    let turned = c.turn_while_cheap in
     settled_from_none net.nodes c.args.dest net.links c.network_law.ensures.is_net c.requires.node turned.new.turns
-    turned.ensures.lawful (turned.ensures.none c.if-not-turn_few.false)
+    turned.ensures.lawful (turned.ensures.none c.if-not-turn_while_cheap.false)

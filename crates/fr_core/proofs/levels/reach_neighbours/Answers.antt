@@ -7,8 +7,8 @@ use Rattle.fr_graph.specs.declared.first.First.{First}
 use Rattle.fr_graph.specs.declared.first.First.TheVariants.{Outward}
 use Rattle.fr_core.proofs.levels.reach_neighbours.Goals as goal
 
-pub reach-requires-clause-node : goal.reach-requires-clause-node
-reach-requires-clause-node c =
+pub reach_neighbour-requires-clause-node : goal.reach_neighbour-requires-clause-node
+reach_neighbour-requires-clause-node c =
     let net = c.args.net.now in
     let below : All (λ (e : ℕ × First). e.0 < net.nodes) c.row-entry-items.result.now = rw c.row-entry-items.ensures (row_below net.nodes net.links c.args.x) in
     below c.loop-entry.entry-index (0, Outward) c.loop-entry-test.true
@@ -19,9 +19,9 @@ loop-entry-preserved c =
     let same : length c.row-entry-items.result.now ≡ length (row net.nodes net.links c.args.x) = ap length c.row-entry-items.ensures in
     let p = reached_step net.nodes c.args.level.count (row net.nodes net.links c.args.x)
     c.args.level.wanted c.args.counts.now c.args.queue.now c.loop-entry.entry-index (omega arith)
-    c.loop-entry.counts c.loop-entry.queue c.reach.new.counts c.reach.new.queue
-    (c.loop-entry.invariant.only, c.loop-entry.invariant.reached) (rw c.row-entry-items.ensures at c.reach.ensures.only)
-    (rw c.row-entry-items.ensures at c.reach.ensures.reached) in
+    c.loop-entry.counts c.loop-entry.queue c.reach_neighbour.new.counts c.reach_neighbour.new.queue
+    (c.loop-entry.invariant.only, c.loop-entry.invariant.reached) (rw c.row-entry-items.ensures at c.reach_neighbour.ensures.only)
+    (rw c.row-entry-items.ensures at c.reach_neighbour.ensures.reached) in
     record { only = p.0; reached = p.1 }
 
 pub returns-clause-reached : goal.returns-clause-reached

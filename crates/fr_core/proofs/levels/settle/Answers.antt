@@ -7,15 +7,15 @@ use Rattle.fr_core.proofs.levels.settle.Goals as goal
 pub loop-start-init : goal.loop-start-init
 loop-start-init c =
     let net = c.args.net.now in
-    rw (c.push.ensures, c.new-queue.ensures) (search_starts net.nodes c.args.dest net.links c.clear.new.counts (omega arith) c.requires.node c.clear.ensures)
+    rw (c.push.ensures, c.new-queue.ensures) (search_starts net.nodes c.args.dest net.links c.set_greatest_counts.new.counts (omega arith) c.requires.node c.set_greatest_counts.ensures)
 
-pub open_level-requires-clause-search : goal.open_level-requires-clause-search
-open_level-requires-clause-search c =
+pub start_next_level-requires-clause-search : goal.start_next_level-requires-clause-search
+start_next_level-requires-clause-search c =
     let net = c.args.net.now in
-    let q : List ℕ = c.close_level.new.queue in
-    let s = next_level net.nodes (slice_index c.loop-start.queue 0) net.links c.close_level.new.counts q c.loop-start.start
-    c.loop-start.count c.close_level.ensures.search (omega (arith, c.close_level.ensures.longer)) in
-    subst (λ (d : ℕ). IsLevelSearch net.nodes d net.links c.close_level.new.counts q (length q) c.loop-start.start
+    let q : List ℕ = c.complete_level.new.queue in
+    let s = next_level net.nodes (slice_index c.loop-start.queue 0) net.links c.complete_level.new.counts q c.loop-start.start
+    c.loop-start.count c.complete_level.ensures.search (omega (arith, c.complete_level.ensures.longer)) in
+    subst (λ (d : ℕ). IsLevelSearch net.nodes d net.links c.complete_level.new.counts q (length q) c.loop-start.start
     (length q) (c.loop-start.count + 1)) (sym s.head) s
 
 pub returns : goal.returns

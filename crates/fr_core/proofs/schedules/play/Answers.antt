@@ -11,7 +11,7 @@ use Rattle.fr_core.specs.declared.play_fault.PlayFault.{PlayFault}
 use Rattle.fr_core.specs.declared.play_fault.PlayFault.TheVariants.{BadTarget, Memory, Range}
 use Rattle.fr_core.specs.declared.targets.Target.{Target}
 use Rattle.fr_core.proofs.schedules.play.Goals as goal
-use Rattle.fr_core.proofs.schedules.play.Goals.{then-dest-nodes-via-then-dest-nodes, then-dest-nodes-via-else-dest-nodes+then-names_no_worker}
+use Rattle.fr_core.proofs.schedules.play.Goals.{then-dest-nodes-via-then-dest-nodes, then-dest-nodes-via-else-dest-nodes+then-names_unknown_worker}
 
 -- where no number is found that names no worker, each names one
 all_named : (targets : List (Vec Target Global)) (schedule : List ℕ) (workers : ℕ) (found : Bool) → workers ≡ length targets
@@ -35,17 +35,17 @@ fault_of_play n d links targets schedule Memory range h = absurd h
 pub returns-then-dest-nodes-clause-refused : goal.returns-then-dest-nodes-clause-refused
 returns-then-dest-nodes-clause-refused c _ = elim c.then-dest-nodes.branch [
   | then-dest-nodes-via-then-dest-nodes w ↦ inl (omega (arith, w.if-dest-nodes.true, c.nodes.ensures.value))
-  | then-dest-nodes-via-else-dest-nodes+then-names_no_worker w ↦
+  | then-dest-nodes-via-else-dest-nodes+then-names_unknown_worker w ↦
       let each : w.len.result ≡ length (lists_of c.args.targets.items) =
       omega (arith, w.len.ensures, length-map c.args.targets.items (λ (v : Vec Target Global). v.items)) in
-      inr (subst (λ (workers : ℕ). Any (λ k. workers ≤ k) c.args.schedule.now) each (w.names_no_worker.ensures.0 w.if-names_no_worker.true))
+      inr (subst (λ (workers : ℕ). Any (λ k. workers ≤ k) c.args.schedule.now) each (w.names_unknown_worker.ensures.0 w.if-names_unknown_worker.true))
 ]
 
-pub follow-requires : goal.follow-requires
-follow-requires c i d l =
+pub follow_schedule-requires : goal.follow_schedule-requires
+follow_schedule-requires c i d l =
     let lists = lists_of c.args.targets.items in
-    let named = all_named c.args.targets.items c.args.schedule.now c.len.result c.names_no_worker.result
-    (omega arith) c.if-names_no_worker.false c.names_no_worker.ensures.1 in
+    let named = all_named c.args.targets.items c.args.schedule.now c.len.result c.names_unknown_worker.result
+    (omega arith) c.if-names_unknown_worker.false c.names_unknown_worker.ensures.1 in
     let workers : length c.in_ok-machine.machine.state.workers ≡ length (map fresh lists) =
     ap (λ (m : MachineView). length m.state.workers) c.in_ok-machine.ensures.ok in
     omega (arith, named i d l, workers, length-map lists fresh)
@@ -54,24 +54,24 @@ pub returns-in_err-machine-clause-refused : goal.returns-in_err-machine-clause-r
 returns-in_err-machine-clause-refused c =
     let net = c.args.net.now in
     let lists = lists_of c.args.targets.items in
-    let named = all_named c.args.targets.items c.args.schedule.now c.len.result c.names_no_worker.result
-    (omega arith) c.if-names_no_worker.false c.names_no_worker.ensures.1 in
+    let named = all_named c.args.targets.items c.args.schedule.now c.len.result c.names_unknown_worker.result
+    (omega arith) c.if-names_unknown_worker.false c.names_unknown_worker.ensures.1 in
     let range : IsPlayInRange net.nodes c.args.dest lists c.args.schedule.now =
     record { destination = omega (arith, c.if-dest-nodes.false, c.nodes.ensures.value); workers = named } in
     let told = err_from_is_err_and c.from_residual.result c.from_residual.ensures.1 in
     rw (told.1, told.2) (λ other. fault_of_play net.nodes c.args.dest net.links lists c.args.schedule.now _ range (c.in_err-machine.ensures.refused other))
 
-pub returns-in_err-follow-clause-refused : goal.returns-in_err-follow-clause-refused
-returns-in_err-follow-clause-refused c =
-    let told = err_from_is_err_and c.from_residual-in_err-follow.result c.from_residual-in_err-follow.ensures.1 in
+pub returns-in_err-follow_schedule-clause-refused : goal.returns-in_err-follow_schedule-clause-refused
+returns-in_err-follow_schedule-clause-refused c =
+    let told = err_from_is_err_and c.from_residual-in_err-follow_schedule.result c.from_residual-in_err-follow_schedule.ensures.1 in
     rw (told.1, told.2) (λ other. absurd (other refl))
 
 pub returns-clause-ok : goal.returns-clause-ok
 returns-clause-ok c =
     let net = c.args.net.now in
     let lists = lists_of c.args.targets.items in
-    let named = all_named c.args.targets.items c.args.schedule.now c.len.result c.names_no_worker.result
-    (omega arith) c.if-names_no_worker.false c.names_no_worker.ensures.1 in
-    played net.nodes c.args.dest net.links lists c.args.schedule.now c.in_ok-follow.field-0.items c.nodes.ensures.faultless.is_net
+    let named = all_named c.args.targets.items c.args.schedule.now c.len.result c.names_unknown_worker.result
+    (omega arith) c.if-names_unknown_worker.false c.names_unknown_worker.ensures.1 in
+    played net.nodes c.args.dest net.links lists c.args.schedule.now c.in_ok-follow_schedule.field-0.items c.nodes.ensures.faultless.is_net
     (record { in_range = record { destination = c.in_ok-machine.ensures.destination; workers = named }; accepted = c.in_ok-machine.ensures.accepted })
-    (c.in_ok-follow.ensures ∙ ap (λ (m : MachineView). entries_of m.nodes m.links m.state c.args.schedule.now) c.in_ok-machine.ensures.ok)
+    (c.in_ok-follow_schedule.ensures ∙ ap (λ (m : MachineView). entries_of m.nodes m.links m.state c.args.schedule.now) c.in_ok-machine.ensures.ok)

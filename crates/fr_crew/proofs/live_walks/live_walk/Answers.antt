@@ -28,8 +28,8 @@ returns-in_err-nodes-clause-refused c =
     if_memory (λ fault. IsLiveFault round.setup c.args.x fault × (c.args.worker.now ≡ c.args.worker.now))
     c.from_residual.result c.from_residual.ensures.1 (lookable, refl)
 
-pub walk_on-end-requires-clause-node : goal.walk_on-end-requires-clause-node
-walk_on-end-requires-clause-node c =
+pub continue_walk-end-requires-clause-node : goal.continue_walk-end-requires-clause-node
+continue_walk-end-requires-clause-node c =
     let net = c.net-net.result.now in
     let some : c.degree.result ≡ 0 → ⊥ = grind (arith, nat_tests) in
     lookable_in c.args.round.now.setup net.nodes net.links c.args.x c.degree.result c.net-net.ensures.nodes

@@ -18,5 +18,5 @@ returns c =
     let path = c.loop-descent.descent.path in
     let last = path.len - 1 in
     let whole : last + 1 ≡ length (nodes_of path.items) = omega (arith, inv.descent.full, path.ok.0, length-map path.items (λ (s : Step). s.node)) in
-    let ends = descent_ends inv.descent last whole (sym c.last.ensures ∙ c.loop-descent-test.false ∙ sym inv.end) in
-    IfOk-weaker c.walk.result _ _ (λ walk is. rw is (rw inv.end (rw (inv.end, inv.start) at ends))) c.walk.ensures
+    let ends = descent_ends inv.descent last whole (sym c.last_on_path.ensures ∙ c.loop-descent-test.false ∙ sym inv.end) in
+    IfOk-weaker c.closed_walk.result _ _ (λ walk is. rw is (rw inv.end (rw (inv.end, inv.start) at ends))) c.closed_walk.ensures

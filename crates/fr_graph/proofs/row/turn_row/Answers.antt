@@ -14,7 +14,7 @@ loop-entry-preserved c =
     let d : ℕ × First = (0, Outward) in
     let inside : i < length c.args.row.now = c.loop-entry-test.true in
     let here : i < length now = omega (arith, inside, c.loop-entry.auto.row) in
-    ap (slice_set now i) c.turned_at.ensures
+    ap (slice_set now i) c.entry_after_turns.ensures
     ∙ map_over_more (turned_entry c.args.counts.now c.args.x) c.args.row.now now i
     (get_or now i d) inside c.loop-entry.invariant (get_or_default now i d (get_or now i d) here)
 
@@ -26,8 +26,8 @@ ahead f row i d inside =
     let seam = get_or-append_seam (map f (take i row)) (get_or row i d) (drop (suc i) row) d in
     rw (drop-cons row i d inside) (subst (λ (k : ℕ). get_or (map f (take i row) ++ get_or row i d ∷ drop (suc i) row) k d ≡ get_or row i d) front seam)
 
-pub turned_at-requires-clause-neighbour : goal.turned_at-requires-clause-neighbour
-turned_at-requires-clause-neighbour c =
+pub entry_after_turns-requires-clause-neighbour : goal.entry_after_turns-requires-clause-neighbour
+entry_after_turns-requires-clause-neighbour c =
     let d : ℕ × First = (0, Outward) in
     let i = c.loop-entry.entry-index in
     let read = ahead (turned_entry c.args.counts.now c.args.x) c.args.row.now i d c.loop-entry-test.true in

@@ -7,10 +7,10 @@ use Rattle.fr_nearest.specs.Update.{HoldTo}
 use Rattle.fr_nearest.proofs.Entries.{entry_inside, hold_more}
 use Rattle.fr_nearest.proofs.Keeping.{stays_by}
 use Rattle.fr_nearest.proofs.affected.keeps_order.Goals as goal
-use Rattle.fr_nearest.proofs.affected.keeps_order.Goals.{else-eq-via-then-eq+else-not-is_alike, else-eq-via-else-eq}
+use Rattle.fr_nearest.proofs.affected.keeps_order.Goals.{else-eq-via-then-eq+else-not-has_same_order, else-eq-via-else-eq}
 
-pub is_alike-requires-clause-before : goal.is_alike-requires-clause-before
-is_alike-requires-clause-before c =
+pub has_same_order-requires-clause-before : goal.has_same_order-requires-clause-before
+has_same_order-requires-clause-before c =
     let each : length c.numbers_before-before.result.now ≡ c.args.net.now.nodes =
     ap length c.numbers_before-before.ensures ∙ c.requires.one_each.1 in (
       omega (arith, each, c.requires.nodes.1),
@@ -18,8 +18,8 @@ is_alike-requires-clause-before c =
           c.row-row.ensures c.loop-u-test.true each,
     )
 
-pub is_alike-requires-clause-table : goal.is_alike-requires-clause-table
-is_alike-requires-clause-table c =
+pub has_same_order-requires-clause-table : goal.has_same_order-requires-clause-table
+has_same_order-requires-clause-table c =
     let each : length c.numbers-table.result.now ≡ c.args.net.now.nodes =
     ap length c.numbers-table.ensures ∙ c.requires.one_each.0 in (
       omega (arith, each, c.requires.nodes.1),
@@ -34,7 +34,7 @@ loop-u-preserved c =
     let entries = c.row-row.result.now in
     let place = c.loop-u.u-index in
     hold_more (IsAlikeAt before table c.args.w) entries place c.loop-u-test.true c.loop-u.invariant (elim c.else-eq.branch [
-      | else-eq-via-then-eq+else-not-is_alike w ↦ λ _. w.is_alike.ensures w.if-not-is_alike.false
+      | else-eq-via-then-eq+else-not-has_same_order w ↦ λ _. w.has_same_order.ensures w.if-not-has_same_order.false
       | else-eq-via-else-eq w ↦ λ out.
           let inward : ¬ ((get_or entries place (0, Outward)).1 ≡ Outward) = search rules in
           absurd (inward out)

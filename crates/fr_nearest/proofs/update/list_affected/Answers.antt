@@ -5,10 +5,10 @@ use Rattle.fr_nearest.specs.Update.{ListsSome}
 use Rattle.fr_nearest.proofs.Entries.{entry_inside}
 use Rattle.fr_nearest.proofs.Updating.{affected_all, some_more, some_none, some_other}
 use Rattle.fr_nearest.proofs.update.list_affected.Goals as goal
-use Rattle.fr_nearest.proofs.update.list_affected.Goals.{else-eq-via-then-eq+else-not-list_one, else-eq-via-else-eq}
+use Rattle.fr_nearest.proofs.update.list_affected.Goals.{else-eq-via-then-eq+else-not-list_if_affected, else-eq-via-else-eq}
 
-pub list_one-requires : goal.list_one-requires
-list_one-requires c = record {
+pub list_if_affected-requires : goal.list_if_affected-requires
+list_if_affected-requires c = record {
   node = entry_inside c.args.net.now c.args.x c.row-row.result.now c.loop-y.y-index c.args.distances.now
       c.row-row.ensures c.loop-y-test.true c.requires.one_each;
   few = omega (arith, c.requires.one_each, c.network_law.ensures.limits.nodes_few);
@@ -28,12 +28,12 @@ pub loop-y-preserved : goal.loop-y-preserved
 loop-y-preserved c =
     let inv = c.loop-y.invariant in
     elim c.else-eq.branch [
-      | else-eq-via-then-eq+else-not-list_one w ↦
-          let one = w.list_one.ensures.listed w.if-not-list_one.false in
+      | else-eq-via-then-eq+else-not-list_if_affected w ↦
+          let one = w.list_if_affected.ensures.listed w.if-not-list_if_affected.false in
           rw w.list-is record {
             some = some_more inv.some c.loop-y-test.true one;
             listed = rw c.requires.one_each at one.listed;
-            room = w.list_one.ensures.room ∙ inv.room;
+            room = w.list_if_affected.ensures.room ∙ inv.room;
           }
       | else-eq-via-else-eq w ↦
           let other : ¬ ((get_or c.row-row.result.now c.loop-y.y-index (0, Outward)).1 ≡ Inward) = search rules in

@@ -17,8 +17,8 @@ loop-edit-preserved c =
     let inv = c.loop-edit.invariant in
     record {
       lists = edits_more c.args.edits.now c.loop-edit.edit-index _ c.loop-edit-test.true inv.lists
-          (c.list_ends.ensures.listed c.if-not-list_ends.false);
-      room = c.list_ends.ensures.room ∙ inv.room;
+          (c.list_edit_ends.ensures.listed c.if-not-list_edit_ends.false);
+      room = c.list_edit_ends.ensures.room ∙ inv.room;
     }
 
 pub returns-clause-listed : goal.returns-clause-listed

@@ -13,10 +13,10 @@ loop-x-init c = record {
 pub loop-x-preserved : goal.loop-x-preserved
 loop-x-preserved c =
     let inv = c.loop-x.invariant in
-    let near = c.list_near.ensures.listed c.if-not-list_near.false in
+    let near = c.list_turned_node.ensures.listed c.if-not-list_turned_node.false in
     record {
       turned = turned_more c.args.turned.now c.loop-x.x-index c.loop-x-test.true inv.turned near.0 near.1;
-      room = c.list_near.ensures.room ∙ inv.room;
+      room = c.list_turned_node.ensures.room ∙ inv.room;
     }
 
 pub returns-clause-listed : goal.returns-clause-listed

@@ -10,10 +10,10 @@ loop-read-preserved c =
     let left : c.loop-read.read < length list.items = omega (arith, c.loop-read-test.true, c.len.ensures, list.ok.0) in
     let at : slice_index list.items c.loop-read.read ≡ c.index.result.now =
     sym (get_or_read list.items c.loop-read.read c.index.result.now left c.index.ensures 0) in
-    let u = c.raise_one.ensures.raised c.if-not-raise_one.false in
+    let u = c.raise_distance.ensures.raised c.if-not-raise_distance.false in
     record {
-      raising = raising_less c.loop-read.read c.index.result.now inv.raising left at c.raise_one.ensures.one_each u;
-      room = c.raise_one.ensures.room ∙ inv.room;
+      raising = raising_less c.loop-read.read c.index.result.now inv.raising left at c.raise_distance.ensures.one_each u;
+      room = c.raise_distance.ensures.room ∙ inv.room;
     }
 
 pub returns-clause-raised : goal.returns-clause-raised

@@ -11,12 +11,12 @@ loop-at-preserved c =
     let left : c.loop-at.at < length list.items = omega (arith, c.loop-at-test.true, c.len.ensures, list.ok.0) in
     let at : slice_index list.items c.loop-at.at ≡ c.index.result.now =
     sym (get_or_read list.items c.loop-at.at c.index.result.now left c.index.ensures 0) in
-    let u = c.update_one.ensures.updated c.if-not-update_one.false in
+    let u = c.update_distance.ensures.updated c.if-not-update_distance.false in
     record {
-      pending = pending_less c.loop-at.at c.index.result.now inv.pending left at c.update_one.ensures.one_each u;
-      others = λ before keeps. keeps_others before c.loop-at.distances list.items c.update_one.new.distances u.added
+      pending = pending_less c.loop-at.at c.index.result.now inv.pending left at c.update_distance.ensures.one_each u;
+      others = λ before keeps. keeps_others before c.loop-at.distances list.items c.update_distance.new.distances u.added
           c.loop-at.at c.index.result.now (inv.others before keeps) left at u.all u.others;
-      room = c.update_one.ensures.room ∙ inv.room;
+      room = c.update_distance.ensures.room ∙ inv.room;
     }
 
 pub returns-clause-updated : goal.returns-clause-updated

@@ -16,7 +16,7 @@ loop-w-preserved c =
     let place = c.loop-w.w-index in
     let inv = c.loop-w.invariant in
     let inside = c.loop-w-test.true in
-    let put = c.put_rank-count.ensures in
+    let put = c.write_rank_if_way-count.ensures in
     let room : c.loop-w.count < length c.loop-w.ranks =
     omega (arith, inv.few, inside, ap length c.row-row.ensures, c.requires.room, inv.same) in
     record {

@@ -10,7 +10,7 @@ loop-link-preserved c =
     elim c.if-has_distance.branch [
       | then-has_distance w ↦ rw w.best-is (best_more test is_nearer by_nearness c.args.links.now
           c.loop-link.link-index _ c.loop-link-test.true c.loop-link.best _ c.loop-link.invariant
-          (sym c.has_distance.ensures ∙ w.if-has_distance.true) w.closer.ensures)
+          (sym c.has_distance.ensures ∙ w.if-has_distance.true) w.nearer_link.ensures)
       | else-has_distance w ↦ rw w.best-is (best_same test is_nearer by_nearness c.args.links.now
           c.loop-link.link-index _ c.loop-link-test.true c.loop-link.best c.loop-link.invariant
           (sym c.has_distance.ensures ∙ w.if-has_distance.false))

@@ -7,4 +7,4 @@ returns c =
     let n = c.in_ok-n.n in
     let small : n < 2 ^ 64 = grind arith in
     number_begins n c.args.mark c.args.text.now c.in_ok-n.rest.now c.in_ok-behind.behind.now small c.requires
-    (sym c.behind_space.ensures ∙ c.in_ok-n.ensures) c.in_ok-behind.ensures.bytes
+    (sym c.skip_space.ensures ∙ c.in_ok-n.ensures) c.in_ok-behind.ensures.bytes

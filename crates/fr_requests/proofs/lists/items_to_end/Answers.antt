@@ -15,7 +15,7 @@ items-preserved g c =
     let all : c.push.new.self.items ≡ before ++ x ∷ [] = c.in_ok-push.ensures.items in
     rw (all, ← one_more_before_comma of_one before x) (
       begins_more _ _ _ (each_before_comma of_one before) (of_one x ++ comma ∷ []) c.items.invariant.0
-          (begins_more _ _ _ (of_one x) (comma ∷ []) c.in-Some.ensures.read c.in-Some-behind_mark.ensures.read),
+          (begins_more _ _ _ (of_one x) (comma ∷ []) c.in-Some.ensures.read c.in-Some-skip_mark.ensures.read),
       Each-snoc g.T.Item.IsSmall before x c.items.invariant.1 c.in-Some.ensures.small,
     )
 

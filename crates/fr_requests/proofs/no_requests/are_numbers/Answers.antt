@@ -30,7 +30,7 @@ returns-in-Some-number_before c over =
     let before = c.numbers.invariant.0 in
     let last = c.in-Some-number_before._last in
     let small : last < 2 ^ 32 = grind arith in
-    let end = begins_more _ _ _ (number_lexeme last ∷ token end_array ∷ []) [] c.in-Some-number_before.ensures (c.is_over.ensures.read over) in (
+    let end = begins_more _ _ _ (number_lexeme last ∷ token end_array ∷ []) [] c.in-Some-number_before.ensures (c.is_only_space.ensures.read over) in (
       before ++ last ∷ [],
       Each-snoc IsSmall before last c.numbers.invariant.1 small,
       rw (← last_before_bracket number_lexemes before last)

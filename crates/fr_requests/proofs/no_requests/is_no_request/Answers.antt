@@ -7,8 +7,8 @@ returns-then-are_numbers c told = list_is_none _ _ c.in-Some.ensures.read (c.are
 pub returns-else-are_numbers : goal.returns-else-are_numbers
 returns-else-are_numbers c told = word_is_none _ _ c.in-Some.ensures.read (c.is_unknown_word.ensures told)
 
-pub returns-in-Some-behind_mark : goal.returns-in-Some-behind_mark
-returns-in-Some-behind_mark c told = object_is_none _ _ c.in-Some-behind_mark.ensures.read (c.ends_line.ensures told)
+pub returns-in-Some-skip_mark : goal.returns-in-Some-skip_mark
+returns-in-Some-skip_mark c told = object_is_none _ _ c.in-Some-skip_mark.ensures.read (c.ends_line.ensures told)
 
 pub returns : goal.returns
 returns c told = number_is_none _ (c.is_number.ensures told)

@@ -15,52 +15,52 @@ told o (Err fault) ok refused = (tt, λ _. refused)
 
 pub returns-in-net : goal.returns-in-net
 unfolding request_of_word
-returns-in-net c = rw c.in-net.is c.network.ensures
+returns-in-net c = rw c.in-net.is c.read_network.ensures
 
 pub returns-in-cut : goal.returns-in-cut
 unfolding request_of_word
-returns-in-cut c = rw c.in-cut.is (told _ _ c.cut.ensures.ok c.cut.ensures.refused)
+returns-in-cut c = rw c.in-cut.is (told _ _ c.read_cut.ensures.ok c.read_cut.ensures.refused)
 
 pub returns-in-add : goal.returns-in-add
 unfolding request_of_word
-returns-in-add c = rw c.in-add.is (told _ _ c.add.ensures.ok c.add.ensures.refused)
+returns-in-add c = rw c.in-add.is (told _ _ c.read_add.ensures.ok c.read_add.ensures.refused)
 
 pub returns-in-join : goal.returns-in-join
 unfolding request_of_word
-returns-in-join c = rw c.in-join.is (told _ _ c.join.ensures.ok c.join.ensures.refused)
+returns-in-join c = rw c.in-join.is (told _ _ c.read_join.ensures.ok c.read_join.ensures.refused)
 
 pub returns-in-batch : goal.returns-in-batch
 unfolding request_of_word
-returns-in-batch c = rw c.in-batch.is c.batch.ensures
+returns-in-batch c = rw c.in-batch.is c.read_batch.ensures
 
 pub returns-in-dest : goal.returns-in-dest
 unfolding request_of_word
-returns-in-dest c = rw c.in-dest.is (told _ _ c.destination.ensures.ok c.destination.ensures.refused)
+returns-in-dest c = rw c.in-dest.is (told _ _ c.read_destination.ensures.ok c.read_destination.ensures.refused)
 
 pub returns-in-walk : goal.returns-in-walk
 unfolding request_of_word
-returns-in-walk c = rw c.in-walk.is (told _ _ c.walk.ensures.ok c.walk.ensures.refused)
+returns-in-walk c = rw c.in-walk.is (told _ _ c.read_walk.ensures.ok c.read_walk.ensures.refused)
 
 pub returns-in-links : goal.returns-in-links
 unfolding request_of_word
-returns-in-links c = rw c.in-links.is (told _ _ c.ask.ensures.ok c.ask.ensures.refused)
+returns-in-links c = rw c.in-links.is (told _ _ c.read_question.ensures.ok c.read_question.ensures.refused)
 
 pub returns-in-counts : goal.returns-in-counts
 unfolding request_of_word
-returns-in-counts c = rw c.in-counts.is (told _ _ c.ask-in-counts.ensures.ok c.ask-in-counts.ensures.refused)
+returns-in-counts c = rw c.in-counts.is (told _ _ c.read_question-in-counts.ensures.ok c.read_question-in-counts.ensures.refused)
 
 pub returns-in-hops : goal.returns-in-hops
 unfolding request_of_word
-returns-in-hops c = rw c.in-hops.is (told _ _ c.ask-in-hops.ensures.ok c.ask-in-hops.ensures.refused)
+returns-in-hops c = rw c.in-hops.is (told _ _ c.read_question-in-hops.ensures.ok c.read_question-in-hops.ensures.refused)
 
 pub returns-in-ways : goal.returns-in-ways
 unfolding request_of_word
-returns-in-ways c = rw c.in-ways.is (told _ _ c.ways.ensures.ok c.ways.ensures.refused)
+returns-in-ways c = rw c.in-ways.is (told _ _ c.read_ways.ensures.ok c.read_ways.ensures.refused)
 
 pub returns-in-nearest : goal.returns-in-nearest
 unfolding request_of_word
-returns-in-nearest c = rw c.in-nearest.is (told _ _ c.ask_node.ensures.ok c.ask_node.ensures.refused)
+returns-in-nearest c = rw c.in-nearest.is (told _ _ c.read_node_question.ensures.ok c.read_node_question.ensures.refused)
 
 pub returns-in-pushes : goal.returns-in-pushes
 unfolding request_of_word
-returns-in-pushes c = rw c.in-pushes.is c.pushes.ensures
+returns-in-pushes c = rw c.in-pushes.is c.read_pushes.ensures

@@ -5,5 +5,5 @@ use Rattle.fr_round.specs.Knowledge.{new_workers}
 use Rattle.fr_round.proofs.opening.make_table.Given as goal
 
 abbrev pub invariant-loop-number : goal.invariant-loop-number
-invariant-loop-number l = IsNumbering l.terms l.table.shared l.opening l.number
-    × (l.workers.items ≡ new_workers l.table.shared.table_id (setup_of l.terms) l.number)
+invariant-loop-number l = IsNumbering l.round_setup l.table.shared l.opening l.number
+    × (l.workers.items ≡ new_workers l.table.shared.table_id (setup_of l.round_setup) l.number)

@@ -16,8 +16,8 @@ loop-x-init c =
       noted = notes_none s c.args.hops.now c.args.told.now;
     }
 
-pub renew_near-requires-clause-node : goal.renew_near-requires-clause-node
-renew_near-requires-clause-node c =
+pub renew_node_and_senders-requires-clause-node : goal.renew_node_and_senders-requires-clause-node
+renew_node_and_senders-requires-clause-node c =
     omega (
       arith,
       c.requires.round.round.counts.one_each,
@@ -30,9 +30,9 @@ loop-x-preserved c =
     let links = c.args.round.now.net.now.links in
     let nodes : List ℕ = c.nodes-x-items.result.now in
     let k = c.loop-x.x-index in
-    let near = c.renew_near.ensures in
+    let near = c.renew_node_and_senders.ensures in
     record {
-      renewed = renewed_then s c.args.hops.now c.loop-x.hops c.renew_near.new.hops (λ y hop. (j : ℕ) → j < k
+      renewed = renewed_then s c.args.hops.now c.loop-x.hops c.renew_node_and_senders.new.hops (λ y hop. (j : ℕ) → j < k
           → ¬ SendsTo links (get_or nodes j 0) y hop) (λ y hop. ¬ SendsTo links (get_or nodes k 0) y hop) (λ y hop. (j : ℕ)
           → j < k + 1 → ¬ SendsTo links (get_or nodes j 0) y hop)
           c.loop-x.invariant.renewed near.renewed
@@ -40,8 +40,8 @@ loop-x-preserved c =
           (λ e. subst (λ (i : ℕ). ¬ SendsTo links (get_or nodes i 0) y hop) (sym e) apart)
           (λ other. before j (omega arith))
           (cases_eq j k));
-      noted = notes_then s c.args.hops.now c.loop-x.hops c.renew_near.new.hops c.args.told.now c.loop-x.told
-          c.renew_near.new.told c.loop-x.auto.hops c.loop-x.invariant.noted near.noted;
+      noted = notes_then s c.args.hops.now c.loop-x.hops c.renew_node_and_senders.new.hops c.args.told.now c.loop-x.told
+          c.renew_node_and_senders.new.told c.loop-x.auto.hops c.loop-x.invariant.noted near.noted;
     }
 
 pub returns-clause-renewed : goal.returns-clause-renewed

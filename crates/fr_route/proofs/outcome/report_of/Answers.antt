@@ -19,8 +19,8 @@ overflow_add-result c =
     let counts_are = ap length c.counts.ensures in
     omega (
       arith,
-      c.alone_nodes.ensures,
-      c.capped_nodes.ensures,
+      c.count_isolated_nodes.ensures,
+      c.count_capped_nodes.ensures,
       count-range-le (but c.args.dest (has_no_neighbour net.nodes net.links)) 0 net.nodes,
       count_by-le-length (λ count. count == c.nodes.result) c.counts.result.now,
       counts_are,
@@ -35,8 +35,8 @@ total_fits : (net : Network) (d : ℕ) (counts : List ℕ) → net.nodes ≤ mos
 total_fits net d counts few is counted = lawful_sum_fits net.nodes d net.links counts few
     (settled_lawful net.nodes d net.links is counted.destination counts counted.settled)
 
-pub capped_nodes-requires-clause-turned : goal.capped_nodes-requires-clause-turned
-capped_nodes-requires-clause-turned c =
+pub count_capped_nodes-requires-clause-turned : goal.count_capped_nodes-requires-clause-turned
+count_capped_nodes-requires-clause-turned c =
     let known = c.network_law.ensures in
     let fits = total_fits c.args.net.now c.args.dest c.args.turns.now known.limits.nodes_few known.is_net c.requires in
     omega (arith, c.total-turned.ensures, fits, ap sum c.counts.ensures)
@@ -49,7 +49,7 @@ returns c =
     let turns : c.total-turned.result ≡ sum c.args.turns.now = omega (arith, c.total-turned.ensures, fits) in
     record {
       turns = turns;
-      cut_off = rw (c.alone_nodes.ensures, c.capped_nodes.ensures, c.nodes.ensures.value, c.counts.ensures)
+      cut_off = rw (c.count_isolated_nodes.ensures, c.count_capped_nodes.ensures, c.nodes.ensures.value, c.counts.ensures)
           (cut_by_rows net c.args.dest c.args.turns.now known.is_net c.requires);
       most = round_within (settled_state net c.args.dest c.args.turns.now) c.total-turned.result turns;
     }

@@ -33,4 +33,4 @@ returns c = λ empty replaced.
       grows = refl;
     })
     _ (e ∙ ap (λ (t : List ℕ). t ++ text) empty))
-    (c.push_report_with_ways.ensures.text shrink grow (c.planned.ensures lead.before lead.after lead.phases))
+    (c.push_report_with_ways.ensures.text shrink grow (c.from_plan.ensures lead.before lead.after lead.phases))

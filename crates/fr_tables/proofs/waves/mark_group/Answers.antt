@@ -6,7 +6,7 @@ pub give_groups-requires-clause-sound : goal.give_groups-requires-clause-sound
 give_groups-requires-clause-sound c = record {
   table = c.requires.sound.table;
   one_each = c.requires.sound.one_each;
-  walking = c.follow-group.ensures.walking;
+  walking = c.follow_to_known_group-group.ensures.walking;
   known = c.requires.sound.known;
 }
 
@@ -19,5 +19,5 @@ returns c =
       sound = after.sound;
       empty = after.empty;
       kept = λ y was. group_from_met marks walk y after.empty (after.met y (inr was));
-      met = group_from_met marks walk c.args.x after.empty (after.met c.args.x c.follow-group.ensures.met);
+      met = group_from_met marks walk c.args.x after.empty (after.met c.args.x c.follow_to_known_group-group.ensures.met);
     }

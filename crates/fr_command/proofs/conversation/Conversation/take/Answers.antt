@@ -70,8 +70,8 @@ held_within : (begun piece : List ℕ) (end : ℕ) → end ≡ position_or_len e
 held_within begun piece end is short = subst (λ (n : ℕ). length (begun ++ take n piece) ≤ most_bytes) is
     (omega (arith, short, length-append begun (take end piece)))
 
-pub hold-requires : goal.hold-requires
-hold-requires g c = subst (λ (n : ℕ). lines_of (take n c.args.piece.now) ≡ take n c.args.piece.now ∷ [])
+pub keep_unfinished_line-requires : goal.keep_unfinished_line-requires
+keep_unfinished_line-requires g c = subst (λ (n : ℕ). lines_of (take n c.args.piece.now) ≡ take n c.args.piece.now ∷ [])
     (sym c.front_size-end.ensures) (front_alone c.args.piece.now)
 
 pub ends_blank-requires : goal.ends_blank-requires
@@ -88,23 +88,23 @@ returns-then-ends_blank-clause-takes g c =
     let end : ℕ = c.front_size-end.result in
     let old : Talk = c.args.self.now in
     let held : Talk = talk_at old.form (point_of old) (old.begun ++ take end piece) in
-    let new : Talk = talk_at c.self.inside.form c.pass_blank.new.self c.clear.new.self.items in
+    let new : Talk = talk_at c.self.inside.form c.count_blank_line.new.self c.clear.new.self.items in
     let blank = c.ends_blank.ensures.0 c.if-ends_blank.true in
     let alone = subst (λ (t : Talk). lines_of t.begun ≡ t.begun ∷ []) c.self.view_is c.self.invariant.0 in
     let ended = subst (λ (n : ℕ). lines_of (take (n + 1) piece) ≡ take n piece ∷ [] ∷ []) (sym c.front_size-end.ensures)
     (first_line_ends piece (omega (arith, blank.0, c.front_size-end.ensures))) in
-    let point = c.pass_blank.ensures ∙ ap (λ (t : Talk). after_blank (point_of t)) c.self.view_is in
+    let point = c.count_blank_line.ensures ∙ ap (λ (t : Talk). after_blank (point_of t)) c.self.view_is in
     takes_line old held new (take (end + 1) piece) (take end piece) [] alone ended refl refl refl
     (blank_ends held new blank.1 point c.clear.ensures.items (ap (λ (t : Talk). t.form) c.self.view_is))
 
-pub returns-in_err-hold-clause-fault : goal.returns-in_err-hold-clause-fault
-returns-in_err-hold-clause-fault g c =
+pub returns-in_err-keep_unfinished_line-clause-fault : goal.returns-in_err-keep_unfinished_line-clause-fault
+returns-in_err-keep_unfinished_line-clause-fault g c =
     let old : Talk = c.args.self.now in
     let piece : List ℕ = c.args.piece.now in
-    let fault = c.in_err-hold.field-0.0 in
+    let fault = c.in_err-keep_unfinished_line.field-0.0 in
     handed_on c.from_residual.result fault (IsTakeFault (point_of old) (carried old piece) piece) c.from_residual.ensures.1
     (not_held (point_of old) old.begun piece c.front_size-end.result c.ends_blank.result fault c.front_size-end.ensures
-    c.if-ends_blank.false c.ends_blank.ensures.1 c.in_err-hold.ensures.fault)
+    c.if-ends_blank.false c.ends_blank.ensures.1 c.in_err-keep_unfinished_line.ensures.fault)
 
 pub returns-then-end-piece-clause-takes : goal.returns-then-end-piece-clause-takes
 returns-then-end-piece-clause-takes g c =
@@ -113,8 +113,8 @@ returns-then-end-piece-clause-takes g c =
     let alone = subst (λ (t : Talk). lines_of t.begun ≡ t.begun ∷ []) c.self.view_is c.self.invariant.0 in
     let one = subst (λ (n : ℕ). lines_of (take n piece) ≡ take n piece ∷ []) (sym c.front_size-end.ensures)
     (front_alone piece) in
-    let held = c.in_ok-hold.ensures.ok in
-    takes_none c.args.self.now c.hold.new.self (take end piece) alone one held.0 held.1 held.2
+    let held = c.in_ok-keep_unfinished_line.ensures.ok in
+    takes_none c.args.self.now c.keep_unfinished_line.new.self (take end piece) alone one held.0 held.1 held.2
 
 pub returns-in-Ok-clause-takes : goal.returns-in-Ok-clause-takes
 returns-in-Ok-clause-takes g c =
@@ -123,8 +123,8 @@ returns-in-Ok-clause-takes g c =
     let alone = subst (λ (t : Talk). lines_of t.begun ≡ t.begun ∷ []) c.self.view_is c.self.invariant.0 in
     let ended = subst (λ (n : ℕ). lines_of (take (n + 1) piece) ≡ take n piece ∷ [] ∷ []) (sym c.front_size-end.ensures)
     (first_line_ends piece (omega (arith, prefix_len-le-length (λ x. not (ends_line x)) piece))) in
-    let held = c.in_ok-hold.ensures.ok in
-    takes_line c.args.self.now c.hold.new.self c.finish.new.self (take (end + 1) piece) (take end piece)
+    let held = c.in_ok-keep_unfinished_line.ensures.ok in
+    takes_line c.args.self.now c.keep_unfinished_line.new.self c.finish.new.self (take (end + 1) piece) (take end piece)
     (text_of c.in-Ok.answer) alone ended held.0 held.1 held.2 c.in-Ok.ensures.ends
 
 pub returns-in-Ok-clause-count : goal.returns-in-Ok-clause-count
@@ -134,4 +134,4 @@ returns-in-Ok-clause-count g c =
 pub returns-in-Ok-clause-within : goal.returns-in-Ok-clause-within
 returns-in-Ok-clause-within g c =
     held_within c.args.self.now.begun c.args.piece.now c.front_size-end.result c.front_size-end.ensures
-    c.in_ok-hold.ensures.within
+    c.in_ok-keep_unfinished_line.ensures.within

@@ -22,11 +22,11 @@ returns-in-Some-clause-ok g c =
     let told = rw c.in-Some.is at c.in_ok-answer.ensures.answer in
     let refuses = rw c.in-Some.is at c.in_ok-answer.ensures.refused in
     let is = subst (λ (n : ℕ). IsAnswerIn form n old.state (reading line) text next) counted told.1 in
-    let point = c.count.ensures ∙ (λ i. record {
+    let point = c.count_answer.ensures ∙ (λ i. record {
       state = next;
       ended = counted i;
       answered = one_more old.answered;
       refused = if is_refused then one_more old.refused else old.refused;
     }) in
-    subst (λ (p : Point). AreAnswersIn form p (line ∷ []) (text ++ 10 ∷ []) c.count.new.self) c.self.view_is
-    (answered_line form line text is_refused next old c.count.new.self told.0 (is, refuses) point)
+    subst (λ (p : Point). AreAnswersIn form p (line ∷ []) (text ++ 10 ∷ []) c.count_answer.new.self) c.self.view_is
+    (answered_line form line text is_refused next old c.count_answer.new.self told.0 (is, refuses) point)

@@ -12,15 +12,15 @@ returns-clause-ok c =
     let link : ℕ × ℕ = (c.in-Some.tail, c.in-Some.head) in
     let ends = rw c.in-Some.is at c.link_between.ensures.ends in
     let stands = rw c.in-Some.is at c.link_between.ensures.stands in
-    let after = shown c.take_out.new.self in
-    let kept = rooms_kept g c.take_out.new.self c.take_out.ensures.rooms in
+    let after = shown c.remove_link.new.self in
+    let kept = rooms_kept g c.remove_link.new.self c.remove_link.ensures.rooms in
     record {
-      graph = c.take_out.ensures.graph;
+      graph = c.remove_link.ensures.graph;
       made = (
         joins_ends c.args.u c.args.v link links ends stands,
-        subst (λ (ls : List (ℕ × ℕ)). IsNetworkOf g.nodes ls after) (without_ends c.args.u c.args.v link links ends) c.take_out.ensures.taken,
+        subst (λ (ls : List (ℕ × ℕ)). IsNetworkOf g.nodes ls after) (without_ends c.args.u c.args.v link links ends) c.remove_link.ensures.taken,
       );
-      by = record { faultless = c.requires.graph.faultless; sorted = c.requires.graph.sorted; step = (stands, c.take_out.ensures.taken) };
+      by = record { faultless = c.requires.graph.faultless; sorted = c.requires.graph.sorted; step = (stands, c.remove_link.ensures.taken) };
       rooms = kept;
-      back = still_room g c.take_out.new.self (shown g) kept (own_room g c.requires.graph c.room_law.ensures);
+      back = still_room g c.remove_link.new.self (shown g) kept (own_room g c.requires.graph c.room_law.ensures);
     }

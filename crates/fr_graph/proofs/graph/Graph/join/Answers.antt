@@ -11,7 +11,7 @@ use Rattle.fr_graph.proofs.graph.Graph.join.Goals.{After-make_room, else-branch,
 
 -- the graph has the network that was tested
 same : (c : After-make_room) → IsSame c.args.self.now c.make_room.new.self
-same c = same_through c.args.self.now c.path_back.new.self c.make_room.new.self c.in_ok-path_back.ensures.same c.make_room.ensures.same
+same c = same_through c.args.self.now c.has_path_back.new.self c.make_room.new.self c.in_ok-has_path_back.ensures.same c.make_room.ensures.same
 
 -- the ends of the link, whichever way it points
 ends : (c : After-make_room) → AreUnjoined c.args.self.now.nodes (shown c.args.self.now).links c.if-branch.tail.0 c.if-branch.tail.1
@@ -22,26 +22,26 @@ ends c =
       | else-branch w ↦ rw w.tail-is nodes
     ]
 
-pub path_back-requires-clause-graph : goal.path_back-requires-clause-graph
-path_back-requires-clause-graph c = c.requires
+pub has_path_back-requires-clause-graph : goal.has_path_back-requires-clause-graph
+has_path_back-requires-clause-graph c = c.requires
 
-pub path_back-requires-clause-nodes : goal.path_back-requires-clause-nodes
-path_back-requires-clause-nodes c = c.in_ok-test_join.ensures.nodes
+pub has_path_back-requires-clause-nodes : goal.has_path_back-requires-clause-nodes
+has_path_back-requires-clause-nodes c = c.in_ok-test_join.ensures.nodes
 
 pub make_room-requires-clause-graph : goal.make_room-requires-clause-graph
-make_room-requires-clause-graph c = c.in_ok-path_back.ensures.same.graph
+make_room-requires-clause-graph c = c.in_ok-has_path_back.ensures.same.graph
 
-pub put-requires-clause-graph : goal.put-requires-clause-graph
-put-requires-clause-graph c = c.in_ok-make_room.ensures.same.graph
+pub insert_link-requires-clause-graph : goal.insert_link-requires-clause-graph
+insert_link-requires-clause-graph c = c.in_ok-make_room.ensures.same.graph
 
-pub put-requires-clause-link : goal.put-requires-clause-link
-put-requires-clause-link c =
-    let at = (goal.at.put-requires-clause-link c).After-make_room in
+pub insert_link-requires-clause-link : goal.insert_link-requires-clause-link
+insert_link-requires-clause-link c =
+    let at = (goal.at.insert_link-requires-clause-link c).After-make_room in
     let links = (shown c.args.self.now).links in
     let u = c.args.u in
     let v = c.args.v in
     let tested = c.in_ok-test_join.ensures in
-    let leads = c.in_ok-path_back.ensures.leads in
+    let leads = c.in_ok-has_path_back.ensures.leads in
     let acyclic : IsAcyclic links = c.requires.faultless.is_net.acyclic in
     subst (λ (m : Network). CanPut m c.if-branch.tail.0 c.if-branch.tail.1) (sym (same at).same) record {
       few = tested.few;
@@ -52,8 +52,8 @@ put-requires-clause-link c =
       ];
     }
 
-pub put-requires-clause-room : goal.put-requires-clause-room
-put-requires-clause-room c =
+pub insert_link-requires-clause-room : goal.insert_link-requires-clause-room
+insert_link-requires-clause-room c =
     let made = c.in_ok-make_room.ensures.room in
     elim c.if-branch.branch [
       | then-branch w ↦ rw w.tail-is record { tail = made.head; head = made.tail }
@@ -63,14 +63,14 @@ put-requires-clause-room c =
 pub returns-clause-ok : goal.returns-clause-ok
 returns-clause-ok c =
     let links = (shown c.args.self.now).links in
-    let put : IsPut c.args.self.now c.put.new.self c.if-branch.tail.0 c.if-branch.tail.1 =
-    put_with_room c.args.self.now c.make_room.new.self c.put.new.self c.if-branch.tail.0 c.if-branch.tail.1 c.requires
+    let put : IsPut c.args.self.now c.insert_link.new.self c.if-branch.tail.0 c.if-branch.tail.1 =
+    put_with_room c.args.self.now c.make_room.new.self c.insert_link.new.self c.if-branch.tail.0 c.if-branch.tail.1 c.requires
     (same (goal.at.returns-clause-ok c).After-make_room) c.room_law.ensures
-    (ends (goal.at.returns-clause-ok c).After-make_room) c.put.ensures.rooms c.put.ensures.put in
+    (ends (goal.at.returns-clause-ok c).After-make_room) c.insert_link.ensures.rooms c.insert_link.ensures.put in
     record {
-      graph = c.put.ensures.graph;
+      graph = c.insert_link.ensures.graph;
       made = elim c.if-branch.branch [
-        | then-branch w ↦ inr (path_closes links c.args.u c.args.v (c.in_ok-path_back.ensures.leads.0 w.if-branch.true), rw w.tail-is at put.made)
+        | then-branch w ↦ inr (path_closes links c.args.u c.args.v (c.in_ok-has_path_back.ensures.leads.0 w.if-branch.true), rw w.tail-is at put.made)
         | else-branch w ↦ inl (rw w.tail-is at put.made)
       ];
       by = put.by;

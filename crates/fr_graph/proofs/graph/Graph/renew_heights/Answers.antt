@@ -24,5 +24,5 @@ returns-clause-same c =
     let first : HasHeadsFirst (length g.heights.heights) links c.deref.result.now =
     rw (c.requires.graph.height_each, c.deref.ensures.value) (heads_of g.nodes links g.rows in_range c.requires.graph.rows found.1) in
     let below : AreBelow (length g.heights.heights) links = rw c.requires.graph.height_each in_range in
-    same_of_heights g c.put_in_order.new.self (omega (arith, c.put_in_order.ensures.one_each, c.requires.graph.height_each))
-    (c.put_in_order.ensures.fit links below first) c.requires.graph
+    same_of_heights g c.set_from_order.new.self (omega (arith, c.set_from_order.ensures.one_each, c.requires.graph.height_each))
+    (c.set_from_order.ensures.fit links below first) c.requires.graph

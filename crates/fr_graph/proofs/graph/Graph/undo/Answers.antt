@@ -14,28 +14,28 @@ taken c net done = subst (λ (d : Effect). IsDone net d (shown c.args.self.now))
 put : (c : In-Added) (net : Network) → IsDone net c.args.done (shown c.args.self.now) → IsDone net (Added c.in-Added.tail c.in-Added.head) (shown c.args.self.now)
 put c net done = subst (λ (d : Effect). IsDone net d (shown c.args.self.now)) c.in-Added.is done
 
-pub put-requires-clause-link : goal.put-requires-clause-link
-put-requires-clause-link c =
+pub insert_link-requires-clause-link : goal.insert_link-requires-clause-link
+insert_link-requires-clause-link c =
     let net = c.requires.done.0 in
-    taken_can_be_put net c.in-Removed.tail c.in-Removed.head (shown c.args.self.now) (taken (goal.at.put-requires-clause-link c).In-Removed net c.requires.done.1)
+    taken_can_be_put net c.in-Removed.tail c.in-Removed.head (shown c.args.self.now) (taken (goal.at.insert_link-requires-clause-link c).In-Removed net c.requires.done.1)
 
-pub put-requires-clause-room : goal.put-requires-clause-room
-put-requires-clause-room c =
+pub insert_link-requires-clause-room : goal.insert_link-requires-clause-room
+insert_link-requires-clause-room c =
     let net = c.requires.done.0 in
     taken_room net c.in-Removed.tail c.in-Removed.head c.args.self.now c.requires.graph
-    (taken (goal.at.put-requires-clause-room c).In-Removed net c.requires.done.1) c.requires.done.2
+    (taken (goal.at.insert_link-requires-clause-room c).In-Removed net c.requires.done.1) c.requires.done.2
 
-pub take_out-requires-clause-stands : goal.take_out-requires-clause-stands
-take_out-requires-clause-stands c =
+pub remove_link-requires-clause-stands : goal.remove_link-requires-clause-stands
+remove_link-requires-clause-stands c =
     let net = c.requires.done.0 in
-    put_stands net c.in-Added.tail c.in-Added.head (shown c.args.self.now) (put (goal.at.take_out-requires-clause-stands c).In-Added net c.requires.done.1)
+    put_stands net c.in-Added.tail c.in-Added.head (shown c.args.self.now) (put (goal.at.remove_link-requires-clause-stands c).In-Added net c.requires.done.1)
 
 pub returns-in-Removed-clause-undone : goal.returns-in-Removed-clause-undone
 returns-in-Removed-clause-undone c = λ net done.
-    taken_back net c.in-Removed.tail c.in-Removed.head (shown c.args.self.now) (shown c.put.new.self)
-    (taken (goal.at.returns-in-Removed-clause-undone c).In-Removed net done) c.put.ensures.put
+    taken_back net c.in-Removed.tail c.in-Removed.head (shown c.args.self.now) (shown c.insert_link.new.self)
+    (taken (goal.at.returns-in-Removed-clause-undone c).In-Removed net done) c.insert_link.ensures.put
 
 pub returns-in-Added-clause-undone : goal.returns-in-Added-clause-undone
 returns-in-Added-clause-undone c = λ net done.
-    put_back net c.in-Added.tail c.in-Added.head (shown c.args.self.now) (shown c.take_out.new.self)
-    (put (goal.at.returns-in-Added-clause-undone c).In-Added net done) c.take_out.ensures.taken
+    put_back net c.in-Added.tail c.in-Added.head (shown c.args.self.now) (shown c.remove_link.new.self)
+    (put (goal.at.returns-in-Added-clause-undone c).In-Added net done) c.remove_link.ensures.taken

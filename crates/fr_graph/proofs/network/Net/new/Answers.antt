@@ -12,21 +12,21 @@ use Rattle.fr_graph.specs.Links.{HaveSameLinks, IsAcyclic, IsCycle}
 use Rattle.fr_graph.proofs.network.Net.new.Goals as goal
 use Rattle.fr_graph.proofs.network.Net.new.Goals.{After-deref-2, In-Order, In-Walk, In_ok-rows}
 
-pub sorted_halves-requires-clause-nodes : goal.sorted_halves-requires-clause-nodes
-sorted_halves-requires-clause-nodes c = c.in_ok-test_ends.ensures.limits.nodes_few
+pub sorted_half_links-requires-clause-nodes : goal.sorted_half_links-requires-clause-nodes
+sorted_half_links-requires-clause-nodes c = c.in_ok-test_links.ensures.limits.nodes_few
 
-pub sorted_halves-requires-clause-below : goal.sorted_halves-requires-clause-below
-sorted_halves-requires-clause-below c = c.in_ok-test_ends.ensures.range.below
+pub sorted_half_links-requires-clause-below : goal.sorted_half_links-requires-clause-below
+sorted_half_links-requires-clause-below c = c.in_ok-test_links.ensures.range.below
 
-pub sorted_halves-requires-clause-few : goal.sorted_halves-requires-clause-few
-sorted_halves-requires-clause-few c = c.in_ok-test_ends.ensures.limits.links_few
+pub sorted_half_links-requires-clause-few : goal.sorted_half_links-requires-clause-few
+sorted_half_links-requires-clause-few c = c.in_ok-test_links.ensures.limits.links_few
 
-pub first_twice-requires : goal.first_twice-requires
-first_twice-requires c = rw c.deref.ensures.value c.in_ok-halves.ensures.order
+pub first_duplicate_link-requires : goal.first_duplicate_link-requires
+first_duplicate_link-requires c = rw c.deref.ensures.value c.in_ok-halves.ensures.order
 
 pub returns-in-Some-clause-refused : goal.returns-in-Some-clause-refused
 returns-in-Some-clause-refused c _ =
-    let ends = c.in_ok-test_ends.ensures in
+    let ends = c.in_ok-test_links.ensures in
     let halves = c.in_ok-halves.halves.items in
     let found : 2 ≤ count_by (is_at c.in-Some.u c.in-Some.v) halves = rw c.deref.ensures.value at c.in-Some.ensures.found in
     (ends.limits, ends.range, ends.clear, twice_stands c.args.links.now halves c.in-Some.u c.in-Some.v c.in_ok-halves.ensures.same ends.clear found)
@@ -35,12 +35,12 @@ pub returns-in-Some-clause-names : goal.returns-in-Some-clause-names
 returns-in-Some-clause-names c =
     let halves = c.in_ok-halves.halves.items in
     let found = rw c.deref.ensures.value at c.in-Some.ensures in
-    lowest_twice c.args.links.now halves c.in-Some.u c.in-Some.v c.in_ok-halves.ensures.same c.in_ok-test_ends.ensures.clear found.found found.lowest
+    lowest_twice c.args.links.now halves c.in-Some.u c.in-Some.v c.in_ok-halves.ensures.same c.in_ok-test_links.ensures.clear found.found found.lowest
 
 -- the half-links are those of the links
 halves_are : (c : After-deref-2) → AreHalvesOf c.args.nodes c.args.links.now c.in_ok-halves.halves.items c.in_ok-halves.starts.items
 halves_are c =
-    let ends = c.in_ok-test_ends.ensures in
+    let ends = c.in_ok-test_links.ensures in
     record {
       below = ends.range.below;
       no_self = ends.clear;
@@ -49,14 +49,14 @@ halves_are c =
       start_each = c.in_ok-halves.ensures.starts;
     }
 
-pub rows_of-requires : goal.rows_of-requires
-rows_of-requires c = (c.args.nodes, c.args.links.now, rw c.deref-2.ensures.value (halves_are (goal.at.rows_of-requires c).After-deref-2))
+pub rows_from_half_links-requires : goal.rows_from_half_links-requires
+rows_from_half_links-requires c = (c.args.nodes, c.args.links.now, rw c.deref-2.ensures.value (halves_are (goal.at.rows_from_half_links-requires c).After-deref-2))
 
 rows_are : (c : In_ok-rows) → AreRows c.args.nodes c.args.links.now c.in_ok-rows.rows
 rows_are c = c.in_ok-rows.ensures c.args.nodes c.args.links.now (rw c.deref-2.ensures.value (halves_are (goal.at.In_ok-rows c).After-deref-2))
 
 same : (c : In_ok-rows) → HaveSameLinks c.args.links.now (net_in c.in_ok-rows.rows).links
-same c = same_shown c.args.nodes c.args.links.now c.in_ok-rows.rows c.in_ok-test_ends.ensures.range.below (rows_are c)
+same c = same_shown c.args.nodes c.args.links.now c.in_ok-rows.rows c.in_ok-test_links.ensures.range.below (rows_are c)
 
 pub find_cycle-requires-clause-one_each : goal.find_cycle-requires-clause-one_each
 find_cycle-requires-clause-one_each c = (rows_are (goal.at.find_cycle-requires-clause-one_each c).In_ok-rows).one_each
@@ -82,7 +82,7 @@ returns-in-Walk-clause-refused c _ =
     let b = goal.at.returns-in-Walk-clause-refused c in
     let listed = c.args.links.now in
     let halves = c.in_ok-halves.halves.items in
-    let ends = c.in_ok-test_ends.ensures in
+    let ends = c.in_ok-test_links.ensures in
     let rising : AreHalvesRising halves = (halves_are b.After-deref-2).rising in
     let found = (walk_found b.In-Walk).0 in (
       ends.limits,
@@ -100,17 +100,17 @@ faultless : (c : In-Order) → IsFaultless c.args.nodes c.args.links.now
 faultless c =
     let b = goal.at.In-Order c in
     let listed = c.args.links.now in
-    let ends = c.in_ok-test_ends.ensures in
+    let ends = c.in_ok-test_links.ensures in
     let acyclic = acyclic_fewer (net_in c.in_ok-rows.rows).links listed (λ u v. (same b.In_ok-rows u v).0) (found c).0 in
     faultless_listed c.args.nodes listed c.in_ok-halves.halves.items ends.limits ends.range ends.clear
     c.in_ok-halves.ensures.same (halves_are b.After-deref-2).rising acyclic
 
-pub graph_of-requires-clause-links : goal.graph_of-requires-clause-links
-graph_of-requires-clause-links c = let b = goal.at.graph_of-requires-clause-links c in (c.args.links.now, faultless b.In-Order, rows_are b.In_ok-rows, refl)
+pub graph_with_order-requires-clause-links : goal.graph_with_order-requires-clause-links
+graph_with_order-requires-clause-links c = let b = goal.at.graph_with_order-requires-clause-links c in (c.args.links.now, faultless b.In-Order, rows_are b.In_ok-rows, refl)
 
-pub graph_of-requires-clause-order : goal.graph_of-requires-clause-order
-graph_of-requires-clause-order c = rw c.deref-in-Order.ensures.value (found (goal.at.graph_of-requires-clause-order c).In-Order).1
+pub graph_with_order-requires-clause-order : goal.graph_with_order-requires-clause-order
+graph_with_order-requires-clause-order c = rw c.deref-in-Order.ensures.value (found (goal.at.graph_with_order-requires-clause-order c).In-Order).1
 
 pub returns-clause-ok : goal.returns-clause-ok
 returns-clause-ok c = let b = goal.at.returns-clause-ok c in
-    c.in_ok-graph_of-in-Order.ensures.shown c.args.links.now (faultless b.In-Order) (rows_are b.In_ok-rows)
+    c.in_ok-graph_with_order-in-Order.ensures.shown c.args.links.now (faultless b.In-Order) (rows_are b.In_ok-rows)

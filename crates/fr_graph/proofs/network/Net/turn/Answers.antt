@@ -1,6 +1,6 @@
 use Rattle.std.proofs.Common.{ap, length, subst, sym, ◌∙◌, ◌≡◌}
 use Rattle.fr_graph.proofs.PartTurned.{rows_begin, rows_end}
-use Rattle.fr_graph.proofs.Remaking.{graph_of, network_of_rows}
+use Rattle.fr_graph.proofs.Remaking.{graph_with_order, network_of_rows}
 use Rattle.fr_graph.proofs.TurnedLinks.{length-links_at, turned_faultless}
 use Rattle.fr_graph.specs.Counts.{links_at}
 use Rattle.fr_graph.specs.Faults.{IsFaultless}
@@ -41,9 +41,9 @@ invariant_of-self c =
     let count : c.self.inside.graph.link_count ≡ length (links_at links c.args.turns.now) =
     c.self.invariant.counted ∙ ap (λ (m : Network). length m.links) c.self.view_is ∙ sym (length-links_at links c.args.turns.now c.requires.kept) in
     let fit : Fit links c.self.inside.graph.heights = subst (λ (m : Network). Fit m.links c.self.inside.graph.heights) c.self.view_is c.self.invariant.fit in
-    graph_of _ (links_at links c.args.turns.now) (rw (nodes_are at.After-self) (turned at.After-self)) count
+    graph_with_order _ (links_at links c.args.turns.now) (rw (nodes_are at.After-self) (turned at.After-self)) count
     (rw (nodes_are at.After-self) (after at.After-turn_rows))
-    (c.raise.ensures.one_each ∙ c.self.invariant.height_each) (c.raise.ensures.fit links fit)
+    (c.raise_turned_nodes.ensures.one_each ∙ c.self.invariant.height_each) (c.raise_turned_nodes.ensures.fit links fit)
 
 pub returns : goal.returns
 returns c =

@@ -36,18 +36,18 @@ offset_bounds-deref_mut-start c =
     let b = (goal.at.offset_bounds-deref_mut-start c).After-index in
     omega (arith, low b, high b, c.self.inside.entries.ok.0, c.self.inside.entries.ok.1, c.self.inside.entries.small)
 
-pub slice_bounds-shift_in-count : goal.slice_bounds-shift_in-count
-slice_bounds-shift_in-count c = let l = low (goal.at.slice_bounds-shift_in-count c).After-index in omega (arith, l)
+pub slice_bounds-insert_at_front-count : goal.slice_bounds-insert_at_front-count
+slice_bounds-insert_at_front-count c = let l = low (goal.at.slice_bounds-insert_at_front-count c).After-index in omega (arith, l)
 
-pub slice_bounds-shift_in-start : goal.slice_bounds-shift_in-start
-slice_bounds-shift_in-start c =
-    let l = low (goal.at.slice_bounds-shift_in-start c).After-index in
+pub slice_bounds-insert_at_front-start : goal.slice_bounds-insert_at_front-start
+slice_bounds-insert_at_front-start c =
+    let l = low (goal.at.slice_bounds-insert_at_front-start c).After-index in
     let more : c.index.result.now.start + c.args.place ≤ c.index.result.now.end + 1 = omega (arith, l) in
     search (rules, more)
 
-pub slice_bounds-shift_in-end : goal.slice_bounds-shift_in-end
-slice_bounds-shift_in-end c =
-    let h = high (goal.at.slice_bounds-shift_in-end c).After-index in
+pub slice_bounds-insert_at_front-end : goal.slice_bounds-insert_at_front-end
+slice_bounds-insert_at_front-end c =
+    let h = high (goal.at.slice_bounds-insert_at_front-end c).After-index in
     let inside : c.index.result.now.end + 1 ≤ length c.deref_mut.result.now = omega (arith, h, ap length c.deref_mut.ensures.value) in
     search (rules, inside)
 
@@ -59,9 +59,9 @@ part c =
     length-between c.deref_mut.result.now (c.index.result.now.start + c.args.place) (c.index.result.now.end + 1)
     (omega (arith, h, ap length c.deref_mut.ensures.value))
 
-pub shift_in-requires : goal.shift_in-requires
-shift_in-requires c =
-    let b = goal.at.shift_in-requires c in
+pub insert_at_front-requires : goal.insert_at_front-requires
+insert_at_front-requires c =
+    let b = goal.at.insert_at_front-requires c in
     omega (arith, part b.After-deref_mut, low b.After-index)
 
 pub overflow_add-end-2 : goal.overflow_add-end-2
@@ -93,7 +93,7 @@ after c = record {
   places = with_item c.self.inside.places c.args.x (record { start = c.index.result.now.start; end = c.index.result.now.end + 1 });
   entries = with_items c.self.inside.entries
       (put_mid (c.index.result.now.start + c.args.place)
-      (c.index.result.now.end + 1 - (c.index.result.now.start + c.args.place)) c.deref_mut.result.now c.shift_in.new.entries);
+      (c.index.result.now.end + 1 - (c.index.result.now.start + c.args.place)) c.deref_mut.result.now c.insert_at_front.new.entries);
   empty = c.self.inside.empty - c.from.result;
 }
 
@@ -104,13 +104,13 @@ shows c =
     let x = c.args.x in
     let p = c.args.place in
     let r = row b.After-index in
-    let new = c.shift_in.new.entries in
+    let new = c.insert_at_front.new.entries in
     let l = low b.After-index in
     let h = high b.After-index in
-    let size = c.shift_in.auto.entries ∙ part b.After-deref_mut in
+    let size = c.insert_at_front.auto.entries ∙ part b.After-deref_mut in
     entry_inserted t (after c) c.args.self.now x p c.args.entry new c.self.invariant c.self.view_is c.requires.row c.requires.place c.requires.room
     (rw (r.start, r.end) at size)
-    (rw (part b.After-deref_mut, c.deref_mut.ensures.value, r.start, r.end) at c.shift_in.ensures)
+    (rw (part b.After-deref_mut, c.deref_mut.ensures.value, r.start, r.end) at c.insert_at_front.ensures)
     (rw (r.start, r.end) refl)
     (part_put t.entries c.deref_mut.result.now new (c.index.result.now.start + p)
     (c.index.result.now.end + 1 - (c.index.result.now.start + p)) c.deref_mut.ensures.value size (omega (arith, l, h))

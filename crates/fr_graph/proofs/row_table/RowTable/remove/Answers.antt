@@ -32,18 +32,18 @@ offset_bounds-deref_mut-start c =
     let b = (goal.at.offset_bounds-deref_mut-start c).After-index in
     omega (arith, low b, (row b).high, c.self.inside.entries.ok.0, c.self.inside.entries.ok.1, c.self.inside.entries.small)
 
-pub slice_bounds-shift_out-count : goal.slice_bounds-shift_out-count
-slice_bounds-shift_out-count c = let l = low (goal.at.slice_bounds-shift_out-count c).After-index in omega (arith, l)
+pub slice_bounds-remove_from_front-count : goal.slice_bounds-remove_from_front-count
+slice_bounds-remove_from_front-count c = let l = low (goal.at.slice_bounds-remove_from_front-count c).After-index in omega (arith, l)
 
-pub slice_bounds-shift_out-start : goal.slice_bounds-shift_out-start
-slice_bounds-shift_out-start c =
-    let l = low (goal.at.slice_bounds-shift_out-start c).After-index in
+pub slice_bounds-remove_from_front-start : goal.slice_bounds-remove_from_front-start
+slice_bounds-remove_from_front-start c =
+    let l = low (goal.at.slice_bounds-remove_from_front-start c).After-index in
     let more : c.index.result.now.start + c.args.place ≤ c.index.result.now.end = omega (arith, l) in
     search (rules, more)
 
-pub slice_bounds-shift_out-end : goal.slice_bounds-shift_out-end
-slice_bounds-shift_out-end c =
-    let h = (row (goal.at.slice_bounds-shift_out-end c).After-index).high in
+pub slice_bounds-remove_from_front-end : goal.slice_bounds-remove_from_front-end
+slice_bounds-remove_from_front-end c =
+    let h = (row (goal.at.slice_bounds-remove_from_front-end c).After-index).high in
     let inside : c.index.result.now.end ≤ length c.deref_mut.result.now = omega (arith, h, ap length c.deref_mut.ensures.value) in
     search (rules, inside)
 
@@ -56,9 +56,9 @@ part c =
     length-between c.deref_mut.result.now (c.index.result.now.start + c.args.place) c.index.result.now.end
     (omega (arith, h, ap length c.deref_mut.ensures.value))
 
-pub shift_out-requires : goal.shift_out-requires
-shift_out-requires c =
-    let b = goal.at.shift_out-requires c in
+pub remove_from_front-requires : goal.remove_from_front-requires
+remove_from_front-requires c =
+    let b = goal.at.remove_from_front-requires c in
     omega (arith, part b.After-deref_mut, low b.After-index)
 
 pub overflow_sub-end : goal.overflow_sub-end
@@ -90,7 +90,7 @@ after c = record {
   places = with_item c.self.inside.places c.args.x (record { start = c.index.result.now.start; end = c.index.result.now.end - 1 });
   entries = with_items c.self.inside.entries
       (put_mid (c.index.result.now.start + c.args.place)
-      (c.index.result.now.end - (c.index.result.now.start + c.args.place)) c.deref_mut.result.now c.shift_out.new.entries);
+      (c.index.result.now.end - (c.index.result.now.start + c.args.place)) c.deref_mut.result.now c.remove_from_front.new.entries);
   empty = c.self.inside.empty + c.from.result;
 }
 
@@ -102,15 +102,15 @@ shows c =
     let p = c.args.place in
     let r = row b.After-index in
     let end = c.index.result.now.end in
-    let new = c.shift_out.new.entries in
+    let new = c.remove_from_front.new.entries in
     let l = low b.After-index in
     let last : end ≡ end - 1 + 1 = omega (arith, l) in
-    let size = c.shift_out.ensures.one_each ∙ part b.After-deref_mut in
+    let size = c.remove_from_front.ensures.one_each ∙ part b.After-deref_mut in
     entry_removed t (after c) c.args.self.now x p (end - 1) new c.self.invariant c.self.view_is c.requires.row c.requires.place
     (omega (arith, l, r.end))
     (omega (arith, size, l, r.start))
     (ap (λ k. take (k - (start_of t x + p) - 1) new) (sym last)
-    ∙ (rw (part b.After-deref_mut, c.deref_mut.ensures.value, r.start) at c.shift_out.ensures.rest)
+    ∙ (rw (part b.After-deref_mut, c.deref_mut.ensures.value, r.start) at c.remove_from_front.ensures.rest)
     ∙ ap (λ k. drop 1 (slice_range t.entries.items (start_of t x + p) k)) last)
     (rw r.start refl)
     (part_put t.entries c.deref_mut.result.now new (c.index.result.now.start + p) (end - (c.index.result.now.start + p))

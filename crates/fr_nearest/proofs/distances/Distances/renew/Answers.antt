@@ -8,26 +8,26 @@ use Rattle.fr_nearest.specs.Local.{IsSmall}
 use Rattle.fr_nearest.specs.Update.{KeepsOthers}
 use Rattle.fr_nearest.proofs.Renewing.{renewed}
 use Rattle.fr_nearest.proofs.distances.Distances.renew.Goals as goal
-use Rattle.fr_nearest.proofs.distances.Distances.renew.Goals.{After-forget, After-deref-then-update}
+use Rattle.fr_nearest.proofs.distances.Distances.renew.Goals.{After-reset, After-deref-then-update}
 
-old : (c : After-forget) → IsOutOfDate c.args.net.now c.args.touched.now c.self.inside.dest c.self.inside.of.items
+old : (c : After-reset) → IsOutOfDate c.args.net.now c.args.touched.now c.self.inside.dest c.self.inside.of.items
 old c = subst (λ (m : Measured). IsOutOfDate c.args.net.now c.args.touched.now m.dest m.table) (sym c.self.view_is) c.requires.old
 
-one_each : (c : After-forget) → length c.self.inside.of.items ≡ c.args.net.now.nodes
+one_each : (c : After-reset) → length c.self.inside.of.items ≡ c.args.net.now.nodes
 one_each c = (old c).were.one_each
 
-was : (c : After-forget) → c.self.inside.of.items ≡ c.args.self.now.table
+was : (c : After-reset) → c.self.inside.of.items ≡ c.args.self.now.table
 was c = ap (λ (m : Measured). m.table) c.self.view_is
 
-forgotten : (c : After-forget) → IsForgotten c.self.inside.of.items c.forget.new.self
-forgotten c = rw c.deref.ensures.value at c.forget.ensures
+forgotten : (c : After-reset) → IsForgotten c.self.inside.of.items c.reset.new.self
+forgotten c = rw c.deref.ensures.value at c.reset.ensures
 
-small : (c : After-forget) → IsSmall c.args.net.now.nodes c.self.inside.of.items
+small : (c : After-reset) → IsSmall c.args.net.now.nodes c.self.inside.of.items
 small c = subst (λ (n : ℕ). IsSmall n c.self.inside.of.items) (one_each c) c.self.invariant.small
 
 pub update-requires-clause-old : goal.update-requires-clause-old
 update-requires-clause-old c =
-    let at = (goal.at.update-requires-clause-old c).After-forget in
+    let at = (goal.at.update-requires-clause-old c).After-reset in
     subst (λ (xs : List ℕ). IsOutOfDate c.args.net.now c.args.touched.now c.self.inside.dest xs)
     (sym c.deref_mut.ensures.value) (old at)
 
@@ -39,10 +39,10 @@ table_is c = with_items_is c.self.inside.of c.update.new.distances
 read_is : (c : After-deref-then-update) → c.deref-then-update.result.now ≡ c.update.new.distances
 read_is c = c.deref-then-update.ensures.value ∙ table_is c
 
-pub note_some-requires-clause-noted : goal.note_some-requires-clause-noted
-note_some-requires-clause-noted c =
-    let at = (goal.at.note_some-requires-clause-noted c).After-forget in
-    let then = (goal.at.note_some-requires-clause-noted c).After-deref-then-update in
+pub note_changed_among-requires-clause-noted : goal.note_changed_among-requires-clause-noted
+note_changed_among-requires-clause-noted c =
+    let at = (goal.at.note_changed_among-requires-clause-noted c).After-reset in
+    let then = (goal.at.note_changed_among-requires-clause-noted c).After-deref-then-update in
     let was = c.self.inside.of.items in
     let now = c.update.new.distances in
     let others : KeepsOthers was now c.update.new.list.items = subst (λ (xs : List ℕ). KeepsOthers xs now c.update.new.list.items) c.deref_mut.ensures.value
@@ -57,16 +57,16 @@ note_some-requires-clause-noted c =
 
 pub returns-then-update : goal.returns-then-update
 returns-then-update c =
-    let at = (goal.at.returns-then-update c).After-forget in
+    let at = (goal.at.returns-then-update c).After-reset in
     renewed c.args.net.now c.args.dest c.args.self.now c.self.inside.of (was at)
     (c.update.ensures.one_each ∙ ap length c.deref_mut.ensures.value) (c.update.ensures.updated c.if-update.true).distances
-    c.deref-then-update.ensures.value c.note_some.ensures.noted (rw c.note_some.ensures.before (forgotten at).before)
+    c.deref-then-update.ensures.value c.note_changed_among.ensures.noted (rw c.note_changed_among.ensures.before (forgotten at).before)
 
 pub returns-else-update : goal.returns-else-update
 returns-else-update c =
-    let at = (goal.at.returns-else-update c).After-forget in
+    let at = (goal.at.returns-else-update c).After-reset in
     let are = c.measure_all.ensures.distances in
     let updated = with_items c.self.inside.of c.update.new.distances in
     renewed c.args.net.now c.args.dest c.args.self.now updated (was at)
     (omega (arith, are.one_each, c.update.ensures.one_each, ap length c.deref_mut.ensures.value, one_each at, updated.ok.0, c.self.inside.of.ok.0))
-    are c.deref-else-update.ensures.value c.note_all.ensures.noted (rw c.note_all.ensures.before (forgotten at).before)
+    are c.deref-else-update.ensures.value c.note_all_changed.ensures.noted (rw c.note_all_changed.ensures.before (forgotten at).before)

@@ -15,14 +15,14 @@ returns-clause-ways c =
     let written = c.rank_ways-count.new.ranks in
     let ranks = c.truncate.new.self in
     let sorted = c.sort_unstable.new.self in
-    let numbers = c.take_numbers.new.ranks in
+    let numbers = c.ranks_to_numbers.new.ranks in
     let long = c.rank_ways-count.ensures.same in
     let whole : (with_items room written).items ≡ written =
     with_items_is room written (omega (arith, long, ap length c.deref_mut.ensures.value, room.ok.0)) in
     let ranked : AreRanked net.links m.table c.args.x ranks.items =
     rw (c.truncate.ensures.items, whole, sym c.numbers.ensures) c.rank_ways-count.ensures.ranked in
     let is : numbers ≡ map number_of sorted.items =
-    c.take_numbers.ensures ∙ ap (map number_of) c.deref_mut-2.ensures.value in
+    c.ranks_to_numbers.ensures ∙ ap (map number_of) c.deref_mut-2.ensures.value in
     let items : (with_items sorted numbers).items ≡ map number_of sorted.items =
     with_items_is sorted numbers (omega (arith, ap length is, length-map sorted.items number_of, sorted.ok.0)) ∙ is in
     subst (λ (xs : List ℕ). AreWays net.links m.dest c.args.x xs) (sym items)

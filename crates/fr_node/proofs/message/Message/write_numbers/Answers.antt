@@ -6,17 +6,17 @@ use Rattle.fr_node.proofs.message.Message.write_numbers.Goals as goal
 pub returns : goal.returns
 returns c =
     let m = c.args.self.now in
-    let one = c.put_8.ensures ∙ ap (λ (p : List ℕ). p ++ bytes_8 m.boot) c.requires.head in
-    let two = c.put_8-2.ensures ∙ ap (λ (p : List ℕ). p ++ bytes_8 m.echo) one in
-    let three = c.put_8-3.ensures ∙ ap (λ (p : List ℕ). p ++ bytes_8 m.number) two in
-    let four = c.put_8-4.ensures ∙ ap (λ (p : List ℕ). p ++ bytes_8 m.height) three in
-    let five = c.put_8-5.ensures ∙ ap (λ (p : List ℕ). p ++ bytes_8 m.heard) four in
-    sym (take_all 56 c.put_8-5.new.bytes (omega (
+    let one = c.write_u64.ensures ∙ ap (λ (p : List ℕ). p ++ bytes_8 m.boot) c.requires.head in
+    let two = c.write_u64-2.ensures ∙ ap (λ (p : List ℕ). p ++ bytes_8 m.echo) one in
+    let three = c.write_u64-3.ensures ∙ ap (λ (p : List ℕ). p ++ bytes_8 m.number) two in
+    let four = c.write_u64-4.ensures ∙ ap (λ (p : List ℕ). p ++ bytes_8 m.height) three in
+    let five = c.write_u64-5.ensures ∙ ap (λ (p : List ℕ). p ++ bytes_8 m.heard) four in
+    sym (take_all 56 c.write_u64-5.new.bytes (omega (
       arith,
       c.requires.length,
-      c.put_8.auto.bytes,
-      c.put_8-2.auto.bytes,
-      c.put_8-3.auto.bytes,
-      c.put_8-4.auto.bytes,
-      c.put_8-5.auto.bytes,
+      c.write_u64.auto.bytes,
+      c.write_u64-2.auto.bytes,
+      c.write_u64-3.auto.bytes,
+      c.write_u64-4.auto.bytes,
+      c.write_u64-5.auto.bytes,
     ))) ∙ five

@@ -19,7 +19,7 @@ returns-then-index-clause-news c = λ up.
       c.message_at.result,
       c.message_at.ensures c.args.neighbour (sym c.in-Some.ensures),
       (
-        λ new old. not_both c.has_said.result new (c.has_said.ensures.1 (sym said ∙ old)),
-        λ other. not_at c.has_said.result (λ old. other (said ∙ c.has_said.ensures.0 old)),
+        λ new old. not_both c.was_last_said.result new (c.was_last_said.ensures.1 (sym said ∙ old)),
+        λ other. not_at c.was_last_said.result (λ old. other (said ∙ c.was_last_said.ensures.0 old)),
       ),
     )

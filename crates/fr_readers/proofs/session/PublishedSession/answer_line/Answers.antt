@@ -9,8 +9,8 @@ use Rattle.fr_readers.proofs.Leading.{can_publish}
 use Rattle.fr_readers.proofs.Telling.{answer_keeps, answer_leads, line_answered}
 use Rattle.fr_readers.proofs.session.PublishedSession.answer_line.Goals as goal
 
-pub publish-requires-clause-can : goal.publish-requires-clause-can
-publish-requires-clause-can c =
+pub publish_rerouted_hops-requires-clause-can : goal.publish_rerouted_hops-requires-clause-can
+publish_rerouted_hops-requires-clause-can c =
     let p = c.self.inside in
     let a = c.answer_line_telling_alone-answer in
     let by = answer_leads p.session a.new.self c.session_law.ensures c.session_law-2.ensures c.args.line.now a.result p.rerouted.items
@@ -32,10 +32,10 @@ pub returns : goal.returns
 returns c =
     let p = c.self.inside in
     let a = c.answer_line_telling_alone-answer in
-    let t = c.publish.new.publisher in
+    let t = c.publish_rerouted_hops.new.publisher in
     let w = c.publish_ways.new.tables in
     let ps : WayPushes = pushes_in p.reroutes in
-    let table = subst (λ (nodes : List ℕ). PublishesIn p.publisher a.new.self nodes t) c.deref.ensures.value c.publish.ensures in
+    let table = subst (λ (nodes : List ℕ). PublishesIn p.publisher a.new.self nodes t) c.deref.ensures.value c.publish_rerouted_hops.ensures in
     rw c.publish_ways.ensures.same (subst (λ (old : Published). AnswersLine old c.args.line.now a.result
     (published a.new.self a.new.rerouted.items t w ps)) c.self.view_is
     (line_answered p.session a.new.self p.rerouted.items a.new.rerouted.items p.publisher t p.ways w ps c.self.invariant.hops table

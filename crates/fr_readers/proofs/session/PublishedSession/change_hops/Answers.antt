@@ -11,8 +11,8 @@ use Rattle.fr_readers.proofs.Leading.{can_publish}
 use Rattle.fr_readers.proofs.Telling.{change_leads, change_made, router_changed, same_pushes}
 use Rattle.fr_readers.proofs.session.PublishedSession.change_hops.Goals as goal
 
-pub publish-requires-clause-can : goal.publish-requires-clause-can
-publish-requires-clause-can c =
+pub publish_rerouted_hops-requires-clause-can : goal.publish_rerouted_hops-requires-clause-can
+publish_rerouted_hops-requires-clause-can c =
     let p = c.self.inside in
     let r = c.in_ok-router.router.now in
     let a = c.change_telling_alone-answer in
@@ -31,11 +31,11 @@ returns-clause-changes c =
     let p = c.self.inside in
     let r = c.in_ok-router.router.now in
     let a = c.change_telling_alone-answer in
-    let t = c.publish.new.publisher in
+    let t = c.publish_rerouted_hops.new.publisher in
     let is = c.in_ok-router.ensures.value in
     let has = subst (λ (s : Option State). IfSome p.publisher (HasHopsOf s)) is c.self.invariant.hops in
     let table = subst (λ (nodes : List ℕ). PublishesIn p.publisher
-    (Some a.new.self) nodes t) c.deref.ensures.value c.publish.ensures in
+    (Some a.new.self) nodes t) c.deref.ensures.value c.publish_rerouted_hops.ensures in
     let w = p.ways in
     let none : p.ways ≡ None = ap (λ (q : Published). q.ways) c.self.view_is ∙ c.requires in
     let stays : PublishesWaysIn w (Some a.new.self) w =

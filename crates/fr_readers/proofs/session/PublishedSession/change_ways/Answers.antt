@@ -18,7 +18,7 @@ pub publish_changes-requires : goal.publish_changes-requires
 publish_changes-requires c =
     let p = c.self.inside in
     let r = c.in_ok-router.router.now in
-    let a = c.change_noting-answer in
+    let a = c.change_and_note-answer in
     let ps : WayPushes = pushes_in a.new.reroutes in
     let had = subst (λ (s : Option State). IfSome p.ways (HasWaysOf s)) c.in_ok-router.ensures.value
     c.self.invariant.ways in
@@ -27,11 +27,11 @@ publish_changes-requires c =
     (IfSome_then p.ways had
     (λ k has. change_alters r a.new.router c.args.change a.result ps k has a.ensures.changes a.ensures.ways))
 
-pub publish-requires-clause-can : goal.publish-requires-clause-can
-publish-requires-clause-can c =
+pub publish_rerouted_hops-requires-clause-can : goal.publish_rerouted_hops-requires-clause-can
+publish_rerouted_hops-requires-clause-can c =
     let p = c.self.inside in
     let r = c.in_ok-router.router.now in
-    let a = c.change_noting-answer in
+    let a = c.change_and_note-answer in
     let next : State = c.publish_changes.new.router in
     let same : a.new.router ≡ next = sym c.publish_changes.ensures.same in
     let is = c.in_ok-router.ensures.value in
@@ -50,8 +50,8 @@ pub returns-clause-changes : goal.returns-clause-changes
 returns-clause-changes c =
     let p = c.self.inside in
     let r = c.in_ok-router.router.now in
-    let a = c.change_noting-answer in
-    let t = c.publish.new.publisher in
+    let a = c.change_and_note-answer in
+    let t = c.publish_rerouted_hops.new.publisher in
     let w = c.publish_changes.new.tables in
     let next : State = c.publish_changes.new.router in
     let same : a.new.router ≡ next = sym c.publish_changes.ensures.same in
@@ -61,7 +61,7 @@ returns-clause-changes c =
     a.ensures.told in
     let has = subst (λ (s : Option State). IfSome p.publisher (HasHopsOf s)) is c.self.invariant.hops in
     let table = subst (λ (nodes : List ℕ). PublishesIn p.publisher (Some next) nodes t) c.deref.ensures.value
-    c.publish.ensures in
+    c.publish_rerouted_hops.ensures in
     let had = subst (λ (s : Option State). IfSome p.ways (HasWaysOf s)) is c.self.invariant.ways in
     let ways = subst (λ (t : State). PublishesWaysIn p.ways (Some t) w) same c.publish_changes.ensures.published in
     let ps : WayPushes = pushes_in p.reroutes in
@@ -75,7 +75,7 @@ returns-clause-changes c =
 pub returns-clause-noted : goal.returns-clause-noted
 returns-clause-noted c =
     let r = c.in_ok-router.router.now in
-    let a = c.change_noting-answer in
+    let a = c.change_and_note-answer in
     let next : State = c.publish_changes.new.router in
     let same : a.new.router ≡ next = sym c.publish_changes.ensures.same in
     let was : Some r ≡ c.args.self.now.session =

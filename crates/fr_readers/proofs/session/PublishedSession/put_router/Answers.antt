@@ -6,8 +6,8 @@ use Rattle.fr_readers.specs.Publishing.{CanPublish, IsSettledSession}
 use Rattle.fr_readers.proofs.Leading.{can_publish, replaced_leads}
 use Rattle.fr_readers.proofs.session.PublishedSession.put_router.Goals as goal
 
-pub publish-requires-clause-can : goal.publish-requires-clause-can
-publish-requires-clause-can c =
+pub publish_rerouted_hops-requires-clause-can : goal.publish_rerouted_hops-requires-clause-can
+publish_rerouted_hops-requires-clause-can c =
     let p = c.self.inside in
     let r = c.args.router in
     let nodes : List ℕ = c.in_ok-rerouted.rerouted.items in

@@ -3,7 +3,7 @@ use Rattle.std.proofs.lemmas.List.{with_items_is}
 use Rattle.std.specs.Slots.{slots_items}
 use Rattle.atomic_table.specs.Table.{Final, Seen}
 use Rattle.fr_round.specs.declared.view.View.{View}
-use Rattle.fr_round.specs.declared.terms.Terms.{Terms}
+use Rattle.fr_round.specs.declared.round_setup.RoundSetup.{RoundSetup}
 use Rattle.fr_round.specs.Setups.{setup_of}
 use Rattle.fr_round.specs.Rule.{KeepsRule, closing_view, opening_view}
 use Rattle.fr_round.specs.Knowledge.{OpenRound, Knowledge, IsOwn}
@@ -23,8 +23,8 @@ load_new_seat-seat-requires c =
     let slots = w.words.table.shared.table_id.slots in
     (some, kept_enter b slots 0 (λ n w. w ≡ closing_view b) (λ list. enters b list slots 0 (opening_view b) refl))
 
-pub take_over-requires-clause-own : goal.take_over-requires-clause-own
-take_over-requires-clause-own c =
+pub take_back_workers-requires-clause-own : goal.take_back_workers-requires-clause-own
+take_back_workers-requires-clause-own c =
     each_weaker (IsOwn c.args.self) (λ (k : Knowledge). k.table ≡ c.self.inside.words.table.shared.table_id)
     (λ k own. own.table ∙ sym (ap (λ (o : OpenRound). o.table) c.self.view_is)) c.args.workers.items c.requires.own
 
@@ -40,8 +40,8 @@ returns-clause-history c =
     let came = c.load_new_seat-seat.ensures.2 in
     let counts : (Rattle.std.specs.Vec.with_items w.counts c.read_counts.new.counts).items ≡ slots_items z.words =
     with_items_is w.counts c.read_counts.new.counts (search rules) ∙ c.read_counts.ensures in
-    let final : Final (Seen (KeepsRule {S = Unit {0}} (setup_of w.words.terms)) p.id p.me.0) (slots_items z.words) (slots_items z.slots) =
-    subst (λ (g : Terms). Final (Seen (KeepsRule {S = Unit {0}} (setup_of g)) p.id p.me.0) (slots_items z.words)
+    let final : Final (Seen (KeepsRule {S = Unit {0}} (setup_of w.words.round_setup)) p.id p.me.0) (slots_items z.words) (slots_items z.slots) =
+    subst (λ (g : RoundSetup). Final (Seen (KeepsRule {S = Unit {0}} (setup_of g)) p.id p.me.0) (slots_items z.words)
     (slots_items z.slots)) i.key c.close_with-closed.ensures.values.2 in
     let all = closes (open_round_of w) ks (slots_items z.words) (slots_items z.slots) p.id p.me.0 t.new.turned.items final
     (ap (λ (u : View). u.closes) e ∙ ap (λ (u : View). u.closes) came)

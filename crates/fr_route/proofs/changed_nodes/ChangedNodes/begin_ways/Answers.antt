@@ -7,8 +7,8 @@ use Rattle.fr_route.specs.declared.way_notes.WayNotes.{WayNotes}
 use Rattle.fr_route.proofs.WaysTold.{same_list}
 use Rattle.fr_route.proofs.changed_nodes.ChangedNodes.begin_ways.Goals as goal
 
-pub begin-requires-clause-measured : goal.begin-requires-clause-measured
-begin-requires-clause-measured c =
+pub note_ways_before-requires-clause-measured : goal.note_ways_before-requires-clause-measured
+note_ways_before-requires-clause-measured c =
     let w = c.in-InList-default-Some in
     c.requires.measured (
       w.notes.value,

@@ -19,10 +19,10 @@ returns-clause-walked c =
           let walk = rw w.in-Some.is at c.in_ok-route.ensures in
           rw w.result-is (subst (λ (now : State). IsNearest now x (Route route)) c.self.view_is
           (subst (λ (d : ℕ). (rest : List ℕ) × IsNearestWalk s.links d x rest × (route.items ≡ x ∷ rest))
-          c.keep.ensures.dest walk))
+          c.keep_from_now.ensures.dest walk))
       | in-None w ↦
           let none = rw w.in-None.is at c.in_ok-route.ensures in
           rw w.result-is (subst (λ (now : State). IsNearest now x CutOff) c.self.view_is
           (cut_without s c.self.invariant.round x
-          (subst (λ (d : ℕ). ¬ HasPath s.links x d) c.keep.ensures.dest none)))
+          (subst (λ (d : ℕ). ¬ HasPath s.links x d) c.keep_from_now.ensures.dest none)))
     ]

@@ -18,19 +18,19 @@ returns g c =
     let s : State = c.in-Some.router in
     let here : c.args.session.now ≡ Some s = sym c.session.view_is ∙ c.in-Some.is in
     elim c.match-revise.branch [
-      | in-Ok w ↦ rw (here, w.result-is) (revised _ (answer_form c.args.draft) s (request_of_edit c.args.edit) _ c.args.told.now c.revise.new.draft.spare w.accepted.result c.revise.new.router c.revise.new.told
-          w.accepted.ensures w.in-Ok.ensures.revised
-          (λ made. edit_accepted s c.args.edit c.revise.new.router (subst (λ (d : ℕ). IsEdited s (c.args.edit ∷ []) d c.revise.new.router) c.dest-dest.ensures.value made))
-          (λ bytes is. edit_text c.args.draft.form s c.args.edit c.revise.new.router bytes is)
-          (λ after is. edit_tells s c.args.edit c.revise.new.router _ after is))
-      | in-Err w ↦ rw (here, w.result-is) (faulty _ (answer_form c.args.draft) (Some s) (Ok (request_of_edit c.args.edit)) c.args.told.now w.in-Err.undone.fault w.ends_at.result None w.refuse_for.result
-          (Some c.revise.new.router) c.revise.new.told
+      | in-Ok w ↦ rw (here, w.result-is) (revised _ (answer_form c.args.draft) s (request_of_edit c.args.edit) _ c.args.told.now c.edit_and_report.new.draft.spare w.accepted_answer.result c.edit_and_report.new.router c.edit_and_report.new.told
+          w.accepted_answer.ensures w.in-Ok.ensures.revised
+          (λ made. edit_accepted s c.args.edit c.edit_and_report.new.router (subst (λ (d : ℕ). IsEdited s (c.args.edit ∷ []) d c.edit_and_report.new.router) c.dest-dest.ensures.value made))
+          (λ bytes is. edit_text c.args.draft.form s c.args.edit c.edit_and_report.new.router bytes is)
+          (λ after is. edit_tells s c.args.edit c.edit_and_report.new.router _ after is))
+      | in-Err w ↦ rw (here, w.result-is) (faulty _ (answer_form c.args.draft) (Some s) (Ok (request_of_edit c.args.edit)) c.args.told.now w.in-Err.undone.fault w.ends_of_edit_at.result None w.refuse_for.result
+          (Some c.edit_and_report.new.router) c.edit_and_report.new.told
           (λ refusal is. edit_is_refused s c.args.edit refusal
-          (edit_refusal s c.args.edit c.dest-dest.result w.in-Err.undone.at w.in-Err.undone.fault w.in-Err.ensures.revised.fault w.ends_at.result w.ends_at.ensures refusal is))
+          (edit_refusal s c.args.edit c.dest-dest.result w.in-Err.undone.at w.in-Err.undone.fault w.in-Err.ensures.revised.fault w.ends_of_edit_at.result w.ends_of_edit_at.ensures refusal is))
           (λ e. edit_may_start s c.args.edit w.in-Err.undone.at
           (subst (λ (d : ℕ). IsPlacedFault s (c.args.edit ∷ []) d w.in-Err.undone.at Start) c.dest-dest.ensures.value
           (subst (IsPlacedFault s (c.args.edit ∷ []) c.dest-dest.result w.in-Err.undone.at) e w.in-Err.ensures.revised.fault)))
           w.in-Err.ensures.revised.no_start (ap (λ (z : State). Some z) w.in-Err.ensures.revised.unchanged.0) w.in-Err.ensures.revised.unchanged.1
-          (refuses_again (answer_form c.revise.new.draft) (answer_form c.args.draft) w.in-Err.undone.fault w.ends_at.result None w.refuse_for.result
+          (refuses_again (answer_form c.edit_and_report.new.draft) (answer_form c.args.draft) w.in-Err.undone.fault w.ends_of_edit_at.result None w.refuse_for.result
           w.in-Err.ensures.same w.refuse_for.ensures.refuses) w.refuse_for.ensures.start)
     ]

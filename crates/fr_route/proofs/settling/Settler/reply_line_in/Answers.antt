@@ -9,5 +9,5 @@ returns-in-Text g c =
 
 pub returns-in-Json : goal.returns-in-Json
 returns-in-Json g c =
-    line_in _ c.args.form c.args.line.number c.args.session.now c.args.line.bytes.now c.listing-told.result c.reply_line-answer.result c.reply_line-answer.new.session c.reply_line-answer.new.told
-    (rw c.in-Json.is (list_alone c.listing-told.result c.listing-told.ensures)) c.reply_line-answer.ensures
+    line_in _ c.args.form c.args.line.number c.args.session.now c.args.line.bytes.now c.take_list-told.result c.reply_line-answer.result c.reply_line-answer.new.session c.reply_line-answer.new.told
+    (rw c.in-Json.is (list_alone c.take_list-told.result c.take_list-told.ensures)) c.reply_line-answer.ensures

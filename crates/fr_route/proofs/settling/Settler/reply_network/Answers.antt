@@ -10,19 +10,19 @@ use Rattle.fr_route.specs.Texts.{longest_report}
 use Rattle.fr_route.specs.Refusals.{IsNewFault}
 use Rattle.fr_route.proofs.settling.Settler.reply_network.Goals as goal
 
-pub returns-in_ok-put-in-Ok : goal.returns-in_ok-put-in-Ok
-returns-in_ok-put-in-Ok g c =
+pub returns-in_ok-replace_router-in-Ok : goal.returns-in_ok-replace_router-in-Ok
+returns-in_ok-replace_router-in-Ok g c =
     let n = c.args.parts.nodes in
     let d = c.args.parts.dest in
     let links = c.args.parts.links.now in
-    let put = c.in_ok-put-in-Ok.ensures in
+    let put = c.in_ok-replace_router-in-Ok.ensures in
     let s : Option State = c.args.session.now in
-    let text : c.accepted.result.text ≡ c.in_ok-put-in-Ok.field-0 = c.accepted.ensures.0 in
-    done _ (answer_form c.args.draft) s (new_network n d links) c.args.told.now c.in-Ok.router c.accepted.result c.put.new.self c.put.new.told
+    let text : c.accepted_answer.result.text ≡ c.in_ok-replace_router-in-Ok.field-0 = c.accepted_answer.ensures.0 in
+    done _ (answer_form c.args.draft) s (new_network n d links) c.args.told.now c.in-Ok.router c.accepted_answer.result c.replace_router.new.self c.replace_router.new.told
     c.in-Ok.ensures.accepted
-    (λ list. new_text c.args.draft.form s n d links c.in-Ok.router (string_bytes c.accepted.result.text)
+    (λ list. new_text c.args.draft.form s n d links c.in-Ok.router (string_bytes c.accepted_answer.result.text)
     (subst (λ (t : String Global). IsReportIn c.args.draft.form (AreReplaced s c.in-Ok.router) s c.in-Ok.router (string_bytes t)) (sym text) (put.report list)))
-    c.accepted.ensures.1 put.put (λ listing. put.told listing)
+    c.accepted_answer.ensures.1 put.put (λ listing. put.told listing)
     (λ e. subst (λ (t : String Global). length (string_bytes t) ≤ longest_report) (sym text) (put.short e))
 
 pub returns-in-Err : goal.returns-in-Err

@@ -36,8 +36,8 @@ loop-read-init c = λ s before after leads were are.
       ways = c.clear.ensures.room.ways;
     })) were are c.nodes.ensures c.list.ensures.affected c.clear.ensures.none
 
-pub note_one-requires : goal.note_one-requires
-note_one-requires c =
+pub note_node-requires : goal.note_node-requires
+note_node-requires c =
     let (s, leads) = c.requires in
     let next : State = state_with c.args.net.now c.args.distances.now.dest c.args.turns.now in
     let both = both_exist s next c.args.edits.now c.args.distances.now c.args.self.now leads in
@@ -55,9 +55,9 @@ loop-read-preserved c = λ s before after leads were are.
     let noting = c.loop-read.invariant s before after leads were are in
     let is : IsNext s next c.args.edits.now c.args.distances.now before after (slice_index nodes c.loop-read.read) c.loop-read.self =
     noting_next were are noting low in
-    let noted : IsNotedTo before after (slice_index nodes c.loop-read.read + 1) c.note_one.new.self.changes =
-    (rw (c.counts.ensures, c.nodes-in-loop-read-2.ensures) at c.note_one.ensures.noted) s c.args.edits.now before after is in
-    noting_more were are noting low c.note_one.ensures.same c.note_one.ensures.affected noted
+    let noted : IsNotedTo before after (slice_index nodes c.loop-read.read + 1) c.note_node.new.self.changes =
+    (rw (c.counts.ensures, c.nodes-in-loop-read-2.ensures) at c.note_node.ensures.noted) s c.args.edits.now before after is in
+    noting_more were are noting low c.note_node.ensures.same c.note_node.ensures.affected noted
 
 pub returns : goal.returns
 returns c = λ s leads.

@@ -12,8 +12,8 @@ use Rattle.fr_shared_ways.proofs.Histories.{last_is_table}
 use Rattle.fr_shared_ways.proofs.Pushing.{drops_some, kept_old, set_table}
 use Rattle.fr_shared_ways.proofs.publisher.Publisher.shrink_node.Goals as goal
 
-pub kept_by_loser-requires-clause-old : goal.kept_by_loser-requires-clause-old
-kept_by_loser-requires-clause-old c =
+pub kept_ways_of_loser-requires-clause-old : goal.kept_ways_of_loser-requires-clause-old
+kept_ways_of_loser-requires-clause-old c =
     let k = c.args.self.now in
     omega (arith, ap length c.word.ensures.held, (last_is_table k.nodes k.known c.history_law.ensures).few c.args.x)
 
@@ -39,10 +39,10 @@ push-requires-clause-table c =
     let x : ℕ = c.args.x in
     let old = last_table k in
     let table = last_is_table k.nodes k.known c.history_law.ensures in
-    let list : take c.in-Some.count c.kept_by_loser.new.list ≡ kept old c.args.new.now x =
+    let list : take c.in-Some.count c.kept_ways_of_loser.new.list ≡ kept old c.args.new.now x =
     rw (c.word.ensures.held, c.word-2.ensures.held) at c.in-Some.ensures.kept in
     let few : length (kept old c.args.new.now x) ≤ 5 =
-    omega (arith, ap length list, c.in-Some.ensures.few, length-take c.in-Some.count c.kept_by_loser.new.list) in
+    omega (arith, ap length list, c.in-Some.ensures.few, length-take c.in-Some.count c.kept_ways_of_loser.new.list) in
     rw (c.word.ensures.kept, list)
     (set_table k.nodes old old x (kept old c.args.new.now x) table table (λ y z sends. sends) c.requires.node few
     (kept_old old c.args.new.now x))
@@ -54,12 +54,12 @@ returns-then-count-emptied c =
     let old = last_table k in
     let new = c.args.new.now in
     let count : ℕ = c.in-Some.count in
-    let list : take count c.kept_by_loser.new.list ≡ kept old new x =
+    let list : take count c.kept_ways_of_loser.new.list ≡ kept old new x =
     rw (c.word.ensures.held, c.word-2.ensures.held) at c.in-Some.ensures.kept in
     let lost : loses old new x ≡ true = rw (c.word.ensures.held, c.word-2.ensures.held) at c.in-Some.ensures.loses in
-    let few : count ≤ length c.kept_by_loser.new.list =
-    omega (arith, c.in-Some.ensures.few, c.kept_by_loser.array_long) in
-    let empty = empty_test count c.kept_by_loser.new.list (kept old new x) few list in
+    let few : count ≤ length c.kept_ways_of_loser.new.list =
+    omega (arith, c.in-Some.ensures.few, c.kept_ways_of_loser.array_long) in
+    let empty = empty_test count c.kept_ways_of_loser.new.list (kept old new x) few list in
     let drops_it : drops c.args.emptied old new x ≡ true =
     drops_some old new x c.args.emptied lost
     ∙ (ap (λ (b : Bool). cond c.args.emptied b (not b)) empty

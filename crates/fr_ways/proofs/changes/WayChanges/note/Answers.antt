@@ -16,8 +16,8 @@ returns-then-eq-clause-noted c before after may =
     let equal = (bytes_decides c.args.old.now c.args.new.now).0 (sym c.if-eq.ensures) in
     noted_same before after c.args.x c.args.self.now (may.ways_before ∙ (equal ∙ sym may.ways_after)) may.below
 
-pub loses-requires-clause-range : goal.loses-requires-clause-range
-loses-requires-clause-range c = rw c.deref_mut.ensures.value
+pub loses_way-requires-clause-range : goal.loses_way-requires-clause-range
+loses_way-requires-clause-range c = rw c.deref_mut.ensures.value
     (inside_places c.self.inside c.args.self.now c.args.x c.args.old.now c.args.new.now c.self.view_is c.requires).range
 
 pub push-requires : goal.push-requires
@@ -26,11 +26,11 @@ push-requires c =
     c.requires in
     record { nodes = omega (arith, p.grow, c.self.invariant.grow); ways = omega (arith, p.grow_ways) }
 
-pub returns-then-not-loses-clause-noted : goal.returns-then-not-loses-clause-noted
-returns-then-not-loses-clause-noted c before after may =
+pub returns-then-not-loses_way-clause-noted : goal.returns-then-not-loses_way-clause-noted
+returns-then-not-loses_way-clause-noted c before after may =
     let view = c.self.view_is in
     noted_other before after c.args.x c.args.old.now c.args.new.now c.args.self.now _ may
-    (sym c.loses.ensures.loses ∙ c.if-not-loses.true)
+    (sym c.loses_way.ensures.loses ∙ c.if-not-loses_way.true)
     (λ same. false≢true (c.if-eq.ensures ∙ (bytes_decides c.args.old.now c.args.new.now).1 same))
     (ap (λ (noted : Noted). noted.shrink) view)
     (ap (λ (noted : Noted). noted.emptied) view)
@@ -80,7 +80,7 @@ noted c before after may =
     let count : ℕ = c.push_kept-kept.result in
     let kept = filter (is_way c.args.old.now) new in
     noted_loser before after x c.args.old.now new c.args.self.now (pushes c) may count
-    (sym c.loses.ensures.loses ∙ c.if-not-loses.false)
+    (sym c.loses_way.ensures.loses ∙ c.if-not-loses_way.false)
     c.push_kept-kept.ensures.kept.0
     (c.push_kept-kept.ensures.kept.1 ∙ ap (λ (noted : Noted). noted.shrink
     ++ cond {A = List (ℕ × List ℕ)} (not (is_empty kept)) ((x, kept) ∷ []) []) view)
@@ -94,14 +94,14 @@ invariant_of-self-2 c =
     let (before, after, may) = c.requires in
     let few = few_noted before after (c.args.x + 1) (pushes (goal.at.invariant_of-self-2 c).After-push_if-2)
     (noted (goal.at.invariant_of-self-2 c).After-push_if-2 before after may) in
-    let first : (with_items marks c.loses.new.noted).items ≡ marks.items =
-    with_items_is marks c.loses.new.noted
-    (omega (arith, ap length (c.loses.ensures.same ∙ c.deref_mut.ensures.value), marks.ok.0))
-    ∙ (c.loses.ensures.same ∙ c.deref_mut.ensures.value) in
+    let first : (with_items marks c.loses_way.new.noted).items ≡ marks.items =
+    with_items_is marks c.loses_way.new.noted
+    (omega (arith, ap length (c.loses_way.ensures.same ∙ c.deref_mut.ensures.value), marks.ok.0))
+    ∙ (c.loses_way.ensures.same ∙ c.deref_mut.ensures.value) in
     let is : c.push_kept-kept.new.noted ≡ marks.items =
     c.push_kept-kept.ensures.same ∙ (c.deref_mut-2.ensures.value ∙ first) in
-    let second : (with_items (with_items marks c.loses.new.noted) c.push_kept-kept.new.noted).items ≡ marks.items =
-    with_items_is (with_items marks c.loses.new.noted) c.push_kept-kept.new.noted
+    let second : (with_items (with_items marks c.loses_way.new.noted) c.push_kept-kept.new.noted).items ≡ marks.items =
+    with_items_is (with_items marks c.loses_way.new.noted) c.push_kept-kept.new.noted
     (omega (arith, ap length is, marks.ok.0))
     ∙ is in
     record {

@@ -1,7 +1,7 @@
 -- A node's handle may go to another thread, because a machine may.
 use denote.Param.Send.{IsSend, owning_send, sendable}
-use Rattle.revroute_c.specs.contracts.machine.Machine.{the_row as S}
-use Rattle.revroute_c.proofs.machine.Machine.TheSendSync as machine
+use Rattle.revroute_c.specs.contracts.node_state.NodeState.{the_row as S}
+use Rattle.revroute_c.proofs.node_state.NodeState.TheSendSync as machine
 use Rattle.revroute_c.proofs.Owned.{owned_keyless}
 use Rattle.revroute_c.specs.Machines.{no_machine}
 use Rattle.revroute_c.specs.contracts.node_handle.NodeHandle.{the_row, the_type}

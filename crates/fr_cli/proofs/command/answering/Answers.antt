@@ -1,8 +1,0 @@
-use Rattle.fr_cli.proofs.command.answering.Goals as goal
-
-pub returns : goal.returns
-returns c =
-    c.with_flag.ensures _
-    (c.with_flag-command-3.ensures _
-    (c.with_flag-command-2.ensures _
-    (c.with_flag-command.ensures _ c.planning-command.ensures)))

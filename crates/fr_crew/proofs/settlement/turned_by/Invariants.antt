@@ -1,5 +1,0 @@
-use Rattle.fr_crew.proofs.settlement.turned_by.Given as goal
-
--- the deques are those of this round
-abbrev pub ghosts-run_crew : goal.ghosts-run_crew
-ghosts-run_crew g a = record { setup = a.round.setup }

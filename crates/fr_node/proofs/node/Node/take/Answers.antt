@@ -1,6 +1,0 @@
-use Rattle.fr_node.proofs.Linking.{hears_at, is_at}
-use Rattle.fr_node.proofs.node.Node.take.Goals as goal
-
-pub returns-in-Some-clause-heard : goal.returns-in-Some-clause-heard
-returns-in-Some-clause-heard c = hears_at _ _ _ _ _ _
-    (is_at _ _ _ _ c.in-Some.ensures c.index.ensures) c.after.ensures c.if-message-self.false

@@ -1,5 +1,0 @@
-use Rattle.fr_node.proofs.Nearest.{IsNearestOf}
-use Rattle.fr_node.proofs.node.nearest.Given as goal
-
-abbrev pub invariant-loop-link : goal.invariant-loop-link
-invariant-loop-link l = IsNearestOf l.own l.links l.link-index l.nearest

@@ -1,5 +1,0 @@
-use Rattle.fr_route.proofs.OutByRow.{AreInward}
-use Rattle.fr_route.proofs.hops.least_out.Given as goal
-
-abbrev pub invariant-loop-w : goal.invariant-loop-w
-invariant-loop-w l = AreInward l.row l.w-index

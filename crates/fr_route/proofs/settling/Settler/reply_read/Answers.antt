@@ -1,4 +1,0 @@
-use Rattle.fr_route.proofs.settling.Settler.reply_read.Goals as goal
-
-pub returns-in-Ok : goal.returns-in-Ok
-returns-in-Ok g c = rw c.in-Ok.ensures.ok c.reply.ensures

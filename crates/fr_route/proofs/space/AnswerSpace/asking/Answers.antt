@@ -1,5 +1,0 @@
-use Rattle.std.proofs.Common.{refl}
-use Rattle.fr_route.proofs.space.AnswerSpace.asking.Goals as goal
-
-pub returns : goal.returns
-returns c = (_, refl)
