@@ -23,7 +23,7 @@ use Rattle.fr_route.specs.Changes.{IsPlacedFault}
 use Rattle.fr_route.specs.Outcomes.{IsEdited}
 use Rattle.fr_route.specs.Pushing.{IsPushesRefused, padded}
 use Rattle.fr_route.specs.Refusals.{IsNewFault, IsRefusalOf}
-use Rattle.fr_route.specs.Replies.{HasList, IsFromReply, IsLineRefusal, IsLineAnsweredIn, IsLineReplied, IsReplied, IsReply, IsReportIn, IsRevised, IsStillReply, IsTextIn, Refuses, RefusesBy, request_of_edit}
+use Rattle.fr_route.specs.Replies.{HasList, answered, written, IsFromReply, IsLineRefusal, IsLineAnsweredIn, IsLineReplied, IsReplied, IsReply, IsReportIn, IsRevised, IsStillReply, IsTextIn, Refuses, RefusesBy, request_of_edit}
 use Rattle.fr_route.specs.Reroutes.{AreReplaced, AreRerouted}
 use Rattle.fr_route.specs.Rooms.{lists_size, report_room, report_size}
 use Rattle.fr_route.specs.Sessions.{IsAnswered, IsLineAnswered}
@@ -36,6 +36,7 @@ use Rattle.fr_route.specs.declared.fault.AnswerFault.TheVariants.{Memory, Start}
 use Rattle.fr_route.specs.declared.fault.RouteFault.{RouteFault}
 use Rattle.fr_route.specs.declared.fault.RouteFault.TheVariants as route
 use Rattle.fr_route.specs.declared.form.Answer.{Answer}
+use Rattle.fr_route.specs.declared.form.Draft.{Draft}
 use Rattle.fr_route.specs.declared.form.Form.{Form}
 use Rattle.fr_route.specs.declared.form.Form.TheVariants.{Text, Json, JsonWithWays}
 use Rattle.fr_route.specs.Replies.{AnswerForm}
@@ -56,50 +57,52 @@ refused_reply manner s (Err fault) told a next more is = is
 
 module _ (never : Type 0) (manner : AnswerForm) (s : Option State) (asked : Result PlainRequest LineFault) (told : ChangedNodes) where
   -- missing memory changes nothing
-  pub no_memory : (fault : AnswerFault) (next : Option State) (more : ChangedNodes) → fault ≡ Memory → next ≡ s → nodes_told more ≡ nodes_told told
-      → IsReplied never manner s asked told (Err fault) next more
-  no_memory fault next more memory n t = record { reply = tt; unchanged = (n, t); start = λ e. absurd cc; no_start = λ h e. absurd cc }
+  pub no_memory : (fault : AnswerFault) (d : Draft) (next : Option State) (more : ChangedNodes) → fault ≡ Memory → next ≡ s
+      → nodes_told more ≡ nodes_told told → IsReplied never manner s asked told (Err fault) d next more
+  no_memory fault d next more memory n t = record { reply = tt; unchanged = (n, t); start = λ e. absurd cc; no_start = λ h e. absurd cc }
 
   -- so does a refusal
-  pub refusing : (refusal : PlainRefusal) (answer : Result Answer AnswerFault) (next : Option State) (more : ChangedNodes)
-      → IsLineRefusal s asked refusal → next ≡ s → nodes_told more ≡ nodes_told told → IfOk answer (RefusesBy manner refusal)
-      → IfErr answer (λ fault. fault ≡ Memory) → IsReplied never manner s asked told answer next more
-  refusing refusal (Ok a) next more why n t by memory = record {
-    reply = refused_reply manner s asked told a next more (record { refusal = refusal; why = why; by = by; same = n; untold = t });
+  pub refusing : (refusal : PlainRefusal) (answer : Result Bool AnswerFault) (d : Draft) (next : Option State) (more : ChangedNodes)
+      → IsLineRefusal s asked refusal → next ≡ s → nodes_told more ≡ nodes_told told
+      → IfOk answer (λ b. RefusesBy manner refusal (written d b))
+      → IfErr answer (λ fault. fault ≡ Memory) → IsReplied never manner s asked told answer d next more
+  refusing refusal (Ok b) d next more why n t by memory = record {
+    reply = refused_reply manner s asked told (written d b) next more (record { refusal = refusal; why = why; by = by; same = n; untold = t });
     unchanged = tt;
     start = tt;
     no_start = λ h. tt;
   }
-  refusing refusal (Err fault) next more why n t by memory = no_memory fault next more memory n t
+  refusing refusal (Err fault) d next more why n t by memory = no_memory fault d next more memory n t
 
   -- the refusal for a fault
-  pub faulty : (fault : RouteFault) (named : List ℕ) (place : Option ℕ) (answer : Result Answer AnswerFault) (next : Option State) (more : ChangedNodes)
+  pub faulty : (fault : RouteFault) (named : List ℕ) (place : Option ℕ) (answer : Result Bool AnswerFault) (d : Draft)
+      (next : Option State) (more : ChangedNodes)
       → ((refusal : PlainRefusal) → IsRefusalOf fault named place refusal → IsLineRefusal s asked refusal)
       → (fault ≡ route.Start → MayStartForLine s asked) → (never → fault ≢ route.Start) → next ≡ s → nodes_told more ≡ nodes_told told
-      → IfOk answer (λ a. (refusal : PlainRefusal) × IsRefusalOf fault named place refusal × RefusesBy manner refusal a)
-      → IfErr answer (λ why. (why ≡ Start) ↔ (fault ≡ route.Start)) → IsReplied never manner s asked told answer next more
-  faulty fault named place (Ok a) next more refuses may starts n t by why = record {
-    reply = refused_reply manner s asked told a next more (record { refusal = by.0; why = refuses by.0 by.1; by = by.2; same = n; untold = t });
+      → IfOk answer (λ b. (refusal : PlainRefusal) × IsRefusalOf fault named place refusal × RefusesBy manner refusal (written d b))
+      → IfErr answer (λ why. (why ≡ Start) ↔ (fault ≡ route.Start)) → IsReplied never manner s asked told answer d next more
+  faulty fault named place (Ok b) d next more refuses may starts n t by why = record {
+    reply = refused_reply manner s asked told (written d b) next more (record { refusal = by.0; why = refuses by.0 by.1; by = by.2; same = n; untold = t });
     unchanged = tt;
     start = tt;
     no_start = λ h. tt;
   }
-  faulty fault named place (Err reason) next more refuses may starts n t by why =
+  faulty fault named place (Err reason) d next more refuses may starts n t by why =
       record { reply = tt; unchanged = (n, t); start = λ e. may (why.0 e); no_start = λ h e. starts h (why.0 e) }
 
 -- the answer to an accepted request that begins a round
 pub done : (never : Type 0) (manner : AnswerForm) (s : Option State) (request : PlainRequest) (told : ChangedNodes) (new : State)
-    (answer : Answer) (next : Option State) (more : ChangedNodes) → IsAccepted s request new
-    → (HasList manner.form told → IsTextIn manner.form s request new (string_bytes answer.text)) → answer.refused ≡ false
+    (d : Draft) (next : Option State) (more : ChangedNodes) → IsAccepted s request new
+    → (HasList manner.form told → IsTextIn manner.form s request new (string_bytes d.text))
     → next ≡ Some new → (IsListing told → TellsOf s request new (nodes_told told) (nodes_told more))
-    → (manner.form ≡ Text → length (string_bytes answer.text) ≤ longest_report)
-    → IsReplied never manner s (Ok request) told (Ok answer) next more
-done never manner s request told new answer next more accepted text by n tells short = record {
+    → (manner.form ≡ Text → length (string_bytes d.text) ≤ longest_report)
+    → IsReplied never manner s (Ok request) told (Ok false) d next more
+done never manner s request told new d next more accepted text n tells short = record {
   reply = inr (inl (record {
     new = new;
     accepted = accepted;
     text = text;
-    by = by;
+    by = refl;
     next_is = n;
     tells = tells;
     short = λ is. inr (short is);
@@ -110,40 +113,37 @@ done never manner s request told new answer next more accepted text by n tells s
 }
 
 -- the answer to edits that are made
-pub revised : (never : Type 0) (manner : AnswerForm) (s : State) (request : PlainRequest) (revision : Revision) (told : ChangedNodes) (text : String Global)
-    (a : Answer) (new : State) (more : ChangedNodes) → (a.text ≡ text) × (a.refused ≡ false)
-    → IsRevised never manner.form s revision told (Ok tt) text new more
+pub revised : (never : Type 0) (manner : AnswerForm) (s : State) (request : PlainRequest) (revision : Revision) (told : ChangedNodes) (d : Draft)
+    (new : State) (more : ChangedNodes) → IsRevised never manner.form s revision told (Ok tt) d.text new more
     → (IsEdited s revision.edits.now revision.dest new → IsAccepted (Some s) request new)
     → ((bytes : List ℕ) → IsReportIn manner.form (AreRerouted s new) (Some s) new bytes → IsTextIn manner.form (Some s) request new bytes)
     → ((after : List ℕ) → AreRerouted s new after → TellsOf (Some s) request new (nodes_told told) after)
-    → IsReplied never manner (Some s) (Ok request) told (Ok a) (Some new) more
-revised never manner s request revision told text a new more is made accepted texts tells =
-    let same : string_bytes text ≡ string_bytes a.text = ap (λ (t : String Global). string_bytes t) (sym is.0) in
-    done never manner (Some s) request told new a (Some new) more (accepted made.made)
-    (λ list. texts (string_bytes a.text) (subst (λ (bytes : List ℕ). IsReportIn manner.form (AreRerouted s new) (Some s) new bytes) same (made.report list)))
-    is.1 refl (λ listing. tells (nodes_told more) (made.rerouted listing))
-    (λ e. subst (λ (bytes : List ℕ). length bytes ≤ longest_report) same (made.short e))
+    → IsReplied never manner (Some s) (Ok request) told (Ok false) d (Some new) more
+revised never manner s request revision told d new more made accepted texts tells =
+    done never manner (Some s) request told new d (Some new) more (accepted made.made)
+    (λ list. texts (string_bytes d.text) (made.report list)) refl (λ listing. tells (nodes_told more) (made.rerouted listing)) made.short
 
 -- a request that needs a network is refused while there is none
-pub none_yet : (never : Type 0) (manner : AnswerForm) (s : Option State) (request : PlainRequest) (told : ChangedNodes) (answer : Result Answer AnswerFault) (next : Option State)
-    → s ≡ None → next ≡ None → IsRefusal None request (bare_refusal 3) → IfOk answer (RefusesBy manner (bare_refusal 3))
-    → IfErr answer (λ fault. fault ≡ Memory) → IsReplied never manner s (Ok request) told answer next told
-none_yet never manner s request told answer next here n refused by memory =
-    refusing never manner s (Ok request) told (bare_refusal 3) answer next told
+pub none_yet : (never : Type 0) (manner : AnswerForm) (s : Option State) (request : PlainRequest) (told : ChangedNodes) (answer : Result Bool AnswerFault) (d : Draft)
+    (next : Option State) → s ≡ None → next ≡ None → IsRefusal None request (bare_refusal 3)
+    → IfOk answer (λ b. RefusesBy manner (bare_refusal 3) (written d b))
+    → IfErr answer (λ fault. fault ≡ Memory) → IsReplied never manner s (Ok request) told answer d next told
+none_yet never manner s request told answer d next here n refused by memory =
+    refusing never manner s (Ok request) told (bare_refusal 3) answer d next told
     (subst (λ (z : Option State). IsRefusal z request (bare_refusal 3)) (sym here) refused) (n ∙ sym here) refl by memory
 
 -- what changes nothing leaves the list unchanged
-pub still : (never : Type 0) (manner : AnswerForm) (s : Option State) (request : PlainRequest) (told : ChangedNodes) (answer : Result Answer AnswerFault)
-    → ((new : State) → IsAccepted s request new → s ≡ Some new → TellsOf s request new (nodes_told told) (nodes_told told))
-    → IfOk answer (IsStillReply manner s request) → IfErr answer (λ fault. fault ≡ Memory)
-    → IsReplied never manner s (Ok request) told answer s told
-still never manner s request told (Ok a) tells (inl is) memory = record {
+pub still : (never : Type 0) (manner : AnswerForm) (s : Option State) (request : PlainRequest) (told : ChangedNodes) (answer : Result Bool AnswerFault)
+    (d : Draft) → ((new : State) → IsAccepted s request new → s ≡ Some new → TellsOf s request new (nodes_told told) (nodes_told told))
+    → IfOk answer (λ b. IsStillReply manner s request (written d b)) → IfErr answer (λ fault. fault ≡ Memory)
+    → IsReplied never manner s (Ok request) told answer d s told
+still never manner s request told (Ok b) d tells (inl is) memory = record {
   reply = inl (record { refusal = is.0; why = is.1; by = is.2; same = refl; untold = refl });
   unchanged = tt;
   start = tt;
   no_start = λ h. tt;
 }
-still never manner s request told (Ok a) tells (inr (inl (new, accepted, text, by, here))) memory = record {
+still never manner s request told (Ok b) d tells (inr (inl (new, accepted, text, by, here))) memory = record {
   reply = inr (inl (record {
     new = new;
     accepted = accepted;
@@ -157,13 +157,13 @@ still never manner s request told (Ok a) tells (inr (inl (new, accepted, text, b
   start = tt;
   no_start = λ h. tt;
 }
-still never manner s request told (Ok a) tells (inr (inr (pushes, asked, text, by))) memory = record {
+still never manner s request told (Ok b) d tells (inr (inr (pushes, asked, text, by))) memory = record {
   reply = inr (inr (record { pushes = pushes; asked = asked; text = text; by = by; same = refl; untold = refl }));
   unchanged = tt;
   start = tt;
   no_start = λ h. tt;
 }
-still never manner s request told (Err fault) tells is memory = no_memory never manner s (Ok request) told fault s told memory refl refl
+still never manner s request told (Err fault) d tells is memory = no_memory never manner s (Ok request) told fault d s told memory refl refl
 
 -- the answer to a request for pushes, from that for two tables
 pub between_reply : (manner : AnswerForm) (table wanted : List Hop) (a : Answer) (s : Option State)
@@ -212,11 +212,11 @@ walk_text_in Json s x new text h = h
 walk_text_in JsonWithWays s x new text h = h
 
 -- the same refusal, by a draft of the same answer
-pub refuses_again : (form other : AnswerForm) (fault : RouteFault) (named : List ℕ) (place : Option ℕ) (answer : Result Answer AnswerFault)
-    → form ≡ other → IfOk answer (λ a. (r : PlainRefusal) × IsRefusalOf fault named place r × RefusesBy form r a)
-    → IfOk answer (λ a. (r : PlainRefusal) × IsRefusalOf fault named place r × RefusesBy other r a)
-refuses_again form other fault named place answer same =
-    subst (λ (f : AnswerForm). IfOk answer (λ a. (r : PlainRefusal) × IsRefusalOf fault named place r × RefusesBy f r a)) same
+pub refuses_again : (form other : AnswerForm) (fault : RouteFault) (named : List ℕ) (place : Option ℕ) (answer : Result Bool AnswerFault) (d : Draft)
+    → form ≡ other → IfOk answer (λ b. (r : PlainRefusal) × IsRefusalOf fault named place r × RefusesBy form r (written d b))
+    → IfOk answer (λ b. (r : PlainRefusal) × IsRefusalOf fault named place r × RefusesBy other r (written d b))
+refuses_again form other fault named place answer d same =
+    subst (λ (f : AnswerForm). IfOk answer (λ b. (r : PlainRefusal) × IsRefusalOf fault named place r × RefusesBy f r (written d b))) same
 
 -- the place of a refused edit is within the batch
 place_inside : (s : State) (edits : List Edit) (at : ℕ) (fault : NetFault) → IsBatchFault (net_at s) edits (record { at = at; fault = fault }) → at < length edits
@@ -475,20 +475,21 @@ module _ (never : Type 0) (number : ℕ) (s : Option State) where
   }
 
 -- the answer to a line in a form
-pub line_in : (never : Type 0) (form : Form) (number : ℕ) (s : Option State) (line : List ℕ) (told : ChangedNodes) (answer : Result (Option Answer) AnswerFault)
-    (next : Option State) (more : ChangedNodes) → HasList form told → IsLineReplied never (record { form = form; number = number }) s line told answer next more
-    → IsLineAnsweredIn never form number s line answer next
-line_in never form number s line told (Ok None) next more list is =
+pub line_in : (never : Type 0) (form : Form) (number : ℕ) (s : Option State) (line : List ℕ) (told : ChangedNodes)
+    (answer : Result (Option Bool) AnswerFault) (d : Draft) (next : Option State) (more : ChangedNodes) → HasList form told
+    → IsLineReplied never (record { form = form; number = number }) s line told answer d next more
+    → IsLineAnsweredIn never form number s line (answered answer d) next
+line_in never form number s line told (Ok None) d next more list is =
     record { blank = (is.blank.0, is.blank.1); text = tt; refused = tt; unchanged = tt; start = tt; no_start = λ h. tt }
-line_in never form number s line told (Ok (Some a)) next more list is = record {
+line_in never form number s line told (Ok (Some b)) d next more list is = record {
   blank = tt;
-  text = (is.reply.0, answer_in number s told a next more form (reading line) list is.reply.1);
-  refused = flag_is number s told a next more form (reading line) is.reply.1;
+  text = (is.reply.0, answer_in number s told (written d b) next more form (reading line) list is.reply.1);
+  refused = flag_is number s told (written d b) next more form (reading line) is.reply.1;
   unchanged = tt;
   start = tt;
   no_start = λ h. tt;
 }
-line_in never form number s line told (Err fault) next more list is =
+line_in never form number s line told (Err fault) d next more list is =
     record { blank = tt; text = tt; refused = tt; unchanged = (is.unchanged.0, is.unchanged.1); start = is.start; no_start = is.no_start }
 
 -- a report fits in the room for it

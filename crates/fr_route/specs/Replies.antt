@@ -1,5 +1,5 @@
 -- What a session does with a request in each form, by any way to settle networks. For proofs only.
-use Rattle.std.specs.Prelude.{◌≡◌, ◌≢◌, ℕ, ◌≤◌, ◌⊎◌, ◌↔◌, IsTrue, true, false, length, List, Option, None, Some}
+use Rattle.std.specs.Prelude.{◌≡◌, ◌≢◌, ℕ, ◌≤◌, ◌⊎◌, ◌↔◌, IsTrue, Bool, true, false, length, List, Option, None, Some}
 use Rattle.std.specs.Prelude.{Result, Ok, Err, String, IfOk, IfErr, IfSome, IfNone, OnErr, string_bytes}
 use Rattle.std.specs.declared.alloc.Global.{Global}
 use Rattle.fr_requests.specs.Requests.{PlainRequest, reading, cut_link, add_link, join_nodes}
@@ -39,6 +39,16 @@ pub record AnswerForm : Type 0 where
 
 abbrev pub answer_form : Draft → AnswerForm
 answer_form draft = record { form = draft.form; number = draft.number }
+
+-- the answer that was written in a draft
+abbrev pub written : Draft → Bool → Answer
+written draft refused = record { text = draft.text; refused = refused }
+
+-- what a call returns that writes the answer to a line in a draft
+abbrev pub answered : Result (Option Bool) AnswerFault → Draft → Result (Option Answer) AnswerFault
+answered (Ok (Some refused)) draft = Ok (Some (written draft refused))
+answered (Ok None) draft = Ok None
+answered (Err fault) draft = Err fault
 
 -- the list that JSON needs is there, and the notes that JSON with ways needs
 pub record HasList (form : Form) (told : ChangedNodes) : Type 0 where
@@ -141,21 +151,23 @@ IsFromReply manner table hops answer =
     ⊎ ((pushes : List (ℕ × Hop)) × LeadFrom table hops pushes
     × (string_bytes answer.text ≡ pushes_in manner.form pushes) × (answer.refused ≡ false))
 
--- The answer to what was read of a line, the state after it, and the list of rerouted nodes. With `never`, the way to
--- settle starts no thread.
+-- The answer to what was read of a line, as it is written in a draft, the state after it, and the list of rerouted nodes.
+-- With `never`, the way to settle starts no thread.
 pub record IsReplied (never : Type 0) (manner : AnswerForm) (s : Option State) (asked : Result PlainRequest LineFault)
-    (told : ChangedNodes) (answer : Result Answer AnswerFault) (next : Option State) (more : ChangedNodes) : Type 0 where
-  pub reply : IfOk answer (λ a. IsReply manner s asked told a next more)
+    (told : ChangedNodes) (answer : Result Bool AnswerFault) (draft : Draft) (next : Option State) (more : ChangedNodes)
+    : Type 0 where
+  pub reply : IfOk answer (λ refused. IsReply manner s asked told (written draft refused) next more)
   pub unchanged : OnErr answer ((next ≡ s) × (nodes_told more ≡ nodes_told told))
   pub start : IfErr answer (λ fault. fault ≡ Start → MayStartForLine s asked)
   pub no_start : never → IfErr answer (λ fault. fault ≢ Start)
 
 -- the same for a line. A blank line has no answer and changes nothing
 pub record IsLineReplied (never : Type 0) (manner : AnswerForm) (s : Option State) (line : List ℕ) (told : ChangedNodes)
-    (answer : Result (Option Answer) AnswerFault) (next : Option State) (more : ChangedNodes) : Type 0 where
+    (answer : Result (Option Bool) AnswerFault) (draft : Draft) (next : Option State) (more : ChangedNodes) : Type 0 where
   pub blank : IfOk answer (λ a. IfNone a ((is_blank line ≡ true) × (next ≡ s) × (nodes_told more ≡ nodes_told told)))
   pub reply : IfOk answer
-      (λ a. IfSome a (λ it. (is_blank line ≡ false) × IsReply manner s (reading line) told it next more))
+      (λ a. IfSome a (λ refused. (is_blank line ≡ false)
+      × IsReply manner s (reading line) told (written draft refused) next more))
   pub unchanged : OnErr answer ((is_blank line ≡ false) × (next ≡ s) × (nodes_told more ≡ nodes_told told))
   pub start : IfErr answer (λ fault. fault ≡ Start → MayStartForLine s (reading line))
   pub no_start : never → IfErr answer (λ fault. fault ≢ Start)

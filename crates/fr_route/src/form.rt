@@ -1,6 +1,6 @@
 //! The form of an answer, the line that it answers, and the answer.
 
-ghost use Rattle.std.specs.Prelude.{◌≡◌, false};
+ghost use Rattle.std.specs.Prelude.{◌≡◌};
 ghost use Rattle.fr_route.specs.Replies.{answer_form};
 ghost use Rattle.fr_route.specs.declared.form.Form.TheVariants.{Text};
 
@@ -35,13 +35,13 @@ pub struct Answer {
     pub refused: bool,
 }
 
-/// An answer that is not written yet: its form, the number of the line in its input, and memory for its text.
+/// An answer that is being written: its form, the number of the line in its input, and its text.
 #[derive(Drop)]
 pub(crate) struct Draft {
     pub(crate) form: Form,
     pub(crate) number: u64,
-    // What the string contains has no meaning.
-    pub(crate) spare: String,
+    // Before the answer is written, what the string contains has no meaning.
+    pub(crate) text: String,
 }
 
 impl Draft {
@@ -52,15 +52,7 @@ impl Draft {
         Draft {
             form: Form::Text,
             number: 0,
-            spare: String::new(alloc),
+            text: String::new(alloc),
         }
     }
-}
-
-/// The answer to a request that is accepted.
-pub(crate) fn accepted_answer(text: String) -> Answer
-    ensures { (result.text ≡ text) × (result.refused ≡ false) }
-{
-    let refused = false;
-    Answer { text, refused }
 }

@@ -27,15 +27,14 @@ use std::alloc::AllocError;
 /// The bytes of a node or a count with a comma, as a rule.
 const NUMBER_ROOM: usize = 5;
 
-/// A line that begins with this text, with room for so many numbers and an end, in the memory of this one.
-fn start_line(mut line: String, text: &str, numbers: usize) -> Result<String, AllocError>
-    ensures { IfOk result (λ line. string_bytes line ≡ text.now) }
+/// Empties a line, takes room for a text, so many numbers and an end, and writes the text.
+fn begin(line: &mut String, text: &str, numbers: usize) -> Result<(), AllocError>
+    ensures { OnOk result (string_bytes line.new ≡ text.now) }
 {
     let room = numbers.saturating_mul(NUMBER_ROOM).saturating_add(16);
     line.clear();
     line.reserve(room)?;
-    line.push_str(text)?;
-    Ok(line)
+    line.push_str(text)
 }
 
 /// Appends a number.
@@ -114,18 +113,17 @@ fn push_link(
 
 /// `{"links":[[1,0],[2,1]]}`: the links, each from its tail to its head.
 #[inline(never)]
-pub(crate) fn links_object(spare: String, links: Links<'_>) -> Result<String, AllocError>
-    ensures { IfOk result (λ line. string_bytes line ≡ links_json links.entry) }
+pub(crate) fn links_object(line: &mut String, links: Links<'_>) -> Result<(), AllocError>
+    ensures { OnOk result (string_bytes line.new ≡ links_json links.entry) }
 {
-    let mut line = start_line(spare, "{\"links\":[", links.len().saturating_mul(2))?;
+    begin(line, "{\"links\":[", links.len().saturating_mul(2))?;
     let mut buffer = Buffer::new();
     let mut first = true;
     for link in links {
-        push_link(&mut line, first, link, &mut buffer)?;
+        push_link(line, first, link, &mut buffer)?;
         first = false;
     }
-    line.push_str("]}")?;
-    Ok(line)
+    line.push_str("]}")
 }
 
 /// Appends counts, with commas between them.
@@ -144,13 +142,12 @@ fn push_counts(line: &mut String, counts: &[u64]) -> Result<(), AllocError>
 
 /// `{"counts":[0,1,2]}`: the count of each node.
 #[inline(never)]
-pub(crate) fn counts_object(spare: String, counts: &[u64]) -> Result<String, AllocError>
-    ensures { IfOk result (λ line. string_bytes line ≡ counts_json counts.now) }
+pub(crate) fn counts_object(line: &mut String, counts: &[u64]) -> Result<(), AllocError>
+    ensures { OnOk result (string_bytes line.new ≡ counts_json counts.now) }
 {
-    let mut line = start_line(spare, "{\"counts\":[", counts.len())?;
-    push_counts(&mut line, counts)?;
-    line.push_str("]}")?;
-    Ok(line)
+    begin(line, "{\"counts\":[", counts.len())?;
+    push_counts(line, counts)?;
+    line.push_str("]}")
 }
 
 /// Appends hops, with commas between them.
@@ -169,32 +166,30 @@ fn push_hops(line: &mut String, hops: &[Hop]) -> Result<(), AllocError>
 
 /// `{"hops":["here",0,"cut"]}`: the hop of each node.
 #[inline(never)]
-pub(crate) fn hops_object(spare: String, hops: &[Hop]) -> Result<String, AllocError>
-    ensures { IfOk result (λ line. string_bytes line ≡ hops_json hops.now) }
+pub(crate) fn hops_object(line: &mut String, hops: &[Hop]) -> Result<(), AllocError>
+    ensures { OnOk result (string_bytes line.new ≡ hops_json hops.now) }
 {
-    let mut line = start_line(spare, "{\"hops\":[", hops.len())?;
-    push_hops(&mut line, hops)?;
-    line.push_str("]}")?;
-    Ok(line)
+    begin(line, "{\"hops\":[", hops.len())?;
+    push_hops(line, hops)?;
+    line.push_str("]}")
 }
 
 /// `{"walk":[3,2,1,0]}`: the nodes of a route.
 #[inline(never)]
-pub(crate) fn walk_object(spare: String, nodes: &[u32]) -> Result<String, AllocError>
-    ensures { IfOk result (λ line. string_bytes line ≡ walk_json nodes.now) }
+pub(crate) fn walk_object(line: &mut String, nodes: &[u32]) -> Result<(), AllocError>
+    ensures { OnOk result (string_bytes line.new ≡ walk_json nodes.now) }
 {
-    let mut line = start_line(spare, "{\"walk\":[", nodes.len())?;
-    push_nodes(&mut line, nodes, &mut Buffer::new())?;
-    line.push_str("]}")?;
-    Ok(line)
+    begin(line, "{\"walk\":[", nodes.len())?;
+    push_nodes(line, nodes, &mut Buffer::new())?;
+    line.push_str("]}")
 }
 
 /// The answer for a route from a node that is cut off.
 #[inline(never)]
-pub(crate) fn no_walk_object(spare: String) -> Result<String, AllocError>
-    ensures { IfOk result (λ line. string_bytes line ≡ no_walk_json) }
+pub(crate) fn no_walk_object(line: &mut String) -> Result<(), AllocError>
+    ensures { OnOk result (string_bytes line.new ≡ no_walk_json) }
 {
-    start_line(spare, "{\"walk\":null}", 0)
+    begin(line, "{\"walk\":null}", 0)
 }
 
 /// Appends the ways of a node: `"here"` for the destination, `"cut"` without a way, or the ways in brackets.
@@ -234,29 +229,27 @@ fn push_table(line: &mut String, dest: u32, table: &WayTable) -> Result<(), Allo
 
 /// `{"ways":["here",[0],[0,1],"cut"]}`: the ways of each node.
 #[inline(never)]
-pub(crate) fn ways_object(spare: String, dest: u32, table: &WayTable) -> Result<String, AllocError>
+pub(crate) fn ways_object(line: &mut String, dest: u32, table: &WayTable) -> Result<(), AllocError>
     requires { length table.now < 2 ^ 32 }
-    ensures { IfOk result (λ line. string_bytes line ≡ ways_json dest table.now) }
+    ensures { OnOk result (string_bytes line.new ≡ ways_json dest table.now) }
 {
-    let mut line = start_line(spare, "{\"ways\":[", table.list().len())?;
-    push_table(&mut line, dest, table)?;
-    line.push_str("]}")?;
-    Ok(line)
+    begin(line, "{\"ways\":[", table.list().len())?;
+    push_table(line, dest, table)?;
+    line.push_str("]}")
 }
 
 /// `{"ways":[0,1]}`: these ways of one node. `home` says whether it is the destination.
 #[inline(never)]
 pub(crate) fn node_ways_object(
-    spare: String,
+    line: &mut String,
     home: bool,
     ways: &[u32],
-) -> Result<String, AllocError>
-    ensures { IfOk result (λ line. string_bytes line ≡ node_ways_json home ways.now) }
+) -> Result<(), AllocError>
+    ensures { OnOk result (string_bytes line.new ≡ node_ways_json home ways.now) }
 {
-    let mut line = start_line(spare, "{\"ways\":", ways.len())?;
-    push_ways(&mut line, home, ways, &mut Buffer::new())?;
-    line.push_str("}")?;
-    Ok(line)
+    begin(line, "{\"ways\":", ways.len())?;
+    push_ways(line, home, ways, &mut Buffer::new())?;
+    line.push_str("}")
 }
 
 /// Appends a node with the list that it gets, after a comma unless it is the first.
@@ -319,33 +312,31 @@ fn push_phases(
 
 /// `{"shrink":[[5,[2]],[3,[]]],"grow":[[3,[5,7]]]}`: the pushes of two phases.
 #[inline(never)]
-pub(crate) fn phases_object(spare: String, phases: ListedPhases<'_>) -> Result<String, AllocError>
+pub(crate) fn phases_object(line: &mut String, phases: ListedPhases<'_>) -> Result<(), AllocError>
     requires { (shrink grow : List (ℕ × List ℕ)) × ArePhasesListed shrink grow phases }
     ensures { (shrink grow : List (ℕ × List ℕ)) → ArePhasesListed shrink grow phases.entry
-        → IfOk result (λ line. string_bytes line ≡ phases_json shrink grow) }
+        → OnOk result (string_bytes line.new ≡ phases_json shrink grow) }
 {
-    let mut line = start_line(spare, "{\"shrink\":[", 0)?;
-    push_phases(&mut line, phases, &mut Buffer::new())?;
-    Ok(line)
+    begin(line, "{\"shrink\":[", 0)?;
+    push_phases(line, phases, &mut Buffer::new())
 }
 
 /// `{"nearest":[3,1,0]}`: the nodes of a nearest route.
 #[inline(never)]
-pub(crate) fn nearest_object(spare: String, nodes: &[u32]) -> Result<String, AllocError>
-    ensures { IfOk result (λ line. string_bytes line ≡ nearest_json nodes.now) }
+pub(crate) fn nearest_object(line: &mut String, nodes: &[u32]) -> Result<(), AllocError>
+    ensures { OnOk result (string_bytes line.new ≡ nearest_json nodes.now) }
 {
-    let mut line = start_line(spare, "{\"nearest\":[", nodes.len())?;
-    push_nodes(&mut line, nodes, &mut Buffer::new())?;
-    line.push_str("]}")?;
-    Ok(line)
+    begin(line, "{\"nearest\":[", nodes.len())?;
+    push_nodes(line, nodes, &mut Buffer::new())?;
+    line.push_str("]}")
 }
 
 /// The answer for a nearest route from a node that is cut off.
 #[inline(never)]
-pub(crate) fn no_nearest_object(spare: String) -> Result<String, AllocError>
-    ensures { IfOk result (λ line. string_bytes line ≡ no_nearest_json) }
+pub(crate) fn no_nearest_object(line: &mut String) -> Result<(), AllocError>
+    ensures { OnOk result (string_bytes line.new ≡ no_nearest_json) }
 {
-    start_line(spare, "{\"nearest\":null}", 0)
+    begin(line, "{\"nearest\":null}", 0)
 }
 
 /// The hop of a number. A number that is not a node is cut off.
@@ -398,16 +389,15 @@ fn push_changes(
 
 /// `{"pushes":[[3,2],[4,"cut"]]}`: each of these nodes with its hop in this table.
 pub(crate) fn pushes_object(
-    spare: String,
+    line: &mut String,
     nodes: &[u32],
     hops: &[Hop],
-) -> Result<String, AllocError>
-    ensures { IfOk result (λ line. string_bytes line ≡ pushes_json (changes_of hops.now nodes.now)) }
+) -> Result<(), AllocError>
+    ensures { OnOk result (string_bytes line.new ≡ pushes_json (changes_of hops.now nodes.now)) }
 {
-    let mut line = start_line(spare, "{\"pushes\":[", nodes.len().saturating_mul(3))?;
-    push_changes(&mut line, nodes, hops, &mut Buffer::new())?;
-    line.push_str("]}")?;
-    Ok(line)
+    begin(line, "{\"pushes\":[", nodes.len().saturating_mul(3))?;
+    push_changes(line, nodes, hops, &mut Buffer::new())?;
+    line.push_str("]}")
 }
 
 /// Appends how many turns a round took, and how many nodes are cut off.
@@ -487,38 +477,36 @@ pub(crate) fn push_report_with_ways(
 /// `"edit":1` before `"line"` for a batch.
 #[inline(never)]
 pub(crate) fn refusal_object(
-    spare: String,
+    line: &mut String,
     refusal: &Refusal<'_>,
     number: u64,
-) -> Result<String, AllocError>
-    ensures { IfOk result (λ line. string_bytes line ≡ refusal_json (plain_refusal refusal.now) number) }
+) -> Result<(), AllocError>
+    ensures { OnOk result (string_bytes line.new ≡ refusal_json (plain_refusal refusal.now) number) }
 {
     let mut buffer = Buffer::new();
-    let mut line = start_refusal(spare, refusal, &mut buffer)?;
-    push_fault_nodes(&mut line, refusal, &mut buffer)?;
+    begin_refusal(line, refusal, &mut buffer)?;
+    push_fault_nodes(line, refusal, &mut buffer)?;
     line.push_str(",\"line\":")?;
-    push_number(&mut line, number, &mut buffer)?;
-    line.push_str("}")?;
-    Ok(line)
+    push_number(line, number, &mut buffer)?;
+    line.push_str("}")
 }
 
-/// A line that begins with the number and the name of the fault, with room for the rest.
-fn start_refusal(
-    spare: String,
+/// Empties a line, takes room for a refusal, and writes the number and the name of the fault.
+fn begin_refusal(
+    line: &mut String,
     refusal: &Refusal<'_>,
     buffer: &mut Buffer,
-) -> Result<String, AllocError>
-    ensures { IfOk result (λ line. string_bytes line ≡ refused_json (number_of refusal.now.reason)) }
+) -> Result<(), AllocError>
+    ensures { OnOk result (string_bytes line.new ≡ refused_json (number_of refusal.now.reason)) }
 {
-    let mut line = start_line(
-        spare,
+    begin(
+        line,
         "{\"refused\":",
         refusal.nodes.len().saturating_add(16),
     )?;
-    push_number(&mut line, u64::from(refusal.reason.number()), buffer)?;
+    push_number(line, u64::from(refusal.reason.number()), buffer)?;
     line.push_str(",\"fault\":\"")?;
-    line.push_str(refusal.reason.name())?;
-    Ok(line)
+    line.push_str(refusal.reason.name())
 }
 
 /// Appends the nodes that show the fault, and the place of the refused edit of a batch.

@@ -1,16 +1,16 @@
 //! The answers to requests for the pushes between two tables of hops.
 
 ghost use Rattle.std.specs.Prelude.{◌≡◌, ℕ, ◌<◌, ◌++◌, ◌∷◌, [], List, Option, None, Some};
-ghost use Rattle.std.specs.Prelude.{IfErr, IfOk, length, slice_index, string_bytes};
+ghost use Rattle.std.specs.Prelude.{IfErr, IfOk, OnOk, length, slice_index, string_bytes};
 ghost use Rattle.fr_requests.specs.Requests.{order_pushes};
 ghost use Rattle.fr_route.specs.Pushing.{IsTablesFault, changes_of};
-ghost use Rattle.fr_route.specs.Replies.{answer_form, IsFromReply, IsStillReply, RefusesBy, pushes_in as text_of_pushes};
+ghost use Rattle.fr_route.specs.Replies.{answer_form, IsFromReply, IsStillReply, RefusesBy, pushes_in, written};
 ghost use Rattle.fr_route.specs.States.{State};
 ghost use Rattle.fr_route.specs.declared.fault.AnswerFault.TheVariants.{Memory};
 ghost use Rattle.fr_tables.specs.Faults.{IsFaultOf};
 
 use crate::fault::AnswerFault;
-use crate::form::{Answer, Draft, Form, accepted_answer};
+use crate::form::{Draft, Form};
 use crate::hops::resized_hops;
 use crate::json::pushes_object;
 use crate::refusals::Reason;
@@ -24,12 +24,12 @@ use std::alloc::{AllocError, Global};
 /// cut off.
 pub(crate) fn pushes_between(
     alloc: Global,
-    draft: Draft,
+    draft: &mut Draft,
     table: &[Hop],
     wanted: &[Hop],
-) -> Result<Answer, AnswerFault>
-    ensures reply { IfOk result
-        (λ answer. (s : Option State) → IsStillReply (answer_form draft) s (order_pushes table.now (Some wanted.now)) answer) }
+) -> Result<bool, AnswerFault>
+    ensures reply { IfOk result (λ refused. (s : Option State)
+        → IsStillReply (answer_form draft.old) s (order_pushes table.now (Some wanted.now)) (written draft.new refused)) }
     ensures memory { IfErr result (λ fault. fault ≡ Memory) }
 {
     let nodes = table.len().max(wanted.len());
@@ -43,11 +43,12 @@ pub(crate) fn pushes_between(
 /// The answer to a request for the pushes from a table to these hops.
 pub(crate) fn pushes_from(
     alloc: Global,
-    draft: Draft,
+    draft: &mut Draft,
     table: &[Hop],
     hops: &[Hop],
-) -> Result<Answer, AnswerFault>
-    ensures reply { IfOk result (IsFromReply (answer_form draft) table.now hops.now) }
+) -> Result<bool, AnswerFault>
+    ensures reply { IfOk result
+        (λ refused. IsFromReply (answer_form draft.old) table.now hops.now (written draft.new refused)) }
     ensures memory { IfErr result (λ fault. fault ≡ Memory) }
 {
     if table.len().max(hops.len()) > MAX_NODES as usize {
@@ -59,32 +60,36 @@ pub(crate) fn pushes_from(
     }
     let old = resized_hops(alloc, table, nodes)?;
     match push_order(alloc, &old, hops) {
-        Ok(order) => Ok(accepted_answer(pushes_text(draft, &order, hops)?)),
+        Ok(order) => {
+            write_pushes(draft, &order, hops)?;
+            Ok(false)
+        }
         Err(fault) => refuse_tables(draft, fault, &old, hops),
     }
 }
 
-/// The text for the pushes of these nodes, each with its hop in this table.
-fn pushes_text(draft: Draft, nodes: &[u32], hops: &[Hop]) -> Result<String, AllocError>
-    ensures { IfOk result (λ text. string_bytes text ≡ text_of_pushes draft.form (changes_of hops.now nodes.now)) }
+/// Writes the pushes of these nodes, each with its hop in this table.
+fn write_pushes(draft: &mut Draft, nodes: &[u32], hops: &[Hop]) -> Result<(), AllocError>
+    ensures { OnOk result
+        (string_bytes draft.new.text ≡ pushes_in draft.old.form (changes_of hops.now nodes.now)) }
 {
     match draft.form {
-        Form::Text => pushes_line(draft.spare, nodes, hops),
-        _ => pushes_object(draft.spare, nodes, hops),
+        Form::Text => pushes_line(&mut draft.text, nodes, hops),
+        _ => pushes_object(&mut draft.text, nodes, hops),
     }
 }
 
 /// The answer that refuses these tables. They have one length, so this is not the fault.
 fn refuse_tables(
-    draft: Draft,
+    draft: &mut Draft,
     fault: TableFault,
     _old: &[Hop],
     _new: &[Hop],
-) -> Result<Answer, AnswerFault>
+) -> Result<bool, AnswerFault>
     requires { IsFaultOf _old.now _new.now fault }
-    ensures refuses { IfOk result (λ answer. (number : ℕ) × (nodes : List ℕ)
-        × IsTablesFault _old.now _new.now number nodes
-        × RefusesBy (answer_form draft) (record { number = number; nodes = nodes; edit = None }) answer) }
+    ensures refuses { IfOk result (λ refused. (number : ℕ) × (nodes : List ℕ)
+        × IsTablesFault _old.now _new.now number nodes × RefusesBy (answer_form draft.old)
+        (record { number = number; nodes = nodes; edit = None }) (written draft.new refused)) }
     ensures memory { IfErr result (λ why. why ≡ Memory) }
 {
     match fault {

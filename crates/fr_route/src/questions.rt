@@ -1,6 +1,6 @@
 //! The answers to questions about a router, in each form. Both forms of JSON have the same.
 
-ghost use Rattle.std.specs.Prelude.{◌≡◌, ◌==◌, ℕ, ◌<◌, None, IfErr, IfOk, string_bytes};
+ghost use Rattle.std.specs.Prelude.{◌≡◌, ◌==◌, ℕ, ◌<◌, None, IfErr, OnOk, string_bytes};
 ghost use Rattle.fr_requests.specs.Requests.{ask, ask_node, push_ways, walk_from};
 ghost use Rattle.fr_requests.specs.declared.requests.NodeQuestion.TheVariants.{Nearest, Ways};
 ghost use Rattle.fr_requests.specs.declared.requests.Question.TheVariants.{Ways as WaysOfAll};
@@ -21,8 +21,8 @@ use crate::json::{
 use crate::listed_phases::from_plan;
 use crate::router::{ROUTE_ROOM, Router};
 use crate::texts::{
-    counts_line_into, hops_line, links_line_into, nearest_line, no_nearest_line, no_walk_line,
-    node_ways_line, phases_line, push_number, start_line, ways_line,
+    begin, counts_line_into, hops_line, links_line_into, nearest_line, no_nearest_line,
+    no_walk_line, node_ways_line, phases_line, push_number, ways_line,
 };
 use fr_requests::{NodeQuestion, Question};
 use fr_tables::Hop;
@@ -30,140 +30,138 @@ use fr_ways::{WayTable, known_phases};
 use itoa::Buffer;
 use std::alloc::{AllocError, Global};
 
-/// The answer to a question.
+/// Writes the answer to a question.
 pub(crate) fn question_in_form(
     alloc: Global,
-    draft: Draft,
+    draft: &mut Draft,
     router: &Router,
     question: Question,
-) -> Result<String, AllocError>
-    ensures { IfOk result (λ text. IsTextIn draft.form None (ask question) router.now (string_bytes text)) }
+) -> Result<(), AllocError>
+    ensures { OnOk result (IsTextIn draft.old.form None (ask question) router.now (string_bytes draft.new.text)) }
 {
-    let Draft {
-        form,
-        number: _,
-        spare,
-    } = draft;
+    let form = draft.form;
+    let line = &mut draft.text;
     match (form, question) {
-        (Form::Text, Question::Links) => links_line_into(spare, router.net().links()),
-        (Form::Text, Question::Counts) => counts_line_into(spare, router.counts()),
-        (Form::Text, Question::Hops) => hops_line(spare, router.hops()),
-        (_, Question::Ways) => all_ways_in_form(alloc, form, router, spare),
-        (_, Question::Links) => links_object(spare, router.net().links()),
-        (_, Question::Counts) => counts_object(spare, router.counts()),
-        (_, Question::Hops) => hops_object(spare, router.hops()),
+        (Form::Text, Question::Links) => links_line_into(line, router.net().links()),
+        (Form::Text, Question::Counts) => counts_line_into(line, router.counts()),
+        (Form::Text, Question::Hops) => hops_line(line, router.hops()),
+        (_, Question::Ways) => all_ways_in_form(alloc, form, router, line),
+        (_, Question::Links) => links_object(line, router.net().links()),
+        (_, Question::Counts) => counts_object(line, router.counts()),
+        (_, Question::Hops) => hops_object(line, router.hops()),
     }
 }
 
-/// The answer to a request for the ways of each node.
+/// Writes the answer to a request for the ways of each node.
 fn all_ways_in_form(
     alloc: Global,
     form: Form,
     router: &Router,
-    spare: String,
-) -> Result<String, AllocError>
-    ensures { IfOk result (λ text. IsTextIn form None (ask WaysOfAll) router.now (string_bytes text)) }
+    line: &mut String,
+) -> Result<(), AllocError>
+    ensures { OnOk result (IsTextIn form None (ask WaysOfAll) router.now (string_bytes line.new)) }
 {
     // By this law, the number of nodes fits.
     router.net().network_law();
     let table = router.all_ways(alloc)?;
     match form {
-        Form::Text => ways_line(spare, router.dest(), &table),
-        _ => ways_object(spare, router.dest(), &table),
+        Form::Text => ways_line(line, router.dest(), &table),
+        _ => ways_object(line, router.dest(), &table),
     }
 }
 
-/// The answer to a request for the pushes from these ways to those of each node.
+/// Writes the answer to a request for the pushes from these ways to those of each node.
 pub(crate) fn phases_in_form(
     alloc: Global,
-    draft: Draft,
+    draft: &mut Draft,
     router: &Router,
     table: &WayTable,
-) -> Result<String, AllocError>
-    ensures { IfOk result (λ text. IsTextIn draft.form None (push_ways table.now) router.now (string_bytes text)) }
+) -> Result<(), AllocError>
+    ensures { OnOk result (IsTextIn draft.old.form None (push_ways table.now) router.now (string_bytes draft.new.text)) }
 {
     // By this law, the number of nodes fits.
     router.net().network_law();
     let wanted = router.all_ways(alloc)?;
     let phases = known_phases(alloc, table, &wanted)?;
     match draft.form {
-        Form::Text => phases_line(draft.spare, &phases),
-        _ => phases_object(draft.spare, from_plan(&phases)),
+        Form::Text => phases_line(&mut draft.text, &phases),
+        _ => phases_object(&mut draft.text, from_plan(&phases)),
     }
 }
 
-/// The answer to a request for the route from a node of the network.
+/// Writes the answer to a request for the route from a node of the network.
 pub(crate) fn walk_in_form(
     alloc: Global,
-    draft: Draft,
+    draft: &mut Draft,
     router: &Router,
     x: u32,
-) -> Result<String, AnswerFault>
+) -> Result<(), AnswerFault>
     requires { x < router.now.nodes }
-    ensures text { IfOk result (λ text. IsTextIn draft.form None (walk_from x) router.now (string_bytes text)) }
+    ensures text { OnOk result (IsTextIn draft.old.form None (walk_from x) router.now (string_bytes draft.new.text)) }
     ensures memory { IfErr result (λ fault. fault ≡ Memory) }
 {
     match draft.form {
-        Form::Text => Ok(route_line(draft.spare, router, x)?),
-        _ => route_object(alloc, draft.spare, router, x),
+        Form::Text => Ok(route_line(&mut draft.text, router, x)?),
+        _ => route_object(alloc, &mut draft.text, router, x),
     }
 }
 
-/// `walk`, and then a space and the number of each node of the route from `x`. The line is written hop by hop, so there is
-/// no list of the nodes. If `x` is cut off, the line says so.
-fn route_line(spare: String, router: &Router, x: u32) -> Result<String, AllocError>
+/// Writes `walk`, and then a space and the number of each node of the route from `x`. The line is written hop by hop, so
+/// there is no list of the nodes. If `x` is cut off, the line says so.
+fn route_line(line: &mut String, router: &Router, x: u32) -> Result<(), AllocError>
     requires { x < router.now.nodes }
-    ensures { IfOk result (λ line. IsWalkLine router.now x (string_bytes line)) }
+    ensures { OnOk result (IsWalkLine router.now x (string_bytes line.new)) }
 {
     router.state_law();
     let net = router.net();
     net.network_law();
     if router.next_hop(x) == Hop::CutOff {
-        return no_walk_line(spare, x);
+        return no_walk_line(line, x);
     }
-    let mut line = start_line(spare, "walk", ROUTE_ROOM)?;
+    begin(line, "walk", ROUTE_ROOM)?;
     let mut buffer = Buffer::new();
-    push_number(&mut line, " ", u64::from(x), &mut buffer)?;
+    push_number(line, " ", u64::from(x), &mut buffer)?;
     let mut at = x;
     // No route has more nodes than the network, so the walk ends.
     let mut count = 1_u32;
     'hops: while let Hop::To(next) = router.next_hop(at) {
-        push_number(&mut line, " ", u64::from(next), &mut buffer)?;
+        push_number(line, " ", u64::from(next), &mut buffer)?;
         at = next;
         count += 1;
     }
-    Ok(line)
+    Ok(())
 }
 
-/// The route from node `x` in JSON, or `null` if it is cut off.
+/// Writes the route from node `x` in JSON, or `null` if it is cut off.
 fn route_object(
     alloc: Global,
-    spare: String,
+    line: &mut String,
     router: &Router,
     x: u32,
-) -> Result<String, AnswerFault>
+) -> Result<(), AnswerFault>
     requires { x < router.now.nodes }
-    ensures text { IfOk result (λ text. IsJsonWalk router.now x (string_bytes text)) }
+    ensures text { OnOk result (IsJsonWalk router.now x (string_bytes line.new)) }
     ensures memory { IfErr result (λ fault. fault ≡ Memory) }
 {
     match router.walk(alloc, x) {
-        Ok(Walked::Route(nodes)) => Ok(walk_object(spare, &nodes)?),
-        Ok(Walked::CutOff) => Ok(no_walk_object(spare)?),
+        Ok(Walked::Route(nodes)) => Ok(walk_object(line, &nodes)?),
+        Ok(Walked::CutOff) => Ok(no_walk_object(line)?),
         Err(_) => Err(AnswerFault::Memory),
     }
 }
 
-/// The answer to a question about a node of the network.
+/// Writes the answer to a question about a node of the network.
 pub(crate) fn node_question_in_form(
     alloc: Global,
-    draft: Draft,
+    draft: &mut Draft,
     router: &mut Router,
     question: NodeQuestion,
     x: u32,
-) -> Result<String, AnswerFault>
+) -> Result<(), AnswerFault>
     requires { x < router.old.nodes }
     ensures same { router.new ≡ router.old }
-    ensures text { IfOk result (λ text. IsTextIn draft.form None (ask_node question x) router.old (string_bytes text)) }
+    ensures text { OnOk result
+        (IsTextIn draft.old.form None (ask_node question x) router.old (string_bytes draft.new.text)) }
     ensures memory { IfErr result (λ fault. fault ≡ Memory) }
 {
     match question {
@@ -181,31 +179,27 @@ pub(crate) fn node_question_in_form(
     }
 }
 
-/// The answer for these ways of a node. `home` says whether it is the destination.
-fn node_ways_in_form(draft: Draft, home: bool, ways: &[u32]) -> Result<String, AllocError>
-    ensures { IfOk result (λ text. (s : State) (x : ℕ) → AreNodeWays s x ways.now → home ≡ (x == s.dest)
-        → IsTextIn draft.form None (ask_node Ways x) s (string_bytes text)) }
+/// Writes the answer for these ways of a node. `home` says whether it is the destination.
+fn node_ways_in_form(draft: &mut Draft, home: bool, ways: &[u32]) -> Result<(), AllocError>
+    ensures { OnOk result ((s : State) (x : ℕ) → AreNodeWays s x ways.now → home ≡ (x == s.dest)
+        → IsTextIn draft.old.form None (ask_node Ways x) s (string_bytes draft.new.text)) }
 {
     match draft.form {
-        Form::Text => node_ways_line(draft.spare, home, ways),
-        _ => node_ways_object(draft.spare, home, ways),
+        Form::Text => node_ways_line(&mut draft.text, home, ways),
+        _ => node_ways_object(&mut draft.text, home, ways),
     }
 }
 
-/// The answer for this nearest route from node `x`.
-fn nearest_in_form(draft: Draft, x: u32, walked: &Walked) -> Result<String, AllocError>
-    ensures { IfOk result (λ text. (s : State) → IsNearest s x walked.now
-        → IsTextIn draft.form None (ask_node Nearest x) s (string_bytes text)) }
+/// Writes the answer for this nearest route from node `x`.
+fn nearest_in_form(draft: &mut Draft, x: u32, walked: &Walked) -> Result<(), AllocError>
+    ensures { OnOk result ((s : State) → IsNearest s x walked.now
+        → IsTextIn draft.old.form None (ask_node Nearest x) s (string_bytes draft.new.text)) }
 {
-    let Draft {
-        form,
-        number: _,
-        spare,
-    } = draft;
-    match (form, walked) {
-        (Form::Text, Walked::Route(nodes)) => nearest_line(spare, nodes),
-        (Form::Text, Walked::CutOff) => no_nearest_line(spare, x),
-        (_, Walked::Route(nodes)) => nearest_object(spare, nodes),
-        (_, Walked::CutOff) => no_nearest_object(spare),
+    let line = &mut draft.text;
+    match (draft.form, walked) {
+        (Form::Text, Walked::Route(nodes)) => nearest_line(line, nodes),
+        (Form::Text, Walked::CutOff) => no_nearest_line(line, x),
+        (_, Walked::Route(nodes)) => nearest_object(line, nodes),
+        (_, Walked::CutOff) => no_nearest_object(line),
     }
 }

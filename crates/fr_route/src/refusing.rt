@@ -1,31 +1,30 @@
 //! The answers that refuse a line.
 
-ghost use Rattle.std.specs.Prelude.{◌≡◌, ◌≢◌, ◌↔◌, IfErr, IfOk, string_bytes};
+ghost use Rattle.std.specs.Prelude.{◌≡◌, ◌≢◌, ◌↔◌, IfErr, IfOk};
 ghost use Rattle.fr_route.specs.Json.{PlainRefusal, refusal_for};
-ghost use Rattle.fr_route.specs.Replies.{answer_form, RefusesBy, refused_in};
-ghost use Rattle.fr_route.specs.Refusals.{IsRefusalOf, number_of, plain_refusal};
+ghost use Rattle.fr_route.specs.Replies.{answer_form, RefusesBy, written};
+ghost use Rattle.fr_route.specs.Refusals.{IsRefusalOf, number_of};
 ghost use Rattle.fr_graph.specs.declared.fault.NetFault.TheVariants.{Memory as NetMemory};
 ghost use Rattle.fr_route.specs.declared.fault.AnswerFault.TheVariants.{Memory, Start};
 ghost use Rattle.fr_route.specs.declared.fault.RouteFault.TheVariants.{Start as RouteStart};
 
 use crate::fault::{AnswerFault, RouteFault};
-use crate::form::{Answer, Draft, Form};
+use crate::form::{Draft, Form};
 use crate::json::refusal_object;
 use crate::refusals::{Reason, Refusal};
 use crate::texts::refusal_line;
 use fr_graph::NetFault;
-use std::alloc::AllocError;
 
-/// The answer that refuses a line for this reason. These nodes show it. `edit` is the place of the refused edit of a
-/// batch.
+/// Writes the answer that refuses a line for this reason, and returns that it is refused. These nodes show it. `edit` is
+/// the place of the refused edit of a batch.
 pub(crate) fn refuse(
-    draft: Draft,
+    draft: &mut Draft,
     reason: Reason,
     nodes: &[u32],
     edit: Option<usize>,
-) -> Result<Answer, AnswerFault>
-    ensures refuses { IfOk result
-        (RefusesBy (answer_form draft) (record { number = number_of reason; nodes = nodes.now; edit = edit })) }
+) -> Result<bool, AnswerFault>
+    ensures refuses { IfOk result (λ refused. RefusesBy (answer_form draft.old)
+        (record { number = number_of reason; nodes = nodes.now; edit = edit }) (written draft.new refused)) }
     ensures memory { IfErr result (λ fault. fault ≡ Memory) }
 {
     let refusal = Refusal {
@@ -33,37 +32,23 @@ pub(crate) fn refuse(
         nodes,
         edit,
     };
-    let text = refused_text(draft, &refusal)?;
-    let refused = true;
-    Ok(Answer { text, refused })
-}
-
-/// The text of the answer that refuses a line.
-fn refused_text(draft: Draft, refusal: &Refusal<'_>) -> Result<String, AllocError>
-    ensures { IfOk result
-        (λ text. string_bytes text ≡ refused_in draft.form draft.number (plain_refusal refusal.now)) }
-{
-    let Draft {
-        form,
-        number,
-        spare,
-    } = draft;
-    match form {
-        Form::Text => refusal_line(spare, refusal.reason),
-        _ => refusal_object(spare, refusal, number),
+    match draft.form {
+        Form::Text => refusal_line(&mut draft.text, reason)?,
+        _ => refusal_object(&mut draft.text, &refusal, draft.number)?,
     }
+    Ok(true)
 }
 
-/// The answer to a request that fails with this fault. `named` are nodes of the request: the two that no link joins, or
-/// the one that is not a node. A fault that is not a refusal is returned.
+/// Does the same for the fault with which a request fails. `named` are nodes of the request: the two that no link joins,
+/// or the one that is not a node. A fault that is not a refusal is returned.
 fn refuse_fault(
-    draft: Draft,
+    draft: &mut Draft,
     fault: &RouteFault,
     named: &[u32],
     edit: Option<usize>,
-) -> Result<Answer, AnswerFault>
-    ensures refuses { IfOk result (λ answer. (refusal : PlainRefusal) × IsRefusalOf fault.now named.now edit refusal
-        × RefusesBy (answer_form draft) refusal answer) }
+) -> Result<bool, AnswerFault>
+    ensures refuses { IfOk result (λ refused. (refusal : PlainRefusal) × IsRefusalOf fault.now named.now edit refusal
+        × RefusesBy (answer_form draft.old) refusal (written draft.new refused)) }
     ensures start { IfErr result (λ why. (why ≡ Start) ↔ (fault.now ≡ RouteStart)) }
 {
     match fault {
@@ -76,13 +61,13 @@ fn refuse_fault(
 
 /// The same, and drops the fault.
 pub(crate) fn refuse_for(
-    draft: Draft,
+    draft: &mut Draft,
     fault: RouteFault,
     named: &[u32],
     edit: Option<usize>,
-) -> Result<Answer, AnswerFault>
-    ensures refuses { IfOk result (λ answer. (refusal : PlainRefusal) × IsRefusalOf fault named.now edit refusal
-        × RefusesBy (answer_form draft) refusal answer) }
+) -> Result<bool, AnswerFault>
+    ensures refuses { IfOk result (λ refused. (refusal : PlainRefusal) × IsRefusalOf fault named.now edit refusal
+        × RefusesBy (answer_form draft.old) refusal (written draft.new refused)) }
     ensures start { IfErr result (λ why. (why ≡ Start) ↔ (fault ≡ RouteStart)) }
 {
     refuse_fault(draft, &fault, named, edit)
@@ -90,12 +75,13 @@ pub(crate) fn refuse_for(
 
 /// The same for a fault of links or of an edit.
 fn refuse_net_fault(
-    draft: Draft,
+    draft: &mut Draft,
     fault: &NetFault,
     named: &[u32],
     edit: Option<usize>,
-) -> Result<Answer, AnswerFault>
-    ensures refuses { IfOk result (RefusesBy (answer_form draft) (refusal_for fault.now named.now edit)) }
+) -> Result<bool, AnswerFault>
+    ensures refuses { IfOk result (λ refused.
+        RefusesBy (answer_form draft.old) (refusal_for fault.now named.now edit) (written draft.new refused)) }
     ensures refused { IfOk result (λ _. fault.now ≢ NetMemory) }
     ensures memory { IfErr result (λ why. why ≡ Memory) }
 {

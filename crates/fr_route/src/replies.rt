@@ -13,8 +13,8 @@ ghost use Rattle.fr_route.specs.Ways.{Settles, NeverStarts};
 ghost use Rattle.fr_route.specs.Answers.{IsAccepted};
 ghost use Rattle.fr_route.specs.Json.{ends};
 ghost use Rattle.fr_route.specs.Listing.{IsListing, nodes_told};
-ghost use Rattle.fr_route.specs.Replies.{answer_form, HasList, IsLineAnsweredIn, IsLineReplied, IsReplied};
-ghost use Rattle.fr_route.specs.Replies.{IsReportIn, IsRevised, IsStillReply, request_of_edit};
+ghost use Rattle.fr_route.specs.Replies.{answer_form, answered, HasList, IsLineAnsweredIn, IsLineReplied, IsReplied};
+ghost use Rattle.fr_route.specs.Replies.{IsReportIn, IsRevised, IsStillReply, request_of_edit, written};
 ghost use Rattle.fr_route.specs.Sessions.{IsAnswered, IsLineAnswered};
 ghost use Rattle.fr_route.specs.Reroutes.{AreReplaced};
 ghost use Rattle.fr_route.specs.Texts.{longest_report};
@@ -26,13 +26,13 @@ ghost use Rattle.fr_route.specs.declared.form.Form.TheVariants.{JsonWithWays, Te
 use crate::blank::is_blank;
 use crate::changed_nodes::ChangedNodes;
 use crate::fault::{AnswerFault, NotMade, RouteFault};
-use crate::form::{Answer, Draft, Form, Line, accepted_answer};
+use crate::form::{Answer, Draft, Form, Line};
 use crate::outcome::ends_of_edit as ends_of;
 use crate::pushing::{pushes_between, pushes_from};
 use crate::questions::{node_question_in_form, phases_in_form, question_in_form, walk_in_form};
 use crate::refusals::Reason;
 use crate::refusing::{refuse, refuse_for};
-use crate::reports::{begin_report, new_report, push_report_in_form};
+use crate::reports::{begin_report, push_report_in_form, write_new_report};
 use crate::revision::Revision;
 use crate::router::Router;
 use crate::session::Session;
@@ -46,34 +46,35 @@ use fr_ways::WayTable;
 use std::alloc::Global;
 
 impl Session {
-    /// Puts a router in place once its answer is made, and lists the nodes whose hop has changed if the caller asks for
+    /// Puts a router in place once its answer is written, and lists the nodes whose hop has changed if the caller asks for
     /// them.
     fn replace_router(
         &mut self,
         alloc: Global,
-        draft: Draft,
+        draft: &mut Draft,
         router: Router,
         told: &mut ChangedNodes,
-    ) -> Result<String, AnswerFault>
-        ensures report { HasList draft.form told.old
-            → IfOk result (λ text. IsReportIn draft.form (AreReplaced self.old router) self.old router (string_bytes text)) }
+    ) -> Result<(), AnswerFault>
+        ensures report { HasList draft.old.form told.old → OnOk result
+            (IsReportIn draft.old.form (AreReplaced self.old router) self.old router (string_bytes draft.new.text)) }
         ensures put { OnOk result (self.new ≡ Some router) }
         ensures told { IsListing told.old → OnOk result (AreReplaced self.old router (nodes_told told.new)) }
         ensures unchanged { OnErr result ((self.new ≡ self.old) × (nodes_told told.new ≡ nodes_told told.old)) }
-        ensures short { draft.form ≡ Text → IfOk result (λ text. length (string_bytes text) ≤ longest_report) }
+        ensures short { draft.old.form ≡ Text → OnOk result (length (string_bytes draft.new.text) ≤ longest_report) }
         ensures memory { IfErr result (λ fault. fault ≡ Memory) }
     {
         router.state_law();
         let replaced = replaced_nodes(alloc, self.router.as_ref(), &router, told)?;
-        let text = new_report(alloc, draft, self.router.as_ref(), &router, &replaced)?;
+        write_new_report(alloc, draft, self.router.as_ref(), &router, &replaced)?;
         told.replace_list(replaced);
         self.put_router(router);
-        Ok(text)
+        Ok(())
     }
 
-    /// The answer to a request for the route from a node.
-    fn walk(&self, alloc: Global, draft: Draft, x: u32) -> Result<Answer, AnswerFault>
-        ensures reply { IfOk result (λ answer. IsStillReply (answer_form draft) self.now (walk_from x) answer) }
+    /// Writes the answer to a request for the route from a node.
+    fn walk(&self, alloc: Global, draft: &mut Draft, x: u32) -> Result<bool, AnswerFault>
+        ensures reply { IfOk result
+            (λ refused. IsStillReply (answer_form draft.old) self.now (walk_from x) (written draft.new refused)) }
         ensures memory { IfErr result (λ fault. fault ≡ Memory) }
     {
         let Some(router) = &self.router else {
@@ -82,35 +83,39 @@ impl Session {
         if x >= router.net().nodes() {
             return refuse(draft, Reason::NoNode, &[x], None);
         }
-        Ok(accepted_answer(walk_in_form(alloc, draft, router, x)?))
+        walk_in_form(alloc, draft, router, x)?;
+        Ok(false)
     }
 
-    /// The answer to a question.
+    /// Writes the answer to a question.
     pub(crate) fn question(
         &self,
         alloc: Global,
-        draft: Draft,
+        draft: &mut Draft,
         question: Question,
-    ) -> Result<Answer, AnswerFault>
-        ensures reply { IfOk result (λ answer. IsStillReply (answer_form draft) self.now (ask question) answer) }
+    ) -> Result<bool, AnswerFault>
+        ensures reply { IfOk result
+            (λ refused. IsStillReply (answer_form draft.old) self.now (ask question) (written draft.new refused)) }
         ensures memory { IfErr result (λ fault. fault ≡ Memory) }
     {
         let Some(router) = &self.router else {
             return refuse(draft, Reason::NoNetwork, &[], None);
         };
-        Ok(accepted_answer(question_in_form(alloc, draft, router, question)?))
+        question_in_form(alloc, draft, router, question)?;
+        Ok(false)
     }
 
-    /// The answer to a question about one node.
+    /// Writes the answer to a question about one node.
     fn node_question(
         &mut self,
         alloc: Global,
-        draft: Draft,
+        draft: &mut Draft,
         question: NodeQuestion,
         x: u32,
-    ) -> Result<Answer, AnswerFault>
+    ) -> Result<bool, AnswerFault>
         ensures same { self.new ≡ self.old }
-        ensures reply { IfOk result (λ answer. IsStillReply (answer_form draft) self.old (ask_node question x) answer) }
+        ensures reply { IfOk result
+            (λ refused. IsStillReply (answer_form draft.old) self.old (ask_node question x) (written draft.new refused)) }
         ensures memory { IfErr result (λ fault. fault ≡ Memory) }
     {
         let Some(router) = &mut self.router else {
@@ -119,19 +124,20 @@ impl Session {
         if x >= router.net().nodes() {
             return refuse(draft, Reason::NoNode, &[x], None);
         }
-        Ok(accepted_answer(node_question_in_form(alloc, draft, router, question, x)?))
+        node_question_in_form(alloc, draft, router, question, x)?;
+        Ok(false)
     }
 
-    /// The answer to a request for the pushes from a table to the wanted one, or to the next hops if none is given.
+    /// Writes the answer to a request for the pushes from a table to the wanted one, or to the next hops if none is given.
     fn pushes(
         &self,
         alloc: Global,
-        draft: Draft,
+        draft: &mut Draft,
         table: &[Hop],
         wanted: &Option<Vec<Hop>>,
-    ) -> Result<Answer, AnswerFault>
-        ensures reply { IfOk result (IsStillReply (answer_form draft) self.now
-            (order_pushes table.now (option_map (λ (t : Vec Hop Global). t.items) wanted.now))) }
+    ) -> Result<bool, AnswerFault>
+        ensures reply { IfOk result (λ refused. IsStillReply (answer_form draft.old) self.now
+            (order_pushes table.now (option_map (λ (t : Vec Hop Global). t.items) wanted.now)) (written draft.new refused)) }
         ensures memory { IfErr result (λ fault. fault ≡ Memory) }
     {
         match wanted {
@@ -140,14 +146,15 @@ impl Session {
         }
     }
 
-    /// The answer to a request for the pushes from a table to the next hops.
+    /// Writes the answer to a request for the pushes from a table to the next hops.
     fn pushes_to_hops(
         &self,
         alloc: Global,
-        draft: Draft,
+        draft: &mut Draft,
         table: &[Hop],
-    ) -> Result<Answer, AnswerFault>
-        ensures reply { IfOk result (λ answer. IsStillReply (answer_form draft) self.now (order_pushes table.now None) answer) }
+    ) -> Result<bool, AnswerFault>
+        ensures reply { IfOk result
+            (λ refused. IsStillReply (answer_form draft.old) self.now (order_pushes table.now None) (written draft.new refused)) }
         ensures memory { IfErr result (λ fault. fault ≡ Memory) }
     {
         let Some(router) = &self.router else {
@@ -156,14 +163,15 @@ impl Session {
         pushes_from(alloc, draft, table, router.hops())
     }
 
-    /// The answer to a request for the pushes from a table of ways to the ways of each node.
+    /// Writes the answer to a request for the pushes from a table of ways to the ways of each node.
     fn way_pushes(
         &self,
         alloc: Global,
-        draft: Draft,
+        draft: &mut Draft,
         table: &WayTable,
-    ) -> Result<Answer, AnswerFault>
-        ensures reply { IfOk result (λ answer. IsStillReply (answer_form draft) self.now (push_ways table.now) answer) }
+    ) -> Result<bool, AnswerFault>
+        ensures reply { IfOk result
+            (λ refused. IsStillReply (answer_form draft.old) self.now (push_ways table.now) (written draft.new refused)) }
         ensures memory { IfErr result (λ fault. fault ≡ Memory) }
     {
         let Some(router) = &self.router else {
@@ -176,7 +184,8 @@ impl Session {
         if table.len() > nodes as usize {
             return refuse(draft, Reason::NoNode, &[nodes], None);
         }
-        Ok(accepted_answer(phases_in_form(alloc, draft, router, table)?))
+        phases_in_form(alloc, draft, router, table)?;
+        Ok(false)
     }
 }
 
@@ -234,8 +243,9 @@ impl<'a, F: Fn(&Net, u32, Option<&[u32]>, Turns) -> Result<Turns, CrewFault>> Se
         ensures { IsLineAnswered
             (NeverStarts F.post self.now.settle.now) session.old line.now told.old result session.new told.new }
     {
-        match self.reply_line(session, Draft::text(self.alloc), line, told)? {
-            Some(answer) => Ok(Some(answer.text)),
+        let mut draft = Draft::text(self.alloc);
+        match self.reply_line(session, &mut draft, line, told)? {
+            Some(_) => Ok(Some(draft.text)),
             None => Ok(None),
         }
     }
@@ -251,14 +261,12 @@ impl<'a, F: Fn(&Net, u32, Option<&[u32]>, Turns) -> Result<Turns, CrewFault>> Se
         ensures { IsAnswered (NeverStarts F.post self.now.settle.now) session.old
             (Ok (plain request.now)) told.old result session.new told.new }
     {
-        Ok(
-            self.reply(session, Draft::text(self.alloc), request, told)?
-                .text,
-        )
+        let mut draft = Draft::text(self.alloc);
+        self.reply(session, &mut draft, request, told)?;
+        Ok(draft.text)
     }
 
-    /// The answer to a line in this form, or `None` for a blank one. Lists rerouted nodes only for JSON, and notes ways
-    /// only for JSON with ways.
+    /// The answer to a line in this form, or `None` for a blank one.
     pub(crate) fn reply_line_in(
         &self,
         session: &mut Session,
@@ -267,61 +275,84 @@ impl<'a, F: Fn(&Net, u32, Option<&[u32]>, Turns) -> Result<Turns, CrewFault>> Se
         space: &mut AnswerSpace,
     ) -> Result<Option<Answer>, AnswerFault>
         requires { Settles F.pre F.post self.now.settle.now }
-        ensures { IsLineAnsweredIn (NeverStarts F.post self.now.settle.now) form line.entry.number session.old line.entry.bytes.now result session.new }
+        ensures { IsLineAnsweredIn (NeverStarts F.post self.now.settle.now) form line.entry.number session.old
+            line.entry.bytes.now result session.new }
     {
-        let draft = Draft {
+        let mut draft = Draft {
             form,
             number: line.number,
-            spare: space.text(self.alloc),
+            text: space.text(self.alloc),
         };
-        match form {
-            Form::Text => self.reply_line(session, draft, line.bytes, &mut ChangedNodes::Unlisted),
-            Form::Json => {
-                let mut told = space.take_list(self.alloc);
-                let answer = self.reply_line(session, draft, line.bytes, &mut told);
-                space.put_back(told);
-                answer
-            }
-            Form::JsonWithWays => self.reply_with_ways(session, draft, line.bytes, space),
+        match self.write_reply(session, &mut draft, line.bytes, space)? {
+            Some(refused) => Ok(Some(Answer {
+                text: draft.text,
+                refused,
+            })),
+            None => Ok(None),
         }
     }
 
-    /// The answer to a line in JSON with ways, or `None` for a blank one. It is not inlined, so that other answers do
-    /// not pay for its local variables.
+    /// Writes the answer to a line, and returns whether the line is refused, or `None` for a blank one. Lists rerouted
+    /// nodes only for JSON, and notes ways only for JSON with ways.
+    fn write_reply(
+        &self,
+        session: &mut Session,
+        draft: &mut Draft,
+        line: &[u8],
+        space: &mut AnswerSpace,
+    ) -> Result<Option<bool>, AnswerFault>
+        requires { Settles F.pre F.post self.now.settle.now }
+        ensures { IsLineAnsweredIn (NeverStarts F.post self.now.settle.now) draft.old.form draft.old.number session.old
+            line.now (answered result draft.new) session.new }
+    {
+        match draft.form {
+            Form::Text => self.reply_line(session, draft, line, &mut ChangedNodes::Unlisted),
+            Form::Json => {
+                let mut told = space.take_list(self.alloc);
+                let refused = self.reply_line(session, draft, line, &mut told);
+                space.put_back(told);
+                refused
+            }
+            Form::JsonWithWays => self.reply_with_ways(session, draft, line, space),
+        }
+    }
+
+    /// Does the same for JSON with ways. It is not inlined, so that other answers do not pay for its local variables.
     #[inline(never)]
     fn reply_with_ways(
         &self,
         session: &mut Session,
-        draft: Draft,
+        draft: &mut Draft,
         line: &[u8],
         space: &mut AnswerSpace,
-    ) -> Result<Option<Answer>, AnswerFault>
+    ) -> Result<Option<bool>, AnswerFault>
         requires settles { Settles F.pre F.post self.now.settle.now }
-        requires form { draft.form ≡ JsonWithWays }
-        ensures { IsLineAnsweredIn (NeverStarts F.post self.now.settle.now) JsonWithWays draft.number session.old
-            line.now result session.new }
+        requires form { draft.old.form ≡ JsonWithWays }
+        ensures { IsLineAnsweredIn (NeverStarts F.post self.now.settle.now) JsonWithWays draft.old.number session.old
+            line.now (answered result draft.new) session.new }
     {
         if is_blank(line) {
             return Ok(None);
         }
         let mut told = space.take_with_notes(self.alloc)?;
-        let answer = self.reply_line(session, draft, line, &mut told);
+        let refused = self.reply_line(session, draft, line, &mut told);
         space.put_back(told);
-        answer
+        refused
     }
 
-    /// The answer to a line, or `None` for a blank one.
+    /// Writes the answer to a line, and returns whether the line is refused, or `None` for a blank one.
     fn reply_line(
         &self,
         session: &mut Session,
-        draft: Draft,
+        draft: &mut Draft,
         line: &[u8],
         told: &mut ChangedNodes,
-    ) -> Result<Option<Answer>, AnswerFault>
+    ) -> Result<Option<bool>, AnswerFault>
         requires settles { Settles F.pre F.post self.now.settle.now }
-        requires lists { HasList draft.form told.old }
+        requires lists { HasList draft.old.form told.old }
         ensures { IsLineReplied
-            (NeverStarts F.post self.now.settle.now) (answer_form draft) session.old line.now told.old result session.new told.new }
+            (NeverStarts F.post self.now.settle.now) (answer_form draft.old) session.old line.now told.old result draft.new
+            session.new told.new }
     {
         if is_blank(line) {
             return Ok(None);
@@ -329,18 +360,18 @@ impl<'a, F: Fn(&Net, u32, Option<&[u32]>, Turns) -> Result<Turns, CrewFault>> Se
         Ok(Some(self.reply_nonblank_line(session, draft, line, told)?))
     }
 
-    /// The answer to a line that is not blank.
+    /// Writes the answer to a line that is not blank.
     fn reply_nonblank_line(
         &self,
         session: &mut Session,
-        draft: Draft,
+        draft: &mut Draft,
         line: &[u8],
         told: &mut ChangedNodes,
-    ) -> Result<Answer, AnswerFault>
+    ) -> Result<bool, AnswerFault>
         requires settles { Settles F.pre F.post self.now.settle.now }
-        requires lists { HasList draft.form told.old }
-        ensures { IsReplied (NeverStarts F.post self.now.settle.now) (answer_form draft) session.old
-            (reading line.now) told.old result session.new told.new }
+        requires lists { HasList draft.old.form told.old }
+        ensures { IsReplied (NeverStarts F.post self.now.settle.now) (answer_form draft.old) session.old
+            (reading line.now) told.old result draft.new session.new told.new }
     {
         match read_line(self.alloc, line) {
             Ok(request) => self.reply(session, draft, &request, told),
@@ -350,18 +381,18 @@ impl<'a, F: Fn(&Net, u32, Option<&[u32]>, Turns) -> Result<Turns, CrewFault>> Se
         }
     }
 
-    /// The answer to a request.
+    /// Writes the answer to a request.
     fn reply(
         &self,
         session: &mut Session,
-        draft: Draft,
+        draft: &mut Draft,
         request: &Request,
         told: &mut ChangedNodes,
-    ) -> Result<Answer, AnswerFault>
+    ) -> Result<bool, AnswerFault>
         requires settles { Settles F.pre F.post self.now.settle.now }
-        requires lists { HasList draft.form told.old }
-        ensures { IsReplied (NeverStarts F.post self.now.settle.now) (answer_form draft) session.old
-            (Ok (plain request.now)) told.old result session.new told.new }
+        requires lists { HasList draft.old.form told.old }
+        ensures { IsReplied (NeverStarts F.post self.now.settle.now) (answer_form draft.old) session.old
+            (Ok (plain request.now)) told.old result draft.new session.new told.new }
     {
         match request {
             Request::Network { nodes, dest, links } => {
@@ -393,27 +424,28 @@ impl<'a, F: Fn(&Net, u32, Option<&[u32]>, Turns) -> Result<Turns, CrewFault>> Se
         }
     }
 
-    /// The answer to a request for a network. It is not inlined, so that other requests do not pay for the router that
+    /// Writes the answer to a request for a network. It is not inlined, so that other requests do not pay for the router that
     /// is a local variable here.
     #[inline(never)]
     fn reply_network(
         &self,
         session: &mut Session,
-        draft: Draft,
+        draft: &mut Draft,
         parts: Parts<'_>,
         told: &mut ChangedNodes,
-    ) -> Result<Answer, AnswerFault>
+    ) -> Result<bool, AnswerFault>
         requires settles { Settles F.pre F.post self.now.settle.now }
-        requires lists { HasList draft.form told.old }
-        ensures { IsReplied (NeverStarts F.post self.now.settle.now) (answer_form draft) session.old
-            (Ok (new_network parts.entry.nodes parts.entry.dest parts.entry.links.now)) told.old result session.new
+        requires lists { HasList draft.old.form told.old }
+        ensures { IsReplied (NeverStarts F.post self.now.settle.now) (answer_form draft.old) session.old
+            (Ok (new_network parts.entry.nodes parts.entry.dest parts.entry.links.now)) told.old result draft.new session.new
             told.new }
     {
         let Parts { nodes, dest, links } = parts;
         match self.open_network(nodes, dest, links) {
-            Ok(router) => Ok(accepted_answer(session.replace_router(
-                self.alloc, draft, router, told,
-            )?)),
+            Ok(router) => {
+                session.replace_router(self.alloc, draft, router, told)?;
+                Ok(false)
+            }
             Err(fault) => refuse_for(draft, fault, &[dest], None),
         }
     }
@@ -434,50 +466,50 @@ impl<'a, F: Fn(&Net, u32, Option<&[u32]>, Turns) -> Result<Turns, CrewFault>> Se
         self.open(net, dest)
     }
 
-    /// The answer to an edit.
+    /// Writes the answer to an edit.
     fn reply_edit(
         &self,
         session: &mut Session,
-        mut draft: Draft,
+        draft: &mut Draft,
         edit: Edit,
         told: &mut ChangedNodes,
-    ) -> Result<Answer, AnswerFault>
+    ) -> Result<bool, AnswerFault>
         requires settles { Settles F.pre F.post self.now.settle.now }
-        requires lists { HasList draft.form told.old }
-        ensures { IsReplied (NeverStarts F.post self.now.settle.now) (answer_form draft) session.old
-            (Ok (request_of_edit edit)) told.old result session.new told.new }
+        requires lists { HasList draft.old.form told.old }
+        ensures { IsReplied (NeverStarts F.post self.now.settle.now) (answer_form draft.old) session.old
+            (Ok (request_of_edit edit)) told.old result draft.new session.new told.new }
     {
         let Some(router) = &mut session.router else {
             return refuse(draft, Reason::NoNetwork, &[], None);
         };
         let dest = router.dest();
         let edits = &[edit];
-        match self.edit_and_report(router, &Revision { edits, dest }, &mut draft, told) {
-            Ok(()) => Ok(accepted_answer(draft.spare)),
+        match self.edit_and_report(router, &Revision { edits, dest }, draft, told) {
+            Ok(()) => Ok(false),
             Err(undone) => refuse_for(draft, undone.fault, &ends_of_edit_at(edits, 0), None),
         }
     }
 
-    /// The answer to a batch of edits.
+    /// Writes the answer to a batch of edits.
     #[inline(never)]
     fn reply_batch(
         &self,
         session: &mut Session,
-        mut draft: Draft,
+        draft: &mut Draft,
         edits: &[Edit],
         told: &mut ChangedNodes,
-    ) -> Result<Answer, AnswerFault>
+    ) -> Result<bool, AnswerFault>
         requires settles { Settles F.pre F.post self.now.settle.now }
-        requires lists { HasList draft.form told.old }
-        ensures { IsReplied (NeverStarts F.post self.now.settle.now) (answer_form draft) session.old
-            (Ok (make_edits edits.now)) told.old result session.new told.new }
+        requires lists { HasList draft.old.form told.old }
+        ensures { IsReplied (NeverStarts F.post self.now.settle.now) (answer_form draft.old) session.old
+            (Ok (make_edits edits.now)) told.old result draft.new session.new told.new }
     {
         let Some(router) = &mut session.router else {
             return refuse(draft, Reason::NoNetwork, &[], None);
         };
         let dest = router.dest();
-        match self.edit_and_report(router, &Revision { edits, dest }, &mut draft, told) {
-            Ok(()) => Ok(accepted_answer(draft.spare)),
+        match self.edit_and_report(router, &Revision { edits, dest }, draft, told) {
+            Ok(()) => Ok(false),
             Err(undone) => {
                 let at = undone.at;
                 refuse_for(draft, undone.fault, &ends_of_edit_at(edits, at), Some(at))
@@ -485,19 +517,19 @@ impl<'a, F: Fn(&Net, u32, Option<&[u32]>, Turns) -> Result<Turns, CrewFault>> Se
         }
     }
 
-    /// The answer to a request to move the destination.
+    /// Writes the answer to a request to move the destination.
     #[inline(never)]
     fn reply_move(
         &self,
         session: &mut Session,
-        mut draft: Draft,
+        draft: &mut Draft,
         dest: u32,
         told: &mut ChangedNodes,
-    ) -> Result<Answer, AnswerFault>
+    ) -> Result<bool, AnswerFault>
         requires settles { Settles F.pre F.post self.now.settle.now }
-        requires lists { HasList draft.form told.old }
-        ensures { IsReplied (NeverStarts F.post self.now.settle.now) (answer_form draft) session.old
-            (Ok (move_dest dest)) told.old result session.new told.new }
+        requires lists { HasList draft.old.form told.old }
+        ensures { IsReplied (NeverStarts F.post self.now.settle.now) (answer_form draft.old) session.old
+            (Ok (move_dest dest)) told.old result draft.new session.new told.new }
     {
         let Some(router) = &mut session.router else {
             return refuse(draft, Reason::NoNetwork, &[], None);
@@ -506,8 +538,8 @@ impl<'a, F: Fn(&Net, u32, Option<&[u32]>, Turns) -> Result<Turns, CrewFault>> Se
             return refuse(draft, Reason::NoNode, &[dest], None);
         }
         let edits = &[];
-        match self.edit_and_report(router, &Revision { edits, dest }, &mut draft, told) {
-            Ok(()) => Ok(accepted_answer(draft.spare)),
+        match self.edit_and_report(router, &Revision { edits, dest }, draft, told) {
+            Ok(()) => Ok(false),
             Err(undone) => refuse_for(draft, undone.fault, &[], None),
         }
     }
@@ -525,7 +557,7 @@ impl<'a, F: Fn(&Net, u32, Option<&[u32]>, Turns) -> Result<Turns, CrewFault>> Se
         requires lists { HasList draft.old.form told.old }
         requires node { revision.now.dest < router.old.nodes }
         ensures revised { IsRevised (NeverStarts F.post self.now.settle.now) draft.old.form router.old revision.now told.old
-            result draft.new.spare router.new told.new }
+            result draft.new.text router.new told.new }
         ensures same { answer_form draft.new ≡ answer_form draft.old }
     {
         if revision.edits.len() > MAX_EDITS {
@@ -537,11 +569,11 @@ impl<'a, F: Fn(&Net, u32, Option<&[u32]>, Turns) -> Result<Turns, CrewFault>> Se
         let net = router.net();
         net.network_law();
         let links = net.link_count() + revision.edits.len();
-        begin_report(&mut draft.spare, draft.form, net.nodes(), links)?;
+        begin_report(&mut draft.text, draft.form, net.nodes(), links)?;
         let report = self.edit(router, revision, told)?;
         router.state_law();
         // There is room, so this does not fail.
-        push_report_in_form(&mut draft.spare, draft.form, report, told, router.hops())?;
+        push_report_in_form(&mut draft.text, draft.form, report, told, router.hops())?;
         Ok(())
     }
 }

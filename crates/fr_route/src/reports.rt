@@ -1,6 +1,6 @@
 //! The report of a round, in each form.
 
-ghost use Rattle.std.specs.Prelude.{◌≡◌, ◌≢◌, ◌<◌, ◌≤◌, ◌++◌, ◌^◌, [], length, IfOk, OnOk, string_bytes};
+ghost use Rattle.std.specs.Prelude.{◌≡◌, ◌≢◌, ◌<◌, ◌≤◌, ◌++◌, ◌^◌, [], length, OnOk, string_bytes};
 ghost use Rattle.std.specs.Prelude.{string_capacity, string_len};
 ghost use Rattle.std.specs.Option.{option_copied};
 ghost use Rattle.fr_route.specs.Listing.{AsksWays, nodes_told, ways_told};
@@ -72,42 +72,30 @@ pub(crate) fn push_report_in_form(
     }
 }
 
-/// The report of a network that replaces the one before it, if there was one. These numbers have a new hop.
-pub(crate) fn new_report(
+/// Writes the report of a network that replaces the one before it, if there was one. These numbers have a new hop.
+pub(crate) fn write_new_report(
     alloc: Global,
-    draft: Draft,
+    draft: &mut Draft,
     before: Option<&Router>,
     router: &Router,
     replaced: &[u32],
-) -> Result<String, AllocError>
-    ensures report { (draft.form ≢ Text → AreReplaced (option_copied before.entry) router.now replaced.now)
-        → IfOk result (λ text. IsReportIn draft.form (AreReplaced (option_copied before.entry) router.now)
-        (option_copied before.entry) router.now (string_bytes text)) }
-    ensures short { draft.form ≡ Text → IfOk result (λ text. length (string_bytes text) ≤ longest_report) }
+) -> Result<(), AllocError>
+    ensures report { (draft.old.form ≢ Text → AreReplaced (option_copied before.entry) router.now replaced.now)
+        → OnOk result (IsReportIn draft.old.form (AreReplaced (option_copied before.entry) router.now)
+        (option_copied before.entry) router.now (string_bytes draft.new.text)) }
+    ensures short { draft.old.form ≡ Text → OnOk result (length (string_bytes draft.new.text) ≤ longest_report) }
 {
     router.state_law();
     router.net().network_law();
     let net = router.net();
-    let Draft {
-        form,
-        number: _,
-        spare: mut text,
-    } = draft;
-    begin_report(&mut text, form, net.nodes(), net.link_count())?;
+    let form = draft.form;
+    let line = &mut draft.text;
+    begin_report(line, form, net.nodes(), net.link_count())?;
     let report = router.report();
     match form {
-        Form::Text => {
-            push_report(&mut text, report)?;
-            Ok(text)
-        }
-        Form::Json => {
-            push_report_object(&mut text, report, replaced, router.hops())?;
-            Ok(text)
-        }
-        Form::JsonWithWays => {
-            push_new_report(alloc, &mut text, before, router, replaced)?;
-            Ok(text)
-        }
+        Form::Text => push_report(line, report),
+        Form::Json => push_report_object(line, report, replaced, router.hops()),
+        Form::JsonWithWays => push_new_report(alloc, line, before, router, replaced),
     }
 }
 

@@ -319,6 +319,8 @@ impl Session {
         ensures text { IfOk result (λ text. IsAnswer self.now (ask question) (string_bytes text) self.now) }
         ensures memory { IfErr result (λ fault. fault ≡ Memory) }
     {
-        Ok(self.question(alloc, Draft::text(alloc), question)?.text)
+        let mut draft = Draft::text(alloc);
+        self.question(alloc, &mut draft, question)?;
+        Ok(draft.text)
     }
 }

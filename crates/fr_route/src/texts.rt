@@ -25,17 +25,16 @@ const NUMBER_ROOM: usize = 5;
 
 const _: () = prove!(MAX_NODES < 10_000);
 
-/// A line that begins with this word, with room for so many numbers and a line end after it, in the memory of this one. It
-/// is inlined, so that a word is copied as a constant.
+/// Empties a line, takes room for a word, so many numbers and a line end, and writes the word. It is inlined, so that a
+/// word is copied as a constant.
 #[inline(always)]
-pub(crate) fn start_line(mut line: String, word: &str, numbers: usize) -> Result<String, AllocError>
-    ensures { IfOk result (λ line. string_bytes line ≡ word.now) }
+pub(crate) fn begin(line: &mut String, word: &str, numbers: usize) -> Result<(), AllocError>
+    ensures { OnOk result (string_bytes line.new ≡ word.now) }
 {
     let room = numbers.saturating_mul(NUMBER_ROOM).saturating_add(8);
     line.clear();
     line.reserve(room)?;
-    line.push_str(word)?;
-    Ok(line)
+    line.push_str(word)
 }
 
 /// Appends a text and a number. It is inlined, so that the text is copied as a constant.
@@ -71,16 +70,17 @@ fn push_digits(line: &mut String, number: u64, buffer: &mut Buffer) -> Result<()
 pub fn links_line(alloc: Global, links: Links<'_>) -> Result<String, AllocError>
     ensures { IfOk result (λ line. string_bytes line ≡ links_text links.entry) }
 {
-    links_line_into(String::new(alloc), links)
+    let mut line = String::new(alloc);
+    links_line_into(&mut line, links)?;
+    Ok(line)
 }
 
-/// The same, in the memory of this string.
-pub(crate) fn links_line_into(spare: String, links: Links<'_>) -> Result<String, AllocError>
-    ensures { IfOk result (λ line. string_bytes line ≡ links_text links.entry) }
+/// Writes the same into this string.
+pub(crate) fn links_line_into(line: &mut String, links: Links<'_>) -> Result<(), AllocError>
+    ensures { OnOk result (string_bytes line.new ≡ links_text links.entry) }
 {
-    let mut line = start_line(spare, "links", links.len().saturating_mul(2))?;
-    push_links(&mut line, links)?;
-    Ok(line)
+    begin(line, "links", links.len().saturating_mul(2))?;
+    push_links(line, links)
 }
 
 /// Appends a space and `tail>head` for each link.
@@ -100,19 +100,21 @@ fn push_links(line: &mut String, links: Links<'_>) -> Result<(), AllocError>
 pub fn counts_line(alloc: Global, counts: &[u64]) -> Result<String, AllocError>
     ensures { IfOk result (λ line. string_bytes line ≡ counts_text counts.now) }
 {
-    counts_line_into(String::new(alloc), counts)
+    let mut line = String::new(alloc);
+    counts_line_into(&mut line, counts)?;
+    Ok(line)
 }
 
-/// The same, in the memory of this string.
-pub(crate) fn counts_line_into(spare: String, counts: &[u64]) -> Result<String, AllocError>
-    ensures { IfOk result (λ line. string_bytes line ≡ counts_text counts.now) }
+/// Writes the same into this string.
+pub(crate) fn counts_line_into(line: &mut String, counts: &[u64]) -> Result<(), AllocError>
+    ensures { OnOk result (string_bytes line.new ≡ counts_text counts.now) }
 {
-    let mut line = start_line(spare, "counts", counts.len())?;
+    begin(line, "counts", counts.len())?;
     let mut buffer = Buffer::new();
     for count in counts {
-        push_number(&mut line, " ", *count, &mut buffer)?;
+        push_number(line, " ", *count, &mut buffer)?;
     }
-    Ok(line)
+    Ok(())
 }
 
 /// Appends a space and the word for a hop: `here`, the number of the next node, or `cut`.
@@ -127,15 +129,15 @@ fn push_hop(line: &mut String, hop: Hop, buffer: &mut Buffer) -> Result<(), Allo
 }
 
 /// `hops`, and then a space and the word for each hop.
-pub(crate) fn hops_line(spare: String, hops: &[Hop]) -> Result<String, AllocError>
-    ensures { IfOk result (λ line. string_bytes line ≡ hops_text hops.now) }
+pub(crate) fn hops_line(line: &mut String, hops: &[Hop]) -> Result<(), AllocError>
+    ensures { OnOk result (string_bytes line.new ≡ hops_text hops.now) }
 {
-    let mut line = start_line(spare, "hops", hops.len())?;
+    begin(line, "hops", hops.len())?;
     let mut buffer = Buffer::new();
     for hop in hops {
-        push_hop(&mut line, *hop, &mut buffer)?;
+        push_hop(line, *hop, &mut buffer)?;
     }
-    Ok(line)
+    Ok(())
 }
 
 /// Appends `>` and the word for the new hop of a node.
@@ -150,26 +152,25 @@ fn push_new_hop(line: &mut String, hop: Hop, buffer: &mut Buffer) -> Result<(), 
 }
 
 /// `pushes`, and then a space and `node>hop` for each of these nodes, with its hop in this table.
-pub(crate) fn pushes_line(spare: String, nodes: &[u32], hops: &[Hop]) -> Result<String, AllocError>
-    ensures { IfOk result (λ line. string_bytes line ≡ pushes_text (changes_of hops.now nodes.now)) }
+pub(crate) fn pushes_line(line: &mut String, nodes: &[u32], hops: &[Hop]) -> Result<(), AllocError>
+    ensures { OnOk result (string_bytes line.new ≡ pushes_text (changes_of hops.now nodes.now)) }
 {
-    let mut line = start_line(spare, "pushes", nodes.len().saturating_mul(2))?;
+    begin(line, "pushes", nodes.len().saturating_mul(2))?;
     let mut buffer = Buffer::new();
     for node in nodes {
-        push_number(&mut line, " ", u64::from(*node), &mut buffer)?;
-        push_new_hop(&mut line, hop_at(hops, *node), &mut buffer)?;
+        push_number(line, " ", u64::from(*node), &mut buffer)?;
+        push_new_hop(line, hop_at(hops, *node), &mut buffer)?;
     }
-    Ok(line)
+    Ok(())
 }
 
 /// The answer for a route from a node that is cut off.
-pub(crate) fn no_walk_line(spare: String, node: u32) -> Result<String, AllocError>
-    ensures { IfOk result (λ line. string_bytes line ≡ no_walk_text node) }
+pub(crate) fn no_walk_line(line: &mut String, node: u32) -> Result<(), AllocError>
+    ensures { OnOk result (string_bytes line.new ≡ no_walk_text node) }
 {
-    let mut line = start_line(spare, "walk", 1)?;
-    push_number(&mut line, " ", u64::from(node), &mut Buffer::new())?;
-    line.push_str(" cut")?;
-    Ok(line)
+    begin(line, "walk", 1)?;
+    push_number(line, " ", u64::from(node), &mut Buffer::new())?;
+    line.push_str(" cut")
 }
 
 /// Appends the word for the ways of a node: `here` for the destination, `cut` without a way, or the ways.
@@ -205,23 +206,21 @@ fn push_table(line: &mut String, dest: u32, table: &WayTable) -> Result<(), Allo
 
 /// `ways`, and then a space and the word for the ways of each node.
 #[inline(never)]
-pub(crate) fn ways_line(spare: String, dest: u32, table: &WayTable) -> Result<String, AllocError>
+pub(crate) fn ways_line(line: &mut String, dest: u32, table: &WayTable) -> Result<(), AllocError>
     requires { length table.now < 2 ^ 32 }
-    ensures { IfOk result (λ line. string_bytes line ≡ ways_text dest table.now) }
+    ensures { OnOk result (string_bytes line.new ≡ ways_text dest table.now) }
 {
-    let mut line = start_line(spare, "ways", table.list().len())?;
-    push_table(&mut line, dest, table)?;
-    Ok(line)
+    begin(line, "ways", table.list().len())?;
+    push_table(line, dest, table)
 }
 
 /// `ways`, and then a space and the word for these ways of one node. `home` says whether it is the destination.
 #[inline(never)]
-pub(crate) fn node_ways_line(spare: String, home: bool, ways: &[u32]) -> Result<String, AllocError>
-    ensures { IfOk result (λ line. string_bytes line ≡ node_ways_text home ways.now) }
+pub(crate) fn node_ways_line(line: &mut String, home: bool, ways: &[u32]) -> Result<(), AllocError>
+    ensures { OnOk result (string_bytes line.new ≡ node_ways_text home ways.now) }
 {
-    let mut line = start_line(spare, "ways ", ways.len())?;
-    push_ways(&mut line, home, ways, &mut Buffer::new())?;
-    Ok(line)
+    begin(line, "ways ", ways.len())?;
+    push_ways(line, home, ways, &mut Buffer::new())
 }
 
 /// Appends `>` and the list of a push: its nodes, or `none`.
@@ -249,41 +248,38 @@ fn push_lists(line: &mut String, pushes: &Pushes, buffer: &mut Buffer) -> Result
 
 /// `pushes shrink`, the pushes of the first phase, `grow`, and those of the second.
 #[inline(never)]
-pub(crate) fn phases_line(spare: String, phases: &TwoPhases) -> Result<String, AllocError>
+pub(crate) fn phases_line(line: &mut String, phases: &TwoPhases) -> Result<(), AllocError>
     requires { AreListed phases.now.shrink × AreListed phases.now.grow }
-    ensures { IfOk result (λ line. string_bytes line
-        ≡ phases_text (pairs phases.now.shrink) (pairs phases.now.grow)) }
+    ensures { OnOk result (string_bytes line.new ≡ phases_text (pairs phases.now.shrink) (pairs phases.now.grow)) }
 {
-    let mut line = start_line(spare, "pushes shrink", 0)?;
+    begin(line, "pushes shrink", 0)?;
     let mut buffer = Buffer::new();
-    push_lists(&mut line, &phases.shrink, &mut buffer)?;
+    push_lists(line, &phases.shrink, &mut buffer)?;
     line.push_str(" grow")?;
-    push_lists(&mut line, &phases.grow, &mut buffer)?;
-    Ok(line)
+    push_lists(line, &phases.grow, &mut buffer)
 }
 
 /// `nearest`, and then a space and the number of each node.
 #[inline(never)]
-pub(crate) fn nearest_line(spare: String, nodes: &[u32]) -> Result<String, AllocError>
-    ensures { IfOk result (λ line. string_bytes line ≡ nearest_text nodes.now) }
+pub(crate) fn nearest_line(line: &mut String, nodes: &[u32]) -> Result<(), AllocError>
+    ensures { OnOk result (string_bytes line.new ≡ nearest_text nodes.now) }
 {
-    let mut line = start_line(spare, "nearest", nodes.len())?;
+    begin(line, "nearest", nodes.len())?;
     let mut buffer = Buffer::new();
     for node in nodes {
-        push_number(&mut line, " ", u64::from(*node), &mut buffer)?;
+        push_number(line, " ", u64::from(*node), &mut buffer)?;
     }
-    Ok(line)
+    Ok(())
 }
 
 /// The answer for a nearest route from a node that is cut off.
 #[inline(never)]
-pub(crate) fn no_nearest_line(spare: String, node: u32) -> Result<String, AllocError>
-    ensures { IfOk result (λ line. string_bytes line ≡ no_nearest_text node) }
+pub(crate) fn no_nearest_line(line: &mut String, node: u32) -> Result<(), AllocError>
+    ensures { OnOk result (string_bytes line.new ≡ no_nearest_text node) }
 {
-    let mut line = start_line(spare, "nearest", 1)?;
-    push_number(&mut line, " ", u64::from(node), &mut Buffer::new())?;
-    line.push_str(" cut")?;
-    Ok(line)
+    begin(line, "nearest", 1)?;
+    push_number(line, " ", u64::from(node), &mut Buffer::new())?;
+    line.push_str(" cut")
 }
 
 /// Appends the report of a round: how many turns it took, and how many nodes are cut off.
@@ -299,8 +295,8 @@ pub(crate) fn push_report(line: &mut String, report: Report) -> Result<(), Alloc
 }
 
 /// The answer to a line that is refused.
-pub(crate) fn refusal_line(spare: String, refusal: Reason) -> Result<String, AllocError>
-    ensures { IfOk result (λ line. string_bytes line ≡ refusal_text (number_of refusal)) }
+pub(crate) fn refusal_line(line: &mut String, refusal: Reason) -> Result<(), AllocError>
+    ensures { OnOk result (string_bytes line.new ≡ refusal_text (number_of refusal)) }
 {
-    start_line(spare, refusal.answer(), 1)
+    begin(line, refusal.answer(), 1)
 }

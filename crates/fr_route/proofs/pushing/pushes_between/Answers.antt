@@ -1,7 +1,7 @@
 use Rattle.std.proofs.Common.{List, ap, arith, length, max, replicate, subst, take, take_all, ◌++◌, ◌-◌, ◌∙◌, ◌≡◌, ◌≤◌}
 use Rattle.std.proofs.lemmas.Result.{IfOk-weaker}
 use Rattle.fr_route.specs.Pushing.{padded}
-use Rattle.fr_route.specs.Replies.{IsFromReply, answer_form}
+use Rattle.fr_route.specs.Replies.{IsFromReply, answer_form, written}
 use Rattle.fr_tables.specs.declared.hop.Hop.{Hop}
 use Rattle.fr_tables.specs.declared.hop.Hop.TheVariants.{CutOff}
 use Rattle.fr_route.proofs.Replying.{between_reply}
@@ -17,6 +17,6 @@ returns-clause-reply c =
     ∙ ((λ i. take (n i) wanted ++ replicate (n i - length wanted) CutOff)
     ∙ ap (λ (t : List Hop). t ++ replicate (max (length table) (length wanted) - length wanted) CutOff)
     (take_all (max (length table) (length wanted)) wanted fits))) in
-    IfOk-weaker c.pushes_from.result _ _ (λ a h s.
-    between_reply (answer_form c.args.draft) table wanted a s (subst (λ (t : List Hop). IsFromReply (answer_form c.args.draft) table t a) same h))
+    IfOk-weaker c.pushes_from.result _ _ (λ refused h s.
+    between_reply (answer_form c.args.draft.now) table wanted (written c.pushes_from.new.draft refused) s (subst (λ (t : List Hop). IsFromReply (answer_form c.args.draft.now) table t (written c.pushes_from.new.draft refused)) same h))
     c.pushes_from.ensures.reply

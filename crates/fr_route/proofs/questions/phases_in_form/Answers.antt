@@ -31,7 +31,7 @@ returns-in-Text c =
     let first = shrinks_are old new c.in_ok-phases.phases c.in_ok-phases.ensures in
     let second = growths_are old new c.in_ok-phases.phases c.in_ok-phases.ensures in
     rw c.in-Text.is (IfOk-weaker c.phases_line.result _ _
-    (λ text is. (new, c.in_ok-wanted.ensures, is ∙ (λ i. phases_text (first i) (second i))))
+    (λ _ is. (new, c.in_ok-wanted.ensures, is ∙ (λ i. phases_text (first i) (second i))))
     c.phases_line.ensures)
 
 pub returns : goal.returns
@@ -40,6 +40,6 @@ returns c =
     let new = c.in_ok-wanted.wanted in
     let lists = c.from_plan.ensures old new c.in_ok-phases.ensures in
     IfOk-weaker c.phases_object.result _ _
-    (λ text is. json_phases c.args.draft.form c.in_default.not-Text c.args.router.now old (string_bytes text)
+    (λ _ is. json_phases c.args.draft.now.form c.in_default.not-Text c.args.router.now old (string_bytes c.phases_object.new.line)
     (new, c.in_ok-wanted.ensures, is))
     (c.phases_object.ensures (shrinks old new) (growths old new) lists)

@@ -31,8 +31,8 @@ hops-init c =
       walked = walk_begins c.args.router.now c.args.x c.next_hop.result c.next_hop.ensures open_hop;
       many = refl;
       text = c.in_ok-push_number.ensures.text
-          ∙ (ap (λ (n : ℕ). string_bytes c.in_ok-line.line ++ (codes " " ++ decimal n)) c.from.ensures
-          ∙ (ap (λ (l : List ℕ). l ++ (codes " " ++ decimal c.args.x)) c.in_ok-line.ensures ∙ sym (walk_more [] c.args.x)));
+          ∙ (ap (λ (n : ℕ). string_bytes c.begin.new.line ++ (codes " " ++ decimal n)) c.from.ensures
+          ∙ (ap (λ (l : List ℕ). l ++ (codes " " ++ decimal c.args.x)) c.in_ok-begin.ensures ∙ sym (walk_more [] c.args.x)));
     }
 
 pub next_hop-requires-in-hops : goal.next_hop-requires-in-hops
