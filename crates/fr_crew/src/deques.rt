@@ -1,4 +1,4 @@
-//! Where the workers find the nodes that they try: each has a deque, from which the others steal. None of its calls
+//! Where the workers find the nodes that they try: each has a queue, and a deque from which the others steal. No call
 //! waits.
 
 ghost use Rattle.std.specs.Prelude.{◌≡◌, ◌<◌, ◌≤◌, IfSome, length};
@@ -20,22 +20,40 @@ const TRIES: u32 = 64;
 /// The handle with which other workers steal from a deque.
 pub(crate) type Stealer<J> = crossbeam_deque::Stealer<u32, Global, (), CandidateProtocol<J>>;
 
-/// A worker's own deque, in which the first candidate put is the first one taken, and the draws of the deque from which
-/// the worker steals first. A crew of one uses a queue that is not shared instead.
+/// How many candidates a worker puts into its queue before it puts one into its deque. The deque takes five atomic
+/// operations for a candidate, and the queue takes none.
+const KEPT_FOR_ONE_SHARED: u8 = 7;
+
+/// The candidates of a worker: those in its deque, from which others steal, and those in its queue, from which nobody
+/// does. Then the draws of the deque from which the worker steals first. The only worker of a crew has all its
+/// candidates in the queue.
 #[derive(Drop)]
 pub(crate) struct Deque<J: Naming> {
     own: Worker<u32, Global, (), CandidateProtocol<J>>,
-    local_queue: Option<LocalQueue<J>>,
+    queue: LocalQueue<J>,
+    // How many candidates were put into the queue since the last one was shared.
+    kept: u8,
+    is_only: bool,
     number: usize,
     draws: Lcg64Xsh32,
 }
 
 impl<J: Naming> Deque<J> {
-    /// The deque of the worker with this number, with room for so many candidates.
-    pub fn new(alloc: Global, room: usize, seed: u64, number: u32) -> Result<Deque<J>, AllocError> {
+    /// No candidates yet, for the worker with this number. The deque has room for so many.
+    pub fn new(
+        alloc: Global,
+        round: &Round,
+        room: usize,
+        seed: u64,
+        number: u32,
+    ) -> Result<Deque<J>, AllocError>
+        requires { round.now.setup ≡ J.setup }
+    {
         Ok(Deque {
             own: Worker::fifo_as(alloc, room)?,
-            local_queue: None,
+            queue: LocalQueue::new(alloc, round)?,
+            kept: 0,
+            is_only: false,
             number: number as usize,
             draws: Lcg64Xsh32::seed_from_u64(seed.wrapping_add(u64::from(number))),
         })
@@ -47,33 +65,45 @@ impl<J: Naming> Deque<J> {
     }
 
     /// Makes it share nothing from now on: for the only worker of a crew, before any candidate is put.
-    pub fn use_local_queue(&mut self, alloc: Global, round: &Round) -> Result<(), AllocError>
-        requires { round.now.setup ≡ J.setup }
-    {
-        self.local_queue = Some(LocalQueue::new(alloc, round)?);
-        Ok(())
+    pub fn share_nothing(&mut self) {
+        self.is_only = true;
     }
 
-    /// Puts a candidate at the end, unless it is in a deque. A candidate for which there is no memory is dropped. It is
-    /// left to the finisher, or to the worker that puts it next.
-    #[inline(always)]
-    pub fn put(&mut self, queued_nodes: &QueuedNodes<J>, x: u32)
+    /// Puts a candidate into the deque, unless it is in a deque already. A candidate for which there is no memory is
+    /// dropped. It is left to the finisher, or to the worker that puts it next.
+    pub fn put_shared(&mut self, queued_nodes: &QueuedNodes<J>, x: u32)
         requires { IsCandidate J.setup x }
     {
-        if let Some(local_queue) = &mut self.local_queue {
-            local_queue.put(x);
-        } else if !queued_nodes.is_queued(x) {
-            // Most candidates are in a deque already, and a load is cheaper than an exchange.
+        if self.is_only {
+            self.queue.put(x);
+        } else if queued_nodes.mark_queued(x) {
             self.push_shared(queued_nodes, x);
         }
     }
 
-    /// Puts a candidate at the end of the shared deque, unless another worker has just put it.
+    /// Puts a candidate that follows from a call into the queue, or now and then into the deque, unless it is there
+    /// already. The same node may be in queues of other workers. Then at most one of the calls for it turns it.
+    #[inline(always)]
+    pub fn put(&mut self, queued_nodes: &QueuedNodes<J>, x: u32)
+        requires { IsCandidate J.setup x }
+    {
+        if self.kept < KEPT_FOR_ONE_SHARED {
+            self.queue.put(x);
+            if !self.is_only {
+                self.kept += 1;
+            }
+        } else if queued_nodes.mark_queued(x) {
+            self.kept = 0;
+            self.push_shared(queued_nodes, x);
+        }
+    }
+
+    /// Puts a candidate that was just marked at the end of the deque.
     #[inline(never)]
     fn push_shared(&mut self, queued_nodes: &QueuedNodes<J>, x: u32)
         requires { IsCandidate J.setup x }
     {
-        if queued_nodes.mark_queued(x) && self.own.push_as::<CandidateProtocol<J>>(x).is_err() {
+        if self.own.push_as::<CandidateProtocol<J>>(x).is_err() {
             queued_nodes.unmark_queued(x);
         }
     }
@@ -92,12 +122,12 @@ impl<J: Naming> Deque<J> {
         }
     }
 
-    /// Takes the first of its own candidates. The candidate is then in no deque.
+    /// Takes the first candidate of its queue, or else of its deque.
     pub fn take(&mut self, queued_nodes: &QueuedNodes<J>) -> Option<u32>
         ensures { IfSome result (IsCandidate J.setup) }
     {
-        if let Some(local_queue) = &mut self.local_queue {
-            return local_queue.take();
+        if let Some(x) = self.queue.take() {
+            return Some(x);
         }
         let x = self.own.pop_as::<CandidateProtocol<J>>()?;
         queued_nodes.unmark_queued(x);

@@ -1,4 +1,4 @@
-//! The candidates of a crew of one, which are not shared.
+//! The candidates that a worker keeps for itself.
 
 ghost use Rattle.std.specs.Prelude.{◌≡◌, All, IfSome, vec_len};
 ghost use Rattle.fr_crew.specs.Candidates.{IsCandidate};

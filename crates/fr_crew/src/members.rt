@@ -40,33 +40,18 @@ pub(crate) fn make_deques<J: Naming>(
     ensures members { IfOk result (λ all. vec_len all.members ≡ vec_len workers) }
     ensures stealers { IfOk result (λ all. vec_len all.stealers ≡ vec_len workers) }
 {
-    let is_one = workers.len() == 1;
+    let is_only = workers.len() == 1;
     let mut members = Vec::with_capacity(alloc, workers.len())?;
     let mut stealers = Vec::with_capacity(alloc, workers.len())?;
     for worker in workers {
-        let deque = Deque::new(alloc, room, seed, worker.number())?;
-        let (deque, stealer) = deque_with_stealer(alloc, round, deque, is_one)?;
-        stealers.push_reserved(stealer);
+        let mut deque = Deque::new(alloc, round, room, seed, worker.number())?;
+        if is_only {
+            deque.share_nothing();
+        }
+        stealers.push_reserved(deque.stealer()?);
         members.push_reserved(Member { worker, deque });
     }
     Ok(Members { members, stealers })
-}
-
-/// A new deque, and the handle with which the others steal from it. The deque of an only worker shares nothing from now
-/// on.
-fn deque_with_stealer<J: Naming>(
-    alloc: Global,
-    round: &Round,
-    mut deque: Deque<J>,
-    is_one: bool,
-) -> Result<(Deque<J>, Stealer<J>), AllocError>
-    requires { round.now.setup ≡ J.setup }
-{
-    let stealer = deque.stealer()?;
-    if is_one {
-        deque.use_local_queue(alloc, round)?;
-    }
-    Ok((deque, stealer))
 }
 
 /// How much more room a deque has at first than it is dealt: a turn makes candidates of all neighbours of a node.
@@ -104,7 +89,7 @@ fn deal_node<J: Naming>(
     let net = round.net();
     if x < net.nodes() && x != round.dest() && net.degree(x) > 0 {
         let to = turn % members.len();
-        members[to].deque.put(queued_nodes, x);
+        members[to].deque.put_shared(queued_nodes, x);
     }
 }
 

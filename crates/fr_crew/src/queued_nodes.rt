@@ -32,13 +32,6 @@ impl<J: Naming> QueuedNodes<J> {
         })
     }
 
-    /// Whether a node is in a deque.
-    pub fn is_queued(&self, x: u32) -> bool
-        requires { x < J.setup.nodes }
-    {
-        self.flags[x as usize].load(Ordering::SeqCst)
-    }
-
     /// Notes that a node enters a deque. Returns whether it was in none.
     pub fn mark_queued(&self, x: u32) -> bool
         requires { x < J.setup.nodes }

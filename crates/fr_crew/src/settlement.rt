@@ -50,11 +50,12 @@ pub struct CrewWork {
 /// [`finish_turns`](fr_core::finish_turns) then turns what they leave. The result does not depend on the plan, the gate
 /// and the schedule, except for who made how many turns.
 ///
-/// Each worker has a deque of candidates. At first these are all nodes with a link except the destination, each dealt
-/// to the worker whose number is the node's modulo the number of workers. A worker takes one of its own candidates, or
-/// steals one from another worker, and tries to turn it. If it does, it puts all neighbours except the destination into
-/// its deque; if another worker was faster, it puts the node itself. A node that is in a deque is not put again. A
-/// worker ends when it finds no candidate, or when its budget is spent; only then can it leave candidates in its deque.
+/// Each worker has candidates in a deque, from which others steal, and in a queue of its own. At first they are all nodes
+/// with a link except the destination, each in the deque of the worker whose number is the node's modulo the number of
+/// workers. A worker takes a candidate of its queue, or else of its deque, or else steals one, and tries to turn it. If
+/// it does, all neighbours except the destination become its candidates; if another worker was faster, the node itself
+/// does. Seven of eight go into the queue, unless they are in it, and the eighth into the deque, unless it is in any. A
+/// worker ends when it finds no candidate, or when its budget is spent; only then can it leave candidates behind.
 /// No thread is started for a crew of one, if no node can turn, or if no worker may make a call. There is no lock, and
 /// the crew waits only for its threads to end.
 ///

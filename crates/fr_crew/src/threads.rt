@@ -114,7 +114,7 @@ fn run_worker<J: Naming, G: Gate>(job: &Job<J>, gate: &G, mut member: Member<J>)
     ensures { HasWorked G.passed gate.now job.now.budget member.worker result }
 {
     for made in 0..job.budget {
-        // The candidate is in no deque before the call. So if a neighbour turns during the call, the node becomes a
+        // The candidate is taken out before the call. So if a neighbour turns during the call, the node becomes a
         // candidate again.
         let Some(x) = next_candidate(job, &mut member.deque) else {
             break;

@@ -4,8 +4,8 @@ use Rattle.fr_round.specs.declared.view.Setup.{Setup}
 use Rattle.fr_crew.specs.Candidates.{IsCandidate}
 use Rattle.fr_crew.proofs.members.deal_node.Goals as goal
 
-pub put-requires : goal.put-requires
-put-requires g c =
+pub put_shared-requires : goal.put_shared-requires
+put_shared-requires g c =
     let b : Setup = c.args.round.now.setup in
     let linked = row_linked c.net-net.result.now.nodes c.net-net.result.now.links c.args.x (omega (arith, c.if-degree-gt0.true, c.degree.ensures)) in
     let joined = rw c.net-net.ensures.links at linked in
