@@ -12,8 +12,8 @@ sum_of_turns-by_workers-requires g c =
     let fits = lawful_sum_fits _ _ _ _ (omega (arith, few, nodes)) turned.run.lawful in
     rw c.deref.ensures.value (omega (arith, turned.total, fits))
 
-pub finished-settled-requires-clause-turned : goal.finish_and_turn_links-settled-requires-clause-turned
-finished-settled-requires-clause-turned g c =
+pub finish_and_turn_links-settled-requires-clause-turned : goal.finish_and_turn_links-settled-requires-clause-turned
+finish_and_turn_links-settled-requires-clause-turned g c =
     let total = c.in_ok-net.ensures.turned.total in
     cc (
       total,

@@ -11,10 +11,10 @@ pub returns : goal.returns
 returns c =
     let letters = letters_of_edit c.args.word in
     let rest = c.args.rest.now in
-    let edit = c.in_ok-edit_request.edit in
+    let edit = c.in_ok-edit.edit in
     let ends = comma ∷ ends_lexemes (edit_ends edit) in
     let told : c.is_only_space.result ≡ true → IsReadAs letters rest (plain_brief (brief.Edit edit)) = λ over line opens.
-    let whole = begins_more _ _ _ (opening letters) ends opens (begins_more _ _ _ ends [] c.in_ok-edit_request.ensures.ends (c.is_only_space.ensures.read over)) in
-    let is : Begins line (edit_lexemes edit) [] = rw c.in_ok-edit_request.ensures.word whole in
-    edit_reads line edit c.in_ok-edit_request.ensures.small is in
+    let whole = begins_more _ _ _ (opening letters) ends opens (begins_more _ _ _ ends [] c.in_ok-edit.ensures.ends (c.is_only_space.ensures.read over)) in
+    let is : Begins line (edit_lexemes edit) [] = rw c.in_ok-edit.ensures.word whole in
+    edit_reads line edit c.in_ok-edit.ensures.small is in
     rw c.then_some.ensures (if_then_some (λ it. IsReadAs letters rest (plain_brief it)) c.is_only_space.result (brief.Edit edit) told)

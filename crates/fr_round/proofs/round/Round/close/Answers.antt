@@ -32,7 +32,7 @@ pub returns-clause-history : goal.returns-clause-history
 returns-clause-history c =
     let w = c.self.inside in
     let i = c.self.invariant in
-    let t = c.take_over in
+    let t = c.take_back_workers in
     let e = t.ensures.taken in
     let z = c.close_with-closed.result in
     let p = t.new.seat in

@@ -17,13 +17,13 @@ misses_bound-requires c =
     let net = c.args.words.now.round_setup.net in
     omega (arith, (row_holds net.nodes net.links c.args.x c.args.entry c.requires.entry).0, c.requires.caller.seen.numbers.one_each)
 
-pub load_neighbour-found-requires-clause-call : goal.load_neighbour_count-found-requires-clause-call
-load_neighbour-found-requires-clause-call c =
+pub load_neighbour_count-found-requires-clause-call : goal.load_neighbour_count-found-requires-clause-call
+load_neighbour_count-found-requires-clause-call c =
     let call = c.requires.call in
     subst (λ (p : ℕ × ℕ). IsInCall (setup_of c.args.words.now.round_setup) p.0 p.1 c.args.self.now.seat.me.0) (λ i. (sym call.node i, sym call.count i)) call
 
-pub load_neighbour-found-requires-clause-entry : goal.load_neighbour_count-found-requires-clause-entry
-load_neighbour-found-requires-clause-entry c =
+pub load_neighbour_count-found-requires-clause-entry : goal.load_neighbour_count-found-requires-clause-entry
+load_neighbour_count-found-requires-clause-entry c =
     let net = c.args.words.now.round_setup.net in
     subst (λ (y : ℕ). Contains (row net.nodes net.links y) c.args.entry) (sym c.requires.call.node) c.requires.entry
 

@@ -54,8 +54,8 @@ now_is g c = c.router.view_is
 from_movable : (g : Over) (c : After-nodes-from g)
     → c.nodes-from.result.now ≡ movable (state_of c.router.inside) c.args.revision.now.dest c.args.revision.now.edits.now
 from_movable g c = c.nodes-from.ensures
-    ∙ subst (λ (now : State). nodes_listed c.in_ok-turn_candidates.movable ≡ movable now c.args.revision.now.dest
-    c.args.revision.now.edits.now) (sym c.router.view_is) c.in_ok-turn_candidates.ensures.movable
+    ∙ subst (λ (now : State). nodes_listed c.in_ok-movable.movable ≡ movable now c.args.revision.now.dest
+    c.args.revision.now.edits.now) (sym c.router.view_is) c.in_ok-movable.ensures.movable
 
 in_range : (g : Over) (c : After-router g) → c.args.revision.now.dest < (state_of c.router.inside).nodes
 in_range g c = subst (λ (now : State). c.args.revision.now.dest < now.nodes) (sym (now_is g c)) c.requires.node
@@ -85,8 +85,8 @@ edit_if-requires g c = record {
       );
 }
 
-pub returns-in_err-turn_candidates : goal.returns-in_err-turn_candidates
-returns-in_err-turn_candidates g c =
+pub returns-in_err-movable : goal.returns-in_err-movable
+returns-in_err-movable g c =
     let p = err_from_is_err_and c.from_residual.result c.from_residual.ensures.1 in
     rw (p.1, p.2) (record {
       made = tt;
@@ -94,11 +94,11 @@ returns-in_err-turn_candidates g c =
       rerouted = tt;
       ways = tt;
       asks = λ asks. asks;
-      fault = c.in_err-turn_candidates.ensures.fault;
+      fault = c.in_err-movable.ensures.fault;
       unchanged = refl;
       untold = refl;
       untold_ways = pushes_same (ways_told c.args.told.now);
-      no_start = λ _. c.in_err-turn_candidates.ensures.no_start;
+      no_start = λ _. c.in_err-movable.ensures.no_start;
     })
 
 pub returns-in_err-make_room : goal.returns-in_err-make_room
@@ -110,7 +110,7 @@ returns-in_err-make_room g c =
       rerouted = tt;
       ways = tt;
       asks = same_asking c.args.told.now c.make_room.new.self c.make_room.ensures.keeps.notes;
-      fault = c.in_ok-turn_candidates.ensures.few;
+      fault = c.in_ok-movable.ensures.few;
       unchanged = refl;
       untold = c.make_room.ensures.same;
       untold_ways = same_pushes c.args.told.now c.make_room.new.self c.make_room.ensures.keeps.notes;
@@ -158,7 +158,7 @@ returns-in_err-begin_ways g c =
       rerouted = tt;
       ways = tt;
       asks = asks_still g at.After-begin_ways;
-      fault = c.in_ok-turn_candidates.ensures.few;
+      fault = c.in_ok-movable.ensures.few;
       unchanged = search rules;
       untold = c.begin_ways.ensures.list.nodes ∙ c.make_room.ensures.same;
       untold_ways = same_ways g at.After-begin_ways;
@@ -200,7 +200,7 @@ returns-in_err-outcome g c =
       rerouted = tt;
       ways = tt;
       asks = asks_still g at.After-begin_ways;
-      fault = (not_made g at.In_err-outcome (in_range g at.After-router) c.in_ok-turn_candidates.ensures.few (now_is g at.After-router));
+      fault = (not_made g at.In_err-outcome (in_range g at.After-router) c.in_ok-movable.ensures.few (now_is g at.After-router));
       unchanged = search rules;
       untold = c.begin_ways.ensures.list.nodes ∙ c.make_room.ensures.same;
       untold_ways = same_ways g at.After-begin_ways;

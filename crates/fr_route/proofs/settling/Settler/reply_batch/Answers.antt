@@ -19,7 +19,7 @@ returns g c =
     let s : State = c.in-Some.router in
     let edits = c.args.edits.now in
     let here : c.args.session.now ≡ Some s = sym c.session.view_is ∙ c.in-Some.is in
-    elim c.match-revise.branch [
+    elim c.match-edit_and_report.branch [
       | in-Ok w ↦ rw (here, w.result-is, w.draft-is) (revised _ (answer_form c.args.draft.now) s (make_edits edits) _ c.args.told.now c.edit_and_report.new.draft c.edit_and_report.new.router c.edit_and_report.new.told
           w.in-Ok.ensures.revised
           (λ made. subst (λ (d : ℕ). IsEdited s edits d c.edit_and_report.new.router) c.dest-dest.ensures.value made)

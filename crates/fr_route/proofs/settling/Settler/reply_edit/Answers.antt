@@ -17,7 +17,7 @@ pub returns : goal.returns
 returns g c =
     let s : State = c.in-Some.router in
     let here : c.args.session.now ≡ Some s = sym c.session.view_is ∙ c.in-Some.is in
-    elim c.match-revise.branch [
+    elim c.match-edit_and_report.branch [
       | in-Ok w ↦ rw (here, w.result-is, w.draft-is) (revised _ (answer_form c.args.draft.now) s (request_of_edit c.args.edit) _ c.args.told.now c.edit_and_report.new.draft c.edit_and_report.new.router c.edit_and_report.new.told
           w.in-Ok.ensures.revised
           (λ made. edit_accepted s c.args.edit c.edit_and_report.new.router (subst (λ (d : ℕ). IsEdited s (c.args.edit ∷ []) d c.edit_and_report.new.router) c.dest-dest.ensures.value made))

@@ -19,7 +19,7 @@ returns g c =
     let d = c.args.dest in
     let below : d < s.nodes = omega (arith, c.if-dest-nodes.false, c.nodes.ensures.value, c.net.ensures.nodes) in
     let here : c.args.session.now ≡ Some s = sym c.session.view_is ∙ c.in-Some.is in
-    elim c.match-revise.branch [
+    elim c.match-edit_and_report.branch [
       | in-Ok w ↦ rw (here, w.result-is, w.draft-is) (revised _ (answer_form c.args.draft.now) s (move_dest d) _ c.args.told.now c.edit_and_report.new.draft c.edit_and_report.new.router c.edit_and_report.new.told
           w.in-Ok.ensures.revised
           (λ made. (below, subst (λ (m : Network). IsRound m.nodes d m.links c.edit_and_report.new.router) made.1.1.0 made.1.1.1))

@@ -4,7 +4,7 @@ use Rattle.atomic_table.specs.Table.{step}
 use Rattle.fr_round.specs.Steps.{look_ended}
 use Rattle.fr_round.specs.Setups.{setup_of}
 use Rattle.fr_round.proofs.Keeping.{allowed, ends_look_at}
-use Rattle.fr_round.proofs.turn_call.Caller.confirm.Goals as goal
+use Rattle.fr_round.proofs.turn_call.Caller.confirm_own_count.Goals as goal
 
 pub load-found-requires : goal.load-found-requires
 load-found-requires c =
