@@ -52,7 +52,7 @@ fn follow_job(round: &Round, job: Job<'_>) -> Recorder
     ensures { HasFollowed round.now.setup job.entry.recorder job.entry.plan.now result }
 {
     let Job { mut recorder, plan } = job;
-    recorder.follow_job(round, plan);
+    recorder.follow(round, plan);
     recorder
 }
 
