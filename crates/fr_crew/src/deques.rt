@@ -6,7 +6,7 @@ ghost use Rattle.fr_crew.specs.Candidates.{IsCandidate};
 
 use crate::local_queue::LocalQueue;
 use crate::naming::{CandidateProtocol, Naming};
-use crate::queued_nodes::QueuedNodes;
+use crate::shared_nodes::SharedNodes;
 use crossbeam_deque::{Steal, Worker};
 use fr_round::Round;
 use rand_core::SeedableRng;
@@ -71,20 +71,20 @@ impl<J: Naming> Deque<J> {
 
     /// Puts a candidate into the deque, unless it is in a deque already. A candidate for which there is no memory is
     /// dropped. It is left to the finisher, or to the worker that puts it next.
-    pub fn put_shared(&mut self, queued_nodes: &QueuedNodes<J>, x: u32)
+    pub fn put_shared(&mut self, shared_nodes: &SharedNodes<J>, x: u32)
         requires { IsCandidate J.setup x }
     {
         if self.is_only {
             self.queue.put(x);
-        } else if queued_nodes.mark_queued(x) {
-            self.push_shared(queued_nodes, x);
+        } else if shared_nodes.mark_shared(x) {
+            self.push_shared(shared_nodes, x);
         }
     }
 
     /// Puts a candidate that follows from a call into the queue, or now and then into the deque, unless it is there
-    /// already. The same node may be in queues of other workers. Then at most one of the calls for it turns it.
+    /// already. Other workers may have the same node in their queues. A call for it fails if it cannot turn any more.
     #[inline(always)]
-    pub fn put(&mut self, queued_nodes: &QueuedNodes<J>, x: u32)
+    pub fn put(&mut self, shared_nodes: &SharedNodes<J>, x: u32)
         requires { IsCandidate J.setup x }
     {
         if self.kept < KEPT_FOR_ONE_SHARED {
@@ -92,24 +92,24 @@ impl<J: Naming> Deque<J> {
             if !self.is_only {
                 self.kept += 1;
             }
-        } else if queued_nodes.mark_queued(x) {
+        } else if shared_nodes.mark_shared(x) {
             self.kept = 0;
-            self.push_shared(queued_nodes, x);
+            self.push_shared(shared_nodes, x);
         }
     }
 
     /// Puts a candidate that was just marked at the end of the deque.
     #[inline(never)]
-    fn push_shared(&mut self, queued_nodes: &QueuedNodes<J>, x: u32)
+    fn push_shared(&mut self, shared_nodes: &SharedNodes<J>, x: u32)
         requires { IsCandidate J.setup x }
     {
         if self.own.push_as::<CandidateProtocol<J>>(x).is_err() {
-            queued_nodes.unmark_queued(x);
+            shared_nodes.unmark_shared(x);
         }
     }
 
     /// Puts all neighbours of a node, except the destination: each of them may be a sink after the node has turned.
-    pub fn put_neighbours(&mut self, queued_nodes: &QueuedNodes<J>, round: &Round, x: u32)
+    pub fn put_neighbours(&mut self, shared_nodes: &SharedNodes<J>, round: &Round, x: u32)
         requires named { round.now.setup ≡ J.setup }
         requires node { x < J.setup.nodes }
     {
@@ -117,30 +117,30 @@ impl<J: Naming> Deque<J> {
         for (neighbour, _) in round.net().row(x) {
             let neighbour = *neighbour as u32;
             if neighbour != dest {
-                self.put(queued_nodes, neighbour);
+                self.put(shared_nodes, neighbour);
             }
         }
     }
 
     /// Takes the first candidate of its queue, or else of its deque.
-    pub fn take(&mut self, queued_nodes: &QueuedNodes<J>) -> Option<u32>
+    pub fn take(&mut self, shared_nodes: &SharedNodes<J>) -> Option<u32>
         ensures { IfSome result (IsCandidate J.setup) }
     {
         if let Some(x) = self.queue.take() {
             return Some(x);
         }
         let x = self.own.pop_as::<CandidateProtocol<J>>()?;
-        queued_nodes.unmark_queued(x);
+        shared_nodes.unmark_shared(x);
         Some(x)
     }
 
     /// Steals a candidate of another worker. The candidate is then in no deque.
-    pub fn steal(&mut self, queued_nodes: &QueuedNodes<J>, stealers: &[Stealer<J>]) -> Option<u32>
+    pub fn steal(&mut self, shared_nodes: &SharedNodes<J>, stealers: &[Stealer<J>]) -> Option<u32>
         requires { 0 < length stealers.now }
         ensures { IfSome result (IsCandidate J.setup) }
     {
         let x = self.steal_from_each(stealers)?;
-        queued_nodes.unmark_queued(x);
+        shared_nodes.unmark_shared(x);
         Some(x)
     }
 

@@ -21,8 +21,8 @@ mod local_queue;
 mod members;
 mod naming;
 mod plan;
-mod queued_nodes;
 mod settlement;
+mod shared_nodes;
 mod threads;
 
 pub use fault::CrewFault;

@@ -15,10 +15,10 @@ use std::marker::PhantomData;
 pub(crate) struct LocalQueue<J: Naming> {
     queue: VecDeque<u32>,
     // Whether each node is in the queue, so that none is there twice.
-    stands: Vec<bool>,
+    queued: Vec<bool>,
     of: PhantomData<J>,
     ghost candidates: { All (IsCandidate J.setup) queue.items },
-    ghost one_each: { vec_len stands ≡ J.setup.nodes },
+    ghost one_each: { vec_len queued ≡ J.setup.nodes },
 }
 
 impl<J: Naming> LocalQueue<J> {
@@ -29,7 +29,7 @@ impl<J: Naming> LocalQueue<J> {
         let nodes = round.net().nodes() as usize;
         Ok(LocalQueue {
             queue: VecDeque::with_capacity(alloc, nodes)?,
-            stands: vec![in alloc; false; nodes]?,
+            queued: vec![in alloc; false; nodes]?,
             of: PhantomData,
         })
     }
@@ -39,8 +39,8 @@ impl<J: Naming> LocalQueue<J> {
     pub fn put(&mut self, x: u32)
         requires { IsCandidate J.setup x }
     {
-        if !self.stands[x as usize] && self.queue.push_back(x).is_ok() {
-            self.stands[x as usize] = true;
+        if !self.queued[x as usize] && self.queue.push_back(x).is_ok() {
+            self.queued[x as usize] = true;
         }
     }
 
@@ -50,7 +50,7 @@ impl<J: Naming> LocalQueue<J> {
         ensures { IfSome result (IsCandidate J.setup) }
     {
         let x = self.queue.pop_front()?;
-        self.stands[x as usize] = false;
+        self.queued[x as usize] = false;
         Some(x)
     }
 }

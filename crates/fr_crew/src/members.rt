@@ -7,7 +7,7 @@ ghost use Rattle.fr_crew.specs.Crews.{IsNew, IsOwnMember};
 
 use crate::deques::{Deque, Stealer};
 use crate::naming::Naming;
-use crate::queued_nodes::QueuedNodes;
+use crate::shared_nodes::SharedNodes;
 use fr_round::{Round, Worker};
 use std::alloc::{AllocError, Global};
 
@@ -77,7 +77,7 @@ pub(crate) fn deque_room(round: &Round, from: Option<&[u32]>, workers: usize) ->
 /// link, and is not the destination.
 fn deal_node<J: Naming>(
     round: &Round,
-    queued_nodes: &QueuedNodes<J>,
+    shared_nodes: &SharedNodes<J>,
     members: &mut [Member<J>],
     turn: usize,
     x: u32,
@@ -89,7 +89,7 @@ fn deal_node<J: Naming>(
     let net = round.net();
     if x < net.nodes() && x != round.dest() && net.degree(x) > 0 {
         let to = turn % members.len();
-        members[to].deque.put_shared(queued_nodes, x);
+        members[to].deque.put_shared(shared_nodes, x);
     }
 }
 
@@ -97,7 +97,7 @@ fn deal_node<J: Naming>(
 /// members.
 fn deal_all_candidates<J: Naming>(
     round: &Round,
-    queued_nodes: &QueuedNodes<J>,
+    shared_nodes: &SharedNodes<J>,
     members: &mut [Member<J>],
 )
     requires named { round.now.setup ≡ J.setup }
@@ -105,7 +105,7 @@ fn deal_all_candidates<J: Naming>(
     ensures own { (own : OpenRound) → Each (IsOwnMember own) members.old → Each (IsOwnMember own) members.new }
 {
     for x in 0..round.net().nodes() {
-        deal_node(round, queued_nodes, members, x as usize, x);
+        deal_node(round, shared_nodes, members, x as usize, x);
     }
 }
 
@@ -113,7 +113,7 @@ fn deal_all_candidates<J: Naming>(
 /// members.
 fn deal_listed_candidates<J: Naming>(
     round: &Round,
-    queued_nodes: &QueuedNodes<J>,
+    shared_nodes: &SharedNodes<J>,
     members: &mut [Member<J>],
     nodes: &[u32],
 )
@@ -122,14 +122,14 @@ fn deal_listed_candidates<J: Naming>(
     ensures own { (own : OpenRound) → Each (IsOwnMember own) members.old → Each (IsOwnMember own) members.new }
 {
     for (turn, x) in nodes.iter().enumerate() {
-        deal_node(round, queued_nodes, members, turn, *x);
+        deal_node(round, shared_nodes, members, turn, *x);
     }
 }
 
 /// Deals the first candidates: those among the nodes of `from`, or all candidates if there is no `from`.
 pub(crate) fn deal_first_candidates<J: Naming>(
     round: &Round,
-    queued_nodes: &QueuedNodes<J>,
+    shared_nodes: &SharedNodes<J>,
     members: &mut [Member<J>],
     from: Option<&[u32]>,
 )
@@ -138,7 +138,7 @@ pub(crate) fn deal_first_candidates<J: Naming>(
     ensures own { (own : OpenRound) → Each (IsOwnMember own) members.old → Each (IsOwnMember own) members.new }
 {
     match from {
-        Some(from) => deal_listed_candidates(round, queued_nodes, members, from),
-        None => deal_all_candidates(round, queued_nodes, members),
+        Some(from) => deal_listed_candidates(round, shared_nodes, members, from),
+        None => deal_all_candidates(round, shared_nodes, members),
     }
 }

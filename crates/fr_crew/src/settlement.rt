@@ -54,8 +54,9 @@ pub struct CrewWork {
 /// with a link except the destination, each in the deque of the worker whose number is the node's modulo the number of
 /// workers. A worker takes a candidate of its queue, or else of its deque, or else steals one, and tries to turn it. If
 /// it does, all neighbours except the destination become its candidates; if another worker was faster, the node itself
-/// does. Seven of eight go into the queue, unless they are in it, and the eighth into the deque, unless it is in any. A
-/// worker ends when it finds no candidate, or when its budget is spent; only then can it leave candidates behind.
+/// does. Most go into the queue, unless they are in it, and one of eight into the deque, unless it is in any. The only
+/// worker of a crew has all its candidates in the queue. A worker ends when it finds no candidate, or when its budget is
+/// spent.
 /// No thread is started for a crew of one, if no node can turn, or if no worker may make a call. There is no lock, and
 /// the crew waits only for its threads to end.
 ///

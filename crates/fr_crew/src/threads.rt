@@ -15,7 +15,7 @@ use crate::gate::Gate;
 use crate::members::{Member, Members, deal_first_candidates, deque_room, make_deques};
 use crate::naming::Naming;
 use crate::plan::Crew;
-use crate::queued_nodes::QueuedNodes;
+use crate::shared_nodes::SharedNodes;
 use fr_core::Reply;
 use fr_round::{Round, Worker};
 use std::alloc::{AllocError, Global};
@@ -29,7 +29,7 @@ use std::thread::{Promise, PromisedHandle, Scope, Threads};
 struct Job<J: Naming> {
     round: Round,
     stealers: Vec<Stealer<J>>,
-    queued_nodes: QueuedNodes<J>,
+    shared_nodes: SharedNodes<J>,
     budget: u64,
     ghost some_stealer: { 0 < vec_len stealers },
 }
@@ -69,9 +69,9 @@ struct Started<G: Gate> {
 fn next_candidate<J: Naming>(job: &Job<J>, deque: &mut Deque<J>) -> Option<u32>
     ensures { IfSome result (IsCandidate J.setup) }
 {
-    match deque.take(&job.queued_nodes) {
+    match deque.take(&job.shared_nodes) {
         Some(x) => Some(x),
-        None => deque.steal(&job.queued_nodes, &job.stealers),
+        None => deque.steal(&job.shared_nodes, &job.stealers),
     }
 }
 
@@ -96,8 +96,8 @@ fn try_candidate<J: Naming, G: Gate>(
     let reply = job.round.try_turn(worker, x);
     gate.after(number, call);
     match reply {
-        Ok(Reply::Turned { .. }) => deque.put_neighbours(&job.queued_nodes, &job.round, x),
-        Ok(Reply::Moved { .. }) => deque.put(&job.queued_nodes, x),
+        Ok(Reply::Turned { .. }) => deque.put_neighbours(&job.shared_nodes, &job.round, x),
+        Ok(Reply::Moved { .. }) => deque.put(&job.shared_nodes, x),
         // The worker that turns the neighbour that held the node will make the node a candidate again.
         Ok(Reply::Held { .. }) | Ok(Reply::Cut) => {}
         // No candidate is refused.
@@ -267,7 +267,7 @@ fn run_threads<J: Naming + Send + Sync, R: Threads + Wait, G: Gate + Sync>(
 fn members_with_candidates<J: Naming, R: Threads, G: Gate>(
     crew: &Crew<'_, R, G>,
     round: &Round,
-    queued_nodes: &QueuedNodes<J>,
+    shared_nodes: &SharedNodes<J>,
     workers: Vec<Worker>,
     from: Option<&[u32]>,
 ) -> Result<Members<J>, AllocError>
@@ -280,7 +280,7 @@ fn members_with_candidates<J: Naming, R: Threads, G: Gate>(
 {
     let room = deque_room(round, from, workers.len());
     let mut all = make_deques::<J>(crew.alloc, round, workers, room, crew.plan.seed())?;
-    deal_first_candidates(round, queued_nodes, &mut all.members, from);
+    deal_first_candidates(round, shared_nodes, &mut all.members, from);
     Ok(all)
 }
 
@@ -298,18 +298,18 @@ fn make_job<J: Naming, R: Threads, G: Gate>(
     ensures own { IfOk result (λ made. Each (IsOwnMember round) made.1.items) }
     ensures len { IfOk result (λ made. vec_len made.1 ≡ vec_len workers) }
 {
-    let queued_nodes = QueuedNodes::none(crew.alloc, &round)?;
+    let shared_nodes = SharedNodes::none(crew.alloc, &round)?;
     let Members { members, stealers } = members_with_candidates(
         crew,
         &round,
-        &queued_nodes,
+        &shared_nodes,
         workers,
         from,
     )?;
     let job = Job {
         round,
         stealers,
-        queued_nodes,
+        shared_nodes,
         budget: crew.plan.budget(),
     };
     Ok((job, members))

@@ -35,7 +35,8 @@ pub struct Answer {
     pub refused: bool,
 }
 
-/// An answer that is being written: its form, the number of the line in its input, and its text.
+/// An answer that is being written: its form, the number of the line in its input, and its text. The functions that
+/// write an answer into a draft return whether the line is refused.
 #[derive(Drop)]
 pub(crate) struct Draft {
     pub(crate) form: Form,
@@ -45,7 +46,7 @@ pub(crate) struct Draft {
 }
 
 impl Draft {
-    /// A draft of a text. No text depends on the number of the line.
+    /// A draft in the form of a text. No answer in this form depends on the number of the line.
     pub(crate) fn text(alloc: Global) -> Draft
         ensures { answer_form result ≡ record { form = Text; number = 0 } }
     {

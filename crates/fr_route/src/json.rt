@@ -1,5 +1,6 @@
-//! The answers in JSON. The functions that other modules call are not inlined, so that answers in text do not pay for
-//! their local variables.
+//! The answers in JSON. A function whose name ends in `_object` empties the string and writes a whole answer. These
+//! functions are not inlined, so that answers in text do not pay for their local variables. A function whose name begins
+//! with `push_` appends.
 
 ghost use Rattle.std.specs.Prelude.{◌≡◌, ◌<◌, ◌≤◌, ◌++◌, ◌+◌, ◌*◌, ◌^◌, List, ℕ, length, slice_get};
 ghost use Rattle.std.specs.Prelude.{IfOk, OnOk, codes, decimal, string_bytes, true};
@@ -388,6 +389,7 @@ fn push_changes(
 }
 
 /// `{"pushes":[[3,2],[4,"cut"]]}`: each of these nodes with its hop in this table.
+#[inline(never)]
 pub(crate) fn pushes_object(
     line: &mut String,
     nodes: &[u32],
@@ -400,7 +402,7 @@ pub(crate) fn pushes_object(
     line.push_str("]}")
 }
 
-/// Appends how many turns a round took, and how many nodes are cut off.
+/// Appends the beginning of an object: how many turns a round took, and how many nodes are cut off.
 fn push_round(line: &mut String, report: Report, buffer: &mut Buffer) -> Result<(), AllocError>
     ensures text { OnOk result (string_bytes line.new ≡ string_bytes line.old ++ round_json report.turned report.cut) }
     ensures room { Fits line.old line.new result 61 }

@@ -20,7 +20,7 @@ use fr_graph::MAX_NODES;
 use fr_tables::{Hop, TableFault, push_order};
 use std::alloc::{AllocError, Global};
 
-/// The answer to a request for the pushes from one table to another. A node that is missing at the end of a table is
+/// Writes the answer to a request for the pushes from one table to another. A node that is missing at the end of a table is
 /// cut off.
 pub(crate) fn pushes_between(
     alloc: Global,
@@ -40,7 +40,7 @@ pub(crate) fn pushes_between(
     pushes_from(alloc, draft, table, &hops)
 }
 
-/// The answer to a request for the pushes from a table to these hops.
+/// Writes the answer to a request for the pushes from a table to these hops.
 pub(crate) fn pushes_from(
     alloc: Global,
     draft: &mut Draft,
@@ -79,7 +79,7 @@ fn write_pushes(draft: &mut Draft, nodes: &[u32], hops: &[Hop]) -> Result<(), Al
     }
 }
 
-/// The answer that refuses these tables. They have one length, so this is not the fault.
+/// Writes the answer that refuses these tables. They have one length, so `Length` is not the fault.
 fn refuse_tables(
     draft: &mut Draft,
     fault: TableFault,

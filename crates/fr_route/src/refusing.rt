@@ -59,7 +59,7 @@ fn refuse_fault(
     }
 }
 
-/// The same, and drops the fault.
+/// Does the same as `refuse_fault`, and drops the fault.
 pub(crate) fn refuse_for(
     draft: &mut Draft,
     fault: RouteFault,
@@ -73,7 +73,7 @@ pub(crate) fn refuse_for(
     refuse_fault(draft, &fault, named, edit)
 }
 
-/// The same for a fault of links or of an edit.
+/// Does the same as `refuse_fault` for a fault of links or of an edit.
 fn refuse_net_fault(
     draft: &mut Draft,
     fault: &NetFault,

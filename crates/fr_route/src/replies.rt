@@ -288,7 +288,10 @@ impl<'a, F: Fn(&Net, u32, Option<&[u32]>, Turns) -> Result<Turns, CrewFault>> Se
                 text: draft.text,
                 refused,
             })),
-            None => Ok(None),
+            None => {
+                space.reuse(draft.text);
+                Ok(None)
+            }
         }
     }
 
@@ -490,7 +493,7 @@ impl<'a, F: Fn(&Net, u32, Option<&[u32]>, Turns) -> Result<Turns, CrewFault>> Se
         }
     }
 
-    /// Writes the answer to a batch of edits.
+    /// Writes the answer to a batch of edits. It is not inlined, so that other requests do not pay for its local variables.
     #[inline(never)]
     fn reply_batch(
         &self,
@@ -517,7 +520,7 @@ impl<'a, F: Fn(&Net, u32, Option<&[u32]>, Turns) -> Result<Turns, CrewFault>> Se
         }
     }
 
-    /// Writes the answer to a request to move the destination.
+    /// Writes the answer to a request to move the destination. It is not inlined, for the same reason.
     #[inline(never)]
     fn reply_move(
         &self,
@@ -544,8 +547,8 @@ impl<'a, F: Fn(&Net, u32, Option<&[u32]>, Turns) -> Result<Turns, CrewFault>> Se
         }
     }
 
-    /// Makes these edits, and writes the report of the round as the text of the draft. Room for the report is taken before
-    /// anything is changed, but only for edits within the limit.
+    /// Makes these edits, and writes the report of the round into the draft. Too many edits are refused first. Room for the
+    /// report is taken before anything is changed.
     fn edit_and_report(
         &self,
         router: &mut Router,

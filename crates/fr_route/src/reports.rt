@@ -20,7 +20,7 @@ use crate::texts::push_report;
 use fr_tables::Hop;
 use std::alloc::{AllocError, Global};
 
-/// Empties a line, and takes room for each report of a round on a network of so many nodes and at most so many links.
+/// Empties a line, and takes room for any report of a round on a network of so many nodes and at most so many links.
 pub(crate) fn begin_report(
     line: &mut String,
     form: Form,
@@ -48,7 +48,8 @@ fn bytes_for_report(form: Form, nodes: u32, links: usize) -> usize
     }
 }
 
-/// Appends the report of a round, with what a change told of it, and all hops after it.
+/// Appends the report of a round. In JSON it has the nodes that the change has rerouted, with their hops in this table, and
+/// with ways what to push in both phases.
 pub(crate) fn push_report_in_form(
     line: &mut String,
     form: Form,
@@ -72,7 +73,8 @@ pub(crate) fn push_report_in_form(
     }
 }
 
-/// Writes the report of a network that replaces the one before it, if there was one. These numbers have a new hop.
+/// Writes the report of a network that replaces the one before it, if there was one. The nodes
+/// of `replaced` have a new hop.
 pub(crate) fn write_new_report(
     alloc: Global,
     draft: &mut Draft,

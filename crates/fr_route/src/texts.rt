@@ -1,4 +1,5 @@
-//! The texts of answers.
+//! The texts of answers. A function whose name begins with `push_` appends to the string. The others empty it and write a
+//! whole answer.
 
 ghost use Rattle.std.specs.Prelude.{◌≡◌, ◌<◌, ◌≤◌, ◌++◌, ◌+◌, ◌^◌, ◌∷◌, length, IfOk, OnOk, codes, decimal, string_bytes};
 ghost use Rattle.fr_route.specs.Refusals.{number_of};

@@ -10,15 +10,15 @@ use std::sync::atomic::{AtomicBool, Ordering};
 
 /// A flag for each node, shared by all workers: whether the node is in a deque. No proof depends on the flags.
 #[derive(Drop)]
-pub(crate) struct QueuedNodes<J: Naming> {
+pub(crate) struct SharedNodes<J: Naming> {
     flags: Vec<AtomicBool>,
     of: PhantomData<J>,
     ghost one_each: { vec_len flags ≡ J.setup.nodes },
 }
 
-impl<J: Naming> QueuedNodes<J> {
+impl<J: Naming> SharedNodes<J> {
     /// No node is in a deque yet.
-    pub fn none(alloc: Global, round: &Round) -> Result<QueuedNodes<J>, AllocError>
+    pub fn none(alloc: Global, round: &Round) -> Result<SharedNodes<J>, AllocError>
         requires { round.now.setup ≡ J.setup }
     {
         let nodes = round.net().nodes();
@@ -26,21 +26,21 @@ impl<J: Naming> QueuedNodes<J> {
         for _ in 0..nodes {
             flags.push_reserved(AtomicBool::new(false));
         }
-        Ok(QueuedNodes {
+        Ok(SharedNodes {
             flags,
             of: PhantomData,
         })
     }
 
     /// Notes that a node enters a deque. Returns whether it was in none.
-    pub fn mark_queued(&self, x: u32) -> bool
+    pub fn mark_shared(&self, x: u32) -> bool
         requires { x < J.setup.nodes }
     {
         !self.flags[x as usize].swap(true, Ordering::SeqCst)
     }
 
     /// Notes that a node is in no deque any more.
-    pub fn unmark_queued(&self, x: u32)
+    pub fn unmark_shared(&self, x: u32)
         requires { x < J.setup.nodes }
     {
         self.flags[x as usize].store(false, Ordering::SeqCst);

@@ -1,5 +1,5 @@
 use Rattle.std.proofs.Common.{◌≡◌, ◌≤◌, vec_len, vec_capacity}
-use Rattle.fr_crew.proofs.queued_nodes.QueuedNodes.none.Given as goal
+use Rattle.fr_crew.proofs.shared_nodes.SharedNodes.none.Given as goal
 
 abbrev pub invariant-loop : goal.invariant-loop
 invariant-loop g l = record {
