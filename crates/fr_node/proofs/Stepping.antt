@@ -1,5 +1,5 @@
 -- What a node does is a step of the laws.
-use Rattle.std.proofs.Common.{[], Bool, IsTrue, List, Some, ap, arith, false, inl, inr, length, refl, true, subst, sym, ℕ, ⊎_elim, ◌∷◌, ◌<◌, ◌≡◌, ◌≢◌, ◌≤◌, ◌⊎◌, ◌∙◌}
+use Rattle.std.proofs.Common.{[], Bool, IsTrue, List, Some, ap, arith, false, inl, inr, length, refl, true, subst, sym, ℕ, ⊎_elim, ◌%◌, ◌+◌, ◌^◌, ◌∷◌, ◌<◌, ◌≡◌, ◌≢◌, ◌≤◌, ◌⊎◌, ◌∙◌}
 use Rattle.std.proofs.lemmas.Bool.{cases_lt}
 use Rattle.std.proofs.Math.Nat.{eq-or-lt_of_le}
 use Rattle.std.proofs.lemmas.Bool.Decides.{nat_tests}
@@ -7,6 +7,7 @@ use Rattle.fr_node.specs.declared.link.Link.{Link}
 use Rattle.fr_node.specs.declared.message.Message.{Message}
 use Rattle.fr_node.specs.declared.node.Node.{Node}
 use Rattle.fr_node.specs.declared.own.Own.{Own}
+use Rattle.fr_node.specs.Events.{IsAfterEvent}
 use Rattle.fr_node.specs.Histories.{Announces}
 use Rattle.fr_node.specs.Links.{Hears, IsHeard, Says, SetsUp, is_way, link_to, place_of}
 use Rattle.fr_node.specs.Nodes.{Steps, router}
@@ -186,22 +187,16 @@ steps pool old new says takes = record {
   );
 }
 
--- the links of a node change first, and then what it knows of itself
+-- the links of a node change first, and then what it knows of itself. Its table has to be written
 pub record InTurn (old mid new : Node) : Type 0 where
   pub links : mid ≡ record old { links = mid.links }
-  pub own : new ≡ record mid { own = new.own }
+  pub own : new ≡ record mid { own = new.own; events = (mid.events + 1) % 2 ^ 64; is_written = false }
   pub announces : Announces mid.own new.own
   pub acts : Acts mid new.own
 
--- what holds of the node then
-pub record IsEvent (pool : List Message) (old new : Node) : Type 0 where
-  pub same : (new.gateway ≡ old.gateway) × (new.policy ≡ old.policy)
-  pub policy : Acts (record old { links = new.links }) new.own
-  pub step : Steps pool old new
-
 in_turn : (pool : List Message) (old mid new : Node) → InTurn old mid new
     → ((w : ℕ) → Takes pool old.own.me old.own.boot w (link_to old.links.items w) (link_to mid.links.items w))
-    → IsEvent pool old new
+    → IsAfterEvent pool old new
 in_turn pool old mid new turn takes = record {
   same = (
     ap (λ (n : Node). n.gateway) turn.own ∙ ap (λ (n : Node). n.gateway) turn.links,
@@ -213,15 +208,18 @@ in_turn pool old mid new turn takes = record {
       (subst (λ (o : Own). Announces o new.own) (ap (λ (n : Node). n.own) turn.links) turn.announces)
       (λ w. subst (λ (ks : List Link). Takes pool old.own.me old.own.boot w (link_to old.links.items w) (link_to ks w))
       (sym (ap (λ (n : Node). n.links.items) turn.own)) (takes w));
+  events = ap (λ (n : Node). n.events) turn.own
+      ∙ ap (λ (n : Node). (n.events + 1) % 2 ^ 64) turn.links;
+  unwritten = ap (λ (n : Node). n.is_written) turn.own;
 }
 
 pub after_hearing : (m : Message) (old mid new : Node) → InTurn old mid new
-    → Hears old.own m old.links.items mid.links.items → IsEvent (m ∷ []) old new
+    → Hears old.own m old.links.items mid.links.items → IsAfterEvent (m ∷ []) old new
 after_hearing m old mid new turn hears = in_turn (m ∷ []) old mid new turn
     (takes_hears old.own m old.links.items mid.links.items hears)
 
 pub after_setting : (w : ℕ) (up : Bool) (old mid new : Node) → InTurn old mid new
-    → SetsUp w up old.links.items mid.links.items → IsEvent [] old new
+    → SetsUp w up old.links.items mid.links.items → IsAfterEvent [] old new
 after_setting w up old mid new turn sets = in_turn [] old mid new turn
     (takes_up [] old.own.me old.own.boot w up old.links.items mid.links.items sets)
 

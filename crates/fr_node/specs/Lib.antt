@@ -6,4 +6,5 @@ pub mod Histories  -- what a node has announced
 pub mod Distances  -- how far a node is from a gateway
 pub mod Policies  -- which height a node announces, and when it uses it
 pub mod Nodes  -- which router of the laws a node is
+pub mod Events  -- a node at its start, after an event, and when it says a message
 pub mod Arrivals  -- where packets end, once nothing more happens

@@ -4,8 +4,8 @@
 //! lower, and lets packets in only from neighbours that have acknowledged its height. At no moment do the links that
 //! routers use contain a loop, whatever happens to their messages and whichever routers restart ([`laws`]).
 //!
-//! A [`Node`] takes events: a link comes up or goes down, a [`Message`] is heard. After an event it is [`Unwritten`]:
-//! the caller writes the ways and gates into its forwarding table, and says so. Only then can a message leave.
+//! A [`Node`] takes events: a link comes up or goes down, a [`Message`] is heard. After an event the caller writes the
+//! ways and gates into its forwarding table, and says so. Only then can a message leave.
 //!
 //! Heights and full link reversal are from Gafni and Bertsekas, IEEE Transactions on Communications 29 (1981). Gates,
 //! acknowledgements and the law are this project's own.
@@ -24,6 +24,6 @@ mod way;
 
 pub use fault::NodeFault;
 pub use message::{CUT_OFF, MESSAGE_LENGTH, Message};
-pub use node::{Node, Unwritten};
+pub use node::{Node, START_HEIGHTS};
 pub use policy::{Policy, Rise};
 pub use way::Way;

@@ -1,15 +1,18 @@
 //! The state machine of one router.
 
-ghost use Rattle.std.specs.Prelude.{◌≡◌, ◌≢◌, ◌<◌, ◌≤◌, ◌+◌, ◌++◌, ◌^◌, ◌↔◌, ◌⊎◌, ◌&&◌, ◌||◌, true, false, not, [], ◌∷◌, min, length, nat_le, nat_lt, ℕ};
-ghost use Rattle.std.specs.Prelude.{IsTrue, IsSome, IfSome, IfNone, MatchOption, OnErr, OnOk, vec_capacity, vec_len};
+ghost use Rattle.std.specs.Prelude.{◌≡◌, ◌≢◌, ◌<◌, ◌≤◌, ◌+◌, ◌++◌, ◌%◌, ◌^◌, ◌↔◌, ◌⊎◌, ◌&&◌, ◌||◌, true, false, not, [], ◌∷◌, filter, map, min, length, nat_le, nat_lt, ℕ, ⊤};
+ghost use Rattle.std.specs.Prelude.{IsTrue, IfErr, IfOk, IsSome, IfSome, IfNone, MatchOption, MatchResult, OnErr, OnOk, vec_capacity, vec_len};
 ghost use Rattle.std.specs.List.{list_all, list_any, position};
-ghost use Rattle.fr_node.specs.Histories.{Announces, IsHistory};
-ghost use Rattle.fr_node.specs.declared.fault.NodeFault.TheVariants.{Itself};
-ghost use Rattle.fr_node.specs.Links.{Hears, IsKnown, Says, SetsUp, has_answered, is_lower, is_way, leads_to, link_to, unknown};
+ghost use Rattle.fr_node.specs.Histories.{Announces};
+ghost use Rattle.fr_node.specs.declared.fault.NodeFault.TheVariants.{Itself, LaterStart, Memory, Outdated, TooHigh, Unwritten};
+ghost use Rattle.fr_node.specs.Links.{Hears, IsKnown, SetsUp, has_answered, is_lower, is_way, leads_to, link_to, unknown};
 ghost use Rattle.fr_node.specs.Distances.{AreWays, HasNoWay, IsDistance, IsNearest, ways_of};
 ghost use Rattle.fr_node.specs.Policies.{Acts, Announcement, FallsTo, IsAboveAll, IsAboveNearest, IsBestOrNone, MaySettle, RisesTo, better_of, has_distance, is_higher, is_nearer, is_up};
-ghost use Rattle.fr_node.specs.Nodes.{IsMessageTo, Steps, lets_in, router, sends_to};
-ghost use Rattle.fr_node.specs.Routers.{IsOpen, IsSaidBy, IsWay, Restarts, Router};
+ghost use Rattle.fr_node.specs.Nodes.{IsMessageTo, Steps, lets_in, sends_to};
+ghost use Rattle.fr_node.specs.Events.{IsAfterEvent, IsNews, IsStarted, KnowsLaterStart, SaysTo, gates_of, is_gate};
+ghost use Rattle.fr_node.specs.Histories.{IsHistory};
+ghost use Rattle.fr_node.specs.Nodes.{router};
+ghost use Rattle.fr_node.specs.Routers.{IsOpen, IsWay};
 
 use crate::fault::NodeFault;
 use crate::link::Link;
@@ -19,49 +22,61 @@ use crate::policy::{Policy, Rise};
 use crate::way::{Way, sort_ways};
 use std::alloc::Global;
 
-/// One router, for one destination. Its table is written, so its messages may be sent.
+/// A router starts below this height. So it and its neighbours have room to rise.
+pub const START_HEIGHTS: u64 = 1 << 63;
+
+/// One router, for one destination.
+///
+/// After an event (`link_up`, `link_down`, `hear`) it says nothing until the caller has said that the ways and gates are
+/// written to its table. A table that was written before the last event cannot be confirmed: each event gives the ways
+/// and gates another number, their [`state`](Node::state).
 #[derive(Drop)]
 pub struct Node {
     own: Own,
     gateway: bool,
     policy: Policy,
     links: Vec<Link>,
-}
-
-/// A router whose ways and gates have to be written before it can send a message.
-#[derive(Drop)]
-#[must_use]
-pub struct Unwritten {
-    node: Node,
+    /// How many events there were, modulo 2^64.
+    events: u64,
+    /// Whether the ways and gates after the last event are written.
+    is_written: bool,
 }
 
 impl Node {
-    /// A router that starts with this height. `me` is its number, which no other router has. `boot` must be greater than
-    /// at each of its earlier starts: then it is a restart of the law, whatever it knew before. It takes no memory. O(1).
-    pub fn new(alloc: Global, me: u32, boot: u64, height: u64, policy: Policy) -> Node
-        ensures who { (result.own.me ≡ me) × (result.own.boot ≡ boot) × (result.gateway ≡ false)
-            × (result.policy ≡ policy) }
-        ensures height { result.own.used ≡ height }
-        ensures links { result.links.items ≡ [] }
-        ensures announced { IsHistory result.own (λ _. height) }
-        ensures restart { (r : Router) → r.boot < boot → Restarts r (router result (λ _. height)) }
+    /// A router that starts at this height. `me` is its number, which no other router has. `boot` must be greater than
+    /// at each of its earlier starts: then it is a restart of the law, whatever it knew before. Its table is empty, and
+    /// that counts as written. It takes no memory. O(1).
+    ///
+    /// Fails with `TooHigh` if the height is not below [`START_HEIGHTS`].
+    pub fn new(
+        alloc: Global,
+        me: u32,
+        boot: u64,
+        height: u64,
+        policy: Policy,
+    ) -> Result<Node, NodeFault>
+        ensures started { IfOk result (IsStarted me boot height) }
+        ensures router { IfOk result (λ n. (n.gateway ≡ false) × (n.policy ≡ policy)) }
+        ensures fault { MatchResult result (λ _. height < START_HEIGHTS) (λ f. (f ≡ TooHigh) × (START_HEIGHTS ≤ height)) }
     {
-        Node {
+        if height >= START_HEIGHTS {
+            return Err(NodeFault::TooHigh);
+        }
+        Ok(Node {
             own: Own::new(me, boot, height),
             gateway: false,
             policy,
             links: Vec::new(alloc),
-        }
+            events: 0,
+            is_written: true,
+        })
     }
 
     /// A gateway that starts: it takes packets out of the network and sends on nothing. Several routers may be gateways
     /// for one destination. `boot` as for [`Node::new`]. O(1).
     pub fn gateway(alloc: Global, me: u32, boot: u64) -> Node
-        ensures who { (result.own.me ≡ me) × (result.own.boot ≡ boot) × (result.gateway ≡ true) }
-        ensures height { result.own.used ≡ 0 }
-        ensures links { result.links.items ≡ [] }
-        ensures announced { IsHistory result.own (λ _. 0) }
-        ensures restart { (r : Router) → r.boot < boot → Restarts r (router result (λ _. 0)) }
+        ensures started { IsStarted me boot 0 result }
+        ensures gateway { result.gateway ≡ true }
     {
         Node {
             own: Own::new(me, boot, 0),
@@ -72,11 +87,13 @@ impl Node {
                 wait: false,
             },
             links: Vec::new(alloc),
+            events: 0,
+            is_written: true,
         }
     }
 
     /// Makes a neighbour known. The link to it is down, until it comes up. A neighbour that is known stays as it is. This
-    /// is the only call that takes memory. O(d) for d known neighbours.
+    /// is the only call that takes memory, and it is no event. O(d) for d known neighbours.
     ///
     /// Fails with `Itself` if the neighbour is this router, and with `Memory` if an allocation was refused. Then nothing
     /// has changed.
@@ -86,7 +103,7 @@ impl Node {
         ensures new { OnOk result (¬ IsKnown self.old.links.items neighbour
             → self.new.links.items ≡ self.old.links.items ++ record unknown { neighbour = neighbour } ∷ []) }
         ensures same { self.new ≡ record self.old { links = self.new.links } }
-        ensures err { OnErr result (self.new.links.items ≡ self.old.links.items) }
+        ensures err { IfErr result (λ f. ((f ≡ Itself) ⊎ (f ≡ Memory)) × (self.new.links.items ≡ self.old.links.items)) }
         ensures step { Steps [] self.old self.new }
     {
         if neighbour == self.own.me {
@@ -99,55 +116,100 @@ impl Node {
         Ok(())
     }
 
-    /// Call this when the link to a neighbour comes up. If the neighbour is not known, nothing happens. The policy may
-    /// change the height. It does not allocate. O(d) for d known neighbours.
-    pub fn link_up(mut self, neighbour: u32) -> Unwritten
-        ensures set { SetsUp neighbour true self.links.items result.node.links.items }
-        ensures same { (result.node.gateway ≡ self.gateway) × (result.node.policy ≡ self.policy) }
-        ensures policy { Acts (record self { links = result.node.links }) result.node.own }
-        ensures step { Steps [] self result.node }
+    /// Call this when the link to a neighbour comes up. If the neighbour is not known, no link changes. The policy may
+    /// change the height. Then the ways and gates have to be written. It does not allocate. O(d) for d known neighbours.
+    pub fn link_up(&mut self, neighbour: u32)
+        ensures set { SetsUp neighbour true self.old.links.items self.new.links.items }
+        ensures after { IsAfterEvent [] self.old self.new }
     {
         self.set_link_up(neighbour, true);
-        self.apply_policy();
-        Unwritten { node: self }
+        self.act();
     }
 
     /// Call this when the link to a neighbour goes down. The neighbour is no longer a way, and its gate closes. The node
-    /// still knows what it has heard from it. O(d).
-    pub fn link_down(mut self, neighbour: u32) -> Unwritten
-        ensures set { SetsUp neighbour false self.links.items result.node.links.items }
-        ensures same { (result.node.gateway ≡ self.gateway) × (result.node.policy ≡ self.policy) }
-        ensures policy { Acts (record self { links = result.node.links }) result.node.own }
-        ensures step { Steps [] self result.node }
+    /// still knows what it has heard from it. All else is as for [`link_up`](Node::link_up). O(d).
+    pub fn link_down(&mut self, neighbour: u32)
+        ensures set { SetsUp neighbour false self.old.links.items self.new.links.items }
+        ensures after { IsAfterEvent [] self.old self.new }
     {
         self.set_link_up(neighbour, false);
-        self.apply_policy();
-        Unwritten { node: self }
+        self.act();
     }
 
     /// Hears a message. It changes what is known of its sender, if it is for this router and from a known neighbour, and
-    /// not from an earlier start of either. Then the height may change by the policy. It takes no memory. O(d).
-    pub fn hear(mut self, message: &Message) -> Unwritten
-        ensures heard { Hears self.own message.now self.links.items result.node.links.items }
-        ensures same { (result.node.gateway ≡ self.gateway) × (result.node.policy ≡ self.policy) }
-        ensures policy { Acts (record self { links = result.node.links }) result.node.own }
-        ensures step { Steps (message.now ∷ []) self result.node }
+    /// not from an earlier start of either. Then the height may change by the policy, and the ways and gates have to be
+    /// written. It takes no memory. O(d).
+    ///
+    /// Fails with `LaterStart` if the message is for this router and from a known neighbour, and this neighbour knows a
+    /// start of this router with a greater number. Then the number of this start was not greater than all before it, or
+    /// another router has the same number. Nothing has changed, and this node should be given up: it hears nothing from
+    /// such neighbours.
+    pub fn hear(&mut self, message: &Message) -> Result<(), NodeFault>
+        ensures heard { OnOk result (Hears self.old.own message.now self.old.links.items self.new.links.items) }
+        ensures after { OnOk result (IsAfterEvent (message.now ∷ []) self.old self.new) }
+        ensures kept { OnErr result (self.new ≡ self.old) }
+        ensures fault { MatchResult result (λ _. ¬ KnowsLaterStart self.old message.now)
+            (λ f. (f ≡ LaterStart) × KnowsLaterStart self.old message.now) }
     {
+        if self.is_outdated_by(message) {
+            return Err(NodeFault::LaterStart);
+        }
         self.take_message(message);
-        self.apply_policy();
-        Unwritten { node: self }
+        self.act();
+        Ok(())
+    }
+
+    /// The number of the ways and gates: how many events there were, modulo 2^64. O(1).
+    pub fn state(&self) -> u64
+        ensures { result ≡ self.now.events }
+    {
+        self.events
+    }
+
+    /// Whether the ways and gates after the last event are written. O(1).
+    pub fn is_written(&self) -> bool
+        ensures { result ≡ self.now.is_written }
+    {
+        self.is_written
+    }
+
+    /// The caller says that the ways and gates with this [`state`](Node::state) are written. From then on messages may be
+    /// said. O(1).
+    ///
+    /// Fails with `Outdated` if an event came after this state. Then nothing has changed: write the ways and gates as they
+    /// are now.
+    pub fn written(&mut self, state: u64) -> Result<(), NodeFault>
+        ensures written { OnOk result (self.new ≡ record self.old { is_written = true }) }
+        ensures kept { OnErr result (self.new ≡ self.old) }
+        ensures fault { MatchResult result (λ _. state ≡ self.old.events)
+            (λ f. (f ≡ Outdated) × (state ≢ self.old.events)) }
+    {
+        if state != self.events {
+            return Err(NodeFault::Outdated);
+        }
+        self.is_written = true;
+        Ok(())
     }
 
     /// The message for a neighbour now. `None` if the neighbour is not known, or the link to it is down. It may be said as
     /// often as the caller likes. O(d).
-    pub fn say(&mut self, neighbour: u32) -> Option<Message>
-        ensures up { IsSome result ↔ IsTrue (link_to self.old.links.items neighbour).up }
-        ensures content { IfSome result (IsMessageTo self.old neighbour) }
-        ensures same { self.new ≡ record self.old { links = self.new.links } }
-        ensures said { MatchOption result (self.new.links.items ≡ self.old.links.items)
-            (λ m. Says neighbour m self.old.links.items self.new.links.items) }
-        ensures safe { (h : ℕ → ℕ) → IsHistory self.old.own h → IfSome result (IsSaidBy (router self.old h)) }
-        ensures step { Steps [] self.old self.new }
+    ///
+    /// Fails with `Unwritten` if the ways and gates after the last event are not written. Then nothing has changed.
+    pub fn say(&mut self, neighbour: u32) -> Result<Option<Message>, NodeFault>
+        ensures says { IfOk result (SaysTo neighbour self.old self.new) }
+        ensures kept { OnErr result (self.new ≡ self.old) }
+        ensures fault { MatchResult result (λ _. self.old.is_written ≡ true)
+            (λ f. (f ≡ Unwritten) × (self.old.is_written ≡ false)) }
+    {
+        if !self.is_written {
+            return Err(NodeFault::Unwritten);
+        }
+        Ok(self.say_written(neighbour))
+    }
+
+    /// The message for a neighbour, if the link to it is up.
+    fn say_written(&mut self, neighbour: u32) -> Option<Message>
+        ensures { SaysTo neighbour self.old self.new result }
     {
         let Some(i) = self.index_of(neighbour) else {
             return None;
@@ -162,11 +224,22 @@ impl Node {
 
     /// Whether there is news for a neighbour: its link is up, and the message for it is not the last one that was said.
     /// O(d).
-    pub fn has_news(&self, neighbour: u32) -> bool
-        ensures down { ¬ IsTrue (link_to self.now.links.items neighbour).up → ¬ IsTrue result }
-        ensures news { IsTrue (link_to self.now.links.items neighbour).up
-            → (m : Message) × IsMessageTo self.now neighbour m
-            × (IsTrue result ↔ ((link_to self.now.links.items neighbour).said ≢ Some m)) }
+    ///
+    /// Fails with `Unwritten` if the ways and gates after the last event are not written.
+    pub fn has_news(&self, neighbour: u32) -> Result<bool, NodeFault>
+        ensures news { IfOk result (IsNews neighbour self.now) }
+        ensures fault { MatchResult result (λ _. self.now.is_written ≡ true)
+            (λ f. (f ≡ Unwritten) × (self.now.is_written ≡ false)) }
+    {
+        if !self.is_written {
+            return Err(NodeFault::Unwritten);
+        }
+        Ok(self.has_other_message(neighbour))
+    }
+
+    /// Whether the message for a neighbour at a link that is up is not the last one that was said.
+    fn has_other_message(&self, neighbour: u32) -> bool
+        ensures { IsNews neighbour self.now result }
     {
         match self.index_of(neighbour) {
             Some(i) => self.links[i].up && !self.links[i].was_last_said(&self.message_at(i)),
@@ -180,12 +253,16 @@ impl Node {
         ensures safe { IsTrue result → (h : ℕ → ℕ) → IsHistory self.now.own h → IsOpen (router self.now h) neighbour }
     {
         match self.index_of(neighbour) {
-            Some(i) => {
-                let link = &self.links[i];
-                link.up && (self.gateway || link.has_answered(&self.own))
-            }
+            Some(i) => self.is_open(&self.links[i]),
             None => false,
         }
+    }
+
+    /// Whether packets that come over a link are let in.
+    fn is_open(&self, link: &Link) -> bool
+        ensures { result ≡ is_gate self.now link.now }
+    {
+        link.up && (self.gateway || link.has_answered(&self.own))
     }
 
     /// Whether packets may be sent to this neighbour. O(d).
@@ -211,6 +288,38 @@ impl Node {
             push_ways(&self.links, &self.own, ways);
         }
         sort_ways(ways);
+    }
+
+    /// Lists the neighbours that are let in, in the order in which they were made known. The list keeps its capacity, so no
+    /// memory is taken. O(d) for d known neighbours.
+    pub fn list_gates(&self, gates: &mut Vec<u32>)
+        requires { vec_len self.now.links ≤ vec_capacity gates.old }
+        ensures gates { gates.new.items ≡ gates_of self.now }
+        ensures room { vec_capacity gates.new ≡ vec_capacity gates.old }
+    {
+        gates.clear();
+        self.push_gates(&self.links, gates);
+    }
+
+    /// Lists the neighbours at these links that are let in.
+    fn push_gates(&self, links: &[Link], gates: &mut Vec<u32>)
+        requires none { gates.old.items ≡ [] }
+        requires room { length links.now ≤ vec_capacity gates.old }
+        ensures gates { gates.new.items ≡ map (λ l. l.neighbour) (filter (is_gate self.now) links.now) }
+        ensures room { vec_capacity gates.new ≡ vec_capacity gates.old }
+    {
+        for link in links {
+            if self.is_open(link) {
+                gates.push_reserved(link.neighbour);
+            }
+        }
+    }
+
+    /// The number of the router.
+    pub fn me(&self) -> u32
+        ensures { result ≡ self.now.own.me }
+    {
+        self.own.me
     }
 
     /// How many neighbours are known.
@@ -288,6 +397,30 @@ impl Node {
         if let Some(i) = self.index_of(message.from) {
             self.links[i] = self.links[i].after_message(message, &self.own);
         }
+    }
+
+    /// Whether the sender of a message knows a later start of this router.
+    fn is_outdated_by(&self, message: &Message) -> bool
+        ensures { IsTrue result ↔ KnowsLaterStart self.now message.now }
+    {
+        message.to == self.own.me
+            && message.echo > self.own.boot
+            && self.index_of(message.from).is_some()
+    }
+
+    /// Changes the height by the policy. Then the ways and gates have to be written.
+    fn act(&mut self)
+        ensures same { self.new ≡ record self.old {
+          own = self.new.own;
+          events = (self.old.events + 1) % 2 ^ 64;
+          is_written = false;
+        } }
+        ensures own { Announces self.old.own self.new.own }
+        ensures policy { Acts self.old self.new.own }
+    {
+        self.apply_policy();
+        self.events = self.events.wrapping_add(1);
+        self.is_written = false;
     }
 
     /// Changes the height by the policy.
@@ -491,21 +624,5 @@ fn lesser_distance(nearest: Option<u32>, distance: u32) -> u32
     match nearest {
         Some(d) => d.min(distance),
         None => distance,
-    }
-}
-
-impl Unwritten {
-    /// The node, whose ways and gates are to be written. It can say nothing.
-    pub fn node(&self) -> &Node
-        ensures { result.now ≡ self.now.node }
-    {
-        &self.node
-    }
-
-    /// The caller says that the ways and gates are written.
-    pub fn written(self) -> Node
-        ensures { result ≡ self.node }
-    {
-        self.node
     }
 }

@@ -1,12 +1,12 @@
 -- The value of a `NodeState` in contracts, and what holds of its fields. For proofs only.
-use Rattle.std.specs.Prelude.{Some, vec_capacity, vec_len, ◌≡◌, ◌≤◌}
+use Rattle.std.specs.Prelude.{Some, vec_capacity, vec_len, ◌≤◌}
 use Rattle.revroute_c.specs.Machines.{HeldNode}
 use Rattle.revroute_c.specs.declared.node_state.NodeState.TheInside.{Inside}
 
 abbrev pub kept_in : Inside → HeldNode
-kept_in m = Some (record { node = m.node; is_written = m.is_written })
+kept_in m = Some m.node
 
--- the list has capacity for as many ways as there are known neighbours
+-- the lists have capacity for as many entries as there are known neighbours
 pub record HasCapacity (m : Inside) : Type 0 where
-  pub me : m.me ≡ m.node.own.me
   pub ways : vec_len m.node.links ≤ vec_capacity m.ways
+  pub gates : vec_len m.node.links ≤ vec_capacity m.gates

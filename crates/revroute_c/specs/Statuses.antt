@@ -56,3 +56,11 @@ REVROUTE_NO_MESSAGE = 13
 -- the neighbour is not known, or the link to it is down
 abbrev pub REVROUTE_LINK_DOWN : ℕ
 REVROUTE_LINK_DOWN = 14
+
+-- an event came after the ways and gates were handed out
+abbrev pub REVROUTE_OUTDATED : ℕ
+REVROUTE_OUTDATED = 15
+
+-- a neighbour knows a later start of this router
+abbrev pub REVROUTE_LATER_START : ℕ
+REVROUTE_LATER_START = 16

@@ -1,32 +1,29 @@
 //! What the handle of a node points to.
 
-ghost use Rattle.std.specs.Prelude.{◌≡◌, ◌<◌, ◌≤◌, ◌⊎◌, [], IsTrue, Some, length, true, vec_capacity, vec_len};
+ghost use Rattle.std.specs.Prelude.{◌≡◌, ◌<◌, ◌≤◌, ◌⊎◌, [], IsTrue, Some, length, true, vec_capacity, vec_len, ⊤};
+ghost use Rattle.fr_node.specs.Events.{gates_of};
 ghost use Rattle.fr_node.specs.Nodes.{lets_in, sends_to};
-ghost use Rattle.revroute_c.specs.NodeCalls.{AreNeighbours, AreWaysOf, HearsBytes, HearsMessage, InNode};
-ghost use Rattle.revroute_c.specs.NodeCalls.{IsSafeGate, IsSafeWay, IsWrittenNow, KnowsNeighbour, OfNode, SaysTo, TellsNews};
-ghost use Rattle.revroute_c.specs.NodeCalls.{TellsNodeDistance, TurnsLink, neighbours_of, number_of_flag};
+ghost use Rattle.revroute_c.specs.NodeCalls.{AreGatesOf, AreNeighbours, AreWaysOf, ConfirmsWritten, HearsBytes, InNode, HearsMessage};
+ghost use Rattle.revroute_c.specs.NodeCalls.{IsSafeGate, IsSafeWay, IsStateOf, KnowsNeighbour, OfNode, SaysBytesTo};
+ghost use Rattle.revroute_c.specs.NodeCalls.{TellsNews, TellsNodeDistance, TurnsLink, neighbours_of, number_of_flag};
 ghost use Rattle.revroute_c.specs.Replies.{outcome, GivesList, IsWritten};
 
 use crate::replies::hand_out;
 use crate::statuses::{
-    ANSWERED, LINK_DOWN, NO_MEMORY, NO_MESSAGE, NO_ROUTE, REFUSED, TOO_SHORT, UNWRITTEN,
+    ANSWERED, LATER_START, LINK_DOWN, NO_MEMORY, NO_MESSAGE, NO_ROUTE, OUTDATED, REFUSED,
+    TOO_SHORT, UNWRITTEN,
 };
 use fr_node::{CUT_OFF, MESSAGE_LENGTH, Message, Node, NodeFault, Way};
 use std::alloc::Global;
 use std::marker::Model;
-use std::mem::replace;
 
-/// What the handle of a node points to. C has no types that keep the order of calls, so `is_written` keeps it: after
-/// an event nothing is said until the caller has said that ways and gates are written. Events may come meanwhile. Each
-/// is a step of the node, as if it had come once the earlier ones were written, because no message leaves in between.
-///
-/// The list has capacity for the ways of all known neighbours, so that a question takes no memory.
+/// What the handle of a node points to: the node, and lists with capacity for the ways and gates of all known
+/// neighbours, so that a question takes no memory.
 #[derive(Drop)]
 pub(crate) struct NodeState {
-    me: u32,
     node: Node,
-    is_written: bool,
     ways: Vec<Way>,
+    gates: Vec<u32>,
 }
 
 impl Model for NodeState {
@@ -42,17 +39,15 @@ impl Model for NodeState {
 }
 
 impl NodeState {
-    /// The machine of a node that starts. There is nothing to write, because it has no links.
-    pub(crate) fn new(alloc: Global, me: u32, node: Node) -> NodeState
-        requires me { node.own.me ≡ me }
+    /// The machine of a node that starts.
+    pub(crate) fn new(alloc: Global, node: Node) -> NodeState
         requires links { node.links.items ≡ [] }
-        ensures { result ≡ Some (record { node = node; is_written = true }) }
+        ensures { result ≡ Some node }
     {
         NodeState {
-            me,
             node,
-            is_written: true,
             ways: Vec::new(alloc),
+            gates: Vec::new(alloc),
         }
     }
 
@@ -60,69 +55,78 @@ impl NodeState {
     pub(crate) fn know(&mut self, neighbour: u32) -> u32
         ensures { InNode (KnowsNeighbour neighbour result) ⊥ self.old self.new }
     {
-        if neighbour == self.me {
+        if neighbour == self.node.me() {
             return REFUSED;
         }
-        if !reserve_ways(&mut self.ways, self.node.neighbours()) {
+        let count = self.node.neighbours();
+        if !reserve_one_more(&mut self.ways, count) || !reserve_one_more(&mut self.gates, count) {
             return NO_MEMORY;
         }
         match self.node.know(neighbour) {
             Ok(()) => ANSWERED,
-            Err(NodeFault::Memory) => NO_MEMORY,
-            Err(NodeFault::Itself) => unreachable!(),
+            Err(NodeFault::Itself) => REFUSED,
+            Err(_) => NO_MEMORY,
         }
     }
 
     /// Takes the event that the link to a neighbour comes up or goes down.
-    pub(crate) fn set_link_state(&mut self, alloc: Global, neighbour: u32, up: bool) -> u32
+    pub(crate) fn set_link_state(&mut self, neighbour: u32, up: bool) -> u32
         ensures { InNode (TurnsLink neighbour up result) ⊥ self.old self.new }
     {
-        let node = replace(&mut self.node, Node::gateway(alloc, self.me, 0));
-        let unwritten = if up {
-            node.link_up(neighbour)
+        if up {
+            self.node.link_up(neighbour);
         } else {
-            node.link_down(neighbour)
-        };
-        self.node = unwritten.written();
-        self.is_written = false;
+            self.node.link_down(neighbour);
+        }
         ANSWERED
     }
 
     /// Hears the message with these bytes.
-    pub(crate) fn hear(&mut self, alloc: Global, bytes: &[u8]) -> u32
+    pub(crate) fn hear(&mut self, bytes: &[u8]) -> u32
         ensures { InNode (HearsBytes bytes.now result) ⊥ self.old self.new }
     {
+        match Message::read(bytes) {
+            Some(message) => self.hear_message(&message),
+            None => self.ignore(),
+        }
+    }
+
+    /// Bytes that are not a message change nothing.
+    fn ignore(&self) -> u32
+        ensures held { OfNode (λ _. ⊤) ⊥ self.now }
+        ensures status { result ≡ NO_MESSAGE }
+    {
         // A field has to be read, because only then the proof knows that the machine holds a node.
-        let _read = self.is_written;
-        let Some(message) = Message::read(bytes) else {
-            return NO_MESSAGE;
-        };
-        self.hear_message(alloc, &message);
-        ANSWERED
+        let _read = self.node.state();
+        NO_MESSAGE
     }
 
     /// Hears a message.
-    fn hear_message(&mut self, alloc: Global, message: &Message)
-        ensures { InNode (HearsMessage message.now) ⊥ self.old self.new }
+    fn hear_message(&mut self, message: &Message) -> u32
+        ensures { InNode (HearsMessage message.now result) ⊥ self.old self.new }
     {
-        let node = replace(&mut self.node, Node::gateway(alloc, self.me, 0));
-        self.node = node.hear(message).written();
-        self.is_written = false;
+        match self.node.hear(message) {
+            Ok(()) => ANSWERED,
+            Err(_) => LATER_START,
+        }
     }
 
-    /// The caller says that ways and gates are written.
-    pub(crate) fn written(&mut self)
-        ensures { InNode IsWrittenNow ⊥ self.old self.new }
+    /// The caller says that the ways and gates with this number are written.
+    pub(crate) fn written(&mut self, state: u64) -> u32
+        ensures { InNode (ConfirmsWritten state result) ⊥ self.old self.new }
     {
-        self.is_written = true;
+        match self.node.written(state) {
+            Ok(()) => ANSWERED,
+            Err(_) => OUTDATED,
+        }
     }
 
     /// Says a message to a neighbour, if ways and gates are written. `size` must be 0.
     pub(crate) fn say(&mut self, neighbour: u32, place: &mut [u8], size: &mut usize) -> u32
         requires { size.old ≡ 0 }
-        ensures { InNode (SaysTo neighbour (outcome result place.old place.new size.new)) ⊥ self.old self.new }
+        ensures { InNode (SaysBytesTo neighbour (outcome result place.old place.new size.new)) ⊥ self.old self.new }
     {
-        if !self.is_written {
+        if !self.node.is_written() {
             return UNWRITTEN;
         }
         if place.len() < MESSAGE_LENGTH {
@@ -130,8 +134,9 @@ impl NodeState {
             return TOO_SHORT;
         }
         match self.node.say(neighbour) {
-            Some(message) => hand_out(&message.write(), place, size),
-            None => LINK_DOWN,
+            Ok(Some(message)) => hand_out(&message.write(), place, size),
+            Ok(None) => LINK_DOWN,
+            Err(_) => UNWRITTEN,
         }
     }
 
@@ -139,20 +144,35 @@ impl NodeState {
     pub(crate) fn tell_news(&self, neighbour: u32, news: &mut u32) -> u32
         ensures { OfNode (TellsNews neighbour result news.old news.new) ⊥ self.now }
     {
-        if !self.is_written {
-            return UNWRITTEN;
+        match self.node.has_news(neighbour) {
+            Ok(is_news) => {
+                *news = number(is_news);
+                ANSWERED
+            }
+            Err(_) => UNWRITTEN,
         }
-        *news = number(self.node.has_news(neighbour));
-        ANSWERED
     }
 
-    /// Writes the neighbours to which packets may be sent, nearest first.
-    pub(crate) fn list_ways(&mut self, place: &mut [u32], size: &mut usize) -> u32
+    /// Writes the neighbours to which packets may be sent, nearest first, and the number of the ways and gates.
+    pub(crate) fn list_ways(&mut self, place: &mut [u32], size: &mut usize, state: &mut u64) -> u32
         ensures same { self.new ≡ self.old }
         ensures gives { GivesList (AreWaysOf self.old) (outcome result place.old place.new size.new) }
+        ensures state { IsStateOf self.old state.old state.new }
         ensures status { (result ≡ ANSWERED) ⊎ (result ≡ TOO_SHORT) }
     {
+        *state = self.node.state();
         ways_in(&self.node, &mut self.ways, place, size)
+    }
+
+    /// Writes the neighbours that are let in, and the number of the ways and gates.
+    pub(crate) fn list_gates(&mut self, place: &mut [u32], size: &mut usize, state: &mut u64) -> u32
+        ensures same { self.new ≡ self.old }
+        ensures gives { GivesList (AreGatesOf self.old) (outcome result place.old place.new size.new) }
+        ensures state { IsStateOf self.old state.old state.new }
+        ensures status { (result ≡ ANSWERED) ⊎ (result ≡ TOO_SHORT) }
+    {
+        *state = self.node.state();
+        gates_in(&self.node, &mut self.gates, place, size)
     }
 
     /// Writes the distance, if there is a way.
@@ -169,14 +189,14 @@ impl NodeState {
 
     /// The height in use.
     pub(crate) fn height(&self) -> u64
-        ensures { OfNode (λ k. result ≡ k.node.own.used) ⊥ self.now }
+        ensures { OfNode (λ k. result ≡ k.own.used) ⊥ self.now }
     {
         self.node.height()
     }
 
     /// Whether packets from a neighbour are let in, as a number.
     pub(crate) fn lets_in(&self, neighbour: u32) -> u32
-        ensures open { OfNode (λ k. result ≡ number_of_flag (lets_in k.node neighbour)) ⊥ self.now }
+        ensures open { OfNode (λ k. result ≡ number_of_flag (lets_in k neighbour)) ⊥ self.now }
         ensures safe { OfNode (IsSafeGate neighbour result) ⊥ self.now }
     {
         number(self.node.lets_in(neighbour))
@@ -184,22 +204,22 @@ impl NodeState {
 
     /// Whether packets may be sent to a neighbour, as a number.
     pub(crate) fn sends_to(&self, neighbour: u32) -> u32
-        ensures way { OfNode (λ k. result ≡ number_of_flag (sends_to k.node neighbour)) ⊥ self.now }
+        ensures way { OfNode (λ k. result ≡ number_of_flag (sends_to k neighbour)) ⊥ self.now }
         ensures safe { OfNode (IsSafeWay neighbour result) ⊥ self.now }
     {
         number(self.node.sends_to(neighbour))
     }
 }
 
-/// Empties a list, and reserves capacity for one way more than this number. Returns false if an allocation was refused;
-/// then the list has the capacity that it had.
-fn reserve_ways(ways: &mut Vec<Way>, count: usize) -> bool
-    ensures more { result ≡ true → count < vec_capacity ways.new }
-    ensures kept { vec_capacity ways.old ≤ vec_capacity ways.new }
+/// Empties a list, and reserves capacity for one entry more than this number. Returns false if an allocation was
+/// refused; then the list has the capacity that it had.
+fn reserve_one_more<T: Drop>(list: &mut Vec<T>, count: usize) -> bool
+    ensures more { result ≡ true → count < vec_capacity list.new }
+    ensures kept { vec_capacity list.old ≤ vec_capacity list.new }
 {
-    ways.clear();
+    list.clear();
     match count.checked_add(1) {
-        Some(wanted) => ways.reserve(wanted).is_ok(),
+        Some(wanted) => list.reserve(wanted).is_ok(),
         None => false,
     }
 }
@@ -221,6 +241,17 @@ fn ways_in(node: &Node, list: &mut Vec<Way>, place: &mut [u32], size: &mut usize
 {
     node.list_ways(list);
     hand_out_ways(list, place, size)
+}
+
+/// Writes the neighbours that a node lets in. The content of the list is lost.
+fn gates_in(node: &Node, list: &mut Vec<u32>, place: &mut [u32], size: &mut usize) -> u32
+    requires { vec_len node.now.links ≤ vec_capacity list.old }
+    ensures gives { GivesList (λ gates. gates ≡ gates_of node.now) (outcome result place.old place.new size.new) }
+    ensures capacity { vec_capacity list.new ≡ vec_capacity list.old }
+    ensures status { (result ≡ ANSWERED) ⊎ (result ≡ TOO_SHORT) }
+{
+    node.list_gates(list);
+    hand_out(list, place, size)
 }
 
 /// Writes the neighbours of ways to the front of a place if there is room, and their number to `size` in any case.

@@ -3,9 +3,10 @@
 ghost use Rattle.std.specs.Prelude.{◌≡◌, ◌≢◌, ◌↔◌, ◌⊎◌, None, false, true, ⊤};
 ghost use denote.RawPtr.{null_ptr};
 ghost use Rattle.fr_node.specs.Nodes.{lets_in, sends_to};
-ghost use Rattle.revroute_c.specs.NodeCalls.{AreWaysOf, HearsBytes, InNode, IsNoRise, IsOpened, IsOpenedGateway};
-ghost use Rattle.revroute_c.specs.NodeCalls.{IsSafeGate, IsSafeWay, IsWrittenNow, KnowsNeighbour, OfNode, SaysTo, TellsNews};
-ghost use Rattle.revroute_c.specs.NodeCalls.{TellsNodeDistance, TurnsLink, number_of_flag, policy_of};
+ghost use Rattle.revroute_c.specs.NodeCalls.{AreGatesOf, AreWaysOf, ConfirmsWritten, HearsBytes, InNode, IsNoStart};
+ghost use Rattle.revroute_c.specs.NodeCalls.{IsOpened, IsOpenedGateway, IsSafeGate, IsSafeWay, IsStateOf, KnowsNeighbour};
+ghost use Rattle.revroute_c.specs.NodeCalls.{OfNode, SaysBytesTo, TellsNews, TellsNodeDistance, TurnsLink};
+ghost use Rattle.revroute_c.specs.NodeCalls.{number_of_flag, policy_of};
 ghost use Rattle.revroute_c.specs.NodeLending.{IsSameNode};
 ghost use Rattle.revroute_c.specs.Replies.{outcome, GivesList};
 ghost use Rattle.revroute_c.specs.Statuses.{REVROUTE_ANSWERED, REVROUTE_NO_MEMORY};
@@ -56,7 +57,7 @@ fn policy_in(policy: NodePolicy) -> Policy
 /// Starts a router, and puts it into `handle`. A node that was there is closed. `me`, `boot`, `height` and the policy
 /// are as for [`Node::new`]. Nothing has to be written for it yet, because it has no links. Returns `ANSWERED`, or:
 ///
-/// - `REFUSED`: the policy has an unknown kind of rise. This is tested first.
+/// - `REFUSED`: the policy has an unknown kind of rise, or the height is 2^63 or more. This is tested first.
 /// - `NO_MEMORY`: an allocation was refused.
 ///
 /// In both cases the handle is unchanged. O(1).
@@ -72,14 +73,16 @@ pub extern "C" fn revroute_node_open(
     ensures opened { result ≡ REVROUTE_ANSWERED
         → OfNode (IsOpened me boot height policy.now) ⊥ handle.new.machine }
     ensures kept { result ≢ REVROUTE_ANSWERED → handle.new ≡ handle.old }
-    ensures refused { (result ≡ REVROUTE_REFUSED) ↔ IsNoRise policy.now }
+    ensures refused { (result ≡ REVROUTE_REFUSED) ↔ IsNoStart height policy.now }
     ensures status { (result ≡ REVROUTE_ANSWERED) ⊎ (result ≡ REVROUTE_NO_MEMORY) ⊎ (result ≡ REVROUTE_REFUSED) }
 {
     if policy.rise > JUMP {
         return REFUSED;
     }
-    let node = Node::new(alloc, me, boot, height, policy_in(*policy));
-    match Box::new(alloc, NodeState::new(alloc, me, node)) {
+    let Ok(node) = Node::new(alloc, me, boot, height, policy_in(*policy)) else {
+        return REFUSED;
+    };
+    match Box::new(alloc, NodeState::new(alloc, node)) {
         Ok(machine) => {
             NodeHandle::put(handle, alloc, machine);
             ANSWERED
@@ -102,7 +105,7 @@ pub extern "C" fn revroute_node_open_gateway(
     ensures status { (result ≡ REVROUTE_ANSWERED) ⊎ (result ≡ REVROUTE_NO_MEMORY) }
 {
     let node = Node::gateway(alloc, me, boot);
-    match Box::new(alloc, NodeState::new(alloc, me, node)) {
+    match Box::new(alloc, NodeState::new(alloc, node)) {
         Ok(machine) => {
             NodeHandle::put(handle, alloc, machine);
             ANSWERED
@@ -135,34 +138,26 @@ pub extern "C" fn revroute_node_know(handle: &mut NodeHandle, neighbour: u32) ->
 /// change the height. Then ways and gates have to be written: until [`revroute_node_written`] nothing is said. Events
 /// may come meanwhile. Returns `NO_NETWORK` if the handle is null. It takes no memory. O(d).
 #[unsafe(no_mangle)]
-pub extern "C" fn revroute_node_link_up(
-    alloc: Global,
-    handle: &mut NodeHandle,
-    neighbour: u32,
-) -> u32
+pub extern "C" fn revroute_node_link_up(handle: &mut NodeHandle, neighbour: u32) -> u32
     ensures up { InNode (TurnsLink neighbour true result) (result ≡ REVROUTE_NO_NETWORK)
         handle.old.machine handle.new.machine }
     ensures same_handle { handle.new.at ≡ handle.old.at }
 {
     match handle.node_state_mut() {
-        Some(machine) => machine.set_link_state(alloc, neighbour, true),
+        Some(machine) => machine.set_link_state(neighbour, true),
         None => NO_NETWORK,
     }
 }
 
 /// Call this when the link to a neighbour goes down. All else is as for [`revroute_node_link_up`]. O(d).
 #[unsafe(no_mangle)]
-pub extern "C" fn revroute_node_link_down(
-    alloc: Global,
-    handle: &mut NodeHandle,
-    neighbour: u32,
-) -> u32
+pub extern "C" fn revroute_node_link_down(handle: &mut NodeHandle, neighbour: u32) -> u32
     ensures down { InNode (TurnsLink neighbour false result) (result ≡ REVROUTE_NO_NETWORK)
         handle.old.machine handle.new.machine }
     ensures same_handle { handle.new.at ≡ handle.old.at }
 {
     match handle.node_state_mut() {
-        Some(machine) => machine.set_link_state(alloc, neighbour, false),
+        Some(machine) => machine.set_link_state(neighbour, false),
         None => NO_NETWORK,
     }
 }
@@ -170,35 +165,40 @@ pub extern "C" fn revroute_node_link_down(
 /// Hears the message with these bytes. Then ways and gates have to be written, as after [`revroute_node_link_up`].
 /// Returns `ANSWERED`, or:
 ///
-/// - `NO_MESSAGE`: the bytes are not a message, because of their number or their header. The node is unchanged.
+/// - `NO_MESSAGE`: the bytes are not a message, because of their number or their header.
+/// - `LATER_START`: the message is for this router and from a known neighbour, and this neighbour knows a start of this
+///   router with a greater number. So the number of this start was not greater than all before it, or another router has
+///   the same number. This node hears nothing from such neighbours: it should be closed.
 /// - `NO_NETWORK`: the handle is null.
 ///
-/// It takes no memory. O(d).
+/// In these cases the node is unchanged. It takes no memory. O(d).
 #[unsafe(no_mangle)]
-pub extern "C" fn revroute_node_hear(alloc: Global, handle: &mut NodeHandle, bytes: &[u8]) -> u32
+pub extern "C" fn revroute_node_hear(handle: &mut NodeHandle, bytes: &[u8]) -> u32
     ensures heard { InNode (HearsBytes bytes.now result) (result ≡ REVROUTE_NO_NETWORK)
         handle.old.machine handle.new.machine }
     ensures same_handle { handle.new.at ≡ handle.old.at }
 {
     match handle.node_state_mut() {
-        Some(machine) => machine.hear(alloc, bytes),
+        Some(machine) => machine.hear(bytes),
         None => NO_NETWORK,
     }
 }
 
-/// The caller says that the ways and gates are written, as they are now. From then on messages may be said. Returns
-/// `NO_NETWORK` if the handle is null. O(1).
+/// The caller says that the ways and gates that were handed out with this number are written. From then on messages may
+/// be said. Returns `ANSWERED`, or:
+///
+/// - `OUTDATED`: an event came after them. The ways and gates have to be written as they are now.
+/// - `NO_NETWORK`: the handle is null.
+///
+/// In both cases the node is unchanged. O(1).
 #[unsafe(no_mangle)]
-pub extern "C" fn revroute_node_written(handle: &mut NodeHandle) -> u32
-    ensures written { InNode (λ k j. IsWrittenNow k j × (result ≡ REVROUTE_ANSWERED)) (result ≡ REVROUTE_NO_NETWORK)
+pub extern "C" fn revroute_node_written(handle: &mut NodeHandle, state: u64) -> u32
+    ensures written { InNode (ConfirmsWritten state result) (result ≡ REVROUTE_NO_NETWORK)
         handle.old.machine handle.new.machine }
     ensures same_handle { handle.new.at ≡ handle.old.at }
 {
     match handle.node_state_mut() {
-        Some(machine) => {
-            machine.written();
-            ANSWERED
-        }
+        Some(machine) => machine.written(state),
         None => NO_NETWORK,
     }
 }
@@ -219,7 +219,7 @@ pub extern "C" fn revroute_node_say(
     message: &mut [u8],
     size: &mut usize,
 ) -> u32
-    ensures says { InNode (SaysTo neighbour (outcome result message.old message.new size.new))
+    ensures says { InNode (SaysBytesTo neighbour (outcome result message.old message.new size.new))
         ((result ≡ REVROUTE_NO_NETWORK) × (message.new ≡ message.old) × (size.new ≡ 0))
         handle.old.machine handle.new.machine }
     ensures same_handle { handle.new.at ≡ handle.old.at }
@@ -255,10 +255,11 @@ pub extern "C" fn revroute_node_has_news(
 }
 
 /// Writes the neighbours to which packets may be sent to the front of `ways`, the nearest first, and equally near ones
-/// by number, and their number to `size`. A gateway has none. Returns `ANSWERED`, or:
+/// by number, and their number to `size`. A gateway has none. Writes to `state` the number that
+/// [`revroute_node_written`] wants once they and the gates are written. Returns `ANSWERED`, or:
 ///
 /// - `TOO_SHORT`: there is too little room.
-/// - `NO_NETWORK`: the handle is null. `size` is 0.
+/// - `NO_NETWORK`: the handle is null. `size` is 0, and `state` is unchanged.
 ///
 /// In both cases `ways` is unchanged. The node never changes. It takes no memory. O(d log d).
 #[unsafe(no_mangle)]
@@ -266,15 +267,39 @@ pub extern "C" fn revroute_node_ways(
     handle: &mut NodeHandle,
     ways: &mut [u32],
     size: &mut usize,
+    state: &mut u64,
 ) -> u32
     ensures same { IsSameNode handle.old handle.new }
     ensures gives { GivesList (AreWaysOf handle.old.machine) (outcome result ways.old ways.new size.new) }
+    ensures state { IsStateOf handle.old.machine state.old state.new }
     ensures no_network { (result ≡ REVROUTE_NO_NETWORK) ↔ (handle.old.machine ≡ None) }
     ensures status { (result ≡ REVROUTE_ANSWERED) ⊎ (result ≡ REVROUTE_TOO_SHORT) ⊎ (result ≡ REVROUTE_NO_NETWORK) }
 {
     *size = 0;
     match handle.node_state_mut() {
-        Some(machine) => machine.list_ways(ways, size),
+        Some(machine) => machine.list_ways(ways, size, state),
+        None => NO_NETWORK,
+    }
+}
+
+/// Writes the neighbours that are let in to the front of `gates`, in the order in which they were made known. All else
+/// is as for [`revroute_node_ways`]. O(d).
+#[unsafe(no_mangle)]
+pub extern "C" fn revroute_node_gates(
+    handle: &mut NodeHandle,
+    gates: &mut [u32],
+    size: &mut usize,
+    state: &mut u64,
+) -> u32
+    ensures same { IsSameNode handle.old handle.new }
+    ensures gives { GivesList (AreGatesOf handle.old.machine) (outcome result gates.old gates.new size.new) }
+    ensures state { IsStateOf handle.old.machine state.old state.new }
+    ensures no_network { (result ≡ REVROUTE_NO_NETWORK) ↔ (handle.old.machine ≡ None) }
+    ensures status { (result ≡ REVROUTE_ANSWERED) ⊎ (result ≡ REVROUTE_TOO_SHORT) ⊎ (result ≡ REVROUTE_NO_NETWORK) }
+{
+    *size = 0;
+    match handle.node_state_mut() {
+        Some(machine) => machine.list_gates(gates, size, state),
         None => NO_NETWORK,
     }
 }
@@ -301,7 +326,7 @@ pub extern "C" fn revroute_node_distance(handle: &mut NodeHandle, distance: &mut
 /// Writes the height in use to `height`. Returns `NO_NETWORK` if the handle is null; then `height` is unchanged. O(1).
 #[unsafe(no_mangle)]
 pub extern "C" fn revroute_node_height(handle: &mut NodeHandle, height: &mut u64) -> u32
-    ensures height { OfNode (λ k. (result ≡ REVROUTE_ANSWERED) × (height.new ≡ k.node.own.used))
+    ensures height { OfNode (λ k. (result ≡ REVROUTE_ANSWERED) × (height.new ≡ k.own.used))
         ((result ≡ REVROUTE_NO_NETWORK) × (height.new ≡ height.old)) handle.old.machine }
     ensures same { IsSameNode handle.old handle.new }
 {
@@ -317,7 +342,7 @@ pub extern "C" fn revroute_node_height(handle: &mut NodeHandle, height: &mut u64
 /// Returns 1 if packets from a neighbour are let in, and 0 if they are to be dropped, as for a null handle. O(d).
 #[unsafe(no_mangle)]
 pub extern "C" fn revroute_node_lets_in(handle: &mut NodeHandle, neighbour: u32) -> u32
-    ensures open { OfNode (λ k. result ≡ number_of_flag (lets_in k.node neighbour)) (result ≡ 0) handle.old.machine }
+    ensures open { OfNode (λ k. result ≡ number_of_flag (lets_in k neighbour)) (result ≡ 0) handle.old.machine }
     ensures safe { OfNode (IsSafeGate neighbour result) ⊤ handle.old.machine }
     ensures same { IsSameNode handle.old handle.new }
 {
@@ -330,7 +355,7 @@ pub extern "C" fn revroute_node_lets_in(handle: &mut NodeHandle, neighbour: u32)
 /// Returns 1 if packets may be sent to a neighbour, and 0 otherwise, as for a null handle. O(d).
 #[unsafe(no_mangle)]
 pub extern "C" fn revroute_node_sends_to(handle: &mut NodeHandle, neighbour: u32) -> u32
-    ensures way { OfNode (λ k. result ≡ number_of_flag (sends_to k.node neighbour)) (result ≡ 0) handle.old.machine }
+    ensures way { OfNode (λ k. result ≡ number_of_flag (sends_to k neighbour)) (result ≡ 0) handle.old.machine }
     ensures safe { OfNode (IsSafeWay neighbour result) ⊤ handle.old.machine }
     ensures same { IsSameNode handle.old handle.new }
 {

@@ -43,3 +43,9 @@ pub(crate) const NO_MESSAGE: u32 = 13;
 
 /// The neighbour is not known, or the link to it is down.
 pub(crate) const LINK_DOWN: u32 = 14;
+
+/// An event came after the ways and gates were handed out.
+pub(crate) const OUTDATED: u32 = 15;
+
+/// A neighbour knows a later start of this router.
+pub(crate) const LATER_START: u32 = 16;

@@ -11,7 +11,9 @@ pub fn known<R: Alloc<A = Global> + Print + Eprint>(rt: &R, answer: &mut Answer)
         lower: false,
         wait: true,
     };
-    let mut node = Node::new(rt.alloc(), 1, 1, 7, policy);
+    let Ok(mut node) = Node::new(rt.alloc(), 1, 1, 7, policy) else {
+        return say(rt, "the router has not started");
+    };
     // So many neighbours that the router has to allocate more than once.
     for neighbour in [0, 2, 3, 4, 5] {
         if know(rt, answer, &mut node, neighbour).is_none() {
@@ -19,8 +21,11 @@ pub fn known<R: Alloc<A = Global> + Print + Eprint>(rt: &R, answer: &mut Answer)
         }
     }
     answer.put(&node.neighbours());
-    let mut node = node.link_up(5).written();
-    answer.put(&node.say(5));
+    node.link_up(5);
+    let written = node.written(node.state());
+    if answer.told(rt, written).is_some() {
+        answer.put(&node.say(5));
+    }
 }
 
 /// Makes a neighbour known. If that fails for want of memory, the router must be unchanged.

@@ -11,7 +11,7 @@ const POOL: usize = 40;
 /// One router: by the library and by the rules.
 #[derive(Drop)]
 struct Both {
-    node: Option<Node>,
+    node: Node,
     rules: Rules,
 }
 
@@ -131,15 +131,12 @@ impl World {
         }
         both.rules.set_up(w, up);
         both.rules.act()?;
-        if let Some(node) = both.node.take() {
-            let unwritten = if up {
-                node.link_up(w)
-            } else {
-                node.link_down(w)
-            };
-            both.node = Some(unwritten.written());
+        if up {
+            both.node.link_up(w);
+        } else {
+            both.node.link_down(w);
         }
-        Ok(())
+        both.node.written(both.node.state())
     }
 
     /// A router says something to a neighbour, and the message joins the pool.
@@ -147,10 +144,7 @@ impl World {
         let Some(both) = self.routers.get_mut(x as usize) else {
             return Ok(());
         };
-        let Some(node) = &mut both.node else {
-            return Ok(());
-        };
-        let said = node.say(w);
+        let said = both.node.say(w)?;
         if said != both.rules.message(w) {
             self.found.differ = self.found.differ.wrapping_add(1);
         }
@@ -185,10 +179,8 @@ impl World {
             self.found.differ = self.found.differ.wrapping_add(1);
             return Ok(());
         };
-        if let Some(node) = both.node.take() {
-            both.node = Some(node.hear(&read).written());
-        }
-        Ok(())
+        both.node.hear(&read)?;
+        both.node.written(both.node.state())
     }
 
     /// Compares what the library and the rules say of each router.
@@ -205,10 +197,7 @@ impl World {
 
     fn is_used(&self, x: u32, w: u32) -> bool {
         match (self.routers.get(x as usize), self.routers.get(w as usize)) {
-            (Some(from), Some(to)) => match (&from.node, &to.node) {
-                (Some(from), Some(to)) => from.sends_to(w) && to.lets_in(x),
-                _ => false,
-            },
+            (Some(from), Some(to)) => from.node.sends_to(w) && to.node.lets_in(x),
             _ => false,
         }
     }
@@ -252,7 +241,7 @@ fn start(
     let mut node = if gateway {
         Node::gateway(alloc, x, boot)
     } else {
-        Node::new(alloc, x, boot, u64::from(x), policy)
+        Node::new(alloc, x, boot, u64::from(x), policy)?
     };
     for w in 0..routers {
         if w != x {
@@ -261,16 +250,13 @@ fn start(
     }
     let rules = Rules::start(alloc, (x, routers), boot, gateway, policy)?;
     Ok(Both {
-        node: Some(node),
+        node,
         rules,
     })
 }
 
 fn is_same(both: &Both, routers: u32) -> bool {
-    let rules = &both.rules;
-    let Some(node) = &both.node else {
-        return false;
-    };
+    let Both { node, rules } = both;
     for w in 0..routers {
         if node.sends_to(w) != rules.sends_to(w) || node.lets_in(w) != rules.lets_in(w) {
             return false;

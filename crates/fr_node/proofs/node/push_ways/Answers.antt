@@ -1,8 +1,8 @@
-use Rattle.std.proofs.Common.{List, ap, arith, length, sym, take, [], ◌++◌, ◌∷◌, ◌∙◌}
-use Rattle.std.proofs.lemmas.List.{length_push}
+use Rattle.std.proofs.Common.{ap, arith, sym, take, [], ◌++◌, ◌∷◌, ◌∙◌}
 use Rattle.fr_node.specs.declared.way.Way.{Way}
-use Rattle.fr_node.specs.Distances.{ways_of}
-use Rattle.fr_node.proofs.Ways.{ways_more, ways_same}
+use Rattle.fr_node.specs.Distances.{way_of, ways_of}
+use Rattle.fr_node.specs.Links.{is_way}
+use Rattle.fr_node.proofs.Ways.{length_pushed, listed_more, listed_same, pushed}
 use Rattle.fr_node.proofs.node.push_ways.Goals as goal
 use Rattle.fr_node.proofs.node.push_ways.Goals.{else-is_way, then-is_way}
 
@@ -15,15 +15,15 @@ loop-link-preserved c =
     elim c.if-is_way.branch [
       | then-is_way w ↦ let items = w.push_reserved.ensures.items in rw w.ways-is (record {
         room = w.push_reserved.ensures.capacity ∙ before.room;
-        few = omega (arith, ap length items, length_push c.loop-link.ways.items w.way.result, before.few);
-        listed = items ∙ ap (λ (ws : List Way). ws ++ w.way.result ∷ []) before.listed
+        few = omega (arith, length_pushed _ _ _ items, before.few);
+        listed = pushed _ _ _ _ items before.listed
             ∙ ap (λ (v : Way). so_far ++ v ∷ []) w.way.ensures
-            ∙ sym (ways_more own links _ _ c.loop-link-test.true (sym c.is_way.ensures ∙ w.if-is_way.true));
+            ∙ sym (listed_more (is_way own) way_of links _ _ c.loop-link-test.true (sym c.is_way.ensures ∙ w.if-is_way.true));
       })
       | else-is_way w ↦ rw w.ways-is (record {
         room = before.room;
         few = omega (arith, before.few);
-        listed = before.listed ∙ sym (ways_same own links _ _ c.loop-link-test.true (sym c.is_way.ensures
+        listed = before.listed ∙ sym (listed_same (is_way own) way_of links _ _ c.loop-link-test.true (sym c.is_way.ensures
             ∙ w.if-is_way.false));
       })
     ]

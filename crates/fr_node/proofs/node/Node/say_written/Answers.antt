@@ -1,0 +1,22 @@
+use Rattle.std.proofs.Common.{ap, refl, rules, sym, ◌∙◌}
+use Rattle.fr_node.specs.declared.link.Link.{Link}
+use Rattle.fr_node.proofs.Linking.{found_at, is_at, says_at}
+use Rattle.fr_node.proofs.Stepping.{steps_said}
+use Rattle.fr_node.proofs.node.Node.say_written.Goals as goal
+
+pub returns : goal.returns
+returns c =
+    let says = says_at _ _ _ _ _ (is_at _ _ _ _ c.in-Some.ensures c.index_mut.ensures.value) in record {
+      up = (
+        λ _. ap (λ (l : Link). l.up) (found_at _ _ _ _ (is_at c.args.self.now.links.items c.args.neighbour
+            c.in-Some.i c.index.result.now c.in-Some.ensures c.index.ensures)) ∙ c.if-not-index.false,
+        λ _. refl,
+      );
+      message = record {
+        content = c.message_at-message.ensures _ (sym c.in-Some.ensures);
+        said = says;
+        safe = search rules;
+      };
+      none = refl;
+      step = steps_said _ _ _ _ refl says;
+    }
