@@ -1,5 +1,6 @@
 -- What a neighbour has acknowledged it has heard, so that used links lead down.
-use Rattle.std.proofs.Common.{IsTrue, List, [], arith, inl, inr, refl, subst, sym, ℕ, ⊎_elim, ◌∷◌, ◌≡◌, ◌<◌, ◌≤◌, ◌⊎◌, ◌∙◌}
+use Rattle.std.proofs.Common.{IsTrue, List, [], arith, inl, inr, subst, sym, ℕ, ⊎_elim, ◌∷◌, ◌≡◌, ◌<◌, ◌≤◌, ◌⊎◌, ◌∙◌}
+use Rattle.fr_node.proofs.Going.{goes_nowhere}
 use Rattle.fr_node.proofs.Rule.{HasAnswer, HasHeard, KeepsRule, acked_on, at_start, heard_on, step_kept}
 use Rattle.fr_node.proofs.Walks.{no_return}
 use Rattle.fr_node.specs.Laws.{NeverALoop}
@@ -8,16 +9,6 @@ use Rattle.fr_node.specs.Routers.{GoesOn, HasNoLoop, IsBelow, IsFrom, IsRun, IsU
 
 less_or_same : (a b : ℕ) → a ≤ b → (a < b) ⊎ (a ≡ b)
 less_or_same a b l = grind (arith, l)
-
-pub goes_nowhere : (pool : List Message) (y : ℕ) (r : Router) → GoesOn pool y r r
-goes_nowhere pool y r = record {
-  boot = refl;
-  number = omega arith;
-  announced = λ n l. refl;
-  start = λ w. (omega arith, inl refl);
-  height = λ w. inl (refl, refl, refl);
-  answer = λ w. inl (refl, refl);
-}
 
 -- what the rule says of a message from router a to router b
 record IsKept (s : Net) (a b : ℕ) (m : Message) : Type 0 where
