@@ -177,7 +177,7 @@ module _ (pool : List Message) (y : ℕ) (base : Router) (f g : Forwarder)
             gate : (top : ℕ) → top ≤ target.height → (w : ℕ) → IsOpen target w → HasGate pool y base top w
             gate top l w is = record { state = target; goes = on; gate = let_in target w not is; high = l }
 
-pub only : (q r : Router) → Contains (q ∷ []) r → q ≡ r
+pub only : {X : Type 0} (q r : X) → Contains (q ∷ []) r → q ≡ r
 only q r (zero, l, e) = e
 only q r (suc k, l, e) = absurd (omega (arith, l))
 

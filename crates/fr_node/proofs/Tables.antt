@@ -10,12 +10,12 @@ use Rattle.fr_node.proofs.Forwarders.{Advances, Holds, IsBetween, IsSafe, advanc
 use Rattle.fr_node.proofs.Walks.{no_return}
 
 -- the bases and the messages are a network that keeps the rule of routers
-record IsBacked (s : Plane) : Type 0 where
+pub record IsBacked (s : Plane) : Type 0 where
   base : ℕ → Router
   rule : KeepsRule (record { router = base; pool = s.pool })
   holds : (y : ℕ) → Holds s.pool y (base y) (s.forwarder y)
 
-backed_start : (s : Plane) → IsPlaneStart s → IsBacked s
+pub backed_start : (s : Plane) → IsPlaneStart s → IsBacked s
 backed_start s b = record {
   base = λ y. (s.forwarder y).router;
   rule = at_start (record { router = λ y. (s.forwarder y).router; pool = s.pool })
@@ -33,7 +33,7 @@ backed_start s b = record {
     false_true : false ≡ true → ⊥
     false_true e = cc
 
-backed_step : (s t : Plane) → IsBacked s → IsPlaneStep s t → IsBacked t
+pub backed_step : (s t : Plane) → IsBacked s → IsPlaneStep s t → IsBacked t
 backed_step s t b step = record {
   base = λ y. (moved y).next;
   rule = step_kept (net (λ y. (moved y).mid) t.pool) (net (λ y. (moved y).next) t.pool)
@@ -75,7 +75,7 @@ below_before : (a w b c x : ℕ) → IsBelow a w b x → b ≤ c → IsBelow a w
 below_before a w b c x (inl l) least = inl (omega (arith, l, least))
 below_before a w b c x (inr e) least = grind (arith, e, least)
 
-no_loop : (s : Plane) → IsBacked s → (u v : ℕ) (vs : List ℕ) → IsPlaneWalk s u (v ∷ vs) → ¬ (end_of v vs ≡ u)
+pub no_loop : (s : Plane) → IsBacked s → (u v : ℕ) (vs : List ℕ) → IsPlaneWalk s u (v ∷ vs) → ¬ (end_of v vs ≡ u)
 no_loop s b = no_return (IsMet s) (IsPlaneWalk s) (λ u v vs walk. walk) top down
   where
     top : ℕ → ℕ

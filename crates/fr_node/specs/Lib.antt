@@ -8,3 +8,4 @@ pub mod Distances  -- how far a node is from a gateway
 pub mod Policies  -- which height a node announces, and when it uses it
 pub mod Nodes  -- which router of the laws a node is
 pub mod Arrivals  -- where packets end, once nothing more happens
+pub mod Daemons  -- daemons that call nodes and write tables

@@ -1,6 +1,7 @@
 //! The laws of networks of routers. Each clause is a law of `specs/Laws.antt`, proved. The functions do nothing.
 
 ghost use Rattle.fr_node.specs.Bytes.{OneMessage};
+ghost use Rattle.fr_node.specs.Daemons.{DaemonsHaveNoLoop};
 ghost use Rattle.fr_node.specs.Laws.{NeverALoop, PacketsArrive, SomeLinkIsUsed};
 ghost use Rattle.fr_node.specs.Tables.{SomeTablesLetThrough, TablesHaveNoLoop};
 
@@ -18,6 +19,7 @@ pub fn routers_law()
 pub fn tables_law()
     ensures safe { TablesHaveNoLoop }
     ensures possible { SomeTablesLetThrough }
+    ensures calls { DaemonsHaveNoLoop }
 {}
 
 /// In a network of routers with `Rise::Full`, once all messages have arrived and no router raises its height, each
