@@ -1,5 +1,5 @@
 -- Where nothing more happens, each router has a way, and ways lead down.
-use Rattle.std.proofs.Common.{All, None, Option, Some, arith, ap, false, get_or, inl, inr, refl, subst, suc, sym, true, zero, ℕ, ⊎_elim, ◌*◌, ◌+◌, ◌<◌, ◌≡◌, ◌≤◌, ◌⊎◌, ◌∙◌}
+use Rattle.std.proofs.Common.{All, Bool, IsTrue, None, Option, Some, arith, ap, false, get_or, inl, inr, refl, subst, suc, sym, true, zero, ℕ, ⊎_elim, ◌*◌, ◌+◌, ◌<◌, ◌≡◌, ◌≤◌, ◌⊎◌, ◌∙◌, ◌||◌}
 use Rattle.std.specs.List.{list_any}
 use Rattle.std.proofs.Math.Nat.{mul-le-mul_right}
 use Rattle.std.proofs.lemmas.Bool.{cases_Bool}
@@ -11,9 +11,11 @@ use Rattle.fr_node.specs.declared.node.Node.{Node}
 use Rattle.fr_node.specs.declared.own.Own.{Own}
 use Rattle.fr_node.specs.Arrivals.{Arrive, IsLinkedTo, IsQuiet, IsStill, IsTold, SendsTo}
 use Rattle.fr_node.specs.Laws.{PacketsArrive}
-use Rattle.fr_node.specs.Links.{is_lower, is_way}
+use Rattle.fr_node.specs.Links.{has_answered, is_lower, is_way, link_to}
+use Rattle.fr_node.specs.Nodes.{lets_in}
 use Rattle.fr_node.specs.Policies.{IsBest, IsBestOrNone, IsSink, is_higher, is_up, rises_to}
 use Rattle.fr_node.proofs.Best.{best_of_all, by_height}
+use Rattle.fr_node.proofs.Linking.{up_leads, up_listed}
 use Rattle.fr_node.proofs.Policies.{false_true}
 
 -- a neighbour that was heard, at a link that is no way, is not lower
@@ -29,6 +31,25 @@ lower own l t = grind (arith, nat_tests)
 
 one_more : (a k : ℕ) → (a + 1) * k ≡ a * k + k
 one_more a k = grind arith
+
+pub up_linked : (n : Node) (w : ℕ) → (link_to n.links.items w).up ≡ true → IsLinkedTo n w
+up_linked n w up = (
+  link_to n.links.items w,
+  up_listed n.links.items w up,
+  up,
+  up_leads n.links.items w up,
+)
+
+-- a neighbour that has acknowledged the last announcement is let in
+answered : (own : Own) (l : Link) → own.used_since ≤ own.number → l.acked ≡ own.number → has_answered own l ≡ true
+answered own l since acked = grind (arith, nat_tests)
+
+lets : (n : Node) (w : ℕ) → (link_to n.links.items w).up ≡ true → has_answered n.own (link_to n.links.items w) ≡ true
+    → IsTrue (lets_in n w)
+lets n w up has = rw up (rw has (or_true n.gateway))
+  where
+    or_true : (b : Bool) → IsTrue (b || true)
+    or_true b = grind (arith, nat_tests)
 
 module _ (routers : ℕ) (node : ℕ → Node) (quiet : IsQuiet routers node) (x : ℕ) (within : x < routers) where
   -- a still router without ways would be a sink, and its policy would raise it
@@ -78,10 +99,16 @@ module _ (routers : ℕ) (node : ℕ → Node) (quiet : IsQuiet routers node) (x
               linked.1) linked.2
           best (Some l, at) = no_sink still l at no_ways
 
+  -- a router lets in packets from each neighbour at a link that is up
+  gate : (w : ℕ) → (link_to (node x).links.items w).up ≡ true → IsTrue (lets_in (node x) w)
+  gate w up = let listed = up_listed (node x).links.items w up in
+      lets (node x) w up (answered (node x).own (link_to (node x).links.items w) (quiet.announced x within).1.ends.0
+      (quiet.told x (link_to (node x).links.items w) within listed up).acked)
+
   -- the neighbour at a way is a router with a link that is up, and it is lower
-  leads : (w : ℕ) → SendsTo (node x) w → (w < routers) × IsLinkedTo (node w) x
+  leads : (w : ℕ) → SendsTo (node x) w → (w < routers) × ((link_to (node w).links.items x).up ≡ true)
       × ((node w).own.used * routers + w < (node x).own.used * routers + x)
-  leads w (l, listed, way, to) = subst (λ v. (v < routers) × IsLinkedTo (node v) x
+  leads w (l, listed, way, to) = subst (λ v. (v < routers) × ((link_to (node v).links.items x).up ≡ true)
       × ((node v).own.used * routers + v < (node x).own.used * routers + x)) to
       (told.within, told.linked, ⊎_elim less even is.1)
     where
@@ -108,8 +135,10 @@ arrive routers node quiet (suc k) x w within linked less = ⊎_elim
     (λ g. inl g)
     (λ still. inr (
       has_way routers node quiet x within still w linked,
-      λ v sends. let to = leads routers node quiet x within v sends in
-          arrive routers node quiet k v x to.0 to.1 (omega (arith, to.2, less)),
+      λ v sends. let to = leads routers node quiet x within v sends in (
+        gate routers node quiet v to.0 x to.1,
+        arrive routers node quiet k v x to.0 (up_linked (node v) x to.1) (omega (arith, to.2, less)),
+      ),
     ))
     (quiet.still x within)
 

@@ -1,152 +1,124 @@
--- Two routers say their heights to each other, and the link from the higher to the lower one comes into use.
-use Rattle.std.proofs.Common.{Contains, List, [], arith, false, inl, inr, refl, subst, suc, zero, ℕ, ⊎_elim, ◌+◌, ◌∷◌, ◌≡◌, ◌≤◌, ◌⊎◌}
+-- Two routers say their heights to each other. One of them restarts meanwhile, so the other's message for its earlier
+-- start is not taken. At the end the link from the higher to the lower router comes into use.
+use Rattle.std.proofs.Common.{Contains, List, [], arith, inl, inr, refl, ◌∷◌}
 use Rattle.fr_node.specs.declared.message.Message.{Message}
 use Rattle.fr_node.specs.Laws.{SomeLinkIsUsed}
-use Rattle.fr_node.specs.Routers.{GoesOn, IsSaidBy, IsStart, IsStep, IsUsed, Net, Restarts, Router, TakesAnswer, TakesHeight}
+use Rattle.fr_node.specs.Routers.{IsStep, IsUsed, Router}
+use Rattle.fr_node.proofs.Members.{Contains-head}
+use Rattle.fr_node.proofs.Running.{first_changes, meets, met, net, new_router, restarts, says, second_changes, starts}
+use Rattle.fr_node.proofs.Running.{starts_from_one, taken, takes}
 
-abbrev at_one_zero : ℕ → ℕ → ℕ
-at_one_zero (suc zero) zero = 1
-at_one_zero _ _ = 0
+-- router 1 says its first height, before the restart
+abbrev first : Message
+first = record { from = 1; to = 0; boot = 1; echo = 0; number = 1; height = 2; heard = 0; distance = 1 }
 
-abbrev at_zero_one : ℕ → ℕ → ℕ
-at_zero_one zero (suc zero) = 1
-at_zero_one _ _ = 0
+-- router 0 says its height to the earlier start of router 1, which is past
+abbrev outdated : Message
+outdated = record { from = 0; to = 1; boot = 1; echo = 1; number = 1; height = 1; heard = 0; distance = 0 }
 
-abbrev up : Message
-up = record { from = 0; to = 1; boot = 0; echo = 0; number = 1; height = 1; heard = 0; distance = 0 }
+abbrev again : Message
+again = record { from = 1; to = 0; boot = 2; echo = 1; number = 1; height = 2; heard = 0; distance = 1 }
 
-abbrev back : Message
-back = record { from = 1; to = 0; boot = 0; echo = 0; number = 1; height = 2; heard = 1; distance = 1 }
+abbrev lower : Message
+lower = record { from = 0; to = 1; boot = 1; echo = 2; number = 1; height = 1; heard = 1; distance = 0 }
 
--- each router has announced its number and one as its height. They have heard and acknowledged by these tables
-abbrev routers : (heard acked : ℕ → ℕ → ℕ) → ℕ → Router
-routers heard acked y = record {
-  boot = 0;
-  gateway = false;
-  height = y + 1;
-  number = 1;
-  announced = λ n. y + 1;
-  peer = λ w. 0;
-  heard = heard y;
-  seen = heard y;
-  acked = acked y;
-}
+abbrev answer : Message
+answer = record { from = 1; to = 0; boot = 2; echo = 1; number = 1; height = 2; heard = 1; distance = 1 }
 
-abbrev none : ℕ → ℕ → ℕ
-none y w = 0
+-- router 0 as it starts, after it has met router 1, after it has heard its height, and after the answer
+abbrev a0 : Router
+a0 = new_router 1 1
 
-abbrev s0 : Net
-s0 = record { router = routers none none; pool = [] }
+abbrev a1 : Router
+a1 = met first a0
 
-abbrev s1 : Net
-s1 = record s0 { pool = up ∷ [] }
+abbrev a2 : Router
+a2 = taken again a1
 
-abbrev s2 : Net
-s2 = record s1 { router = routers at_one_zero none }
+abbrev a3 : Router
+a3 = taken answer a2
 
-abbrev s3 : Net
-s3 = record s2 { pool = back ∷ up ∷ [] }
+-- router 1 as it starts, after the restart, after it has met router 0, and after it has heard its height
+abbrev b0 : Router
+b0 = new_router 1 2
 
-abbrev s4 : Net
-s4 = record s3 { router = routers at_one_zero at_zero_one }
+abbrev b1 : Router
+b1 = new_router 2 2
 
-head : {X : Type 0} (x : X) (xs : List X) → Contains (x ∷ xs) x
-head x xs = (0, omega arith, refl)
+abbrev b2 : Router
+b2 = met outdated b1
 
-tail : {X : Type 0} (x y : X) (xs : List X) → Contains xs x → Contains (y ∷ xs) x
-tail x y xs (k, l, e) = (suc k, omega (arith, l), e)
+abbrev b3 : Router
+b3 = taken lower b2
 
-cases : {X : Type 0} (x y : X) (xs : List X) → Contains (y ∷ xs) x → (y ≡ x) ⊎ Contains xs x
-cases x y xs (zero, l, e) = inl e
-cases x y xs (suc k, l, e) = inr (k, omega (arith, l), e)
+-- a third router, which does nothing
+abbrev c0 : Router
+c0 = new_router 1 3
 
-idle : (pool : List Message) (y : ℕ) (r t : Router) → t.boot ≡ r.boot → r.number ≤ t.number
-    → ((n : ℕ) → n ≤ r.number → t.announced n ≡ r.announced n) → ((w : ℕ) → t.peer w ≡ r.peer w)
-    → ((w : ℕ) → TakesHeight pool y r t w) → ((w : ℕ) → TakesAnswer pool y r t w) → GoesOn pool y r t ⊎ Restarts r t
-idle pool y r t b n a p h k = inl (record {
-  boot = b;
-  number = n;
-  announced = a;
-  start = λ w. (omega (arith, p w), inl (p w));
-  height = h;
-  answer = k;
-})
+abbrev pool1 : List Message
+pool1 = first ∷ []
 
-true_up : (m : Message) → up ≡ m → IsSaidBy (s0.router m.from) m
-true_up m e = subst (λ (k : Message). IsSaidBy (s0.router k.from) k) e
-    (record { boot = refl; echo = refl; number = omega arith; height = refl; heard = refl })
+abbrev pool2 : List Message
+pool2 = outdated ∷ pool1
 
-true_back : (m : Message) → back ≡ m → IsSaidBy (s2.router m.from) m
-true_back m e = subst (λ (k : Message). IsSaidBy (s2.router k.from) k) e
-    (record { boot = refl; echo = refl; number = omega arith; height = refl; heard = refl })
+abbrev pool3 : List Message
+pool3 = again ∷ pool2
 
-step1 : IsStep s0 s1
-step1 = record {
-  routers = λ y. idle [] y (s0.router y) (s1.router y) refl (omega arith) (λ n l. refl) (λ w. refl) (λ w. inl
-      (refl, refl, refl))
-      (λ w. inl (refl, refl));
-  kept = λ m h. tail m up [] h;
-  new = λ m h. ⊎_elim (λ e. inr (true_up m e)) (λ o. inl o) (cases m up [] h);
-}
+abbrev pool4 : List Message
+pool4 = lower ∷ pool3
 
-hears : (y w : ℕ) → TakesHeight s1.pool y (s1.router y) (s2.router y) w
-hears (suc zero) zero = inr (inr
-    (up, record { said = head up []; from = refl; to = refl }, refl, refl, refl, refl, λ e. omega arith))
-hears zero w = inl (refl, refl, refl)
-hears (suc zero) (suc w) = inl (refl, refl, refl)
-hears (suc (suc y)) w = inl (refl, refl, refl)
+abbrev pool5 : List Message
+pool5 = answer ∷ pool4
 
-step2 : IsStep s1 s2
-step2 = record {
-  routers = λ y. idle s1.pool y (s1.router y) (s2.router y) refl (omega arith) (λ n l. refl) (λ w. refl) (hears y)
-      (λ w. inl (refl, refl));
-  kept = λ m h. h;
-  new = λ m h. inl h;
-}
+step1 : IsStep (net a0 b0 c0 []) (net a0 b0 c0 pool1)
+step1 = says (net a0 b0 c0 []) first (record { boot = refl; echo = refl; number = omega arith; height = refl; heard = refl })
 
-step3 : IsStep s2 s3
-step3 = record {
-  routers = λ y. idle s2.pool y (s2.router y) (s3.router y) refl (omega arith) (λ n l. refl) (λ w. refl)
-      (λ w. inl (refl, refl, refl))
-      (λ w. inl (refl, refl));
-  kept = λ m h. tail m back (up ∷ []) h;
-  new = λ m h. ⊎_elim (λ e. inr (true_back m e)) (λ o. inl o) (cases m back (up ∷ []) h);
-}
+step2 : IsStep (net a0 b0 c0 pool1) (net a1 b0 c0 pool1)
+step2 = first_changes pool1 a0 b0 c0 a1 (inl (meets pool1 0 a0 first (Contains-head first []) refl (omega arith)))
 
-answers : (y w : ℕ) → TakesAnswer s3.pool y (s3.router y) (s4.router y) w
-answers zero (suc zero) = inr (inr (
-  back,
-  record {
-    said = head back
-        (up ∷ []);
-    from = refl;
-    to = refl;
-  },
-  refl,
-  refl,
-  refl,
-))
-answers zero zero = inl (refl, refl)
-answers zero (suc (suc w)) = inl (refl, refl)
-answers (suc y) w = inl (refl, refl)
+step3 : IsStep (net a1 b0 c0 pool1) (net a1 b1 c0 pool1)
+step3 = second_changes pool1 a1 b0 c0 b1 (inr (restarts 2 2 b0 (omega arith)))
 
-step4 : IsStep s3 s4
-step4 = record {
-  routers = λ y. idle s3.pool y (s3.router y) (s4.router y) refl (omega arith) (λ n l. refl) (λ w. refl)
-      (λ w. inl (refl, refl, refl))
-      (answers y);
-  kept = λ m h. h;
-  new = λ m h. inl h;
-}
+step4 : IsStep (net a1 b1 c0 pool1) (net a1 b1 c0 pool2)
+step4 = says (net a1 b1 c0 pool1) outdated (record { boot = refl; echo = refl; number = omega arith; height = refl; heard = refl })
 
-used : IsUsed s4 1 0
+step5 : IsStep (net a1 b1 c0 pool2) (net a1 b2 c0 pool2)
+step5 = second_changes pool2 a1 b1 c0 b2 (inl (meets pool2 1 b1 outdated (Contains-head outdated pool1) refl (omega arith)))
+
+step6 : IsStep (net a1 b2 c0 pool2) (net a1 b2 c0 pool3)
+step6 = says (net a1 b2 c0 pool2) again (record { boot = refl; echo = refl; number = omega arith; height = refl; heard = refl })
+
+step7 : IsStep (net a1 b2 c0 pool3) (net a2 b2 c0 pool3)
+step7 = first_changes pool3 a1 b2 c0 a2 (inl (takes pool3 0 a1 again (Contains-head again pool2) refl refl (omega arith) (λ _. omega arith)))
+
+step8 : IsStep (net a2 b2 c0 pool3) (net a2 b2 c0 pool4)
+step8 = says (net a2 b2 c0 pool3) lower (record { boot = refl; echo = refl; number = omega arith; height = refl; heard = refl })
+
+step9 : IsStep (net a2 b2 c0 pool4) (net a2 b3 c0 pool4)
+step9 = second_changes pool4 a2 b2 c0 b3 (inl (takes pool4 1 b2 lower (Contains-head lower pool3) refl refl (omega arith) (λ _. omega arith)))
+
+step10 : IsStep (net a2 b3 c0 pool4) (net a2 b3 c0 pool5)
+step10 = says (net a2 b3 c0 pool4) answer (record { boot = refl; echo = refl; number = omega arith; height = refl; heard = refl })
+
+step11 : IsStep (net a2 b3 c0 pool5) (net a3 b3 c0 pool5)
+step11 = first_changes pool5 a2 b3 c0 a3 (inl (takes pool5 0 a2 answer (Contains-head answer pool4) refl refl (omega arith) (λ _. omega arith)))
+
+used : IsUsed (net a3 b3 c0 pool5) 1 0
 used = record {
   way = record { forwards = λ g. cc; known = omega arith; below = inl (omega arith) };
   gate = inr (record { acked = omega arith; high = λ n l h. omega arith });
 }
 
-starts : IsStart s0
-starts = record { silent = refl; peer = λ y w. refl; heard = λ y w. refl; acked = λ y w. refl }
-
 pub some_link_is_used : SomeLinkIsUsed
-some_link_is_used = (s0, s1 ∷ s2 ∷ s3 ∷ s4 ∷ [], starts, (step1, (step2, (step3, (step4, tt)))), used)
+some_link_is_used = (
+  net a0 b0 c0 [],
+  net a0 b0 c0 pool1 ∷ net a1 b0 c0 pool1 ∷ net a1 b1 c0 pool1 ∷ net a1 b1 c0 pool2 ∷ net a1 b2 c0 pool2
+      ∷ net a1 b2 c0 pool3 ∷ net a2 b2 c0 pool3 ∷ net a2 b2 c0 pool4 ∷ net a2 b3 c0 pool4 ∷ net a2 b3 c0 pool5
+      ∷ net a3 b3 c0 pool5 ∷ [],
+  starts 1 2 3,
+  (step1, (step2, (step3, (step4, (step5, (step6, (step7, (step8, (step9, (step10, (step11, tt))))))))))),
+  used,
+  starts_from_one 1 2 3,
+  omega arith,
+  refl,
+)

@@ -36,6 +36,7 @@ Announces-raised own v higher = record {
       announced = λ n since upto. omega (arith, followed_by-after h own.number v n (omega arith));
       order = omega (arith, b.order);
       begins = (b.begins.0, omega arith);
+      ends = (omega (arith, b.ends.0), omega arith);
     },
     λ n l. followed_by-before h own.number v n l,
   );
@@ -57,6 +58,7 @@ Announces-lowered own v lower = record {
           (λ n since upto. omega (arith, b.announced n since upto, b.order));
       order = omega arith;
       begins = b.begins;
+      ends = (omega (arith, b.ends.0), omega (arith, b.ends.1));
     },
     λ n l. followed_by-before h own.number v n l,
   );
@@ -75,8 +77,8 @@ Announces-settled own = record {
       used = b.announced;
       announced = b.announced;
       order = omega arith;
-      begins =
-          (b.begins.1, b.begins.1);
+      begins = (b.begins.1, b.begins.1);
+      ends = (b.ends.1, b.ends.1);
     },
     λ n l. refl,
   );

@@ -1,10 +1,11 @@
 -- One link of a list has changed.
 use Rattle.std.proofs.Common.{Bool, List, Some, ap, arith, false, get_or, length, map, refl, set, subst, sym, true, ℕ, ⊎_elim, ◌<◌, ◌==◌, ◌≡◌, ◌≢◌, ◌∙◌}
-use Rattle.std.specs.List.{position}
+use Rattle.std.specs.List.{Contains, position}
 use Rattle.std.proofs.Math.Seq.{map-set_same}
-use Rattle.std.proofs.lemmas.Bool.{lt-ltb}
+use Rattle.std.proofs.lemmas.Bool.{cases_lt, lt-ltb}
 use Rattle.std.proofs.lemmas.Bool.Decides.{nat_tests}
-use Rattle.std.proofs.lemmas.List.{get_or-set_other, get_or-set_same}
+use Rattle.std.proofs.lemmas.List.{get_or-set_other, get_or-set_same, get_or_past}
+use Rattle.std.proofs.lemmas.List.Elements.{Contains-get_or}
 use Rattle.std.proofs.lemmas.List.Folds.{position_or_len-set}
 use Rattle.std.proofs.lemmas.List.Quantifiers.{position-Some}
 use Rattle.std.proofs.lemmas.Option.{cond_some, get_or_from_slice_get, slice_get_read}
@@ -48,6 +49,21 @@ is_at ls w i x e r = subst (IsAt ls w i) here there
 -- the link at a place within the list leads there
 pub leads_there : (ls : List Link) (v : ℕ) → IsKnown ls v → (link_to ls v).neighbour ≡ v
 leads_there ls v known = (is_there ls v (place_of ls v) (rw (lt-ltb (place_of ls v) (length ls) known) refl)).neighbour
+
+up_known : (ls : List Link) (w : ℕ) → (link_to ls w).up ≡ true → IsKnown ls w
+up_known ls w up = ⊎_elim (λ l. l)
+    (λ past. absurd (down (ap (λ (l : Link). l.up) (get_or_past ls (place_of ls w) unknown past)) up))
+    (cases_lt (place_of ls w) (length ls))
+  where
+    down : (link_to ls w).up ≡ false → (link_to ls w).up ≡ true → ⊥
+    down f t = cc
+
+-- if what is known of w is a link that is up, it is listed and leads to w
+pub up_listed : (ls : List Link) (w : ℕ) → (link_to ls w).up ≡ true → Contains ls (link_to ls w)
+up_listed ls w up = Contains-get_or ls (place_of ls w) unknown (up_known ls w up)
+
+pub up_leads : (ls : List Link) (w : ℕ) → (link_to ls w).up ≡ true → (link_to ls w).neighbour ≡ w
+up_leads ls w up = leads_there ls w (up_known ls w up)
 
 place_of-set : (ls : List Link) (w i : ℕ) (x k : Link) → IsAt ls w i x → k.neighbour ≡ x.neighbour
     → (v : ℕ) → place_of (set ls i k) v ≡ place_of ls v

@@ -1,24 +1,24 @@
 -- What holds at every moment, and that each step keeps it.
 use Rattle.std.proofs.Common.{Contains, List, [], ap, arith, subst, sym, ℕ, ⊎_elim, ◌≡◌, ◌<◌, ◌≤◌}
 use Rattle.fr_node.specs.declared.message.Message.{Message}
-use Rattle.fr_node.specs.Routers.{GoesOn, IsFrom, IsSaidBy, IsStart, IsStep, Net, Restarts}
+use Rattle.fr_node.specs.Routers.{GoesOn, IsFrom, IsSaidBy, IsStart, IsStep, Net, Restarts, Router}
 
--- w has said a message to x for the present start of x
-pub record HasHeard (s : Net) (x w : ℕ) : Type 0 where
+-- router x, in this state, has heard a message of w of the start that it knows of w, for its own present start
+pub record HasHeard (pool : List Message) (x w : ℕ) (r : Router) : Type 0 where
   pub message : Message
-  pub from : IsFrom s.pool x w message
-  pub echo : message.echo ≡ (s.router x).boot
-  pub boot : message.boot ≡ (s.router x).peer w
-  pub number : message.number ≡ (s.router x).heard w
-  pub height : message.height ≡ (s.router x).seen w
+  pub from : IsFrom pool x w message
+  pub echo : message.echo ≡ r.boot
+  pub boot : message.boot ≡ r.peer w
+  pub number : message.number ≡ r.heard w
+  pub height : message.height ≡ r.seen w
 
 -- w, at the start that x knows of it, has said for the present start of x that it heard what x takes for acknowledged
-pub record HasAnswer (s : Net) (x w : ℕ) : Type 0 where
+pub record HasAnswer (pool : List Message) (x w : ℕ) (r : Router) : Type 0 where
   pub message : Message
-  pub from : IsFrom s.pool x w message
-  pub echo : message.echo ≡ (s.router x).boot
-  pub boot : message.boot ≡ (s.router x).peer w
-  pub most : (s.router x).acked w ≤ message.heard
+  pub from : IsFrom pool x w message
+  pub echo : message.echo ≡ r.boot
+  pub boot : message.boot ≡ r.peer w
+  pub most : r.acked w ≤ message.heard
 
 pub record KeepsRule (s : Net) : Type 0 where
   pub boots : (m : Message) → Contains s.pool m → (m.boot ≤ (s.router m.from).boot) × (m.echo ≤ (s.router m.to).boot)
@@ -32,8 +32,8 @@ pub record KeepsRule (s : Net) : Type 0 where
   pub apart : (m k : Message) → Contains s.pool m → Contains s.pool k → m.from ≡ k.to → m.to ≡ k.from
       → m.boot < (s.router m.from).boot → k.boot < (s.router k.from).boot → m.echo ≡ (s.router m.to).boot
       → k.echo ≡ (s.router k.to).boot → ⊥
-  pub heard_by : (x w : ℕ) → 0 < (s.router x).heard w → HasHeard s x w
-  pub acked_by : (x w : ℕ) → 0 < (s.router x).acked w → HasAnswer s x w
+  pub heard_by : (x w : ℕ) → 0 < (s.router x).heard w → HasHeard s.pool x w (s.router x)
+  pub acked_by : (x w : ℕ) → 0 < (s.router x).acked w → HasAnswer s.pool x w (s.router x)
 
 none : {X : Type 0} (xs : List X) (x : X) → xs ≡ [] → ¬ Contains xs x
 none xs x e h = empty (subst (λ ys. Contains ys x) e h)
@@ -184,66 +184,90 @@ apart_kept s t rule step m k hm hk a b lm lk em ek =
     rule.apart m k (is_old s t step m hm before_m) (is_old s t step k hk before_k) a b before_m before_k
     (omega (arith, em, to_m)) (omega (arith, ek, to_k))
 
+-- the same with a router that goes on by messages of the pool
+pub heard_on : (pool : List Message) (x w : ℕ) (r t : Router) → GoesOn pool x r t
+    → (0 < r.heard w → HasHeard pool x w r)
+    → 0 < t.heard w
+    → HasHeard pool x w t
+heard_on pool x w r t g before p = ⊎_elim same (⊎_elim (λ e. absurd (omega (arith, p, e.1))) taken) (g.height w)
+  where
+    same : (t.peer w ≡ r.peer w) × (t.heard w ≡ r.heard w) × (t.seen w ≡ r.seen w) → HasHeard pool x w t
+    same e = let b = before (omega (arith, p, e.1)) in record {
+      message = b.message;
+      from = b.from;
+      echo = omega (arith, b.echo, g.boot);
+      boot = omega (arith, b.boot, e.0);
+      number = omega (arith, b.number, e.1);
+      height = omega (arith, b.height, e.2);
+    }
+
+    taken : (m : Message) × IsFrom pool x w m × (m.echo ≡ r.boot) × (t.peer w ≡ m.boot) × (t.heard w ≡ m.number)
+        × (t.seen w ≡ m.height) × (t.peer w ≡ r.peer w → r.heard w ≤ m.number) → HasHeard pool x w t
+    taken (m, f, e, b, n, v, up) = record {
+      message = m;
+      from = f;
+      echo = omega (arith, e, g.boot);
+      boot = omega (arith, b);
+      number = omega (arith, n);
+      height = omega (arith, v);
+    }
+
+pub acked_on : (pool : List Message) (x w : ℕ) (r t : Router) → GoesOn pool x r t
+    → (0 < r.acked w → HasAnswer pool x w r)
+    → 0 < t.acked w
+    → HasAnswer pool x w t
+acked_on pool x w r t g before p = ⊎_elim same (⊎_elim (λ e. absurd (omega (arith, p, e))) taken) (g.answer w)
+  where
+    same : (t.peer w ≡ r.peer w) × (t.acked w ≡ r.acked w) → HasAnswer pool x w t
+    same e = let b = before (omega (arith, p, e.1)) in record {
+      message = b.message;
+      from = b.from;
+      echo = omega (arith, b.echo, g.boot);
+      boot = omega (arith, b.boot, e.0);
+      most = omega (arith, b.most, e.1);
+    }
+
+    taken : (m : Message) × IsFrom pool x w m × (m.echo ≡ r.boot) × (t.peer w ≡ m.boot) × (t.acked w ≡ m.heard)
+        → HasAnswer pool x w t
+    taken (m, f, e, b, v) = record {
+      message = m;
+      from = f;
+      echo = omega (arith, e, g.boot);
+      boot = omega (arith, b);
+      most = omega (arith, v);
+    }
+
 still : (s t : Net) → IsStep s t → (x w : ℕ) (m : Message) → IsFrom s.pool x w m → IsFrom t.pool x w m
 still s t step x w m f = record { said = step.kept m f.said; from = f.from; to = f.to }
 
-heard_kept : (s t : Net) → KeepsRule s → IsStep s t → (x w : ℕ) → 0 < (t.router x).heard w → HasHeard t x w
+heard_kept : (s t : Net) → KeepsRule s → IsStep s t → (x w : ℕ) → 0 < (t.router x).heard w
+    → HasHeard t.pool x w (t.router x)
 heard_kept s t rule step x w p = ⊎_elim goes (λ (r : Restarts (s.router x) (t.router x)). absurd (omega
     (arith, p, r.heard w))) (step.routers x)
   where
-    goes : GoesOn s.pool x (s.router x) (t.router x) → HasHeard t x w
-    goes g = ⊎_elim same (⊎_elim (λ e. absurd (omega (arith, p, e.1))) taken) (g.height w)
-      where
-        same : ((t.router x).peer w ≡ (s.router x).peer w) × ((t.router x).heard w ≡ (s.router x).heard w)
-            × ((t.router x).seen w ≡ (s.router x).seen w) → HasHeard t x w
-        same e = let b = rule.heard_by x w (omega (arith, p, e.1)) in record {
-          message = b.message;
-          from = still s t step x w b.message b.from;
-          echo = omega (arith, b.echo, g.boot);
-          boot = omega (arith, b.boot, e.0);
-          number = omega (arith, b.number, e.1);
-          height = omega (arith, b.height, e.2);
-        }
+    goes : GoesOn s.pool x (s.router x) (t.router x) → HasHeard t.pool x w (t.router x)
+    goes g = let b = heard_on s.pool x w (s.router x) (t.router x) g (rule.heard_by x w) p in record {
+      message = b.message;
+      from = still s t step x w b.message b.from;
+      echo = b.echo;
+      boot = b.boot;
+      number = b.number;
+      height = b.height;
+    }
 
-        taken : (m : Message) × IsFrom s.pool x w m × (m.echo ≡ (s.router x).boot)
-            × ((t.router x).peer w ≡ m.boot) × ((t.router x).heard w ≡ m.number)
-            × ((t.router x).seen w ≡ m.height) × ((t.router x).peer w ≡ (s.router x).peer w
-            → (s.router x).heard w ≤ m.number) → HasHeard t x w
-        taken (m, f, e, b, n, v, up) = record {
-          message = m;
-          from = still s t step x w m f;
-          echo = omega (arith, e, g.boot);
-          boot = omega (arith, b);
-          number = omega (arith, n);
-          height = omega (arith, v);
-        }
-
-acked_kept : (s t : Net) → KeepsRule s → IsStep s t → (x w : ℕ) → 0 < (t.router x).acked w → HasAnswer t x w
+acked_kept : (s t : Net) → KeepsRule s → IsStep s t → (x w : ℕ) → 0 < (t.router x).acked w
+    → HasAnswer t.pool x w (t.router x)
 acked_kept s t rule step x w p = ⊎_elim goes (λ (r : Restarts (s.router x) (t.router x)). absurd (omega
     (arith, p, r.acked w))) (step.routers x)
   where
-    goes : GoesOn s.pool x (s.router x) (t.router x) → HasAnswer t x w
-    goes g = ⊎_elim same (⊎_elim (λ e. absurd (omega (arith, p, e))) taken) (g.answer w)
-      where
-        same : ((t.router x).peer w ≡ (s.router x).peer w) × ((t.router x).acked w ≡ (s.router x).acked w)
-            → HasAnswer t x w
-        same e = let b = rule.acked_by x w (omega (arith, p, e.1)) in record {
-          message = b.message;
-          from = still s t step x w b.message b.from;
-          echo = omega (arith, b.echo, g.boot);
-          boot = omega (arith, b.boot, e.0);
-          most = omega (arith, b.most, e.1);
-        }
-
-        taken : (m : Message) × IsFrom s.pool x w m × (m.echo ≡ (s.router x).boot)
-            × ((t.router x).peer w ≡ m.boot) × ((t.router x).acked w ≡ m.heard) → HasAnswer t x w
-        taken (m, f, e, b, v) = record {
-          message = m;
-          from = still s t step x w m f;
-          echo = omega (arith, e, g.boot);
-          boot = omega (arith, b);
-          most = omega (arith, v);
-        }
+    goes : GoesOn s.pool x (s.router x) (t.router x) → HasAnswer t.pool x w (t.router x)
+    goes g = let b = acked_on s.pool x w (s.router x) (t.router x) g (rule.acked_by x w) p in record {
+      message = b.message;
+      from = still s t step x w b.message b.from;
+      echo = b.echo;
+      boot = b.boot;
+      most = b.most;
+    }
 
 pub step_kept : (s t : Net) → KeepsRule s → IsStep s t → KeepsRule t
 step_kept s t rule step = record {

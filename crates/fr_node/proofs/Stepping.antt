@@ -8,13 +8,13 @@ use Rattle.fr_node.specs.declared.message.Message.{Message}
 use Rattle.fr_node.specs.declared.node.Node.{Node}
 use Rattle.fr_node.specs.declared.own.Own.{Own}
 use Rattle.fr_node.specs.Events.{IsAfterEvent}
-use Rattle.fr_node.specs.Histories.{Announces}
+use Rattle.fr_node.specs.Histories.{Announces, IsHistory}
 use Rattle.fr_node.specs.Links.{Hears, IsHeard, Says, SetsUp, is_way, link_to, place_of}
-use Rattle.fr_node.specs.Nodes.{Steps, router}
+use Rattle.fr_node.specs.Nodes.{Steps, lets_in, router, sends_to}
 use Rattle.fr_node.specs.Policies.{Acts}
-use Rattle.fr_node.specs.Routers.{IsBelow, IsFrom, IsWay}
+use Rattle.fr_node.specs.Routers.{IsBelow, IsFrom, IsOpen, IsWay}
 use Rattle.fr_node.proofs.Histories.{Announces-none}
-use Rattle.fr_node.proofs.Linking.{IsAt, found_at}
+use Rattle.fr_node.proofs.Linking.{IsAt, found_at, up_leads}
 
 same_or_not : (a b : ℕ) → (a ≡ b) ⊎ (a ≢ b)
 same_or_not a b = grind arith
@@ -31,11 +31,11 @@ record Takes (pool : List Message) (y boot w : ℕ) (l k : Link) : Type 0 where
       ⊎ ((m : Message) × IsFrom pool y w m × (m.echo ≡ boot) × (k.peer ≡ m.boot) × (k.acked ≡ m.heard))
 
 -- the same is known
-record KnowsSame (l k : Link) : Type 0 where
-  peer : k.peer ≡ l.peer
-  heard : k.heard ≡ l.heard
-  seen : k.seen ≡ l.seen
-  acked : k.acked ≡ l.acked
+pub record KnowsSame (l k : Link) : Type 0 where
+  pub peer : k.peer ≡ l.peer
+  pub heard : k.heard ≡ l.heard
+  pub seen : k.seen ≡ l.seen
+  pub acked : k.acked ≡ l.acked
 
 takes_none : (pool : List Message) (y boot w : ℕ) (l k : Link) → KnowsSame l k → Takes pool y boot w l k
 takes_none pool y boot w l k s = record {
@@ -44,7 +44,7 @@ takes_none pool y boot w l k s = record {
   answer = inl (s.peer, s.acked);
 }
 
-same : (l k : Link) → k ≡ l → KnowsSame l k
+pub same : (l k : Link) → k ≡ l → KnowsSame l k
 same l k e = record {
   peer = ap (λ (j : Link). j.peer) e;
   heard = ap (λ (j : Link). j.heard) e;
@@ -223,23 +223,26 @@ pub after_setting : (w : ℕ) (up : Bool) (old mid new : Node) → InTurn old mi
 after_setting w up old mid new turn sets = in_turn [] old mid new turn
     (takes_up [] old.own.me old.own.boot w up old.links.items mid.links.items sets)
 
-pub steps_said : (w : ℕ) (m : Message) (old new : Node) → new.own ≡ old.own → Says w m old.links.items new.links.items
-    → Steps [] old new
-steps_said w m old new own says = steps [] old new (subst (Announces old.own) (sym own) (Announces-none old.own))
-    (λ v. takes_none [] old.own.me old.own.boot v (link_to old.links.items v) (link_to new.links.items v) (⊎_elim
-    (λ here. told v (subst (λ u. link_to new.links.items u ≡ record
-    (link_to old.links.items u) { said = Some m }) (sym here) says.itself))
-    (λ other. same (link_to old.links.items v) (link_to new.links.items v) (says.others v other))
-    (same_or_not v w)))
+pub said_same : (w : ℕ) (m : Message) (ls ks : List Link) → Says w m ls ks → (v : ℕ)
+    → KnowsSame (link_to ls v) (link_to ks v)
+said_same w m ls ks says v = ⊎_elim
+    (λ here. told (subst (λ u. link_to ks u ≡ record (link_to ls u) { said = Some m }) (sym here) says.itself))
+    (λ other. same (link_to ls v) (link_to ks v) (says.others v other))
+    (same_or_not v w)
   where
-    told : (v : ℕ) → link_to new.links.items v ≡ record (link_to old.links.items v) { said = Some m }
-        → KnowsSame (link_to old.links.items v) (link_to new.links.items v)
-    told v e = record {
+    told : link_to ks v ≡ record (link_to ls v) { said = Some m } → KnowsSame (link_to ls v) (link_to ks v)
+    told e = record {
       peer = ap (λ (l : Link). l.peer) e;
       heard = ap (λ (l : Link). l.heard) e;
       seen = ap (λ (l : Link). l.seen) e;
       acked = ap (λ (l : Link). l.acked) e;
     }
+
+pub steps_said : (w : ℕ) (m : Message) (old new : Node) → new.own ≡ old.own → Says w m old.links.items new.links.items
+    → Steps [] old new
+steps_said w m old new own says = steps [] old new (subst (Announces old.own) (sym own) (Announces-none old.own))
+    (λ v. takes_none [] old.own.me old.own.boot v (link_to old.links.items v) (link_to new.links.items v)
+    (said_same w m old.links.items new.links.items says v))
 
 is_lower_fact : (own : Own) (l : Link) → IsTrue (is_way own l) → (0 < l.heard)
     × IsBelow l.seen l.neighbour own.used own.me
@@ -262,3 +265,30 @@ way_at n w i x at router_is t h = record {
 
     true_false : false ≡ true → ⊥
     true_false e = cc
+
+pub way_to : (n : Node) (w : ℕ) → sends_to n w ≡ true → (h : ℕ → ℕ) → IsWay (router n h) n.own.me w
+way_to n w t h = record {
+  forwards = λ g. true_false (parts.0 ∙ g);
+  known = fact.0;
+  below = subst (λ v. IsBelow (link_to n.links.items w).seen v n.own.used n.own.me)
+      (up_leads n.links.items w parts.1) fact.1;
+}
+  where
+    parts : (false ≡ n.gateway) × ((link_to n.links.items w).up ≡ true) × IsTrue (is_way n.own (link_to n.links.items w))
+    parts = grind (arith, nat_tests, t)
+
+    fact : (0 < (link_to n.links.items w).heard) × IsBelow (link_to n.links.items w).seen
+        (link_to n.links.items w).neighbour n.own.used n.own.me
+    fact = is_lower_fact n.own (link_to n.links.items w) parts.2
+
+    true_false : false ≡ true → ⊥
+    true_false e = cc
+
+pub gate_to : (n : Node) (w : ℕ) → lets_in n w ≡ true → (h : ℕ → ℕ) → IsHistory n.own h → IsOpen (router n h) w
+gate_to n w t h known = ⊎_elim (λ g. inl g) (λ answered. inr (record {
+  acked = omega (arith, answered, known.begins.0);
+  high = λ k since upto. known.used k (omega (arith, answered, since)) upto;
+})) parts
+  where
+    parts : IsTrue n.gateway ⊎ (n.own.used_since ≤ (link_to n.links.items w).acked)
+    parts = grind (arith, nat_tests, t)

@@ -10,6 +10,7 @@ pub record IsHistory (own : Own) (h : ℕ → ℕ) : Type 0 where
   pub announced : (n : ℕ) → own.announced_since ≤ n → n ≤ own.number → own.announced ≤ h n
   pub order : own.used ≤ own.announced
   pub begins : (0 < own.used_since) × (0 < own.announced_since)
+  pub ends : (own.used_since ≤ own.number) × (own.announced_since ≤ own.number)
 
 -- the node has made announcements, or none, and may use another height. What it had announced stays
 pub record Announces (old new : Own) : Type 0 where

@@ -1,6 +1,7 @@
 pub mod Bytes  -- messages as bytes
 pub mod Routers  -- networks of routers, and what can happen in them
 pub mod Laws  -- the laws of these networks
+pub mod Tables  -- forwarding tables of routers, and the laws of these
 pub mod Links  -- what a node knows of its neighbours
 pub mod Histories  -- what a node has announced
 pub mod Distances  -- how far a node is from a gateway
@@ -8,3 +9,4 @@ pub mod Policies  -- which height a node announces, and when it uses it
 pub mod Nodes  -- which router of the laws a node is
 pub mod Events  -- a node at its start, after an event, and when it says a message
 pub mod Arrivals  -- where packets end, once nothing more happens
+pub mod Daemons  -- daemons that call nodes and write tables
