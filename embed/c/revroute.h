@@ -667,13 +667,17 @@ void revroute_way_reader_close(revroute_way_reader *reader);
  *
  * At no moment do the links that routers use contain a loop, whatever happens to messages, and whichever routers
  * restart. A link is used if the router at one end sends packets over it, and the router at the other end lets them in.
- * This needs three things of the program:
+ * This needs the following of the program. docs/NODES.md says more about each.
  *
- * 1. After an event, that is revroute_node_link_up, revroute_node_link_down or revroute_node_hear, the program writes
- *    the ways and gates to the forwarding table, and only then calls revroute_node_written. Until then
- *    revroute_node_say returns REVROUTE_UNWRITTEN. More events may come before.
- * 2. The router drops packets from each neighbour that revroute_node_lets_in does not let in.
- * 3. At each start, `boot` is greater than at all earlier starts of this router.
+ * 1. Write, then say that it is written, then send. After an event, that is revroute_node_link_up,
+ *    revroute_node_link_down or revroute_node_hear, the program writes the ways and gates to the forwarding table, and
+ *    only then calls revroute_node_written. Until then revroute_node_say returns REVROUTE_UNWRITTEN. More events may come
+ *    before.
+ * 2. Write in this order: close the gates that are not listed any more, change the ways, then open gates.
+ * 3. Drop what comes through a closed gate: packets from each neighbour that revroute_node_gates does not list.
+ * 4. The boot number grows at each start of a router.
+ * 5. Start with an empty table, without the ways and gates that an earlier process has left.
+ * 6. Each router has a number of its own.
  *
  *     revroute_node node = REVROUTE_NO_NODE;
  *     revroute_policy policy = {REVROUTE_FULL, 0, 0, 1};
