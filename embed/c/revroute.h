@@ -68,8 +68,8 @@
  * an answer's buffer or an array that it fills.
  *
  * No call waits for another thread, starts a thread, reads a file, or keeps a pointer that it was given. Only malloc,
- * realloc and free may wait, in a call that takes or frees memory. (The calls of the package for Python may wait for one
- * another, since it has a lock for each session and for each node.)
+ * realloc and free may wait, in a call that takes or frees memory. (In Python, calls on one session or on one node may
+ * wait for one another, because the package has a lock for each.)
  *
  * The costs below use n for the number of nodes, and m for the number of links.
  */
@@ -348,8 +348,8 @@ void revroute_close(revroute *session);
  *
  * The first call of revroute_ways, revroute_distance, revroute_nearest or revroute_change_with_ways in a network also
  * measures the distances of all its nodes, in O(n + m). So does the first line that asks for the ways or the nearest
- * route of one node. From then on each change keeps them up to date. A session that has had a reader of ways always keeps
- * them. If none of this applies, changes do not pay for distances. */
+ * route of one node. From then on each change keeps them up to date. A session that has had a reader of ways always
+ * keeps them. If none of this applies, changes do not pay for distances. */
 
 /* Returns the next hop of a node: a node, or one of the values above. O(1). */
 uint32_t revroute_next_hop(revroute *session, uint32_t node);
