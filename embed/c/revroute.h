@@ -17,7 +17,7 @@
  *     ..
  *     revroute_close(&session);
  *
- * While one thread changes the session, other threads can read next hops. Each of them has a reader. No call waits:
+ * While one thread changes the session, other threads can read next hops. Each of them has a reader. No read waits:
  *
  *     revroute_reader reader = REVROUTE_NO_READER, copy = REVROUTE_NO_READER;
  *     if (revroute_reader_open(&session, &reader) == REVROUTE_ANSWERED
@@ -67,7 +67,9 @@
  * Results need no initial value, as the first example shows: a call never reads *round, *refusal, *length, *taken,
  * an answer's buffer or an array that it fills.
  *
- * No call waits for another thread, starts a thread, reads a file, or keeps a pointer that it was given.
+ * No call waits for another thread, starts a thread, reads a file, or keeps a pointer that it was given. Only malloc,
+ * realloc and free may wait, in a call that takes or frees memory. (In Python, calls on one session or on one node may
+ * wait for one another, because the package has a lock for each.)
  *
  * The costs below use n for the number of nodes, and m for the number of links.
  */
@@ -344,9 +346,10 @@ void revroute_close(revroute *session);
  * number of elements to *length. With REVROUTE_TOO_SHORT *length is that number too. After any result but
  * REVROUTE_ANSWERED the array is unchanged.
  *
- * The first call of revroute_ways, revroute_distance or revroute_nearest in a network also measures the distances of all
- * its nodes, in O(n + m). From then on each change keeps them up to date. A program that makes no such call does not pay
- * for them. */
+ * The first call of revroute_ways, revroute_distance, revroute_nearest or revroute_change_with_ways in a network also
+ * measures the distances of all its nodes, in O(n + m). So does the first line that asks for the ways or the nearest
+ * route of one node. From then on each change keeps them up to date. A session that has had a reader of ways always
+ * keeps them. If none of this applies, changes do not pay for distances. */
 
 /* Returns the next hop of a node: a node, or one of the values above. O(1). */
 uint32_t revroute_next_hop(revroute *session, uint32_t node);
@@ -502,8 +505,9 @@ revroute_status revroute_size(revroute *session, uint32_t *nodes, size_t *links)
  *   left, or later ones. This is proved for a reader that was opened after the call, or that has learned from such a
  *   reader by revroute_reader_learn. For other readers it is only tested. A reader never goes back to an earlier table.
  * - Two reads can be of different tables. So while hops are pushed, a walk can visit a node again. It can also end at
- *   a node that is cut off although its first node has a route before and after. Within the pushes of one round it
- *   visits no node more than twice.
+ *   a node that is cut off although its first node has a route before and after. A walk within the pushes of one round
+ *   visits no node more than twice, if its reader knows all pushes before this round: if it was opened after them, or
+ *   has learned from a reader that was.
  * - A thread that reads a hop also sees everything that the changing thread wrote before the call that stored the hop.
  *
  * Readers outlive their session. After its end they read its last hops. */
@@ -663,13 +667,17 @@ void revroute_way_reader_close(revroute_way_reader *reader);
  *
  * At no moment do the links that routers use contain a loop, whatever happens to messages, and whichever routers
  * restart. A link is used if the router at one end sends packets over it, and the router at the other end lets them in.
- * This needs three things of the program:
+ * This needs the following of the program. docs/NODES.md says more about each.
  *
- * 1. After an event, that is revroute_node_link_up, revroute_node_link_down or revroute_node_hear, the program writes
- *    the ways and gates to the forwarding table, and only then calls revroute_node_written. Until then
- *    revroute_node_say returns REVROUTE_UNWRITTEN. More events may come before.
- * 2. The router drops packets from each neighbour that revroute_node_lets_in does not let in.
- * 3. At each start, `boot` is greater than at all earlier starts of this router.
+ * 1. Write, then say that it is written, then send. After an event, that is revroute_node_link_up,
+ *    revroute_node_link_down or revroute_node_hear, the program writes the ways and gates to the forwarding table, and
+ *    only then calls revroute_node_written. Until then revroute_node_say returns REVROUTE_UNWRITTEN. More events may come
+ *    before.
+ * 2. Write in this order: close the gates that are not listed any more, change the ways, then open gates.
+ * 3. Drop what comes through a closed gate: packets from each neighbour that revroute_node_gates does not list.
+ * 4. The boot number grows at each start of a router.
+ * 5. Start with an empty table, without the ways and gates that an earlier process has left.
+ * 6. Each router has a number of its own.
  *
  *     revroute_node node = REVROUTE_NO_NODE;
  *     revroute_policy policy = {REVROUTE_FULL, 0, 0, 1};

@@ -35,10 +35,10 @@ class Node:
     """The state machine of one router, for one destination, in a network without a controller. Each router runs its
     own, and they exchange messages.
 
-    Events are `link_up`, `link_down` and `hear`. After an event, write the ways and gates to the forwarding table, and
-    then call `written`. Only then `say` has messages. So at no moment do the links that routers use contain a loop,
-    whatever happens to messages and whichever routers restart. For this, each router has to drop packets from
-    neighbours that it does not let in, and `boot` has to be greater at each start.
+    Events are `link_up`, `link_down` and `hear`. After an event, write the ways and gates of `table` to the forwarding
+    table, and then call `written`. Only then `say` has messages. So at no moment do the links that routers use contain a
+    loop, whatever happens to messages and whichever routers restart. docs/NODES.md has all rules for this. Among them:
+    each router drops packets from neighbours that it does not let in, and `boot` is greater at each start.
 
     >>> import revroute
     >>> gateway, router = revroute.Node.gateway(0, boot=1), revroute.Node(1, boot=1, height=1, cap=16)
