@@ -185,7 +185,7 @@ def asked(request):
     name, *items = request
     if name == 'net':
         return [name, *items[:2], *texts(items[2])]
-    if name == 'pushes':
+    if name in ('pushes', 'phases'):
         return [name]
     return [name, *(word for edit in items[0] for word in edit)] if name == 'batch' else request
 
