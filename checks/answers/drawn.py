@@ -33,8 +33,11 @@ NOT_REQUESTS = [
     b'["batch",{}]', b"[" * 127 + b"]" * 127, b'{"a":' * 127 + b"1" + b"}" * 127,
     b'["[[[[",' + b"[" * 126 + b"]" * 127, b'["pushes"]', b'["pushes",0]', b'["pushes",{}]', b'["pushes",[],[],[]]',
     b'["pushes",["fly"]]', b'["pushes",["Here"]]', b'["pushes",[-1]]', b'["pushes",[0.0]]', b'["pushes",[[0],0]]',
-    b'["pushes",[[0]],[]]', b'["pushes",[[0]],[[0]]]', b'["pushes",[["here"]]]', b'["pushes",[[[0]]]]', b'["pushes",[[-1]]]',
-    b'["pushes",[[0],"fly"]]', b'["pushes",[[],null]]', b'["pushes",[{}]]', b'["pushes",[[4294967296]]]',
+    b'["pushes",[[0]]]', b'["pushes",[[]]]', b'["pushes",["here",[0],"cut"]]', b'["pushes",[[0]],[]]', b'["pushes",[],[[0]]]',
+    b'["pushes",[[0]],[[0]]]', b'["phases"]', b'["phases",0]', b'["phases",{}]', b'["phases","here"]', b'["phases",[],[]]',
+    b'["phases",["here"],["here"]]', b'["phases",[0]]', b'["phases",["here",0,"cut"]]', b'["phases",[[0],0]]', b'["phases",[-1]]',
+    b'["phases",[["here"]]]', b'["phases",[[[0]]]]', b'["phases",[[-1]]]', b'["phases",[[0],"fly"]]', b'["phases",["Cut"]]',
+    b'["phases",[[],null]]', b'["phases",[{}]]', b'["phases",[[4294967296]]]', b'["phase",["here"]]', b'["Phases",["here"]]',
     b'["ways",[0]]', b'["ways",0,1]', b'["ways",-1]', b'["nearest"]', b'["nearest",0,1]', b'["nearest","0"]',
     b'["pushes",[],null]', b'["pushes",[0],["cut",null]]', b'["pushes",["here",4294967296]]', b'["pushes","here"]',
 ]  # fmt: skip
@@ -43,7 +46,7 @@ QUESTIONS = (["links"], ["counts"], ["hops"], ["ways"])
 WITHOUT_NETWORK = (
     *(["cut", 0, 1], ["add", 0, 1], ["join", 0, 1], ["batch", []], ["dest", 0], ["walk", 0], *QUESTIONS),
     *(["ways", 0], ["nearest", 0], ["pushes", []], ["pushes", [0], ["here", 0]], ["pushes", ["here", 2, 0], ["here", 0, 1]]),
-    *(["pushes", [[]]], ["pushes", ["here", [0], "cut"]]),
+    *(["phases", []], ["phases", [[]]], ["phases", ["here"]], ["phases", ["here", "cut"]], ["phases", ["here", [0], "cut"]]),
 )
 
 
@@ -62,12 +65,14 @@ def full():
     most, more = ["cut"] * MOST_NODES, ["cut"] * (MOST_NODES + 1)
     yield from (["pushes", more], ["pushes", most], ["pushes", most, more], ["pushes", more, []])
     yield from (["pushes", [], ["here", *range(MOST_NODES - 1)]], ["pushes", most, [*range(1, MOST_NODES), 0]])
-    yield from (["pushes", [[1]] * MOST_NODES], ["pushes", [[1]] * (MOST_NODES + 1)], ["pushes", [[LARGEST, LARGEST]]])
+    yield from (["phases", [[1]] * MOST_NODES], ["phases", [[1]] * (MOST_NODES + 1)], ["phases", [[LARGEST, LARGEST]]])
+    yield from (["phases", most], ["phases", more])
 
 
 # The methods of Drawn that draw a line, and how often each is taken.
 NETWORKS = {"net": 2, "wild_net": 2, "double_net": 1, "cyclic_net": 4}
-ALL_KINDS = {"edit": 8, "batch": 6, "question": 6, "walk": 3, "about_a_node": 4, "move": 2, "pushes": 4, "way_pushes": 4, "no_request": 3, **NETWORKS}
+TABLES = {"pushes": 4, "phases": 4, "ways_back": 3, "first_start": 1}
+ALL_KINDS = {"edit": 8, "batch": 6, "question": 6, "walk": 3, "about_a_node": 4, "move": 2, "no_request": 3, **TABLES, **NETWORKS}
 CHANGES = {"edit": 6, "batch": 3, "move": 1, "net": 1}
 
 
@@ -79,16 +84,17 @@ class Drawn:
         self.session, self.lines = plain.Session(), []
 
     def add(self, line):
+        """Adds a line, and returns its answer."""
         self.lines.append(line)
-        self.session.answer(line)
+        return self.session.answer(line)
 
     def ask(self, request):
-        """Adds the line of a request, in one of the ways to write it."""
+        """Adds the line of a request, in one of the ways to write it, and returns its answer."""
         line = json.dumps(request, separators=self.by.choice([(",", ":"), (", ", ": "), (" ,\t", ":")]))
         if self.by.random() < 0.1:
             line = line.replace("e", "\\u0065").replace("[", "[ ")
         before, behind = self.by.choice(["", "", "", " ", "\t"]), self.by.choice(["", "", "", " ", "\r"])
-        self.add(f"{before}{line}{behind}".encode())
+        return self.add(f"{before}{line}{behind}".encode())
 
     def draw(self, count, kinds):
         """Draws so many lines."""
@@ -154,8 +160,21 @@ class Drawn:
         del table[len(table) - self.by.choice([0, 0, 0, 1, len(table)]) :]
         return table + self.by.choice([[], [], [], [], [[]], [[0], "cut"]])
 
-    def way_pushes(self):
-        self.ask(["pushes", self.lists()])
+    def phases(self):
+        self.ask(["phases", self.lists()])
+
+    def ways_back(self):
+        """Sends the answer to `ways` back, at once or after a change."""
+        _, value, _ = self.ask(["ways"])
+        if self.by.random() < 0.5:
+            self.by.choice([self.edit, self.batch, self.move])()
+        self.ask(["phases", value.get("ways", [])])
+
+    def first_start(self):
+        """A network without links, in whose ways there are only words. They are sent back as well."""
+        size = self.by.randint(1, self.most_nodes)
+        self.ask(["net", size, self.by.randrange(size), []])
+        self.ways_back()
 
     def order(self, size):
         """Links without a cycle."""

@@ -3,7 +3,7 @@
 
 usage: checks/answers/phases.py [PROGRAM] [CHANGES]
 
-The answers to each change, to ways, nearest and pushes have to be those of plain.py. After each push, and with random ways
+The answers to each change, to ways, nearest and phases have to be those of plain.py. After each push, and with random ways
 taken away, the table that the routers hold must have no cycle, and after the last push of both phases it must be that of the
 answer to ways. Some phases are interrupted by the next change. The same pushes are also made with the lists that grow first,
 and in one phase: both must make cycles, or the check is blind. PROGRAM is revroute, by default ./revroute, and CHANGES is
@@ -92,7 +92,7 @@ class Routers:
         network = asked.session.network
         ways = asked.ask("ways")["ways"]
         asked.ask("nearest", self.draw.randrange(network.size))
-        phases = asked.ask("pushes", [self.table.get(x, []) for x in range(network.size)])
+        phases = asked.ask("phases", [self.table.get(x, []) for x in range(network.size)])
         wanted = {x: [] if it in (plain.HERE, plain.CUT) else it for x, it in enumerate(ways)}
         self.seen["grow first"] += cycles(self.table, phases["grow"] + phases["shrink"])
         self.seen["one phase"] += cycles(self.table, [[x, ways] for x, ways in wanted.items() if ways != self.table.get(x)])

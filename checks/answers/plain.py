@@ -88,9 +88,11 @@ def is_request(value):
         case ["links"] | ["counts"] | ["hops"] | ["ways"]:
             return True
         case ["pushes", [*table]]:
-            return all(map(is_hop, table)) or all(map(is_ways, table))
+            return all(map(is_hop, table))
         case ["pushes", [*table], [*wanted]]:
             return all(map(is_hop, table + wanted))
+        case ["phases", [*table]]:
+            return all(map(is_ways, table))
         case ["walk" | "ways" | "nearest" | "dest", x]:
             return is_number(x)
         case ["batch", [*edits]]:
@@ -338,11 +340,11 @@ class Session:
         word, *items = request
         if word == "net":
             return self.round(Network(*items))
-        if word == "pushes" and all(map(is_hop, items[0])):
+        if word == "pushes":
             return self.pushed(*items)
         if not self.network:
             raise Refused(3)
-        if word == "pushes":
+        if word == "phases":
             return self.pushed_ways(*items)
         match request:
             case ["links"]:
@@ -402,7 +404,7 @@ class Session:
             raise Refused(4, [size])
         found = phases({x: ways for x, ways in enumerate(table) if ways not in (HERE, CUT)}, self.network.all_ways())
         lines = (listed(word, (f"{x}>{with_commas(ways) or 'none'}" for x, ways in it)) for word, it in found.items())
-        return listed("pushes", lines), found
+        return listed("phases", lines), found
 
     def round(self, network):
         """Settles a network, which is then the one of the session."""

@@ -5,7 +5,8 @@ import re
 from pathlib import Path
 
 TOP = Path(__file__).resolve().parents[2]
-# Each row has a word, and the names in C, Rust and Python that have it. The first 13 words are those of lines.
+# Each row has a word, and the names in C, Rust and Python that have it. The first 14 words are those of lines. One call lists one
+# phase, so `phases` is a word of lines only.
 TABLE = """
 cut      | REVROUTE_CUT | Network::cut Edit::Cut | Network.cut
 add      | REVROUTE_ADD | Network::add Edit::Add | Network.add
@@ -20,6 +21,7 @@ ways     | revroute_ways revroute_all_ways revroute_way_reader_ways revroute_nod
 nearest  | revroute_nearest | Network::nearest Session::nearest | Network.nearest Session.nearest
 net      | revroute_open | Network::new | Network
 pushes   | revroute_pushes | Network::pushes Session::pushes | Network.pushes Session.pushes
+phases   | | |
 shrink   | revroute_shrink | Network::shrink Session::shrink | Network.shrink Session.shrink
 grow     | revroute_grow | Network::grow Session::grow | Network.grow Session.grow
 with_ways | revroute_change_with_ways | Network::batch_with_ways | Network.batch_with_ways
@@ -62,7 +64,7 @@ sends_to | revroute_node_sends_to | NodeTable::sends_to | Node.sends_to
 OF_THEIR_OWN = {"revroute_change", "revroute_open", "Network::new", "Session::new", "Network", "Network::try_clone", "Reader::try_clone"}
 OF_THEIR_OWN |= {"WayReader::try_clone"}
 OF_THEIR_OWN |= {"revroute_closed_walk", "revroute_closed_walk_of", "Refused::ClosedWalk"}
-WORDS_OF_LINES = 13
+WORDS_OF_LINES = 14
 RUST_TYPES = ("Network", "Session", "Reader", "WayReader", "Node", "NodeTable", "Unwritten")
 PYTHON_TYPES = ("Network", "Session", "Reader", "WayReader", "Node")
 

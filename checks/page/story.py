@@ -167,6 +167,17 @@ def pushes(old, new):
     return words('pushes', [f'{node}>{new[node]}' for node in push_order(old, new)])
 
 
+def phases(old, new):
+    """The answer to a request for the pushes of two phases from one table of ways to another."""
+    old = [had if isinstance(had, list) else [] for had in old] + [[]] * (len(new) - len(old))
+    kept = [[way for way in ways if way in had] for had, ways in zip(old, new, strict=True)]
+    losing = [node for node, had in enumerate(old) if not set(had) <= set(new[node])]
+    shrink = sorted(losing, key=lambda node: (not kept[node], node))
+    grow = [node for node, ways in enumerate(new) if ways != (kept if node in losing else old)[node]]
+    lists = [[f'{node}>{",".join(map(str, table[node])) or "none"}' for node in nodes] for nodes, table in ((shrink, kept), (grow, new))]
+    return words('phases', ['shrink', *lists[0], 'grow', *lists[1]])
+
+
 def words(name, items):
     return ' '.join([name, *map(str, items)])
 
@@ -185,7 +196,7 @@ def asked(request):
     name, *items = request
     if name == 'net':
         return [name, *items[:2], *texts(items[2])]
-    if name == 'pushes':
+    if name in ('pushes', 'phases'):
         return [name]
     return [name, *(word for edit in items[0] for word in edit)] if name == 'batch' else request
 
@@ -199,6 +210,8 @@ def answered(network, request):
     if request[0] == 'pushes':
         old, *wanted = [list(map(str, table)) for table in request[1:]]
         return pushes(old, *wanted or [network.hops()])
+    if request[0] == 'phases':
+        return phases(request[1], network.ways())
     if request[0] == 'ways':
         all_ways = network.ways_words()
         return words('ways', [all_ways[node] for node in request[1:]] or all_ways)

@@ -41,7 +41,7 @@ Requests:
   [\"ways\"]  [\"ways\",X]   report all ways of each node or of X, nearest first
   [\"nearest\",X]         report a route of the fewest links from X along the ways
   [\"pushes\",[HOP,..]]    order the pushes from this table to the next hops, or to a second table
-  [\"pushes\",[[W,..],..]]  list the pushes of two phases from these ways to the ways of each node
+  [\"phases\",[[W,..],..]]  list the pushes of two phases from these ways to the ways of each node
 
 Answers, and with --json:
   turned T cut K      {\"turned\":T,\"cut_off\":K,\"changed\":[[X,HOP],..]}  after a change
@@ -53,7 +53,7 @@ Answers, and with --json:
   ways W,W W ..       {\"ways\":[[W,W],[W],..]}; or here or cut in place of a list
   nearest X Y ..      {\"nearest\":[X,Y,..]}, or {\"nearest\":null} if X is cut off
   pushes X>HOP ..     {\"pushes\":[[X,HOP],..]}
-  pushes shrink X>W,W .. grow X>W,W ..  {\"shrink\":[[X,[W,W]],..],\"grow\":[[X,[W,W]],..]}
+  phases shrink X>W,W .. grow X>W,W ..  {\"shrink\":[[X,[W,W]],..],\"grow\":[[X,[W,W]],..]}
   refused N           {\"refused\":N,\"fault\":NAME,\"nodes\":[X,..],\"line\":LINE}
 
 Examples:

@@ -291,7 +291,8 @@ asks_nothing word links counts hops ways =
     rw (links, counts, hops, ways)
     (none_of (bytes_eq word (codes "net")) _ (none_of (bytes_eq word (codes "cut")) _ (none_of (bytes_eq word (codes "add")) _
     (none_of (bytes_eq word (codes "join")) _ (none_of (bytes_eq word (codes "batch")) _ (none_of (bytes_eq word (codes "dest")) _
-    (none_of (bytes_eq word (codes "walk")) _ (none_of (bytes_eq word (codes "nearest")) _ (none_of (bytes_eq word (codes "pushes")) _ refl)))))))))
+    (none_of (bytes_eq word (codes "walk")) _ (none_of (bytes_eq word (codes "nearest")) _ (none_of (bytes_eq word (codes "pushes")) _
+    (none_of (bytes_eq word (codes "phases")) _ refl))))))))))
   where
     none_of : (test : Bool) (other : Option PlainRequest) → other ≡ None → (if test then None else other) ≡ None
     none_of true other is = refl

@@ -16,9 +16,9 @@
 --     ["nearest", x]                 ask for a route of the fewest links from x to the destination along the ways
 --     ["pushes", TABLE]              ask for the pushes from this table to the next hops
 --     ["pushes", TABLE, TABLE]       ask for the pushes from the first table to the second
---     ["pushes", WAYS]               ask for the pushes from these ways to the ways of each node, in two phases
+--     ["phases", WAYS]               ask for the pushes from these ways to the ways of each node, in two phases
 -- TABLE is an array of hops: a number, "here" or "cut". WAYS is an array that has for each node an array of numbers, or
--- "here" or "cut" for a node without ways. An array that can be either is a table of hops.
+-- "here" or "cut" for a node without ways.
 use Rattle.std.specs.Prelude.{ℕ, ◌^◌, List, [], ◌∷◌, Option, Some, None, ok_or, option_map}
 use Rattle.std.specs.Prelude.{option_and_then, Result, Err, nat_lt, if◌then◌else◌, codes}
 use Rattle.std.specs.Str.{bytes_eq, is_utf8}
@@ -35,7 +35,7 @@ use Rattle.fr_graph.specs.declared.edit.Edit.{Edit}
 use Rattle.fr_graph.specs.declared.edit.Edit.TheVariants as edit
 use Rattle.fr_requests.specs.declared.requests.Request.{Request}
 use Rattle.fr_requests.specs.declared.requests.Request.TheVariants.{Network, Cut, Add, Join, Batch, Destination}
-use Rattle.fr_requests.specs.declared.requests.Request.TheVariants.{Walk, Ask, AskNode, Pushes, WayPushes}
+use Rattle.fr_requests.specs.declared.requests.Request.TheVariants.{Walk, Ask, AskNode, Pushes, Phases}
 use Rattle.fr_tables.specs.declared.hop.Hop.{Hop}
 use Rattle.fr_tables.specs.declared.hop.Hop.TheVariants.{Here, To, CutOff}
 use Rattle.std.specs.declared.alloc.Global.{Global}
@@ -67,7 +67,7 @@ plain (Walk x) = walk_from x
 plain (Ask question) = ask question
 plain (AskNode question x) = ask_node question x
 plain (Pushes table wanted) = order_pushes table.items (option_map (λ (t : Vec Hop Global). t.items) wanted)
-plain (WayPushes table) = push_ways table
+plain (Phases table) = push_ways table
 
 -- the items as a list
 abbrev pub item_list : Items → List Data
@@ -205,18 +205,19 @@ ways_in d = ways_by (as_str d) (numbers_in d)
 abbrev pub way_table_in : Data → Option (List (List ℕ))
 way_table_in d = option_and_then (read_all ways_in) (items_in d)
 
--- the pushes from a table of hops, or else from a table of ways
-abbrev pub pushes_by : Option (List Hop) → Option (List (List ℕ)) → Option PlainRequest
-pushes_by (Some table) ways = Some (order_pushes table None)
-pushes_by None ways = option_map push_ways ways
-
 -- the pushes from a table, if exactly one table or two tables of hops are left
 abbrev pub pushes_request : List Data → Option PlainRequest
 pushes_request [] = None
-pushes_request (d ∷ []) = pushes_by (table_in d) (way_table_in d)
+pushes_request (d ∷ []) = option_map (λ table. order_pushes table None) (table_in d)
 pushes_request (d ∷ e ∷ []) =
     option_and_then (λ table. option_map (λ wanted. order_pushes table (Some wanted)) (table_in e)) (table_in d)
 pushes_request (d ∷ e ∷ f ∷ rest) = None
+
+-- the pushes from a table of ways, if exactly this is left
+abbrev pub phases_request : List Data → Option PlainRequest
+phases_request [] = None
+phases_request (d ∷ []) = option_map push_ways (way_table_in d)
+phases_request (d ∷ e ∷ rest) = None
 
 -- the request of a word and the items after it
 unfoldable pub request_of_word : List ℕ → List Data → Option PlainRequest
@@ -234,7 +235,8 @@ request_of_word word rest =
     else (if bytes_eq word (codes "ways") then ways_request rest
     else (if bytes_eq word (codes "nearest") then node_request (ask_node node.Nearest) rest
     else (if bytes_eq word (codes "pushes") then pushes_request rest
-    else None))))))))))))
+    else (if bytes_eq word (codes "phases") then phases_request rest
+    else None)))))))))))))
 
 -- the request of a value
 abbrev pub request_of : Data → Option PlainRequest

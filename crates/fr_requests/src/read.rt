@@ -10,8 +10,8 @@ ghost use Rattle.fr_requests.specs.Requests.{plain, reading, request_of, request
 ghost use Rattle.fr_requests.specs.Requests.{join_nodes, move_dest, walk_from, network_request, pair_request};
 ghost use Rattle.fr_requests.specs.Requests.{batch_request, node_request, ask_request, items_in, link_in, edit_in};
 ghost use Rattle.fr_requests.specs.Requests.{edit_of_word, number_pair, read_all, single_number, number_in};
-ghost use Rattle.fr_requests.specs.Requests.{ask_node, hop_in, numbers_in, pushes_request, way_table_in, ways_in};
-ghost use Rattle.fr_requests.specs.Requests.{ways_of_word, ways_request};
+ghost use Rattle.fr_requests.specs.Requests.{ask_node, hop_in, numbers_in, phases_request, pushes_request};
+ghost use Rattle.fr_requests.specs.Requests.{way_table_in, ways_in, ways_of_word, ways_request};
 
 use crate::lists::OfValue;
 use crate::requests::{LineFault, NodeQuestion, Question, Request};
@@ -66,6 +66,7 @@ fn request_by_word(alloc: Global, word: &str, rest: &[Value]) -> Result<Request,
         "ways" => read_ways(rest),
         "nearest" => read_node_question(NodeQuestion::Nearest, rest),
         "pushes" => read_pushes(alloc, rest),
+        "phases" => read_phases(alloc, rest),
         _ => Err(LineFault::NotRequest),
     }
 }
@@ -187,21 +188,35 @@ fn read_pushes(alloc: Global, rest: &[Value]) -> Result<Request, LineFault>
     }
 }
 
-/// Pushes from a table of hops to the next hops, or from a table of ways to the ways.
+/// Pushes from a table of hops to the next hops.
 fn pushes_from(alloc: Global, table: &Value) -> Result<Request, LineFault>
     ensures { Tells (ok_or (pushes_request (view table.now ∷ [])) NotRequest) result }
 {
-    match item_list(alloc, table) {
-        Ok(table) => Ok(Request::Pushes {
-            table,
-            wanted: None,
-        }),
-        Err(LineFault::NotRequest) => {
-            let table = way_table(alloc, table)?;
-            Ok(Request::WayPushes { table })
-        }
-        Err(fault) => Err(fault),
-    }
+    let table = item_list(alloc, table)?;
+    Ok(Request::Pushes {
+        table,
+        wanted: None,
+    })
+}
+
+/// Pushes from one table of hops to another.
+fn pushes_between(alloc: Global, table: &Value, wanted: &Value) -> Result<Request, LineFault>
+    ensures { Tells (ok_or (pushes_request (view table.now ∷ view wanted.now ∷ [])) NotRequest) result }
+{
+    let table = item_list(alloc, table)?;
+    let wanted = Some(item_list(alloc, wanted)?);
+    Ok(Request::Pushes { table, wanted })
+}
+
+/// The two phases, if exactly a table of ways follows the word.
+fn read_phases(alloc: Global, rest: &[Value]) -> Result<Request, LineFault>
+    ensures { Tells (ok_or (phases_request (map view rest.now)) NotRequest) result }
+{
+    let [table] = rest else {
+        return Err(LineFault::NotRequest);
+    };
+    let table = way_table(alloc, table)?;
+    Ok(Request::Phases { table })
 }
 
 /// A table of ways: an array that has the ways of each node.
@@ -244,15 +259,6 @@ fn ways_of_node(alloc: Global, value: &Value) -> Result<Vec<u32>, LineFault>
         "here" | "cut" => Ok(Vec::new(alloc)),
         _ => Err(LineFault::NotRequest),
     }
-}
-
-/// Pushes from one table of hops to another.
-fn pushes_between(alloc: Global, table: &Value, wanted: &Value) -> Result<Request, LineFault>
-    ensures { Tells (ok_or (pushes_request (view table.now ∷ view wanted.now ∷ [])) NotRequest) result }
-{
-    let table = item_list(alloc, table)?;
-    let wanted = Some(item_list(alloc, wanted)?);
-    Ok(Request::Pushes { table, wanted })
 }
 
 /// The items of an array.

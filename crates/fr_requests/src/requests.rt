@@ -76,8 +76,8 @@ pub enum Request {
         wanted: Option<Vec<Hop>>,
     },
     /// Ask which ways to push, in two phases, from one table of ways to the ways of the network in use:
-    /// `["pushes", table]`. A node that is missing at the end of the table has no ways. This changes nothing.
-    WayPushes {
+    /// `["phases", table]`. A node that is missing at the end of the table has no ways. This changes nothing.
+    Phases {
         /// The table before the pushes.
         table: WayTable,
     },

@@ -83,7 +83,7 @@ spaced_lists (p ∷ ps) = codes " " ++ (decimal p.0 ++ (codes ">" ++ (list_word 
 
 -- the pushes of two phases
 abbrev pub phases_text : List (ℕ × List ℕ) → List (ℕ × List ℕ) → List ℕ
-phases_text shrink grow = codes "pushes shrink" ++ (spaced_lists shrink ++ (codes " grow" ++ spaced_lists grow))
+phases_text shrink grow = codes "phases shrink" ++ (spaced_lists shrink ++ (codes " grow" ++ spaced_lists grow))
 
 abbrev pub report_text : ℕ → ℕ → List ℕ
 report_text turned cut = codes "turned " ++ (decimal turned ++ (codes " cut " ++ decimal cut))

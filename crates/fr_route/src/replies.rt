@@ -423,7 +423,7 @@ impl<'a, F: Fn(&Net, u32, Option<&[u32]>, Turns) -> Result<Turns, CrewFault>> Se
                 session.node_question(self.alloc, draft, *question, *x)
             }
             Request::Pushes { table, wanted } => session.pushes(self.alloc, draft, table, wanted),
-            Request::WayPushes { table } => session.way_pushes(self.alloc, draft, table),
+            Request::Phases { table } => session.way_pushes(self.alloc, draft, table),
         }
     }
 

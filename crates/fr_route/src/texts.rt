@@ -247,13 +247,13 @@ fn push_lists(line: &mut String, pushes: &Pushes, buffer: &mut Buffer) -> Result
     Ok(())
 }
 
-/// `pushes shrink`, the pushes of the first phase, `grow`, and those of the second.
+/// `phases shrink`, the pushes of the first phase, `grow`, and those of the second.
 #[inline(never)]
 pub(crate) fn phases_line(line: &mut String, phases: &TwoPhases) -> Result<(), AllocError>
     requires { AreListed phases.now.shrink × AreListed phases.now.grow }
     ensures { OnOk result (string_bytes line.new ≡ phases_text (pairs phases.now.shrink) (pairs phases.now.grow)) }
 {
-    begin(line, "pushes shrink", 0)?;
+    begin(line, "phases shrink", 0)?;
     let mut buffer = Buffer::new();
     push_lists(line, &phases.shrink, &mut buffer)?;
     line.push_str(" grow")?;

@@ -47,7 +47,7 @@ request_text (walk_from x) = codes "walk" ++ (codes " " ++ decimal x)
 request_text (ask question) = question_text question
 request_text (ask_node question x) = node_question_text question ++ (codes " " ++ decimal x)
 request_text (order_pushes table wanted) = codes "pushes"
-request_text (push_ways table) = codes "pushes"
+request_text (push_ways table) = codes "phases"
 
 -- the line for a request, and nothing for a line that is not a request
 abbrev pub asked_text : Result PlainRequest LineFault → List ℕ

@@ -34,7 +34,8 @@ fn push_request(story: &mut String, request: &Request) -> Result<(), AllocError>
         Request::Walk { x } => push_single(story, "walk", *x),
         Request::Ask(question) => push_question(story, *question),
         Request::AskNode { question, x } => push_node_question(story, *question, *x),
-        Request::Pushes { .. } | Request::WayPushes { .. } => story.push_str("pushes"),
+        Request::Pushes { .. } => story.push_str("pushes"),
+        Request::Phases { .. } => story.push_str("phases"),
     }
 }
 

@@ -175,7 +175,7 @@ fn makes_round(request: &Request) -> bool
             | Request::Ask(_)
             | Request::AskNode { .. }
             | Request::Pushes { .. }
-            | Request::WayPushes { .. }
+            | Request::Phases { .. }
     )
 }
 
@@ -212,7 +212,7 @@ fn net_before(alloc: Global, session: &Session, request: &Request) -> Result<Bef
             | Request::Ask(_)
             | Request::AskNode { .. }
             | Request::Pushes { .. }
-            | Request::WayPushes { .. }
+            | Request::Phases { .. }
     ) || !is_told(router)
     {
         return no_network_before(alloc);

@@ -25,7 +25,7 @@ const LINES: [&str; 21] = [
     r#"["add",0,1]"#,
     r#"["hops"]"#,
     r#"["pushes",[]]"#,
-    r#"["pushes",[[]]]"#,
+    r#"["phases",[[]]]"#,
     r#"["batch",[["cut",3,0],["add",1,0]]]"#,
     r#"["dest",3]"#,
     r#"["join",3,1]"#,

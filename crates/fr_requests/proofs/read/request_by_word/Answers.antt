@@ -64,3 +64,7 @@ returns-in-nearest c = rw c.in-nearest.is (told _ _ c.read_node_question.ensures
 pub returns-in-pushes : goal.returns-in-pushes
 unfolding request_of_word
 returns-in-pushes c = rw c.in-pushes.is c.read_pushes.ensures
+
+pub returns-in-phases : goal.returns-in-phases
+unfolding request_of_word
+returns-in-phases c = rw c.in-phases.is c.read_phases.ensures

@@ -42,8 +42,8 @@ returns-in-Pushes g c =
     rw c.in-Pushes.is (still _ (answer_form c.args.draft.now) c.args.session.now _ c.args.told.now c.pushes.result c.pushes.new.draft
     (λ new accepted. absurd accepted) (rw c.deref-in-Pushes.ensures.value at c.pushes.ensures.reply) c.pushes.ensures.memory)
 
-pub returns-in-WayPushes : goal.returns-in-WayPushes
-returns-in-WayPushes g c =
-    rw c.in-WayPushes.is (still _ (answer_form c.args.draft.now) c.args.session.now _ c.args.told.now c.way_pushes.result c.way_pushes.new.draft
-    (λ new accepted. push_ways_tells c.args.session.now c.in-WayPushes.table (nodes_told c.args.told.now) new)
+pub returns-in-Phases : goal.returns-in-Phases
+returns-in-Phases g c =
+    rw c.in-Phases.is (still _ (answer_form c.args.draft.now) c.args.session.now _ c.args.told.now c.way_pushes.result c.way_pushes.new.draft
+    (λ new accepted. push_ways_tells c.args.session.now c.in-Phases.table (nodes_told c.args.told.now) new)
     c.way_pushes.ensures.reply c.way_pushes.ensures.memory)
