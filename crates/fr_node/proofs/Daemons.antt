@@ -1,21 +1,21 @@
 -- What daemons do are moves of forwarders, so their tables have no loop.
-use Rattle.std.proofs.Common.{Bool, Contains, IsTrue, List, [], ap, arith, cond, eqb, false, get_or, inl, inr, length, refl, subst, suc, sym}
-use Rattle.std.proofs.Common.{true, zero, ℕ, ⊎_elim, ◌++◌, ◌+◌, ◌-◌, ◌∷◌, ◌∙◌, ◌<◌, ◌≡◌, ◌≤◌, ◌⊎◌}
+use Rattle.std.proofs.Common.{Bool, Contains, List, [], ap, arith, cond, eqb, false, get_or, inl, inr, length, refl, subst, suc, sym}
+use Rattle.std.proofs.Common.{true, zero, ℕ, ⊎_elim, ◌++◌, ◌+◌, ◌-◌, ◌∷◌, ◌∙◌, ◌≡◌, ◌≤◌, ◌⊎◌}
 use Rattle.std.proofs.Math.Path.{fun_ext}
-use Rattle.std.proofs.lemmas.Bool.{cases_lt, eqb-true, ne_eqb}
+use Rattle.std.proofs.lemmas.Bool.{cases_lt, ne_eqb}
 use Rattle.std.proofs.lemmas.List.{get_or-append-add, get_or_append_left, get_or_past}
 use Rattle.std.proofs.lemmas.List.Folds.{position_or_len_push}
 use Rattle.fr_node.specs.declared.link.Link.{Link}
 use Rattle.fr_node.specs.declared.message.Message.{Message}
 use Rattle.fr_node.specs.declared.node.Node.{Node}
 use Rattle.fr_node.specs.Daemons.{Daemon, Daemons, DaemonsHaveNoLoop, Does, HasEvent, IsCalled, IsDaemonRun, IsDaemonStart}
-use Rattle.fr_node.specs.Daemons.{IsDaemonStep, IsDaemonWalk, IsFresh, IsSent, IsWritten, KeepsLinks, StartsAnew}
+use Rattle.fr_node.specs.Daemons.{IsDaemonStep, IsDaemonWalk, IsFresh, IsWritten, KeepsLinks, StartsAnew}
 use Rattle.fr_node.specs.Daemons.{TakesAway, WritesGates, WritesWays, last_daemons}
 use Rattle.fr_node.specs.Histories.{IsHistory}
 use Rattle.fr_node.specs.Links.{leads_to, link_to, place_of, unknown}
 use Rattle.fr_node.specs.Nodes.{IsMessageTo, lets_in, router, sends_to}
-use Rattle.fr_node.specs.Routers.{GoesOn, IsOpen, IsSaidBy, IsWay, Restarts, Router, end_of}
-use Rattle.fr_node.specs.Tables.{Forwarder, IsMet, IsPlaneStart, IsPlaneStep, IsPlaneWalk, Moves, Plane}
+use Rattle.fr_node.specs.Routers.{GoesOn, IsOpen, IsSaidBy, IsWay, Restarts, Router}
+use Rattle.fr_node.specs.Tables.{Forwarder, IsPlaneWalk, Moves}
 use Rattle.fr_node.proofs.Going.{goes_on_more}
 use Rattle.fr_node.proofs.Forwarders.{only}
 use Rattle.fr_node.proofs.Stepping.{KnowsSame, gate_to, said_same, same, way_to}
@@ -69,8 +69,12 @@ known_same ls w v = ⊎_elim
     (place ∙ rw (ne_eqb (place_of ls v) (length ls) (λ e. omega (arith, e, l))) refl)
     ∙ get_or_append_left ls (x ∷ []) unknown (place_of ls v) l))
     (λ past. subst (λ k. KnowsSame k (link_to (ls ++ x ∷ []) v)) (sym (get_or_past ls (place_of ls v) unknown past))
-    (past_same ls w (place_of (ls ++ x ∷ []) v) (omega (arith, place, beyond (eqb (place_of ls v) (length ls))
-    (length ls) (cond (leads_to v x) 0 1) (place_of ls v) past))))
+    (past_same ls w (place_of (ls ++ x ∷ []) v) (omega (
+      arith,
+      place,
+      beyond (eqb (place_of ls v) (length ls))
+          (length ls) (cond (leads_to v x) 0 1) (place_of ls v) past,
+    ))))
     (cases_lt (place_of ls v) (length ls))
   where
     x : Link

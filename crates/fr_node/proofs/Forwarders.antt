@@ -1,9 +1,9 @@
 -- One forwarder. It has said nothing since its table was last confirmed, so for others it still is as it was then: this
 -- is its base. What it has written since comes from states to which the base goes on without a word.
-use Rattle.std.proofs.Common.{Bool, Contains, IsTrue, List, [], ap, arith, false, inl, inr, refl, subst, suc, sym, true, zero, ℕ, ⊎_elim, ◌∷◌, ◌<◌, ◌≡◌, ◌≤◌, ◌⊎◌, ◌∙◌}
+use Rattle.std.proofs.Common.{Bool, Contains, IsTrue, List, [], ap, arith, false, inl, inr, refl, subst, suc, sym, true, zero, ℕ, ⊎_elim, ◌∷◌, ◌≡◌, ◌≤◌, ◌⊎◌, ◌∙◌}
 use Rattle.fr_node.specs.declared.message.Message.{Message}
 use Rattle.fr_node.specs.Routers.{GoesOn, IsOpen, IsWay, LetsIn, Restarts, Router}
-use Rattle.fr_node.specs.Tables.{Changes, ChangesWays, Confirms, Forwarder, HasGatesOf, HasWaysOf, Moves, OpensGates, Removes}
+use Rattle.fr_node.specs.Tables.{Changes, Confirms, Forwarder, HasGatesOf, HasWaysOf, Moves}
 use Rattle.fr_node.proofs.Going.{goes_nowhere, goes_on_more, goes_on_twice}
 
 -- router y has gone on from its base without a word, perhaps after it restarted
@@ -95,7 +95,7 @@ module _ (pool : List Message) (y : ℕ) (base : Router) (f g : Forwarder)
     safe_ways closed ways gates = ⊎_elim
         (λ gateway. safe_less (λ w t. ⊎_elim (λ e. e) (λ way. absurd (way.forwards gateway)) (ways w t)) gates)
         (λ not. ⊎_elim (goes not) (λ after. inr (inl (λ w t. let_in_none pool y base after.0 target echoes after.1
-            after.2 w (lets not w t)))) follows)
+        after.2 w (lets not w t)))) follows)
         (is_gateway target)
       where
         lets : target.gateway ≡ false → (w : ℕ) → g.gates w ≡ true → LetsIn target w
@@ -140,8 +140,8 @@ module _ (pool : List Message) (y : ℕ) (base : Router) (f g : Forwarder)
     safe_gates changed gates ways = ⊎_elim
         (λ gateway. inl (λ w t. (changed w (ways w t)).forwards gateway))
         (λ not. ⊎_elim (goes not) (λ after. safe_less ways (λ w t. ⊎_elim (λ e. e)
-            (λ lets. absurd (let_in_none pool y base after.0 target echoes after.1 after.2 w (let_in target w not lets)))
-            (gates w t))) follows)
+        (λ lets. absurd (let_in_none pool y base after.0 target echoes after.1 after.2 w (let_in target w not lets)))
+        (gates w t))) follows)
         (is_gateway target)
       where
         goes : target.gateway ≡ false → GoesOn pool y base target → IsSafe pool y base g

@@ -1,5 +1,5 @@
 -- The tables of routers never have a loop.
-use Rattle.std.proofs.Common.{Contains, List, [], ap, arith, false, inl, inr, refl, subst, sym, true, ℕ, ⊎_elim, ◌∷◌, ◌<◌, ◌≡◌, ◌≤◌, ◌⊎◌, ◌∙◌}
+use Rattle.std.proofs.Common.{Contains, List, [], ap, arith, false, inl, inr, refl, subst, sym, true, ℕ, ⊎_elim, ◌∷◌, ◌≡◌, ◌≤◌, ◌∙◌}
 use Rattle.fr_node.specs.declared.message.Message.{Message}
 use Rattle.fr_node.specs.Routers.{GoesOn, IsBelow, IsSaidBy, Net, Router, end_of}
 use Rattle.fr_node.specs.Tables.{Forwarder, IsMet, IsPlaneRun, IsPlaneStart, IsPlaneStep, IsPlaneWalk, Plane, TablesHaveNoLoop, last_plane}
@@ -88,11 +88,11 @@ no_loop s b = no_return (IsMet s) (IsPlaneWalk s) (λ u v vs walk. walk) top dow
         let way = upper.0.ways w link.way in
         let gate = lower.0.gates x link.gate in
         let met = heard_is_met (record { router = b.base; pool = s.pool }) b.rule x w way.state gate.state way.goes
-            gate.goes way.way.known gate.gate in
+        gate.goes way.way.known gate.gate in
         below_before (top w) w way.state.height (top x) x
-            (below_after (top w) (way.state.seen w) w way.state.height x (omega (arith, lower.1, gate.high, met))
-            way.way.below)
-            (omega (arith, upper.1, way.low))
+        (below_after (top w) (way.state.seen w) w way.state.height x (omega (arith, lower.1, gate.high, met))
+        way.way.below)
+        (omega (arith, upper.1, way.low))
 
 pub tables_have_no_loop : TablesHaveNoLoop
 tables_have_no_loop s ts begins run = no_loop (last_plane s ts) (backed_run s ts (backed_start s begins) run)
