@@ -1,5 +1,6 @@
 -- What daemons do are moves of forwarders, so their tables have no loop.
-use Rattle.std.proofs.Common.{Bool, Contains, List, [], ap, arith, cond, eqb, false, get_or, inl, inr, length, refl, subst, suc, sym}
+use Rattle.std.proofs.Common.{Bool, Contains, List, [], ap, arith, cond, eqb, false, get_or, inl, inr, length, refl}
+use Rattle.std.proofs.Common.{subst, suc, sym}
 use Rattle.std.proofs.Common.{true, zero, ℕ, ⊎_elim, ◌++◌, ◌+◌, ◌-◌, ◌∷◌, ◌∙◌, ◌≡◌, ◌≤◌, ◌⊎◌}
 use Rattle.std.proofs.Math.Path.{fun_ext}
 use Rattle.std.proofs.lemmas.Bool.{cases_lt, ne_eqb}
@@ -14,8 +15,8 @@ use Rattle.fr_node.specs.Histories.{IsHistory}
 use Rattle.fr_node.specs.Links.{leads_to, link_to, place_of, unknown}
 use Rattle.fr_node.specs.Nodes.{IsMessageTo, lets_in, router, sends_to}
 use Rattle.fr_node.specs.Routers.{GoesOn, IsOpen, IsSaidBy, IsWay, Restarts, Router}
-use Rattle.fr_node.specs.Tables.{ChangesWays, Confirms, Forwarder, HasAnotherState, IsLoopFree, IsPlaneRun, IsPlaneStart}
-use Rattle.fr_node.specs.Tables.{HaveNoLoop, Moves, OpensGates, Plane, Removes, Writes, last_plane}
+use Rattle.fr_node.specs.Tables.{ChangesWays, Confirms, Forwarder, HasAnotherState, IsPlaneRun}
+use Rattle.fr_node.specs.Tables.{HaveNoLoop, Moves, OpensGates, Plane, Removes, last_plane}
 use Rattle.fr_node.proofs.Going.{goes_on_more}
 use Rattle.fr_node.proofs.Forwarders.{only}
 use Rattle.fr_node.proofs.Stepping.{KnowsSame, gate_to, said_same, same, way_to}

@@ -1,6 +1,7 @@
 -- One forwarder. It has said nothing since its table was last confirmed, so for others it still is as it was then: this
 -- is its base. What it has written since comes from states to which the base goes on without a word.
-use Rattle.std.proofs.Common.{Bool, Contains, IsTrue, List, [], ap, arith, false, inl, inr, refl, subst, suc, sym, true, zero, ℕ, ⊎_elim, ◌∷◌, ◌≡◌, ◌≤◌, ◌⊎◌, ◌∙◌}
+use Rattle.std.proofs.Common.{Bool, Contains, IsTrue, List, [], ap, arith, false, inl, inr, refl, subst, suc, sym, true}
+use Rattle.std.proofs.Common.{zero, ℕ, ⊎_elim, ◌∷◌, ◌≡◌, ◌≤◌, ◌⊎◌, ◌∙◌}
 use Rattle.fr_node.specs.declared.message.Message.{Message}
 use Rattle.fr_node.specs.Routers.{GoesOn, IsOpen, IsWay, LetsIn, Restarts, Router}
 use Rattle.fr_node.specs.Tables.{Changes, Confirms, Forwarder, HasGatesOf, HasWaysOf, Moves}
@@ -135,7 +136,8 @@ module _ (pool : List Message) (y : ℕ) (base : Router) (f g : Forwarder Router
             gate top l w t = record { state = target; goes = on; gate = lets not w t; high = l }
 
     -- with gates of the target, whose ways all ways are
-    safe_gates : HasWaysOf (λ q. IsWay q y) f target → ((w : ℕ) → g.gates w ≡ true → (f.gates w ≡ true) ⊎ IsOpen target w)
+    safe_gates : HasWaysOf (λ q. IsWay q y) f target
+        → ((w : ℕ) → g.gates w ≡ true → (f.gates w ≡ true) ⊎ IsOpen target w)
         → ((w : ℕ) → g.ways w ≡ true → f.ways w ≡ true) → IsSafe pool y base g
     safe_gates changed gates ways = ⊎_elim
         (λ gateway. inl (λ w t. (changed w (ways w t)).forwards gateway))
@@ -182,8 +184,8 @@ only q r (zero, l, e) = e
 only q r (suc k, l, e) = absurd (omega (arith, l))
 
 -- a table that agrees with a state is safe with this state as the base
-safe_at : (pool : List Message) (y : ℕ) (f : Forwarder Router) (r : Router) → HasWaysOf (λ q. IsWay q y) f r → HasGatesOf IsOpen f r
-    → IsSafe pool y r f
+safe_at : (pool : List Message) (y : ℕ) (f : Forwarder Router) (r : Router) → HasWaysOf (λ q. IsWay q y) f r
+    → HasGatesOf IsOpen f r → IsSafe pool y r f
 safe_at pool y f r ways gates = ⊎_elim
     (λ gateway. inl (λ w t. (ways w t).forwards gateway))
     (λ not. inr (inr (record {
@@ -247,7 +249,8 @@ module _ (pool more : List Message) (grows : (m : Message) → Contains pool m �
   }
 
   -- the base becomes the present state
-  settles : (f g : Forwarder Router) → Holds pool y base f → Confirms (λ q. IsWay q y) IsOpen f g → Advances pool more y base g
+  settles : (f g : Forwarder Router) → Holds pool y base f → Confirms (λ q. IsWay q y) IsOpen f g
+      → Advances pool more y base g
   settles f g h c = ⊎_elim
       (λ on. record {
         mid = base;
@@ -276,15 +279,12 @@ module _ (pool more : List Message) (grows : (m : Message) → Contains pool m �
 
   module _ (f g : Forwarder Router) (h : Holds pool y base f)
       (echoes : (m : Message) → Contains pool m → m.to ≡ y → m.echo ≤ base.boot) where
-    -- the state and what is confirmed stay, and the new table is safe
-    writes : g.state ≡ f.state → g.confirmed ≡ f.confirmed → g.since ≡ f.since → IsSafe pool y base g
-        → Advances pool more y base g
-    writes router confirmed since safe = stays g (record {
-      said = λ t. router ∙ h.said (sym confirmed ∙ t);
-      now = subst (λ r. Follows pool y base r) (sym router) h.now;
-      since = λ r at. h.since r (subst (λ rs. Contains rs r) since at);
-      table = safe;
-    })
+    -- the table is written, and the new one is safe
+    writes : (ways gates : ℕ → Bool) → g ≡ record f { ways = ways; gates = gates }
+        → IsSafe pool y base (record f { ways = ways; gates = gates }) → Advances pool more y base g
+    writes ways gates rest safe = subst (λ k. Advances pool more y base k) (sym rest)
+        (stays (record f { ways = ways; gates = gates })
+        (record { said = h.said; now = h.now; since = h.since; table = safe }))
 
     changes : Changes pool y f g → Advances pool more y base g
     changes c = stays g (record {
@@ -323,14 +323,12 @@ module _ (pool more : List Message) (grows : (m : Message) → Contains pool m �
 
     pub advances : Moves pool y f g → Advances pool more y base g
     advances (inl c) = changes c
-    advances (inr (inl r)) = writes (ap (λ (k : Forwarder Router). k.state) r.rest) (ap (λ (k : Forwarder Router). k.confirmed) r.rest)
-        (ap (λ (k : Forwarder Router). k.since) r.rest) (safe_less pool y base f g echoes h.table r.ways r.gates)
-    advances (inr (inr (inl c))) = writes (ap (λ (k : Forwarder Router). k.state) c.rest)
-        (ap (λ (k : Forwarder Router). k.confirmed) c.rest) (ap (λ (k : Forwarder Router). k.since) c.rest)
-        (safe_ways pool y base f g echoes h.table c.target (h.since c.target c.read) c.closed c.ways
-        (λ w t. sym (ap (λ (k : Forwarder Router). k.gates w) c.rest) ∙ t))
-    advances (inr (inr (inr (inl o)))) = writes (ap (λ (k : Forwarder Router). k.state) o.rest)
-        (ap (λ (k : Forwarder Router). k.confirmed) o.rest) (ap (λ (k : Forwarder Router). k.since) o.rest)
-        (safe_gates pool y base f g echoes h.table o.target (h.since o.target o.read) o.changed o.gates
-        (λ w t. sym (ap (λ (k : Forwarder Router). k.ways w) o.rest) ∙ t))
+    advances (inr (inl r)) = writes g.ways g.gates r.rest
+        (safe_less pool y base f (record f { ways = g.ways; gates = g.gates }) echoes h.table r.ways r.gates)
+    advances (inr (inr (inl c))) = writes g.ways f.gates c.rest
+        (safe_ways pool y base f (record f { ways = g.ways }) echoes h.table c.target (h.since c.target c.read) c.closed
+        c.ways (λ w t. t))
+    advances (inr (inr (inr (inl o)))) = writes f.ways g.gates o.rest
+        (safe_gates pool y base f (record f { gates = g.gates }) echoes h.table o.target (h.since o.target o.read)
+        o.changed o.gates (λ w t. t))
     advances (inr (inr (inr (inr c)))) = settles f g h c

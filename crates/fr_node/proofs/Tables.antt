@@ -1,7 +1,8 @@
 -- The tables of routers never have a loop.
-use Rattle.std.proofs.Common.{Bool, Contains, List, [], ap, arith, false, inl, inr, refl, subst, sym, true, ℕ, ⊎_elim, ◌∷◌, ◌≡◌, ◌≤◌, ◌∙◌}
+use Rattle.std.proofs.Common.{Bool, Contains, List, [], ap, arith, false, inl, inr, refl, subst, sym, true, ℕ, ⊎_elim}
+use Rattle.std.proofs.Common.{◌∷◌, ◌≡◌, ◌≤◌, ◌∙◌}
 use Rattle.fr_node.specs.declared.message.Message.{Message}
-use Rattle.fr_node.specs.Routers.{GoesOn, IsBelow, IsSaidBy, Net, Router, end_of}
+use Rattle.fr_node.specs.Routers.{GoesOn, IsBelow, IsSaidBy, Net, Router}
 use Rattle.fr_node.specs.Tables.{Forwarder, IsLoopFree, IsMet, IsPlaneRun, IsPlaneStart, IsPlaneStep, IsTableWalk}
 use Rattle.fr_node.specs.Tables.{Plane, TablesHaveNoLoop, last_plane}
 use Rattle.fr_node.proofs.Going.{goes_nowhere}
@@ -54,7 +55,8 @@ backed_step s t b step = record {
     moved y = advances s.pool t.pool step.kept y (b.base y) (s.forwarder y) (t.forwarder y) (b.holds y)
         (λ m at to. omega (arith, (b.rule.boots m at).1, ap (λ (y : ℕ). (b.base y).boot) to)) (step.moves y)
 
-backed_run : (s : Plane Router) (ts : List (Plane Router)) → IsBacked s → IsPlaneRun IsPlaneStep s ts → IsBacked (last_plane s ts)
+backed_run : (s : Plane Router) (ts : List (Plane Router)) → IsBacked s → IsPlaneRun IsPlaneStep s ts
+    → IsBacked (last_plane s ts)
 backed_run s [] b run = b
 backed_run s (t ∷ ts) b run = backed_run t ts (backed_step s t b run.0) run.1
 

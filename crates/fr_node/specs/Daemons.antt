@@ -7,7 +7,8 @@ use Rattle.fr_node.specs.declared.node.Node.{Node}
 use Rattle.fr_node.specs.Histories.{IsHistory}
 use Rattle.fr_node.specs.Links.{Says, unknown}
 use Rattle.fr_node.specs.Nodes.{IsMessageTo, Steps, lets_in, sends_to}
-use Rattle.fr_node.specs.Tables.{Forwarder, HasAnotherState, IsLoopFree, IsPlaneRun, IsSilent, Plane, Writes, last_plane}
+use Rattle.fr_node.specs.Tables.{Forwarder, HasAnotherState, IsLoopFree, IsPlaneRun, IsSilent, Plane, Writes}
+use Rattle.fr_node.specs.Tables.{last_plane}
 
 -- a node that starts knows no neighbours, and can have announced something
 pub record IsFresh (n : Node) : Type 0 where
