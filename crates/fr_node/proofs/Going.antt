@@ -1,5 +1,5 @@
 -- Routers that go on without a word.
-use Rattle.std.proofs.Common.{Contains, List, arith, inl, inr, refl, ℕ, ◌<◌, ◌≡◌, ◌≤◌, ◌∙◌}
+use Rattle.std.proofs.Common.{Contains, List, arith, inl, inr, refl, ℕ, ◌≡◌, ◌≤◌, ◌∙◌}
 use Rattle.fr_node.specs.declared.message.Message.{Message}
 use Rattle.fr_node.specs.Routers.{GoesOn, IsFrom, Router, TakesAnswer, TakesHeight, TakesStart}
 

@@ -274,7 +274,8 @@ way_to n w t h = record {
       (up_leads n.links.items w parts.1) fact.1;
 }
   where
-    parts : (false ≡ n.gateway) × ((link_to n.links.items w).up ≡ true) × IsTrue (is_way n.own (link_to n.links.items w))
+    parts : (false ≡ n.gateway) × ((link_to n.links.items w).up ≡ true)
+        × IsTrue (is_way n.own (link_to n.links.items w))
     parts = grind (arith, nat_tests, t)
 
     fact : (0 < (link_to n.links.items w).heard) × IsBelow (link_to n.links.items w).seen

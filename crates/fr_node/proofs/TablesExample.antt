@@ -4,7 +4,8 @@ use Rattle.std.proofs.Common.{◌∷◌, ◌∙◌, ◌<◌, ◌==◌, ◌≡◌
 use Rattle.std.proofs.lemmas.Bool.{eqb-true}
 use Rattle.fr_node.specs.declared.message.Message.{Message}
 use Rattle.fr_node.specs.Routers.{IsOpen, IsSaidBy, IsWay, Router}
-use Rattle.fr_node.specs.Tables.{Forwarder, HasGatesOf, HasWaysOf, IsPlaneStart, IsPlaneStep, Moves, Plane, SomeTablesLetThrough}
+use Rattle.fr_node.specs.Tables.{Forwarder, HasGatesOf, HasWaysOf, IsPlaneStart, IsPlaneStep, Moves, Plane}
+use Rattle.fr_node.specs.Tables.{SomeTablesLetThrough}
 use Rattle.fr_node.proofs.Members.{Contains-cases, Contains-head, Contains-tail}
 use Rattle.fr_node.proofs.Running.{meets, met, new_router, taken, takes}
 
@@ -69,25 +70,25 @@ abbrev one : ℕ → ℕ → Bool
 one n w = w == n
 
 -- a router whose table is confirmed, and one that has changed since
-abbrev written : Router → (ways gates : ℕ → Bool) → Forwarder
-written r ways gates = record { router = r; ways = ways; gates = gates; confirmed = true; since = r ∷ [] }
+abbrev written : Router → (ways gates : ℕ → Bool) → Forwarder Router
+written r ways gates = record { state = r; ways = ways; gates = gates; confirmed = true; since = r ∷ [] }
 
-abbrev changed : Router → Forwarder → Forwarder
-changed r f = record f { router = r; confirmed = false; since = r ∷ f.since }
+abbrev changed : Router → Forwarder Router → Forwarder Router
+changed r f = record f { state = r; confirmed = false; since = r ∷ f.since }
 
-abbrev two : (a b : Forwarder) → ℕ → Forwarder
+abbrev two : (a b : Forwarder Router) → ℕ → Forwarder Router
 two a b zero = a
 two a b (suc zero) = b
 two a b (suc (suc y)) = written (new_router 1 0) none none
 
-abbrev plane : (a b : Forwarder) → List Message → Plane
+abbrev plane : (a b : Forwarder Router) → List Message → Plane Router
 plane a b pool = record { forwarder = two a b; pool = pool }
 
-rests : (pool : List Message) (y : ℕ) (f : Forwarder) → Moves pool y f f
+rests : (pool : List Message) (y : ℕ) (f : Forwarder Router) → Moves pool y f f
 rests pool y f = inr (inl (record { ways = λ w t. t; gates = λ w t. t; rest = refl }))
 
 -- the two move
-moves : (pool : List Message) (a b c d : Forwarder) → Moves pool 0 a c → Moves pool 1 b d
+moves : (pool : List Message) (a b c d : Forwarder Router) → Moves pool 0 a c → Moves pool 1 b d
     → IsPlaneStep (plane a b pool) (plane c d pool)
 moves pool a b c d first second = record { moves = each; kept = λ m at. at; new = λ m at. inl at }
   where
@@ -97,32 +98,32 @@ moves pool a b c d first second = record { moves = each; kept = λ m at. at; new
     each (suc (suc y)) = rests pool (suc (suc y)) (written (new_router 1 0) none none)
 
 -- a message is said
-says : (s : Plane) (m : Message) → (s.forwarder m.from).confirmed ≡ true → IsSaidBy (s.forwarder m.from).router m
+says : (s : Plane Router) (m : Message) → (s.forwarder m.from).confirmed ≡ true → IsSaidBy (s.forwarder m.from).state m
     → IsPlaneStep s (record s { pool = m ∷ s.pool })
 says s m confirmed honest = record {
   moves = λ y. rests s.pool y (s.forwarder y);
   kept = λ k at. Contains-tail k m s.pool at;
   new = λ k at. ⊎_elim (λ e. inr (subst (λ (j : Message). ((s.forwarder j.from).confirmed ≡ true)
-      × IsSaidBy (s.forwarder j.from).router j) e (confirmed, honest))) (λ old. inl old)
+      × IsSaidBy (s.forwarder j.from).state j) e (confirmed, honest))) (λ old. inl old)
       (Contains-cases k m s.pool at);
 }
 
-abbrev fa0 : Forwarder
+abbrev fa0 : Forwarder Router
 fa0 = written a0 none none
 
-abbrev fb0 : Forwarder
+abbrev fb0 : Forwarder Router
 fb0 = written b0 none none
 
-abbrev fa1 : Forwarder
+abbrev fa1 : Forwarder Router
 fa1 = written a1 none none
 
-abbrev fb1 : Forwarder
+abbrev fb1 : Forwarder Router
 fb1 = written b1 none none
 
-abbrev fb2 : Forwarder
+abbrev fb2 : Forwarder Router
 fb2 = written b2 (one 0) none
 
-abbrev begins : Plane
+abbrev begins : Plane Router
 begins = plane fa0 fb0 []
 
 step1 : IsPlaneStep begins (plane fa0 fb0 (hello_a ∷ []))
@@ -151,10 +152,10 @@ empty table e w t = false_true (ap (λ (f : ℕ → Bool). f w) (sym e) ∙ t)
     false_true : false ≡ true → ⊥
     false_true e = cc
 
-no_ways : (y : ℕ) (f : Forwarder) (r : Router) → f.ways ≡ none → HasWaysOf y f r
+no_ways : (y : ℕ) (f : Forwarder Router) (r : Router) → f.ways ≡ none → HasWaysOf (λ q. IsWay q y) f r
 no_ways y f r e w t = absurd (empty f.ways e w t)
 
-no_gates : (f : Forwarder) (r : Router) → f.gates ≡ none → HasGatesOf f r
+no_gates : (f : Forwarder Router) (r : Router) → f.gates ≡ none → HasGatesOf IsOpen f r
 no_gates f r e w t = absurd (empty f.gates e w t)
 
 step4 : IsPlaneStep (plane (changed a1 fa0) (changed b1 fb0) pool1) (plane fa1 fb1 pool1)
@@ -180,7 +181,7 @@ step6 = moves pool2 fa1 fb1 fa1 (changed b2 fb1) (rests pool2 0 fa1) (inl (recor
   table = refl;
 }))
 
-abbrev fb3 : Forwarder
+abbrev fb3 : Forwarder Router
 fb3 = record (changed b2 fb1) { ways = one 0 }
 
 way : (w : ℕ) → one 0 w ≡ true → IsWay b2 1 w
@@ -210,7 +211,7 @@ step10 = moves pool3 fa1 fb2 (changed a2 fa1) fb2 (inl (record {
   table = refl;
 })) (rests pool3 1 fb2)
 
-abbrev fa2 : Forwarder
+abbrev fa2 : Forwarder Router
 fa2 = record (changed a2 fa1) { gates = one 1 }
 
 gate : (w : ℕ) → one 1 w ≡ true → IsOpen a2 w
@@ -227,7 +228,7 @@ step11 = moves pool3 (changed a2 fa1) fb2 fa2 fb2 (inr (inr (inr (inl (record {
 }))))) (rests pool3 1 fb2)
 
 -- what holds of the three kinds of forwarders that start holds of all
-of_each : (P : Forwarder → Type 0) → ((height : ℕ) → P (written (new_router 1 height) none none)) → (y : ℕ)
+of_each : (P : Forwarder Router → Type 0) → ((height : ℕ) → P (written (new_router 1 height) none none)) → (y : ℕ)
     → P (two fa0 fb0 y)
 of_each P new zero = new 1
 of_each P new (suc zero) = new 2
@@ -235,13 +236,15 @@ of_each P new (suc (suc y)) = new 0
 
 starts : IsPlaneStart begins
 starts = record {
-  silent = refl;
-  peer = λ y w. of_each (λ f. f.router.peer w ≡ 0) (λ _. refl) y;
-  heard = λ y w. of_each (λ f. f.router.heard w ≡ 0) (λ _. refl) y;
-  acked = λ y w. of_each (λ f. f.router.acked w ≡ 0) (λ _. refl) y;
-  ways = λ y w. of_each (λ f. f.ways w ≡ false) (λ _. refl) y;
-  gates = λ y w. of_each (λ f. f.gates w ≡ false) (λ _. refl) y;
-  since = λ y. of_each (λ f. f.since ≡ f.router ∷ []) (λ _. refl) y;
+  silent = record {
+    pool = refl;
+    ways = λ y w. of_each (λ f. f.ways w ≡ false) (λ _. refl) y;
+    gates = λ y w. of_each (λ f. f.gates w ≡ false) (λ _. refl) y;
+    since = λ y. of_each (λ f. f.since ≡ f.state ∷ []) (λ _. refl) y;
+  };
+  peer = λ y w. of_each (λ f. f.state.peer w ≡ 0) (λ _. refl) y;
+  heard = λ y w. of_each (λ f. f.state.heard w ≡ 0) (λ _. refl) y;
+  acked = λ y w. of_each (λ f. f.state.acked w ≡ 0) (λ _. refl) y;
 }
 
 pub some_tables_let_through : SomeTablesLetThrough
@@ -252,7 +255,8 @@ some_tables_let_through = (
       ∷ plane fa1 fb2 pool2 ∷ plane fa1 fb2 pool3 ∷ plane (changed a2 fa1) fb2 pool3 ∷ plane fa2 fb2 pool3 ∷ [],
   starts,
   (step1, (step2, (step3, (step4, (step5, (step6, (step7, (step8, (step9, (step10, (step11, tt))))))))))),
-  record { way = refl; gate = refl },
-  λ y. of_each (λ f. 0 < f.router.boot) (λ _. omega arith) y,
+  λ y. of_each (λ f. 0 < f.state.boot) (λ _. omega arith) y,
+  refl,
+  refl,
   refl,
 )

@@ -52,4 +52,4 @@ module _ (Uses : ℕ → ℕ → Type 0) (Walk : ℕ → List ℕ → Type 0)
       let to : Uses last.0 u = subst (λ y. Uses last.0 y) back last.1 in
       let on : Uses (end_of v vs) v = subst (λ y. Uses y v) (sym back) link.0 in
       not_itself height u (end_of v vs) back
-          (after_down height (end_of v vs) v u (walk_down u v vs link.0 link.1 v on) (step_of last.0 u v vs to walk v on))
+      (after_down height (end_of v vs) v u (walk_down u v vs link.0 link.1 v on) (step_of last.0 u v vs to walk v on))
