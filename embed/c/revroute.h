@@ -115,8 +115,8 @@ typedef enum revroute_status {
     /* The node has no route: it is cut off from the destination, or there is no such node. *length is 0.
      * (revroute_reader_walk says what this means for a walk, and revroute_node_distance for a node.) */
     REVROUTE_NO_ROUTE = 5,
-    /* The network, the edits, the destination or the tables are refused, and *refusal says why. Or a policy or a
-     * neighbour of a node is refused. */
+    /* The network, the edits, the destination or the tables are refused, and *refusal says why. Or a policy, a height
+     * or a neighbour of a node is refused. */
     REVROUTE_REFUSED = 6,
     /* The links or the edits are not refused for a cycle: they are accepted, or refused for another reason.
      * *length is 0. */
@@ -136,7 +136,11 @@ typedef enum revroute_status {
     /* The bytes are not a message of a node. Nothing has changed. */
     REVROUTE_NO_MESSAGE = 13,
     /* The neighbour is not known to the node, or the link to it is down. *length is 0. */
-    REVROUTE_LINK_DOWN = 14
+    REVROUTE_LINK_DOWN = 14,
+    /* An event came after the ways and gates were handed out. Nothing has changed. */
+    REVROUTE_OUTDATED = 15,
+    /* A neighbour knows a later start of this router. Nothing has changed. */
+    REVROUTE_LATER_START = 16
 } revroute_status;
 
 /* Returns what a status means, as a constant text in English. */
@@ -148,7 +152,8 @@ static inline const char *revroute_status_text(revroute_status status_) {
     case REVROUTE_NO_MEMORY: return "no memory";
     case REVROUTE_NO_NETWORK: return "there is no network yet, or the reader or the node is null";
     case REVROUTE_NO_ROUTE: return "the node has no route";
-    case REVROUTE_REFUSED: return "the network, the change, the tables, the policy or the neighbour are refused";
+    case REVROUTE_REFUSED:
+        return "the network, the change, the tables, the policy, the height or the neighbour are refused";
     case REVROUTE_NO_WALK: return "there is no cycle";
     case REVROUTE_BEGUN: return "no line has ended yet";
     case REVROUTE_TOO_LONG: return "the line is too long";
@@ -157,6 +162,8 @@ static inline const char *revroute_status_text(revroute_status status_) {
     case REVROUTE_UNWRITTEN: return "the ways and gates are not written yet";
     case REVROUTE_NO_MESSAGE: return "the bytes are not a message";
     case REVROUTE_LINK_DOWN: return "the neighbour is not known, or the link to it is down";
+    case REVROUTE_OUTDATED: return "an event came after the ways and gates were handed out";
+    case REVROUTE_LATER_START: return "a neighbour knows a later start of this router";
     }
     return "an unknown status";
 }
@@ -663,27 +670,36 @@ void revroute_way_reader_close(revroute_way_reader *reader);
  *
  * At no moment do the links that routers use contain a loop, whatever happens to messages, and whichever routers
  * restart. A link is used if the router at one end sends packets over it, and the router at the other end lets them in.
- * This needs three things of the program:
+ * This needs the following of the program. docs/NODES.md says more about each.
  *
- * 1. After an event, that is revroute_node_link_up, revroute_node_link_down or revroute_node_hear, the program writes
- *    the ways and gates to the forwarding table, and only then calls revroute_node_written. Until then
- *    revroute_node_say returns REVROUTE_UNWRITTEN. More events may come before.
- * 2. The router drops packets from each neighbour that revroute_node_lets_in does not let in.
- * 3. At each start, `boot` is greater than at all earlier starts of this router.
+ * 1. Write, then say that it is written, then send. After an event, that is revroute_node_link_up,
+ *    revroute_node_link_down or revroute_node_hear, the program writes the ways and gates to the forwarding table, and
+ *    only then calls revroute_node_written. Until then revroute_node_say returns REVROUTE_UNWRITTEN. More events may come
+ *    before.
+ * 2. Write in this order: close the gates that are not listed any more, change the ways, then open gates.
+ * 3. Drop what comes through a closed gate: packets from each neighbour that revroute_node_gates does not list.
+ * 4. The boot number grows at each start of a router.
+ * 5. Start with an empty table, without the ways and gates that an earlier process has left.
+ * 6. Each router has a number of its own.
  *
  *     revroute_node node = REVROUTE_NO_NODE;
- *     revroute_policy policy = {REVROUTE_FULL, 0, 0, 1};
+ *     revroute_policy policy = {REVROUTE_FULL, 0, 1, 1};
  *     if (revroute_node_open(&node, 7, boot, 0, &policy) == REVROUTE_ANSWERED
  *         && revroute_node_know(&node, 8) == REVROUTE_ANSWERED) ..
  *     revroute_node_link_up(&node, 8);
- *     ..                                  (write what revroute_node_ways and revroute_node_lets_in say)
- *     revroute_node_written(&node);
+ *     if (revroute_node_ways(&node, ways, room, &count, &state) == REVROUTE_ANSWERED
+ *         && revroute_node_gates(&node, gates, room, &gate_count, &state) == REVROUTE_ANSWERED) ..     (write them)
+ *     revroute_node_written(&node, state);
  *     uint8_t message[REVROUTE_MESSAGE_LENGTH];
  *     if (revroute_node_say(&node, 8, message, sizeof message, &length) == REVROUTE_ANSWERED) ..     (send it)
  *
+ * Each event gives the state of the node a new number. revroute_node_ways and revroute_node_gates write this number, and
+ * revroute_node_written takes it. So a table that an event has overtaken cannot be confirmed. If other threads may make
+ * calls between the two, compare their numbers: if they differ, an event came between them, so ask both again.
+ *
  * All calls on a null node return REVROUTE_NO_NETWORK, except those that return a flag. After any status but
- * REVROUTE_ANSWERED the node is unchanged, and so is what the call could write, except *length. Only the two calls that
- * open a node and revroute_node_know take memory. The costs use d for the number of known neighbours. */
+ * REVROUTE_ANSWERED the node is unchanged, and so is what the call could write, except *length and *state. Only the two
+ * calls that open a node and revroute_node_know take memory. The costs use d for the number of known neighbours. */
 
 /* A node. Whoever creates it owns it, and closes it when it is no longer needed. */
 typedef struct revroute_node {
@@ -722,10 +738,10 @@ typedef struct revroute_policy {
 } revroute_policy;
 
 /* Starts a router with this number and this height, and puts it into *node. A node that was there is closed. No other
- * router has the number. `boot` is greater than at all earlier starts of this router.
+ * router has the number. `boot` is greater than at all earlier starts of this router. Its state has the number 0.
  *
- * REVROUTE_ANSWERED; REVROUTE_REFUSED if the policy has an unknown kind of rise, which is tested first;
- * REVROUTE_NO_MEMORY. O(1). */
+ * REVROUTE_ANSWERED; REVROUTE_REFUSED if the policy has an unknown kind of rise, or if the height is UINT64_MAX, since
+ * then no neighbour could rise above it; REVROUTE_NO_MEMORY. What is refused is tested first. O(1). */
 revroute_status revroute_node_open(revroute_node *node, uint32_t me, uint64_t boot, uint64_t height,
                                    const revroute_policy *policy);
 
@@ -743,13 +759,21 @@ revroute_status revroute_node_know(revroute_node *node, uint32_t neighbour);
 revroute_status revroute_node_link_up(revroute_node *node, uint32_t neighbour);
 revroute_status revroute_node_link_down(revroute_node *node, uint32_t neighbour);
 
-/* An event: a message of `count` bytes is heard. It changes the node only if it is for this router, from a known
- * neighbour, and not from an earlier start of either. The policy may change the height. REVROUTE_NO_MESSAGE if the bytes
- * are not a message, because of their number or their header. O(d). */
+/* An event: a message of `count` bytes is heard. It changes what is known of its sender only if it is for this router,
+ * from a known neighbour, and not from an earlier start of either. The policy may change the height. O(d).
+ *
+ * These are no events, and the node is unchanged. The first that holds is returned:
+ *
+ * - REVROUTE_NO_MESSAGE: the bytes are not a message, because of their number or their header.
+ * - REVROUTE_LATER_START: the message is for this router and from a known neighbour, which knows a start of this router
+ *   with a greater boot number. Either `boot` was not greater than at all earlier starts, or another router has the number
+ *   of this one. The promise does not hold then: close the node, and start it with a greater `boot` or another number. */
 revroute_status revroute_node_hear(revroute_node *node, const uint8_t *bytes, size_t count);
 
-/* Call this once the ways and gates are written as they are now. O(1). */
-revroute_status revroute_node_written(revroute_node *node);
+/* Call this once the ways and gates are written that revroute_node_ways and revroute_node_gates handed out with the
+ * number `state`. REVROUTE_OUTDATED if this is not the number of the node's state now, because an event came after them:
+ * ask for the ways and gates again, and write these. O(1). */
+revroute_status revroute_node_written(revroute_node *node, uint64_t state);
 
 /* Writes the message for a neighbour to the front of a buffer of `room` bytes, and its length to *length, which is
  * always REVROUTE_MESSAGE_LENGTH. A message may be said as often as you like. Messages may be lost, so say one to each
@@ -765,8 +789,13 @@ revroute_status revroute_node_has_news(revroute_node *node, uint32_t neighbour, 
 
 /* Writes the neighbours to which packets may be sent, the nearest first, and equally near ones by number, to the front of
  * an array of `room` places, as the questions on a session do. A router may send packets to any of them. A gateway has
- * none. It needs no memory. O(d log d). */
-revroute_status revroute_node_ways(revroute_node *node, uint32_t *ways, size_t room, size_t *length);
+ * none. Writes the number of the node's state to *state, also with REVROUTE_TOO_SHORT. It needs no memory.
+ * O(d log d). */
+revroute_status revroute_node_ways(revroute_node *node, uint32_t *ways, size_t room, size_t *length, uint64_t *state);
+
+/* Writes the neighbours from which packets are let in, in the order in which they were made known. All other packets have
+ * to be dropped. All else is as for revroute_node_ways. O(d). */
+revroute_status revroute_node_gates(revroute_node *node, uint32_t *gates, size_t room, size_t *length, uint64_t *state);
 
 /* Writes to *distance how many links a packet crosses from this router to a gateway, by what it has heard: 0 at a
  * gateway. REVROUTE_NO_ROUTE, and *distance is unchanged, if there is no way, or if the distance is not below the cap of
@@ -1009,11 +1038,18 @@ static inline revroute_status revroute_node_say_(revroute_node *node_, uint32_t 
 #define revroute_node_say revroute_node_say_
 
 static inline revroute_status revroute_node_ways_(revroute_node *node_, uint32_t *ways_, size_t room_,
-                                                  size_t *length_) {
+                                                  size_t *length_, uint64_t *state_) {
     if (REVROUTE_IS_MISSING(ways_, room_)) return REVROUTE_NULL_ARRAY;
-    return revroute_node_ways(node_, REVROUTE_SOME(uint32_t, ways_, length_), room_, length_);
+    return revroute_node_ways(node_, REVROUTE_SOME(uint32_t, ways_, length_), room_, length_, state_);
 }
 #define revroute_node_ways revroute_node_ways_
+
+static inline revroute_status revroute_node_gates_(revroute_node *node_, uint32_t *gates_, size_t room_,
+                                                   size_t *length_, uint64_t *state_) {
+    if (REVROUTE_IS_MISSING(gates_, room_)) return REVROUTE_NULL_ARRAY;
+    return revroute_node_gates(node_, REVROUTE_SOME(uint32_t, gates_, length_), room_, length_, state_);
+}
+#define revroute_node_gates revroute_node_gates_
 
 static inline revroute_status revroute_version_(uint8_t *text_, size_t room_, size_t *length_) {
     if (REVROUTE_IS_MISSING(text_, room_)) return REVROUTE_NULL_ARRAY;

@@ -11,7 +11,7 @@ use std::iter::FusedIterator;
 ///
 /// Nodes are numbered from 0. A change succeeds as a whole, and then the links lead to the destination again.
 /// Otherwise it returns [`Refused`], and nothing changes. A question about a number that is not a node panics, as
-/// indexing does.
+/// indexing does. The same question with `try_` before its name returns `None` then.
 ///
 /// A network can be sent to another thread, and each thread can have its own:
 ///
@@ -35,6 +35,7 @@ pub struct Network {
 
 /// An edit in a batch. It names the two nodes of its link.
 #[derive(Debug, Clone, Copy, PartialEq, Eq, Hash)]
+#[non_exhaustive]
 pub enum Edit {
     /// Removes the link between the two nodes, whichever way it points.
     Cut(u32, u32),
@@ -349,10 +350,27 @@ impl Network {
     /// If there is no such node.
     #[track_caller]
     pub fn walk(&self, node: u32) -> Walk<'_> {
-        let is_joined = self.next_hop(node) != Hop::CutOff;
+        self.walk_by(node, self.next_hop(node))
+    }
+
+    /// What [`walk`](Network::walk) returns, or `None` if there is no such node. `O(1)`, and needs no memory.
+    ///
+    /// ```
+    /// let network = revroute::Network::new(3, 0, &[(0, 1)])?;
+    /// assert!(network.try_walk(1).unwrap().eq([1, 0]));
+    /// assert_eq!(network.try_walk(2).unwrap().next(), None); // it is cut off
+    /// assert!(network.try_walk(3).is_none());
+    /// # Ok::<(), revroute::Refused>(())
+    /// ```
+    pub fn try_walk(&self, node: u32) -> Option<Walk<'_>> {
+        Some(self.walk_by(node, self.try_next_hop(node)?))
+    }
+
+    /// The walk of a node with this next hop.
+    fn walk_by(&self, node: u32, hop: Hop) -> Walk<'_> {
         Walk {
             network: self,
-            next: is_joined.then_some(node),
+            next: (hop != Hop::CutOff).then_some(node),
         }
     }
 
@@ -384,6 +402,23 @@ impl Network {
     pub fn ways(&self, node: u32) -> Result<Vec<u32>, NoMemory> {
         let ways = self.engine.ways(node)?;
         Ok(self.found_of(node, ways).unwrap_or_default())
+    }
+
+    /// What [`ways`](Network::ways) returns, or `None` if there is no such node. It costs the same.
+    ///
+    /// ```
+    /// let network = revroute::Network::new(3, 0, &[(1, 0)])?;
+    /// let ways = [1, 2, 3].map(|node| network.try_ways(node).unwrap());
+    /// assert_eq!(ways, [Some(vec![0]), Some(vec![]), None]);
+    /// # Ok::<(), revroute::Refused>(())
+    /// ```
+    ///
+    /// # Errors
+    ///
+    /// If memory for the list runs out.
+    pub fn try_ways(&self, node: u32) -> Result<Option<Vec<u32>>, NoMemory> {
+        let ways = self.engine.ways(node)?;
+        Ok(self.try_found_of(node, ways).map(Option::unwrap_or_default))
     }
 
     /// The [`ways`](Network::ways) of each node, in the order of the nodes. `O(n + m log d)`.
@@ -425,6 +460,23 @@ impl Network {
         Ok(self.found_of(node, route))
     }
 
+    /// What [`nearest`](Network::nearest) returns, or `None` if there is no such node. It costs the same.
+    ///
+    /// ```
+    /// let network = revroute::Network::new(3, 0, &[(1, 0)])?;
+    /// let routes = [1, 2, 3].map(|node| network.try_nearest(node).unwrap());
+    /// assert_eq!(routes, [Some(Some(vec![1, 0])), Some(None), None]);
+    /// # Ok::<(), revroute::Refused>(())
+    /// ```
+    ///
+    /// # Errors
+    ///
+    /// If memory for the list runs out.
+    pub fn try_nearest(&self, node: u32) -> Result<Option<Option<Vec<u32>>>, NoMemory> {
+        let route = self.engine.nearest(node)?;
+        Ok(self.try_found_of(node, route))
+    }
+
     /// The distance of a node: the fewest links that lead from it down to the destination. `None` if the node is cut
     /// off. `O(1)`, and needs no memory.
     ///
@@ -444,6 +496,19 @@ impl Network {
         self.found_of(node, self.engine.distance(node))
     }
 
+    /// What [`distance`](Network::distance) returns, or `None` if there is no such node. It costs the same.
+    ///
+    /// ```
+    /// let network = revroute::Network::new(3, 0, &[(1, 0)])?;
+    /// let distances = [0, 1, 2, 3].map(|node| network.try_distance(node));
+    /// assert_eq!(distances, [Some(Some(0)), Some(Some(1)), Some(None), None]);
+    /// # Ok::<(), revroute::Refused>(())
+    /// ```
+    #[inline]
+    pub fn try_distance(&self, node: u32) -> Option<Option<u32>> {
+        self.try_found_of(node, self.engine.distance(node))
+    }
+
     /// What was found of a node. Panics if nothing was found because there is no such node.
     #[track_caller]
     fn found_of<T>(&self, node: u32, found: Option<T>) -> Option<T> {
@@ -451,6 +516,14 @@ impl Network {
             self.next_hop(node);
         }
         found
+    }
+
+    /// What was found of a node. `None` if nothing was found because there is no such node.
+    fn try_found_of<T>(&self, node: u32, found: Option<T>) -> Option<Option<T>> {
+        match found {
+            None => self.try_next_hop(node).map(|_| None),
+            found => Some(found),
+        }
     }
 
     /// The nodes whose next hop the last change changed, each with its new next hop. They are in push order: each node
