@@ -349,7 +349,9 @@ void revroute_close(revroute *session);
  *
  * Some questions fill an array of `room` places. They write to its front, leave the rest unchanged, and write the
  * number of elements to *length. With REVROUTE_TOO_SHORT *length is that number too. After any result but
- * REVROUTE_ANSWERED the array is unchanged.
+ * REVROUTE_ANSWERED the array is unchanged. Before the first network they return REVROUTE_NO_NETWORK, except
+ * revroute_push_order, which needs no session, and revroute_change_shrink and revroute_change_grow, which then have
+ * nothing to push.
  *
  * The first call of revroute_ways, revroute_distance or revroute_nearest in a network also measures the distances of all
  * its nodes, in O(n + m). From then on each change keeps them up to date. A program that makes no such call does not pay
@@ -362,7 +364,8 @@ uint32_t revroute_next_hop(revroute *session, uint32_t node);
 revroute_status revroute_hops(revroute *session, uint32_t *hops, size_t room, size_t *length);
 
 /* Writes the nodes whose next hop the last accepted round changed, in push order: each node after those of them on its
- * new route, and nodes without a route last. Refused calls and questions do not change this list. O(r) for r of these nodes.
+ * new route, and nodes without a route last. Refused calls and questions do not change this list. O(r) for r of these
+ * nodes.
  *
  * A number that is not a node of the network before or after the round counts as cut off there, and before the first
  * network all numbers do. So if the new network is smaller, the nodes that are gone and had a hop are on the list.

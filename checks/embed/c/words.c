@@ -41,7 +41,7 @@ static void pass_null(revroute *session, revroute_reader *reader) {
     expect(revroute_change_shrink(session, NULL, 0, &length) == REVROUTE_ANSWERED && !length, "something is kept to shrink before a network");
     expect(revroute_closed_walk_of(2, NULL, 0, NULL, 0, &length) == REVROUTE_NO_WALK, "there is a cycle of no links");
     expect(revroute_version(NULL, 0, &length) == REVROUTE_TOO_SHORT && length == strlen(REVROUTE_VERSION), "null is a text");
-    expect(revroute_changed(session, NULL, 0, &length) == REVROUTE_ANSWERED && !length, "a node is rerouted before a network");
+    expect(revroute_changed(session, NULL, 0, &length) == REVROUTE_NO_NETWORK && !length, "a node is rerouted before a network");
     expect(revroute_open(session, 2, 1, NULL, 0, &round, &why) == REVROUTE_ANSWERED, "there is no network without links");
     expect(revroute_change(session, NULL, 0, &round, &why) == REVROUTE_ANSWERED && round.cut_off == 1, "no edits are no batch");
     expect(revroute_closed_walk(session, NULL, 0, NULL, 0, &length) == REVROUTE_NO_WALK, "there is a cycle of no edits");

@@ -103,7 +103,8 @@ class Network(Generic[Name]):
     - `walk` and `changed`: linear in the length of the result.
     - `ways`: O(d log d) for d links at the node. `nearest`: O(k d) for a route of k nodes.
     - `hops`, `hops_into`, `table`, `pushes` and `counts`: O(n).
-    - `links` and `copy`: O(n + m).
+    - `has_link`: O(d) for d links at the two nodes.
+    - `links`, `neighbors`, `save` and `copy`: O(n + m).
     - `all_ways`, `shrink` and `grow`: O(n + m log d).
     - `move_dest` and a new network: O(n + m), plus the round.
     - `cut`, `add`, `join`, `batch` and `batch_with_ways`: O(n + m) at most. If few nodes turn, only the links at these nodes, and at the
@@ -115,6 +116,8 @@ class Network(Generic[Name]):
 
     def __init__(self, nodes: int, dest: Name, links: Iterable[tuple[Name, Name]] = (), *, names: Optional[Sequence[Name]] = None) -> None:
         count = index(nodes)
+        if count < 0:
+            raise ValueError(f"the number of nodes is {count}, and may not be less than 0")
         if names is not None and len(names) != count:
             raise ValueError("there is not one name for each node")
         self._names = None if names is None else list(names)
@@ -127,8 +130,9 @@ class Network(Generic[Name]):
         self._bound = count if names is None else 0
         ends = [self._number(node) for u, v in links for node in (u, v)]
         self._session = Session()
+        self._session._kind = "network"
         self._live = self._session._live
-        count = min(max(count, 0), _NO_NODE)
+        count = min(count, _NO_NODE)
         home = self._number(dest)
         words = count, _clamped(home), _packed(ends), len(ends) // 2
         made = self._session._begin_round(library.revroute_open, _closed_walk_of, *words)
@@ -377,6 +381,33 @@ class Network(Generic[Name]):
         """The links as (tail, head), in rising order of the nodes' numbers."""
         return [(self._name(u), self._name(v)) for u, v in self._session.links()]
 
+    def has_link(self, u: Name, v: Name) -> bool:
+        """Whether a link connects two nodes, whichever way it points. O(d) for d links at them.
+
+        >>> network = Network(3, 0, [(1, 0), (2, 1)])
+        >>> network.has_link(1, 2), network.has_link(0, 2), network.has_link(1, 1)
+        (True, False, False)
+
+        Raises NoSuchNode if one of them is not a node.
+        """
+        ends = [self._known(u), self._known(v)]
+        # To cut one link twice is always refused: the first cut if there is no link, and otherwise the second.
+        twice = [_calls.CUT, *ends] * 2
+        made = self._session._begin_round(_calls.change, None, _packed(twice), ctypes.c_size_t(2))
+        return isinstance(made, _Why) and made.at == 1
+
+    def neighbors(self, node: Name) -> list[Name]:
+        """The nodes that a link connects with a node, whichever way it points, in the order of the nodes. O(n + m).
+
+        >>> Network(4, 0, [(1, 0), (2, 1), (3, 0)]).neighbors(1)
+        [0, 2]
+
+        Raises NoSuchNode if there is no such node.
+        """
+        number = self._known(node)
+        links = self._session.links()
+        return [self._name(it) for it in sorted(v if u == number else u for u, v in links if number in (u, v))]
+
     def walk(self, node: Name) -> Optional[list[Name]]:
         """The nodes on the route from a node to the destination, both included. None if the node is cut off."""
         return self._named(self._session.walk(self._number(node)))
@@ -431,6 +462,27 @@ class Network(Generic[Name]):
         dest = self._session.dest
         return self._name(0 if dest is None else dest)
 
+    def save(self) -> dict[str, Any]:
+        """The arguments that make this network again: `Network(**network.save())`. They are the number of nodes, the
+        destination, the links as they point now, and the names, or None.
+
+        The other network is as `copy` would make it. If JSON can hold the names, it can hold what `save` returns, and
+        what it makes of that can be used in the same way.
+
+        >>> import json
+        >>> network = Network(3, 0, [(1, 0), (2, 1), (2, 0)])
+        >>> network.cut(1, 0)
+        Report(turned=1, cut_off=0)
+        >>> network.save()
+        {'nodes': 3, 'dest': 0, 'links': [(1, 2), (2, 0)], 'names': None}
+        >>> Network(**json.loads(json.dumps(network.save()))).table() == network.table()
+        True
+        """
+        with self._session._lock:
+            dest, links = self.dest, self.links()
+        names = None if self._names is None else list(self._names)
+        return {"nodes": len(self._nodes), "dest": dest, "links": links, "names": names}
+
     def copy(self) -> Network[Name]:
         """A network with the same names, links, destination and next hops, to try changes on. Its `report`, `counts` and
         `changed` are those of a new network with these links, in which only nodes that are cut off turn. It has no
@@ -443,9 +495,7 @@ class Network(Generic[Name]):
         >>> network.walk(1), other.walk(1)
         ([1, 0], [1, 2, 0])
         """
-        with self._session._lock:
-            dest, links = self.dest, self.links()
-        return Network(len(self._nodes), dest, links, names=self._names)
+        return Network(**self.save())
 
     def __copy__(self) -> Network[Name]:
         return self.copy()
@@ -519,6 +569,13 @@ class Network(Generic[Name]):
             return self._numbers[node]
         except KeyError:
             raise NoSuchNode(node) from None
+
+    def _known(self, node: Name) -> int:
+        """The number of a node. Raises NoSuchNode if there is no such node."""
+        number = self._number(node)
+        if not 0 <= number < len(self._nodes):
+            raise NoSuchNode(number)
+        return number
 
     def _name(self, number: int) -> Name:
         return self._names[number] if self._names is not None else number  # type: ignore[return-value]
