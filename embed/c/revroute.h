@@ -284,9 +284,14 @@ revroute_status revroute_open(revroute *session, uint32_t nodes, uint32_t dest, 
                               size_t count, revroute_round *round, revroute_refusal *refusal);
 
 /* Makes `count` edits in order, and then one round. If one edit is refused, none is made. Unknown kinds are tested
- * before everything else. An edit after which no node turns costs O(d), for d links at its nodes. Otherwise the cost
- * is that of the links at the nodes that turn, and at the nodes that had one of these as their next hop. It is at most
- * O(n + m). */
+ * before everything else.
+ *
+ * An edit costs O(d), for d links at its nodes. A link that is added against the order of the nodes' heights, which the
+ * engine keeps, costs a search among the nodes between the two heights. It costs O(n + m) if heights have to be computed
+ * again, or if the links at a node need a larger place. A round in which nodes turn costs O(d log d) for each of them
+ * and for each node that had one of these as its next hop. It costs O(n) more in the first call, after a call that
+ * failed, and as long as nodes that have links are cut off. The nodes of such a part turn n times in each round, and
+ * these turns are made at once. */
 revroute_status revroute_change(revroute *session, const revroute_edit *edits, size_t count, revroute_round *round,
                                 revroute_refusal *refusal);
 
@@ -353,9 +358,10 @@ void revroute_close(revroute *session);
  * revroute_push_order, which needs no session, and revroute_change_shrink and revroute_change_grow, which then have
  * nothing to push.
  *
- * The first call of revroute_ways, revroute_distance or revroute_nearest in a network also measures the distances of all
- * its nodes, in O(n + m). From then on each change keeps them up to date. A program that makes no such call does not pay
- * for them. */
+ * The first call of revroute_ways, revroute_distance, revroute_nearest or revroute_change_with_ways in a network also
+ * measures the distances of all its nodes, in O(n + m), and so does the first reader of ways. From then on each change
+ * keeps them up to date. A program without such a call does not pay for them. revroute_all_ways, revroute_shrink and
+ * revroute_grow measure the distances for themselves if they are not kept. */
 
 /* Returns the next hop of a node: a node, or one of the values above. O(1). */
 uint32_t revroute_next_hop(revroute *session, uint32_t node);
@@ -428,7 +434,8 @@ revroute_status revroute_walk(revroute *session, uint32_t node, uint32_t *nodes,
 revroute_status revroute_ways(revroute *session, uint32_t node, uint32_t *ways, size_t room, size_t *length);
 
 /* Returns the distance of a node: the fewest links that lead from it down to the destination. Otherwise returns
- * REVROUTE_CUT_OFF, REVROUTE_NO_SUCH_NODE or REVROUTE_NO_HOP, which are greater than all distances. O(1). */
+ * REVROUTE_CUT_OFF, REVROUTE_NO_SUCH_NODE or REVROUTE_NO_HOP, which are greater than all distances. O(1), and the first
+ * time O(n + m). */
 uint32_t revroute_distance(revroute *session, uint32_t node);
 
 /* Writes the nodes on the nearest route from a node to the destination, both included: each is the first way of the one
@@ -467,7 +474,7 @@ revroute_status revroute_all_ways(revroute *session, size_t *starts, size_t star
  *
  * A room of twice the number of nodes and the number of links is always enough. REVROUTE_NO_TABLE if `starts` does not
  * have one number more than there are nodes, or does not begin with 0, or falls, or does not end with `count`.
- * REVROUTE_NO_MEMORY if memory ran out. O(n + m log d) if no node has more than d links. */
+ * REVROUTE_NO_MEMORY if memory ran out. O(n + m log d + count) if no node has more than d links. */
 revroute_status revroute_shrink(revroute *session, const size_t *starts, size_t starts_count, const uint32_t *ways,
                                 size_t count, uint32_t *pushes, size_t room, size_t *length);
 revroute_status revroute_grow(revroute *session, const size_t *starts, size_t starts_count, const uint32_t *ways,
@@ -512,8 +519,8 @@ revroute_status revroute_size(revroute *session, uint32_t *nodes, size_t *links)
  *   left, or later ones. This is proved for a reader that was opened after the call, or that has learned from such a
  *   reader by revroute_reader_learn. For other readers it is only tested. A reader never goes back to an earlier table.
  * - Two reads can be of different tables. So while hops are pushed, a walk can visit a node again. It can also end at
- *   a node that is cut off although its first node has a route before and after. Within the pushes of one round it
- *   visits no node more than twice.
+ *   a node that is cut off although its first node has a route before and after. If its reader knows all earlier
+ *   pushes, as a new one does, then it visits no node more than twice within the pushes of one round.
  * - A thread that reads a hop also sees everything that the changing thread wrote before the call that stored the hop.
  *
  * Readers outlive their session. After its end they read its last hops. */
@@ -696,7 +703,7 @@ void revroute_way_reader_close(revroute_way_reader *reader);
  *     uint8_t message[REVROUTE_MESSAGE_LENGTH];
  *     if (revroute_node_say(&node, 8, message, sizeof message, &length) == REVROUTE_ANSWERED) ..     (send it)
  *
- * Each event gives the state of the node a new number. revroute_node_ways and revroute_node_gates write this number, and
+ * Each event gives the state of the node the next number. revroute_node_ways and revroute_node_gates write this number, and
  * revroute_node_written takes it. So a table that an event has overtaken cannot be confirmed. If other threads may make
  * calls between the two, compare their numbers: if they differ, an event came between them, so ask both again.
  *

@@ -99,8 +99,9 @@ impl Network {
 
     /// Removes the link between two nodes, whichever way it points.
     ///
-    /// `O(d)` if no node turns. Otherwise the cost is that of the links at the nodes that turn, and at the nodes that
-    /// had one of these as their next hop. It is `O(n + m)` at most.
+    /// `O(d)`, and if nodes turn `O(d log d)` for each of them and for each node that had one of these as its next hop.
+    /// It costs `O(n)` more in the first change, after a change that failed, and as long as nodes that have links are cut
+    /// off.
     ///
     /// ```
     /// use revroute::{Network, Refused, Report};
@@ -123,7 +124,8 @@ impl Network {
     ///
     /// It costs what [`cut`](Network::cut) costs, and a search if this is needed. The engine keeps a height for each
     /// node, so that links point from higher nodes to lower ones. If u is not higher than v, it searches the links of
-    /// the nodes with heights between theirs.
+    /// the nodes with heights between theirs. It costs `O(n + m)` if heights have to be computed again, or if the links
+    /// at a node need a larger place.
     ///
     /// ```
     /// use revroute::{Network, Refused};
@@ -376,8 +378,8 @@ impl Network {
 
     /// The ways of a node: the nodes to which its links point, nearest first. They are ordered by their
     /// [`distance`](Network::distance), and then by number. The destination has none, and neither has a node that is
-    /// cut off. `O(d log d)`. The first call of `ways`, `distance` or `nearest` also measures the distances of all nodes, in
-    /// `O(n + m)`. From then on each change keeps them up to date.
+    /// cut off. `O(d log d)`. The first call of `ways`, `distance`, `nearest` or `batch_with_ways`, or the first reader of
+    /// ways, also measures the distances of all nodes, in `O(n + m)`. From then on each change keeps them up to date.
     ///
     /// A router may hold all its ways, and send each packet to any of them. Whichever ways routers take, and whatever
     /// links fail, no packet visits a node twice.
@@ -438,7 +440,7 @@ impl Network {
 
     /// The nodes on the nearest route from a node to the destination, both included: each is the first of the
     /// [`ways`](Network::ways) of the one before. No route along the links is shorter. `None` if the node is cut off.
-    /// `O(k d)` for k nodes.
+    /// `O(k d)` for k nodes, and the first time as for [`ways`](Network::ways).
     ///
     /// ```
     /// let network = revroute::Network::new(5, 0, &[(2, 0), (1, 2), (3, 0), (4, 1), (4, 3)])?;
@@ -478,7 +480,7 @@ impl Network {
     }
 
     /// The distance of a node: the fewest links that lead from it down to the destination. `None` if the node is cut
-    /// off. `O(1)`, and needs no memory.
+    /// off. `O(1)`, and the first time as for [`ways`](Network::ways). It needs no memory.
     ///
     /// ```
     /// let network = revroute::Network::new(4, 0, &[(1, 0), (2, 1)])?;
@@ -599,7 +601,8 @@ impl Network {
     }
 
     /// What to push first to routers that hold all their [`ways`](Network::ways): each node that loses a way, with the
-    /// ways that it keeps. Nodes that keep one come first, by number, and then those that keep none. `O(n + m log d)`.
+    /// ways that it keeps. Nodes that keep one come first, by number, and then those that keep none. `O(n + m log d + k)`
+    /// for k ways in the table.
     ///
     /// Your table has a list for each node: the ways that its router may hold. These are the ways that it has confirmed
     /// last, and those of each later push that it has not confirmed. They may have cycles, and may name any numbers.
@@ -652,7 +655,7 @@ impl Network {
     }
 
     /// What to push once all routers have confirmed the pushes of [`shrink`](Network::shrink): each node whose list then
-    /// still differs, with all its ways, nearest first. The nodes come by number. `O(n + m log d)`.
+    /// still differs, with all its ways, nearest first. The nodes come by number. It costs what `shrink` costs.
     ///
     /// The result is the same for the table that was given to `shrink` and for the table after its pushes.
     ///

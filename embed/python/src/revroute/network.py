@@ -101,14 +101,18 @@ class Network(Generic[Name]):
     - `way_reader`: O(4,096 + m log d) for the first reader, and O(1) for each later one. Each change then costs what
       `batch_with_ways` costs.
     - `walk` and `changed`: linear in the length of the result.
-    - `ways`: O(d log d) for d links at the node. `nearest`: O(k d) for a route of k nodes.
+    - `ways`: O(d log d) for d links at the node. `nearest`: O(k d) for a route of k nodes. The first of these calls or
+      of `distance` in a network costs O(n + m) more.
     - `hops`, `hops_into`, `table`, `pushes` and `counts`: O(n).
     - `has_link`: O(d) for d links at the two nodes.
     - `links`, `neighbors`, `save` and `copy`: O(n + m).
-    - `all_ways`, `shrink` and `grow`: O(n + m log d).
+    - `all_ways`: O(n + m log d). `shrink` and `grow`: O(n + m log d + k) for k ways in the table.
     - `move_dest` and a new network: O(n + m), plus the round.
-    - `cut`, `add`, `join`, `batch` and `batch_with_ways`: O(n + m) at most. If few nodes turn, only the links at these nodes, and at the
-      nodes that had one of these as their next hop.
+    - `cut`, `add`, `join` and `batch`: O(d) for each edit, and if nodes turn O(d log d) for each of them and for each
+      node that had one of these as its next hop. A link that is added may cost a search, and O(n + m). The first
+      change, and each one while nodes that have links are cut off, costs O(n) more.
+    - `batch_with_ways`: the same, and O(d log d) for each node whose ways may have changed. The first one costs
+      O(n + m) more.
     """
 
     HERE, CUT_OFF = 0xFFFFFFFF, 0xFFFFFFFE
@@ -415,7 +419,8 @@ class Network(Generic[Name]):
     def ways(self, node: Name) -> list[Name]:
         """The ways of a node: the nodes to which its links point, nearest first. They are ordered by their distance,
         and then by number. The destination has none, and neither has a node that is cut off. The first call of
-        `ways`, `distance` or `nearest` measures the distances of all nodes, and each later change keeps them up to date.
+        `ways`, `distance`, `nearest` or `batch_with_ways`, or the first reader of ways, measures the distances of all
+        nodes, and each later change keeps them up to date.
 
         A router may hold all its ways, and send each packet to any of them. Whichever ways routers take, and whatever
         links fail, no packet visits a node twice.

@@ -219,10 +219,11 @@ class Session:
     - `way_reader`: O(4,096 + m log d) for the first reader, and O(1) for each later one. A line that
       begins a round then costs that too.
     - `walk` and `changed`: linear in the length of the result.
-    - `ways`: O(d log d) for d links at the node. `nearest`: O(k d) for a route of k nodes.
+    - `ways`: O(d log d) for d links at the node. `nearest`: O(k d) for a route of k nodes. The first of these calls or
+      of `distance` in a network costs O(n + m) more.
     - `hops`, `pushes` and `counts`: O(n).
     - `links` and `save`: O(n + m).
-    - `all_ways`, `shrink` and `grow`: O(n + m log d).
+    - `all_ways`: O(n + m log d). `shrink` and `grow`: O(n + m log d + k) for k ways in the table.
     - `answer`, `take` and `finish`: O(b) for b bytes of lines and answers, plus the same calls of a Network.
     """
 
