@@ -17,7 +17,7 @@
  *     ..
  *     revroute_close(&session);
  *
- * While one thread changes the session, other threads can read next hops. Each of them has a reader. No call waits:
+ * While one thread changes the session, other threads can read next hops. Each of them has a reader. No read waits:
  *
  *     revroute_reader reader = REVROUTE_NO_READER, copy = REVROUTE_NO_READER;
  *     if (revroute_reader_open(&session, &reader) == REVROUTE_ANSWERED
@@ -67,7 +67,9 @@
  * Results need no initial value, as the first example shows: a call never reads *round, *refusal, *length, *taken,
  * an answer's buffer or an array that it fills.
  *
- * No call waits for another thread, starts a thread, reads a file, or keeps a pointer that it was given.
+ * No call waits for another thread, starts a thread, reads a file, or keeps a pointer that it was given. Only malloc,
+ * realloc and free may wait, in a call that takes or frees memory. (In Python, calls on one session or on one node may
+ * wait for one another, because the package has a lock for each.)
  *
  * The costs below use n for the number of nodes, and m for the number of links.
  */
@@ -359,8 +361,9 @@ void revroute_close(revroute *session);
  * nothing to push.
  *
  * The first call of revroute_ways, revroute_distance, revroute_nearest or revroute_change_with_ways in a network also
- * measures the distances of all its nodes, in O(n + m), and so does the first reader of ways. From then on each change
- * keeps them up to date. A program without such a call does not pay for them. revroute_all_ways, revroute_shrink and
+ * measures the distances of all its nodes, in O(n + m). So does the first line that asks for the ways or the nearest
+ * route of one node. From then on each change keeps them up to date. A session that has had a reader of ways always
+ * keeps them. If none of this applies, changes do not pay for distances. revroute_all_ways, revroute_shrink and
  * revroute_grow measure the distances for themselves if they are not kept. */
 
 /* Returns the next hop of a node: a node, or one of the values above. O(1). */
@@ -519,8 +522,9 @@ revroute_status revroute_size(revroute *session, uint32_t *nodes, size_t *links)
  *   left, or later ones. This is proved for a reader that was opened after the call, or that has learned from such a
  *   reader by revroute_reader_learn. For other readers it is only tested. A reader never goes back to an earlier table.
  * - Two reads can be of different tables. So while hops are pushed, a walk can visit a node again. It can also end at
- *   a node that is cut off although its first node has a route before and after. If its reader knows all earlier
- *   pushes, as a new one does, then it visits no node more than twice within the pushes of one round.
+ *   a node that is cut off although its first node has a route before and after. A walk within the pushes of one round
+ *   visits no node more than twice, if its reader knows all pushes before this round: if it was opened after them, or
+ *   has learned from a reader that was.
  * - A thread that reads a hop also sees everything that the changing thread wrote before the call that stored the hop.
  *
  * Readers outlive their session. After its end they read its last hops. */
