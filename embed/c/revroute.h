@@ -754,8 +754,8 @@ typedef struct revroute_policy {
 /* Starts a router with this number and this height, and puts it into *node. A node that was there is closed. No other
  * router has the number. `boot` is greater than at all earlier starts of this router. Its state has the number 0.
  *
- * REVROUTE_ANSWERED; REVROUTE_REFUSED if the policy has an unknown kind of rise, or if the height is UINT64_MAX, since
- * then no neighbour could rise above it; REVROUTE_NO_MEMORY. What is refused is tested first. O(1). */
+ * REVROUTE_ANSWERED; REVROUTE_REFUSED if the policy has an unknown kind of rise, or if the height is 2^63 or more, since
+ * neighbours have to be able to rise above it; REVROUTE_NO_MEMORY. What is refused is tested first. O(1). */
 revroute_status revroute_node_open(revroute_node *node, uint32_t me, uint64_t boot, uint64_t height,
                                    const revroute_policy *policy);
 

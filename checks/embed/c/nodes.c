@@ -107,13 +107,15 @@ static void without_memory(void) {
     revroute_node node = REVROUTE_NO_NODE;
     revroute_policy unknown = {2, 9, 1, 1};
     expect(revroute_node_open(&node, 1, 1, 1, &unknown) == REVROUTE_REFUSED && !node.at, "an unknown rise is taken");
-    for (size_t at = 0; at < 4; at++) {
-        refusing_left = 1;
-        expect(revroute_node_open(&node, 1, 1, UINT64_MAX, &policies[at]) == REVROUTE_REFUSED && !node.at, "the greatest height is taken");
-        expect(refusing_left == 1, "a height is refused after memory was taken");
-        refusing_left = 0;
-    }
-    expect(revroute_node_open(&node, 1, 1, UINT64_MAX - 1, &policies[0]) == REVROUTE_ANSWERED, "a height is refused");
+    for (size_t at = 0; at < 4; at++)
+        for (uint64_t height = UINT64_C(1) << 63; height; height += UINT64_C(1) << (59 + at)) {
+            refusing_left = 1;
+            expect(revroute_node_open(&node, 1, 1, height, &policies[at]) == REVROUTE_REFUSED && !node.at, "a great height is taken");
+            expect(revroute_node_open(&node, 1, 1, height - 1, &policies[at]) == (height << 1 ? REVROUTE_REFUSED : REVROUTE_NO_MEMORY), "a height counts as another");
+            expect(!refusing_left == !(height << 1), "a height is refused after memory was taken");
+            refusing_left = 0;
+        }
+    expect(revroute_node_open(&node, 1, 1, (UINT64_C(1) << 63) - 1, &policies[0]) == REVROUTE_ANSWERED, "a height is refused");
     for (int call = 0; call < 2; call++) {
         make_poor(&node, call, 1);
         for (uint32_t at = 0; at < NEIGHBOURS; at++) make_poor(&node, 2, neighbour_at(at));

@@ -157,7 +157,7 @@ enum {
     a_later_start_that_is_not_told,
     a_later_start_of_a_stranger,
     a_later_start_that_is_an_event,
-    the_greatest_height_taken,
+    a_great_height_taken,
     a_null_node_that_lets_in
 };
 
@@ -621,5 +621,5 @@ revroute_status revroute_node_written(revroute_node *node, uint64_t state) {
 }
 
 revroute_status revroute_node_open(revroute_node *node, uint32_t me, uint64_t boot, uint64_t height, const revroute_policy *policy) {
-    return engine_node_open(node, me, boot, FAULT == the_greatest_height_taken ? height % UINT64_MAX : height, policy);
+    return engine_node_open(node, me, boot, FAULT == a_great_height_taken ? height & INT64_MAX : height, policy);
 }

@@ -201,9 +201,10 @@ class NodeTest(unittest.TestCase):
         self.assertRaises(Unwritten, node.say, 2)
 
     def test_words(self):
-        node = Node(1, 2**64 - 1, 2**64 - 2)
-        self.assertEqual((node.height, node.distance, node.ways(), node.gates()), (2**64 - 2, None, [], []))
-        self.assertRaises(ValueError, Node, 1, 1, 2**64 - 1)
+        node = Node(1, 2**64 - 1, 2**63 - 1)
+        self.assertEqual((node.height, node.distance, node.ways(), node.gates()), (2**63 - 1, None, [], []))
+        for height in (2**63, 2**64 - 1):
+            self.assertRaises(ValueError, Node, 1, 1, height)
         self.assertRaises(OverflowError, Node, 1, 1, 2**64)
         self.assertRaises(ValueError, node.know, 1)
         for number in (-1, 2**32):

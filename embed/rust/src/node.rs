@@ -80,8 +80,8 @@ impl Policy {
 pub enum NodeFault {
     /// The neighbour is the router itself.
     Itself,
-    /// The height is [`u64::MAX`], and no neighbour could rise above it.
-    Height,
+    /// The height is 2^63 or more. Neighbours have to be able to rise above it.
+    TooHigh,
     /// Memory ran out.
     NoMemory,
 }
@@ -90,7 +90,7 @@ impl fmt::Display for NodeFault {
     fn fmt(&self, f: &mut fmt::Formatter<'_>) -> fmt::Result {
         match self {
             NodeFault::Itself => f.write_str("a router is no neighbour of itself"),
-            NodeFault::Height => f.write_str("no neighbour could rise above this height"),
+            NodeFault::TooHigh => f.write_str("a router starts at a height below 2^63"),
             NodeFault::NoMemory => NoMemory.fmt(f),
         }
     }
@@ -240,7 +240,7 @@ impl Node {
     ///
     /// # Errors
     ///
-    /// [`Height`](NodeFault::Height) and [`NoMemory`](NodeFault::NoMemory).
+    /// [`TooHigh`](NodeFault::TooHigh) and [`NoMemory`](NodeFault::NoMemory).
     pub fn new(me: u32, boot: u64, height: u64, policy: Policy) -> Result<Node, NodeFault> {
         let policy = policy.of_c();
         // SAFETY: the handle is null, and the policy is another value.
@@ -267,7 +267,7 @@ impl Node {
         match open(node.handle.get()) {
             sys::ANSWERED => Ok(node),
             // Each policy of the crate is known.
-            sys::REFUSED => Err(NodeFault::Height),
+            sys::REFUSED => Err(NodeFault::TooHigh),
             sys::NO_MEMORY => Err(NodeFault::NoMemory),
             _ => unreachable!("a start has three ends"),
         }

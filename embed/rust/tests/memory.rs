@@ -266,7 +266,7 @@ fn without_memory_there_is_no_node_and_no_neighbour() -> Result<(), NodeFault> {
     let refused = poor(1, || Node::new(1, 1, 1, policy)).err();
     assert_eq!(refused, Some(NodeFault::NoMemory));
     let refused = poor(1, || Node::new(1, 1, u64::MAX, policy)).err();
-    assert_eq!(refused, Some(NodeFault::Height));
+    assert_eq!(refused, Some(NodeFault::TooHigh));
     assert!(poor(1, || Node::gateway(1, 1)).is_err());
     let mut node = Node::new(1, 1, 1, policy)?;
     // One allocation is for the list of ways, and one for the neighbours.

@@ -189,14 +189,14 @@ fn a_boot_number_that_did_not_grow_is_noticed() -> Result<(), Box<dyn Error>> {
 }
 
 #[test]
-fn no_router_starts_at_the_greatest_height() -> Result<(), Box<dyn Error>> {
+fn no_router_starts_too_high() -> Result<(), Box<dyn Error>> {
     for policy in [POLICY, Policy::default()] {
-        let refused = Node::new(1, 1, u64::MAX, policy).err();
-        assert_eq!(refused, Some(NodeFault::Height));
-        assert_eq!(
-            Node::new(1, 1, u64::MAX - 1, policy)?.height(),
-            u64::MAX - 1
-        );
+        for height in [1 << 63, (1 << 63) + 1, u64::MAX] {
+            let refused = Node::new(1, 1, height, policy).err();
+            assert_eq!(refused, Some(NodeFault::TooHigh));
+        }
+        let highest = (1 << 63) - 1;
+        assert_eq!(Node::new(1, 1, highest, policy)?.height(), highest);
     }
     Ok(())
 }
@@ -223,7 +223,7 @@ fn faults_are_errors() {
         Outdated.into(),
         Unwritten.into(),
         NodeFault::Itself.into(),
-        NodeFault::Height.into(),
+        NodeFault::TooHigh.into(),
         NodeFault::from(NoMemory).into(),
     ];
     let mut texts: Vec<_> = faults.iter().map(|it| it.to_string()).collect();

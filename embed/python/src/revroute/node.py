@@ -98,7 +98,7 @@ class Node:
     choice can make a loop.
 
     Raises OverflowError if `boot` or `height` has more than 64 bits or another number has more than 32, ValueError if
-    `height` is 2^64 - 1, since then no neighbour could rise above it, and MemoryError if memory runs out. A call on a
+    `height` is 2^63 or more, since neighbours have to be able to rise above it, and MemoryError if memory runs out. A call on a
     closed node raises ValueError. Any thread may call. Calls on one node wait for each other. The child of `os.fork` has
     its own copies of all nodes, but only one of the two processes may send messages. If another thread was in a call on a
     node during the fork, a call on this node raises RuntimeError in the child.
@@ -132,7 +132,7 @@ class Node:
         if status == _calls.NO_MEMORY:
             raise MemoryError
         if status == _calls.REFUSED:
-            raise ValueError("no neighbour could rise above this height")
+            raise ValueError("a router starts at a height below 2^63")
         self._end = weakref.finalize(self, questions.revroute_node_close, self._at)
         self._end.atexit = False
         _nodes[id(self)] = self
