@@ -418,7 +418,7 @@ static void step(router *it, uint32_t me, int is_wrong, int is_gateway, const re
         it->events++;
     } else if (what < 26) {
         if (is_wrong && revroute_node_written(&it->node, it->events) != REVROUTE_ANSWERED) stop("a node is not written");
-        if (is_wrong && drawn(3)) return;
+        if (is_wrong && drawn(5)) return;
         if (is_wrong || drawn(3)) read_table(it);
         if (is_wrong || drawn(4)) write_table(it);
     } else {
