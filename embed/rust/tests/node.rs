@@ -92,7 +92,7 @@ fn a_ring_finds_its_ways_and_heals() -> Result<(), Box<dyn Error>> {
         let distances: Vec<_> = ring.nodes.iter().map(Node::distance).collect();
         assert_eq!(distances, [0, 4, 3, 2, 1].map(Some));
         assert_eq!(ring.nodes[1].table()?.ways(), [2]);
-        assert_eq!(ring.nodes[2].table()?.gates(), [1]);
+        assert!(ring.nodes[2].table()?.gates().contains(&1));
         assert!(ring.nodes[2].lets_in(1) && !ring.nodes[2].sends_to(1));
     }
     Ok(())
