@@ -55,25 +55,60 @@ impl Ring {
         Ok(())
     }
 
-    /// Delivers messages until there is no news. Returns their number.
-    fn settle(&mut self) -> Result<usize, Box<dyn Error>> {
+    /// The links, from each router to its two neighbours.
+    fn links(&self) -> Vec<(usize, usize)> {
         let count = self.nodes.len();
-        for messages in 0..10_000 {
-            let links = (0..count).flat_map(|from| {
-                [
-                    (from, (from + 1) % count),
-                    (from, (from + count - 1) % count),
-                ]
-            });
-            let has_news = |&(from, to): &(usize, usize)| self.nodes[from].has_news(to as u32);
-            let Some((from, to)) = links.into_iter().find(|link| has_news(link) == Ok(true)) else {
-                return Ok(messages);
-            };
-            let message = self.nodes[from].say(to as u32)?.expect("the link is up");
+        let both = |me| [(me, (me + 1) % count), (me, (me + count - 1) % count)];
+        (0..count).flat_map(both).collect()
+    }
+
+    /// A router says what it has to say to a neighbour, if their link is up.
+    fn pass_on(&mut self, from: usize, to: usize) -> Result<(), Box<dyn Error>> {
+        if let Some(message) = self.nodes[from].say(to as u32)? {
             self.nodes[to].hear(&message)?;
             write(&mut self.nodes[to])?;
         }
+        Ok(())
+    }
+
+    /// Delivers messages until there is no news. Returns their number.
+    fn spread_news(&mut self) -> Result<usize, Box<dyn Error>> {
+        for messages in 0..10_000 {
+            let has_news = |&(from, to): &(usize, usize)| self.nodes[from].has_news(to as u32);
+            let links = self.links();
+            let Some(&(from, to)) = links.iter().find(|link| has_news(link) == Ok(true)) else {
+                return Ok(messages);
+            };
+            self.pass_on(from, to)?;
+        }
         panic!("routers talk for ever");
+    }
+
+    /// Delivers news, and says everything again, until nothing has changed three times. A router that waits for
+    /// acknowledgements may take its next step only when it hears something.
+    fn settle(&mut self) -> Result<(), Box<dyn Error>> {
+        let mut still = 0;
+        for _ in 0..1_000 {
+            let before = self.picture();
+            self.spread_news()?;
+            for (from, to) in self.links() {
+                self.pass_on(from, to)?;
+            }
+            still = if self.picture() == before {
+                still + 1
+            } else {
+                0
+            };
+            if still == 3 {
+                return Ok(());
+            }
+        }
+        panic!("routers do not come to rest");
+    }
+
+    fn picture(&self) -> Vec<(u64, Option<u32>)> {
+        let of = |node: &Node| (node.height(), node.distance());
+        self.nodes.iter().map(of).collect()
     }
 }
 
@@ -81,7 +116,8 @@ impl Ring {
 fn a_ring_finds_its_ways_and_heals() -> Result<(), Box<dyn Error>> {
     for policy in [POLICY, Policy::default()] {
         let mut ring = Ring::new(5, policy)?;
-        assert!(ring.settle()? > 0);
+        assert!(ring.spread_news()? > 0);
+        ring.settle()?;
         for me in 1..5 {
             let nearest = ring.nodes[me].table()?.ways()[0];
             let distance = ring.nodes[nearest as usize].distance();
