@@ -292,8 +292,8 @@ revroute_status revroute_open(revroute *session, uint32_t nodes, uint32_t dest, 
  * engine keeps, costs a search among the nodes between the two heights. It costs O(n + m) if heights have to be computed
  * again, or if the links at a node need a larger place. A round in which nodes turn costs O(d log d) for each of them
  * and for each node that had one of these as its next hop. It costs O(n) more in the first call, after a call that
- * failed, and as long as nodes that have links are cut off. The nodes of such a part turn n times in each round, and
- * these turns are made at once. */
+ * ran out of memory, and as long as nodes that have links are cut off. The nodes of such a part turn n times in each
+ * round, and these turns are made at once. */
 revroute_status revroute_change(revroute *session, const revroute_edit *edits, size_t count, revroute_round *round,
                                 revroute_refusal *refusal);
 

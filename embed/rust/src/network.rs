@@ -100,8 +100,8 @@ impl Network {
     /// Removes the link between two nodes, whichever way it points.
     ///
     /// `O(d)`, and if nodes turn `O(d log d)` for each of them and for each node that had one of these as its next hop.
-    /// It costs `O(n)` more in the first change, after a change that failed, and as long as nodes that have links are cut
-    /// off.
+    /// It costs `O(n)` more in the first change, after a change that ran out of memory, and as long as nodes that have
+    /// links are cut off.
     ///
     /// ```
     /// use revroute::{Network, Refused, Report};

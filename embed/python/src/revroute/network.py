@@ -386,7 +386,8 @@ class Network(Generic[Name]):
         return [(self._name(u), self._name(v)) for u, v in self._session.links()]
 
     def has_link(self, u: Name, v: Name) -> bool:
-        """Whether a link connects two nodes, whichever way it points. O(d) for d links at them.
+        """Whether a link connects two nodes, whichever way it points. O(d) for d links at them, and one step for each
+        node that has links and is cut off.
 
         >>> network = Network(3, 0, [(1, 0), (2, 1)])
         >>> network.has_link(1, 2), network.has_link(0, 2), network.has_link(1, 1)
