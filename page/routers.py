@@ -104,11 +104,11 @@ class Router:
 
     def write(self):
         """Closes gates, changes the ways, and then opens gates. Only then the node may say something."""
-        gates = {it for it in self.neighbours if self.node.lets_in(it)}
-        self.gates &= gates
-        self.ways = self.node.ways()
-        self.gates = gates
-        self.node.written()
+        ways, gates, state = self.node.table()
+        self.gates &= {*gates}
+        self.ways = ways
+        self.gates = {*gates}
+        self.node.written(state)
         self.is_written = True
 
 

@@ -16,9 +16,9 @@ dest     | revroute_dest revroute_move_dest | Network::dest Network::move_dest S
 links    | revroute_links | Network::links Session::links | Network.links Session.links
 counts   | revroute_counts | Network::counts Session::counts | Network.counts Session.counts
 hops     | revroute_hops | Network::hops Session::hops | Network.hops Network.hops_into Session.hops
-walk     | revroute_walk revroute_reader_walk | Network::walk Session::walk Reader::walk | Network.walk Session.walk Reader.walk
-ways     | revroute_ways revroute_all_ways revroute_way_reader_ways revroute_node_ways | Network::ways Network::all_ways Session::ways Session::all_ways WayReader::ways NodeTable::ways | Network.ways Network.all_ways Session.ways Session.all_ways WayReader.ways Node.ways
-nearest  | revroute_nearest | Network::nearest Session::nearest | Network.nearest Session.nearest
+walk     | revroute_walk revroute_reader_walk | Network::walk Network::try_walk Session::walk Reader::walk | Network.walk Session.walk Reader.walk
+ways     | revroute_ways revroute_all_ways revroute_way_reader_ways revroute_node_ways | Network::ways Network::try_ways Network::all_ways Session::ways Session::all_ways WayReader::ways NodeTable::ways | Network.ways Network.all_ways Session.ways Session.all_ways WayReader.ways Node.ways
+nearest  | revroute_nearest | Network::nearest Network::try_nearest Session::nearest | Network.nearest Session.nearest
 net      | revroute_open | Network::new | Network
 pushes   | revroute_pushes | Network::pushes Session::pushes | Network.pushes Session.pushes
 phases   | | |
@@ -27,7 +27,7 @@ grow     | revroute_grow | Network::grow Session::grow | Network.grow Session.gr
 with_ways | revroute_change_with_ways | Network::batch_with_ways | Network.batch_with_ways
 change_shrink | revroute_change_shrink | Network::change_shrink | Network.change_shrink
 change_grow | revroute_change_grow | Network::change_grow | Network.change_grow
-distance | revroute_distance revroute_node_distance | Network::distance Session::distance NodeTable::distance | Network.distance Session.distance Node.distance
+distance | revroute_distance revroute_node_distance | Network::distance Network::try_distance Session::distance Node::distance | Network.distance Session.distance Node.distance
 next_hop | revroute_next_hop revroute_reader_next_hop | Network::next_hop Network::try_next_hop Session::next_hop Reader::next_hop Reader::try_next_hop | Network.next_hop Session.next_hop Reader.next_hop
 changed  | revroute_changed | Network::changed Session::changed | Network.changed Session.changed
 push_order | revroute_push_order | push_order | push_order
@@ -45,27 +45,31 @@ close    | revroute_close revroute_reader_close revroute_way_reader_close revrou
 version  | revroute_version | version | version
 cycle    | revroute_closed_walk revroute_closed_walk_of | Refused::ClosedWalk | 
 session  | | Session::new | Session
-table    | | | Network.table
+table    | | Node::table | Network.table Node.table
+has_link | | | Network.has_link
+neighbors | | | Network.neighbors
+save     | | | Network.save Session.save
 networkx | | | Network.from_networkx Network.to_networkx
 node     | revroute_node_open | Node::new | Node
 gateway  | revroute_node_open_gateway | Node::gateway | Node.gateway
 know     | revroute_node_know | Node::know | Node.know
-link_up  | revroute_node_link_up | Node::link_up Unwritten::link_up | Node.link_up
-link_down | revroute_node_link_down | Node::link_down Unwritten::link_down | Node.link_down
-hear     | revroute_node_hear | Node::hear Unwritten::hear | Node.hear
-written  | revroute_node_written | Unwritten::written | Node.written
+link_up  | revroute_node_link_up | Node::link_up | Node.link_up
+link_down | revroute_node_link_down | Node::link_down | Node.link_down
+hear     | revroute_node_hear | Node::hear | Node.hear
+written  | revroute_node_written | Node::written | Node.written
 say      | revroute_node_say | Node::say | Node.say
 news     | revroute_node_has_news | Node::has_news | Node.has_news
-height   | revroute_node_height | NodeTable::height | Node.height
-lets_in  | revroute_node_lets_in | NodeTable::lets_in | Node.lets_in
-sends_to | revroute_node_sends_to | NodeTable::sends_to | Node.sends_to
+height   | revroute_node_height | Node::height | Node.height
+gates    | revroute_node_gates | NodeTable::gates | Node.gates
+lets_in  | revroute_node_lets_in | Node::lets_in | Node.lets_in
+sends_to | revroute_node_sends_to | Node::sends_to | Node.sends_to
 """
 # Names that do not have the word of their row.
 OF_THEIR_OWN = {"revroute_change", "revroute_open", "Network::new", "Session::new", "Network", "Network::try_clone", "Reader::try_clone"}
 OF_THEIR_OWN |= {"WayReader::try_clone"}
 OF_THEIR_OWN |= {"revroute_closed_walk", "revroute_closed_walk_of", "Refused::ClosedWalk"}
 WORDS_OF_LINES = 14
-RUST_TYPES = ("Network", "Session", "Reader", "WayReader", "Node", "NodeTable", "Unwritten")
+RUST_TYPES = ("Network", "Session", "Reader", "WayReader", "Node", "NodeTable")
 PYTHON_TYPES = ("Network", "Session", "Reader", "WayReader", "Node")
 
 

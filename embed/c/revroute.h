@@ -117,8 +117,8 @@ typedef enum revroute_status {
     /* The node has no route: it is cut off from the destination, or there is no such node. *length is 0.
      * (revroute_reader_walk says what this means for a walk, and revroute_node_distance for a node.) */
     REVROUTE_NO_ROUTE = 5,
-    /* The network, the edits, the destination or the tables are refused, and *refusal says why. Or a policy or a
-     * neighbour of a node is refused. */
+    /* The network, the edits, the destination or the tables are refused, and *refusal says why. Or a policy, a height
+     * or a neighbour of a node is refused. */
     REVROUTE_REFUSED = 6,
     /* The links or the edits are not refused for a cycle: they are accepted, or refused for another reason.
      * *length is 0. */
@@ -138,7 +138,11 @@ typedef enum revroute_status {
     /* The bytes are not a message of a node. Nothing has changed. */
     REVROUTE_NO_MESSAGE = 13,
     /* The neighbour is not known to the node, or the link to it is down. *length is 0. */
-    REVROUTE_LINK_DOWN = 14
+    REVROUTE_LINK_DOWN = 14,
+    /* An event came after the ways and gates were handed out. Nothing has changed. */
+    REVROUTE_OUTDATED = 15,
+    /* A neighbour knows a later start of this router. Nothing has changed. */
+    REVROUTE_LATER_START = 16
 } revroute_status;
 
 /* Returns what a status means, as a constant text in English. */
@@ -150,7 +154,8 @@ static inline const char *revroute_status_text(revroute_status status_) {
     case REVROUTE_NO_MEMORY: return "no memory";
     case REVROUTE_NO_NETWORK: return "there is no network yet, or the reader or the node is null";
     case REVROUTE_NO_ROUTE: return "the node has no route";
-    case REVROUTE_REFUSED: return "the network, the change, the tables, the policy or the neighbour are refused";
+    case REVROUTE_REFUSED:
+        return "the network, the change, the tables, the policy, the height or the neighbour are refused";
     case REVROUTE_NO_WALK: return "there is no cycle";
     case REVROUTE_BEGUN: return "no line has ended yet";
     case REVROUTE_TOO_LONG: return "the line is too long";
@@ -159,6 +164,8 @@ static inline const char *revroute_status_text(revroute_status status_) {
     case REVROUTE_UNWRITTEN: return "the ways and gates are not written yet";
     case REVROUTE_NO_MESSAGE: return "the bytes are not a message";
     case REVROUTE_LINK_DOWN: return "the neighbour is not known, or the link to it is down";
+    case REVROUTE_OUTDATED: return "an event came after the ways and gates were handed out";
+    case REVROUTE_LATER_START: return "a neighbour knows a later start of this router";
     }
     return "an unknown status";
 }
@@ -279,9 +286,14 @@ revroute_status revroute_open(revroute *session, uint32_t nodes, uint32_t dest, 
                               size_t count, revroute_round *round, revroute_refusal *refusal);
 
 /* Makes `count` edits in order, and then one round. If one edit is refused, none is made. Unknown kinds are tested
- * before everything else. An edit after which no node turns costs O(d), for d links at its nodes. Otherwise the cost
- * is that of the links at the nodes that turn, and at the nodes that had one of these as their next hop. It is at most
- * O(n + m). */
+ * before everything else.
+ *
+ * An edit costs O(d), for d links at its nodes. A link that is added against the order of the nodes' heights, which the
+ * engine keeps, costs a search among the nodes between the two heights. It costs O(n + m) if heights have to be computed
+ * again, or if the links at a node need a larger place. A round in which nodes turn costs O(d log d) for each of them
+ * and for each node that had one of these as its next hop. It costs O(n) more in the first call, after a call that
+ * ran out of memory, and as long as nodes that have links are cut off. The nodes of such a part turn n times in each
+ * round, and these turns are made at once. */
 revroute_status revroute_change(revroute *session, const revroute_edit *edits, size_t count, revroute_round *round,
                                 revroute_refusal *refusal);
 
@@ -344,12 +356,15 @@ void revroute_close(revroute *session);
  *
  * Some questions fill an array of `room` places. They write to its front, leave the rest unchanged, and write the
  * number of elements to *length. With REVROUTE_TOO_SHORT *length is that number too. After any result but
- * REVROUTE_ANSWERED the array is unchanged.
+ * REVROUTE_ANSWERED the array is unchanged. Before the first network they return REVROUTE_NO_NETWORK, except
+ * revroute_push_order, which needs no session, and revroute_change_shrink and revroute_change_grow, which then have
+ * nothing to push.
  *
  * The first call of revroute_ways, revroute_distance, revroute_nearest or revroute_change_with_ways in a network also
  * measures the distances of all its nodes, in O(n + m). So does the first line that asks for the ways or the nearest
  * route of one node. From then on each change keeps them up to date. A session that has had a reader of ways always
- * keeps them. If none of this applies, changes do not pay for distances. */
+ * keeps them. If none of this applies, changes do not pay for distances. revroute_all_ways, revroute_shrink and
+ * revroute_grow measure the distances for themselves if they are not kept. */
 
 /* Returns the next hop of a node: a node, or one of the values above. O(1). */
 uint32_t revroute_next_hop(revroute *session, uint32_t node);
@@ -358,7 +373,8 @@ uint32_t revroute_next_hop(revroute *session, uint32_t node);
 revroute_status revroute_hops(revroute *session, uint32_t *hops, size_t room, size_t *length);
 
 /* Writes the nodes whose next hop the last accepted round changed, in push order: each node after those of them on its
- * new route, and nodes without a route last. Refused calls and questions do not change this list. O(r) for r of these nodes.
+ * new route, and nodes without a route last. Refused calls and questions do not change this list. O(r) for r of these
+ * nodes.
  *
  * A number that is not a node of the network before or after the round counts as cut off there, and before the first
  * network all numbers do. So if the new network is smaller, the nodes that are gone and had a hop are on the list.
@@ -421,7 +437,8 @@ revroute_status revroute_walk(revroute *session, uint32_t node, uint32_t *nodes,
 revroute_status revroute_ways(revroute *session, uint32_t node, uint32_t *ways, size_t room, size_t *length);
 
 /* Returns the distance of a node: the fewest links that lead from it down to the destination. Otherwise returns
- * REVROUTE_CUT_OFF, REVROUTE_NO_SUCH_NODE or REVROUTE_NO_HOP, which are greater than all distances. O(1). */
+ * REVROUTE_CUT_OFF, REVROUTE_NO_SUCH_NODE or REVROUTE_NO_HOP, which are greater than all distances. O(1), and the first
+ * time O(n + m). */
 uint32_t revroute_distance(revroute *session, uint32_t node);
 
 /* Writes the nodes on the nearest route from a node to the destination, both included: each is the first way of the one
@@ -460,7 +477,7 @@ revroute_status revroute_all_ways(revroute *session, size_t *starts, size_t star
  *
  * A room of twice the number of nodes and the number of links is always enough. REVROUTE_NO_TABLE if `starts` does not
  * have one number more than there are nodes, or does not begin with 0, or falls, or does not end with `count`.
- * REVROUTE_NO_MEMORY if memory ran out. O(n + m log d) if no node has more than d links. */
+ * REVROUTE_NO_MEMORY if memory ran out. O(n + m log d + count) if no node has more than d links. */
 revroute_status revroute_shrink(revroute *session, const size_t *starts, size_t starts_count, const uint32_t *ways,
                                 size_t count, uint32_t *pushes, size_t room, size_t *length);
 revroute_status revroute_grow(revroute *session, const size_t *starts, size_t starts_count, const uint32_t *ways,
@@ -680,18 +697,23 @@ void revroute_way_reader_close(revroute_way_reader *reader);
  * 6. Each router has a number of its own.
  *
  *     revroute_node node = REVROUTE_NO_NODE;
- *     revroute_policy policy = {REVROUTE_FULL, 0, 0, 1};
+ *     revroute_policy policy = {REVROUTE_FULL, 0, 1, 1};
  *     if (revroute_node_open(&node, 7, boot, 0, &policy) == REVROUTE_ANSWERED
  *         && revroute_node_know(&node, 8) == REVROUTE_ANSWERED) ..
  *     revroute_node_link_up(&node, 8);
- *     ..                                  (write what revroute_node_ways and revroute_node_lets_in say)
- *     revroute_node_written(&node);
+ *     if (revroute_node_ways(&node, ways, room, &count, &state) == REVROUTE_ANSWERED
+ *         && revroute_node_gates(&node, gates, room, &gate_count, &state) == REVROUTE_ANSWERED) ..     (write them)
+ *     revroute_node_written(&node, state);
  *     uint8_t message[REVROUTE_MESSAGE_LENGTH];
  *     if (revroute_node_say(&node, 8, message, sizeof message, &length) == REVROUTE_ANSWERED) ..     (send it)
  *
+ * Each event gives the state of the node the next number. revroute_node_ways and revroute_node_gates write this number, and
+ * revroute_node_written takes it. So a table that an event has overtaken cannot be confirmed. If other threads may make
+ * calls between the two, compare their numbers: if they differ, an event came between them, so ask both again.
+ *
  * All calls on a null node return REVROUTE_NO_NETWORK, except those that return a flag. After any status but
- * REVROUTE_ANSWERED the node is unchanged, and so is what the call could write, except *length. Only the two calls that
- * open a node and revroute_node_know take memory. The costs use d for the number of known neighbours. */
+ * REVROUTE_ANSWERED the node is unchanged, and so is what the call could write, except *length and *state. Only the two
+ * calls that open a node and revroute_node_know take memory. The costs use d for the number of known neighbours. */
 
 /* A node. Whoever creates it owns it, and closes it when it is no longer needed. */
 typedef struct revroute_node {
@@ -730,10 +752,10 @@ typedef struct revroute_policy {
 } revroute_policy;
 
 /* Starts a router with this number and this height, and puts it into *node. A node that was there is closed. No other
- * router has the number. `boot` is greater than at all earlier starts of this router.
+ * router has the number. `boot` is greater than at all earlier starts of this router. Its state has the number 0.
  *
- * REVROUTE_ANSWERED; REVROUTE_REFUSED if the policy has an unknown kind of rise, which is tested first;
- * REVROUTE_NO_MEMORY. O(1). */
+ * REVROUTE_ANSWERED; REVROUTE_REFUSED if the policy has an unknown kind of rise, or if the height is 2^63 or more, since
+ * neighbours have to be able to rise above it; REVROUTE_NO_MEMORY. What is refused is tested first. O(1). */
 revroute_status revroute_node_open(revroute_node *node, uint32_t me, uint64_t boot, uint64_t height,
                                    const revroute_policy *policy);
 
@@ -751,13 +773,21 @@ revroute_status revroute_node_know(revroute_node *node, uint32_t neighbour);
 revroute_status revroute_node_link_up(revroute_node *node, uint32_t neighbour);
 revroute_status revroute_node_link_down(revroute_node *node, uint32_t neighbour);
 
-/* An event: a message of `count` bytes is heard. It changes the node only if it is for this router, from a known
- * neighbour, and not from an earlier start of either. The policy may change the height. REVROUTE_NO_MESSAGE if the bytes
- * are not a message, because of their number or their header. O(d). */
+/* An event: a message of `count` bytes is heard. It changes what is known of its sender only if it is for this router,
+ * from a known neighbour, and not from an earlier start of either. The policy may change the height. O(d).
+ *
+ * These are no events, and the node is unchanged. The first that holds is returned:
+ *
+ * - REVROUTE_NO_MESSAGE: the bytes are not a message, because of their number or their header.
+ * - REVROUTE_LATER_START: the message is for this router and from a known neighbour, which knows a start of this router
+ *   with a greater boot number. Either `boot` was not greater than at all earlier starts, or another router has the number
+ *   of this one. The promise does not hold then: close the node, and start it with a greater `boot` or another number. */
 revroute_status revroute_node_hear(revroute_node *node, const uint8_t *bytes, size_t count);
 
-/* Call this once the ways and gates are written as they are now. O(1). */
-revroute_status revroute_node_written(revroute_node *node);
+/* Call this once the ways and gates are written that revroute_node_ways and revroute_node_gates handed out with the
+ * number `state`. REVROUTE_OUTDATED if this is not the number of the node's state now, because an event came after them:
+ * ask for the ways and gates again, and write these. O(1). */
+revroute_status revroute_node_written(revroute_node *node, uint64_t state);
 
 /* Writes the message for a neighbour to the front of a buffer of `room` bytes, and its length to *length, which is
  * always REVROUTE_MESSAGE_LENGTH. A message may be said as often as you like. Messages may be lost, so say one to each
@@ -773,8 +803,13 @@ revroute_status revroute_node_has_news(revroute_node *node, uint32_t neighbour, 
 
 /* Writes the neighbours to which packets may be sent, the nearest first, and equally near ones by number, to the front of
  * an array of `room` places, as the questions on a session do. A router may send packets to any of them. A gateway has
- * none. It needs no memory. O(d log d). */
-revroute_status revroute_node_ways(revroute_node *node, uint32_t *ways, size_t room, size_t *length);
+ * none. Writes the number of the node's state to *state, also with REVROUTE_TOO_SHORT. It needs no memory.
+ * O(d log d). */
+revroute_status revroute_node_ways(revroute_node *node, uint32_t *ways, size_t room, size_t *length, uint64_t *state);
+
+/* Writes the neighbours from which packets are let in, in the order in which they were made known. All other packets have
+ * to be dropped. All else is as for revroute_node_ways. O(d). */
+revroute_status revroute_node_gates(revroute_node *node, uint32_t *gates, size_t room, size_t *length, uint64_t *state);
 
 /* Writes to *distance how many links a packet crosses from this router to a gateway, by what it has heard: 0 at a
  * gateway. REVROUTE_NO_ROUTE, and *distance is unchanged, if there is no way, or if the distance is not below the cap of
@@ -1017,11 +1052,18 @@ static inline revroute_status revroute_node_say_(revroute_node *node_, uint32_t 
 #define revroute_node_say revroute_node_say_
 
 static inline revroute_status revroute_node_ways_(revroute_node *node_, uint32_t *ways_, size_t room_,
-                                                  size_t *length_) {
+                                                  size_t *length_, uint64_t *state_) {
     if (REVROUTE_IS_MISSING(ways_, room_)) return REVROUTE_NULL_ARRAY;
-    return revroute_node_ways(node_, REVROUTE_SOME(uint32_t, ways_, length_), room_, length_);
+    return revroute_node_ways(node_, REVROUTE_SOME(uint32_t, ways_, length_), room_, length_, state_);
 }
 #define revroute_node_ways revroute_node_ways_
+
+static inline revroute_status revroute_node_gates_(revroute_node *node_, uint32_t *gates_, size_t room_,
+                                                   size_t *length_, uint64_t *state_) {
+    if (REVROUTE_IS_MISSING(gates_, room_)) return REVROUTE_NULL_ARRAY;
+    return revroute_node_gates(node_, REVROUTE_SOME(uint32_t, gates_, length_), room_, length_, state_);
+}
+#define revroute_node_gates revroute_node_gates_
 
 static inline revroute_status revroute_version_(uint8_t *text_, size_t room_, size_t *length_) {
     if (REVROUTE_IS_MISSING(text_, room_)) return REVROUTE_NULL_ARRAY;

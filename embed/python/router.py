@@ -12,7 +12,7 @@ import socket
 import sys
 import time
 
-from revroute import Node, NotAMessage
+from revroute import LaterStart, Node, NotAMessage
 
 HELLO, DEAD, CAP = 0.1, 0.5, 64
 NOTHING = {"ways": [], "gates": [], "distance": None}
@@ -54,6 +54,9 @@ class Router:
             self.node.hear(data)
         except NotAMessage:
             return is_new
+        except LaterStart:
+            write(NOTHING)
+            sys.exit("The clock has gone back, or another router has the same number.")
         return True
 
     def notice_silence(self):
@@ -65,12 +68,12 @@ class Router:
         return bool(late)
 
     def write(self):
-        gates = [it for it in self.addresses if self.node.lets_in(it)]
-        table = {"ways": self.node.ways(), "gates": gates, "distance": self.node.distance}
+        ways, gates, state = self.node.table()
+        table = {"ways": ways, "gates": gates, "distance": self.node.distance}
         if table != self.table:
             write(table)
             self.table = table
-        self.node.written()
+        self.node.written(state)
 
     def speak(self, is_time):
         """Sends news at once, and everything again when it is time."""

@@ -66,8 +66,9 @@ static answer rerouted_of(revroute *session) {
     size_t count;
     revroute_changed(session, (uint32_t[1]){0}, 0, &count);
     uint32_t *nodes = grown(NULL, (count + 1) * sizeof *nodes);
-    if (revroute_changed(session, nodes, count, &count) != REVROUTE_ANSWERED) stop("rerouted nodes cannot be told");
-    return (answer){REVROUTE_ANSWERED, (uint8_t *)nodes, count * sizeof *nodes};
+    revroute_status status = revroute_changed(session, nodes, count, &count);
+    if (status != REVROUTE_ANSWERED && status != REVROUTE_NO_NETWORK) stop("rerouted nodes cannot be told");
+    return (answer){status, (uint8_t *)nodes, count * sizeof *nodes};
 }
 
 /* All that can be asked about a session's state: by lines, and which nodes were rerouted last. */

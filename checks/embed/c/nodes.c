@@ -1,12 +1,14 @@
 /* Nodes: null handles, short buffers, bytes that are not a message, refused memory, and a network that runs.
  *
- * First each call gets a null node; buffers that end where the next page cannot be accessed, of each length; and bytes
- * that are not a message, which must change nothing. Memory is refused to each call that takes some.
+ * First each call gets a null node; buffers that end where the next page cannot be accessed, of each length; bytes that
+ * are not a message, and messages that know a later start, which must change nothing; and numbers of states that events
+ * have overtaken. Memory is refused to each call that takes some.
  *
  * Then routers run with random events. Links come up and go down at each end on its own, messages are lost, delayed,
- * repeated and reordered, and routers restart. Each router writes its table some time after an event, and only then says
- * something. After each step the program looks for a loop in the tables: there must be none. The same routers are
- * run in the wrong order, in which they say something before the table is written. Then loops must be seen.
+ * repeated and reordered, and routers restart. Each router reads its table some time after an event and writes it some
+ * time later. Only once the node has taken the number of its state the router says something. After each step the program
+ * looks for a loop in the tables: there must be none. The same routers are run in the wrong order, in which they say
+ * something before the table is written. Then loops must be seen.
  *
  * It prints how many allocations were refused, how many calls reported this, how many messages were heard, and how many
  * steps of the wrong order left a loop.
@@ -17,7 +19,7 @@
 
 #include <revroute.h>
 
-enum { ROUTERS = 6, POOL = 64, STEPS = 60000, SEEDS = 20, FENCED = 1 << 16, UNTOUCHED = 0x5a };
+enum { ROUTERS = 6, POOL = 64, STEPS = 60000, SEEDS = 20, FENCED = 1 << 16, UNTOUCHED = 0x5a, NEIGHBOURS = 38 };
 
 static const revroute_policy policies[] = {
     {REVROUTE_FULL, 0, 0, 0}, {REVROUTE_FULL, 0, 1, 1}, {REVROUTE_JUMP, ROUTERS, 0, 1}, {REVROUTE_JUMP, ROUTERS, 1, 0}};
@@ -32,17 +34,20 @@ static void ask_null(void) {
     revroute_node none = REVROUTE_NO_NODE;
     uint8_t *message = place_end - REVROUTE_MESSAGE_LENGTH;
     uint32_t number = UNTOUCHED, *ways = (uint32_t *)(void *)place_end - 2;
-    uint64_t height = UNTOUCHED;
+    uint64_t height = UNTOUCHED, state = UNTOUCHED;
     size_t length = 99;
     memset(message, UNTOUCHED, REVROUTE_MESSAGE_LENGTH);
     expect(revroute_node_know(&none, 1) == REVROUTE_NO_NETWORK, "no node knows a neighbour");
     expect(revroute_node_link_up(&none, 1) == REVROUTE_NO_NETWORK, "no node has a link up");
     expect(revroute_node_link_down(&none, 1) == REVROUTE_NO_NETWORK, "no node has a link down");
     expect(revroute_node_hear(&none, message, REVROUTE_MESSAGE_LENGTH) == REVROUTE_NO_NETWORK, "no node hears");
-    expect(revroute_node_written(&none) == REVROUTE_NO_NETWORK, "no node is written");
+    expect(revroute_node_written(&none, 0) == REVROUTE_NO_NETWORK, "no node is written");
     expect(revroute_node_say(&none, 1, message, REVROUTE_MESSAGE_LENGTH, &length) == REVROUTE_NO_NETWORK && !length, "no node says something");
     length = 99;
-    expect(revroute_node_ways(&none, ways, 2, &length) == REVROUTE_NO_NETWORK && !length, "no node has ways");
+    expect(revroute_node_ways(&none, ways, 2, &length, &state) == REVROUTE_NO_NETWORK && !length, "no node has ways");
+    length = 99;
+    expect(revroute_node_gates(&none, ways, 2, &length, &state) == REVROUTE_NO_NETWORK && !length, "no node has gates");
+    expect(state == UNTOUCHED, "no node has a state");
     expect(revroute_node_has_news(&none, 1, &number) == REVROUTE_NO_NETWORK && number == UNTOUCHED, "no node has news");
     expect(revroute_node_distance(&none, &number) == REVROUTE_NO_NETWORK && number == UNTOUCHED, "no node has a distance");
     expect(revroute_node_height(&none, &height) == REVROUTE_NO_NETWORK && height == UNTOUCHED, "no node has a height");
@@ -76,21 +81,46 @@ static void make_poor(revroute_node *node, int call, uint32_t number) {
     }
 }
 
+/* The neighbour that is made known at an index, in an order that is neither rising nor falling. */
+static uint32_t neighbour_at(uint32_t at) { return 2 + at * 17 % NEIGHBOURS; }
+
+/* All neighbours come up. A gateway lets all of them in, in the order in which they were made known, and a router none. */
+static void link_all(revroute_node *node, int is_gateway) {
+    uint32_t list[NEIGHBOURS];
+    uint64_t state = UNTOUCHED;
+    size_t length, gates = is_gateway ? NEIGHBOURS : 0;
+    for (uint32_t at = 0; at < NEIGHBOURS; at++) {
+        expect(revroute_node_know(node, neighbour_at(at)) == REVROUTE_ANSWERED, "a known neighbour is refused");
+        expect(revroute_node_link_up(node, neighbour_at(at)) == REVROUTE_ANSWERED, "a link does not come up");
+        expect(revroute_node_ways(node, list, NEIGHBOURS, &length, &state) == REVROUTE_ANSWERED && !length, "a way has not been heard");
+        expect(state == at + 1, "an event has no number");
+    }
+    for (size_t room = 0; room < gates; room++) {
+        state = UNTOUCHED;
+        expect(revroute_node_gates(node, list, room, &length, &state) == REVROUTE_TOO_SHORT && length == gates && state == NEIGHBOURS, "gates fit where they do not");
+    }
+    expect(revroute_node_gates(node, list, NEIGHBOURS, &length, &state) == REVROUTE_ANSWERED && length == gates && state == NEIGHBOURS, "there are other gates");
+    for (uint32_t at = 0; at < length; at++) expect(list[at] == neighbour_at(at), "gates are in another order");
+}
+
 static void without_memory(void) {
     revroute_node node = REVROUTE_NO_NODE;
     revroute_policy unknown = {2, 9, 1, 1};
     expect(revroute_node_open(&node, 1, 1, 1, &unknown) == REVROUTE_REFUSED && !node.at, "an unknown rise is taken");
+    for (size_t at = 0; at < 4; at++)
+        for (uint64_t height = UINT64_C(1) << 63; height; height += UINT64_C(1) << (59 + at)) {
+            refusing_left = 1;
+            expect(revroute_node_open(&node, 1, 1, height, &policies[at]) == REVROUTE_REFUSED && !node.at, "a great height is taken");
+            expect(revroute_node_open(&node, 1, 1, height - 1, &policies[at]) == (height << 1 ? REVROUTE_REFUSED : REVROUTE_NO_MEMORY), "a height counts as another");
+            expect(!refusing_left == !(height << 1), "a height is refused after memory was taken");
+            refusing_left = 0;
+        }
+    expect(revroute_node_open(&node, 1, 1, (UINT64_C(1) << 63) - 1, &policies[0]) == REVROUTE_ANSWERED, "a height is refused");
     for (int call = 0; call < 2; call++) {
         make_poor(&node, call, 1);
-        for (uint32_t neighbour = 2; neighbour < 40; neighbour++) make_poor(&node, 2, neighbour);
+        for (uint32_t at = 0; at < NEIGHBOURS; at++) make_poor(&node, 2, neighbour_at(at));
         refusing_left = 1;
-        for (uint32_t neighbour = 2; neighbour < 40; neighbour++) {
-            uint32_t ways[40];
-            size_t length;
-            expect(revroute_node_know(&node, neighbour) == REVROUTE_ANSWERED, "a known neighbour is refused");
-            expect(revroute_node_link_up(&node, neighbour) == REVROUTE_ANSWERED, "a link does not come up");
-            expect(revroute_node_ways(&node, ways, 40, &length) == REVROUTE_ANSWERED && !length, "a way has not been heard");
-        }
+        link_all(&node, call);
         expect(refusing_left == 1, "a call takes memory that it does not need");
         refusing_left = 0;
         make_poor(&node, 1 - call, 2);
@@ -98,6 +128,17 @@ static void without_memory(void) {
     revroute_node_close(&node);
     revroute_node_close(&node);
     expect(!node.at && !refusing_held, "a closed node holds memory");
+}
+
+/* Confirms the state of a node as it is now, and returns its number. */
+static uint64_t confirm(revroute_node *node) {
+    uint32_t none;
+    uint64_t state = UNTOUCHED;
+    size_t length;
+    revroute_status status = revroute_node_gates(node, &none, 0, &length, &state);
+    expect(status == REVROUTE_ANSWERED || status == REVROUTE_TOO_SHORT, "there are no gates");
+    expect(revroute_node_written(node, state) == REVROUTE_ANSWERED, "a node is not written");
+    return state;
 }
 
 /* Two routers, of which the gateway has number 0. */
@@ -114,7 +155,7 @@ static void open_two(revroute_node *two) {
         length = 99;
         expect(revroute_node_say(&two[me], 1 - me, message, REVROUTE_MESSAGE_LENGTH, &length) == REVROUTE_LINK_DOWN && !length, "a link that is down gets a message");
         expect(revroute_node_link_up(&two[me], 1 - me) == REVROUTE_ANSWERED, "a link does not come up");
-        expect(revroute_node_written(&two[me]) == REVROUTE_ANSWERED, "a node is not written");
+        expect(confirm(&two[me]) == 1, "the first event has another number");
     }
 }
 
@@ -155,6 +196,61 @@ static void hear_noise(revroute_node *node, uint32_t to, const uint8_t *message)
     expect(!memcmp(said[0], said[1], sizeof said[0]), "noise has changed a node");
 }
 
+/* Writes a number of 8 bytes into a message, the highest byte first. */
+static void put_number(uint8_t *at, uint64_t number) {
+    for (int byte = 7; byte >= 0; byte--, number >>= 8) at[byte] = (uint8_t)number;
+}
+
+/* A message of a neighbour that knows a later start of this router changes nothing. It does not count if it is no message,
+ * for another router, or from a stranger. The node is written, and the message would be an event. */
+static void hear_later_starts(revroute_node *node, uint64_t boot, const uint8_t *message) {
+    uint8_t said[2][REVROUTE_MESSAGE_LENGTH], *bytes = place_end - REVROUTE_MESSAGE_LENGTH;
+    uint32_t to = message[7];
+    uint64_t state = confirm(node);
+    size_t length;
+    expect(revroute_node_say(node, to, said[0], sizeof said[0], &length) == REVROUTE_ANSWERED, "a node has nothing to say");
+    for (uint64_t later = boot + 1; later; later = later < UINT64_MAX ? later * 2 > later ? later * 2 : UINT64_MAX : 0) {
+        memcpy(bytes, message, REVROUTE_MESSAGE_LENGTH);
+        put_number(bytes + 24, later);
+        expect(revroute_node_hear(node, bytes, REVROUTE_MESSAGE_LENGTH) == REVROUTE_LATER_START, "a later start is not seen");
+        bytes[3] ^= 1;
+        expect(revroute_node_hear(node, bytes, REVROUTE_MESSAGE_LENGTH) == REVROUTE_NO_MESSAGE, "noise has a later start");
+    }
+    expect(revroute_node_say(node, to, said[1], sizeof said[1], &length) == REVROUTE_ANSWERED, "a later start is to be written");
+    expect(!memcmp(said[0], said[1], sizeof said[0]) && confirm(node) == state, "a later start has changed a node");
+    for (size_t at = 4; at < 12; at += 4) {
+        memcpy(bytes, message, REVROUTE_MESSAGE_LENGTH);
+        put_number(bytes + 24, boot + 1);
+        bytes[at] ^= 0x40;
+        expect(revroute_node_hear(node, bytes, REVROUTE_MESSAGE_LENGTH) == REVROUTE_ANSWERED, "a stranger knows a later start");
+        expect(confirm(node) == ++state, "what is heard is no event");
+    }
+    expect(revroute_node_say(node, to, said[1], sizeof said[1], &length) == REVROUTE_ANSWERED, "there is nothing to say");
+    expect(!memcmp(said[0], said[1], sizeof said[0]), "a stranger has changed a node");
+}
+
+/* A node takes only the number of its state now. The node is unwritten, and is then written. */
+static void confirm_only_the_last(revroute_node *node, uint32_t stranger) {
+    uint32_t ways[2];
+    uint64_t early = UNTOUCHED, state = UNTOUCHED, same = UNTOUCHED;
+    size_t length;
+    uint8_t message[REVROUTE_MESSAGE_LENGTH];
+    expect(revroute_node_ways(node, ways, 2, &length, &early) == REVROUTE_ANSWERED, "there are no ways");
+    expect((early & 1 ? revroute_node_link_up : revroute_node_link_down)(node, stranger) == REVROUTE_ANSWERED, "there is no event");
+    expect(revroute_node_written(node, early) == REVROUTE_OUTDATED, "an outdated table is confirmed");
+    expect(revroute_node_ways(node, ways, 2, &length, &state) == REVROUTE_ANSWERED && state == early + 1, "the number is another");
+    expect(revroute_node_gates(node, ways, 2, &length, &same) == REVROUTE_ANSWERED && same == state, "gates have another number");
+    uint64_t wrong[] = {early, 0, state + 1, state << 32, UINT64_MAX, ~state};
+    for (size_t at = 0; at < sizeof wrong / sizeof *wrong; at++) {
+        expect(revroute_node_written(node, wrong[at]) == REVROUTE_OUTDATED, "another number is confirmed");
+        expect(revroute_node_say(node, 0, message, sizeof message, &length) == REVROUTE_UNWRITTEN, "a node speaks although its table is outdated");
+    }
+    expect(revroute_node_written(node, state) == REVROUTE_ANSWERED, "the number is not confirmed");
+    expect(revroute_node_written(node, early) == REVROUTE_OUTDATED, "an earlier number is confirmed later");
+    expect(revroute_node_written(node, state) == REVROUTE_ANSWERED, "the number is not confirmed again");
+    expect(revroute_node_say(node, 99, message, sizeof message, &length) == REVROUTE_LINK_DOWN, "a written node is silent");
+}
+
 /* The message that router `from` says now is heard by the other one. Until it is written, it says nothing. */
 static void pass_on(revroute_node *two, uint32_t from) {
     uint8_t message[REVROUTE_MESSAGE_LENGTH], *place = place_end - REVROUTE_MESSAGE_LENGTH;
@@ -173,36 +269,67 @@ static void pass_on(revroute_node *two, uint32_t from) {
     expect(place[0] == UNTOUCHED && place[55] == UNTOUCHED, "a node writes before it is written");
     expect(revroute_node_has_news(&two[to], from, &news) == REVROUTE_UNWRITTEN && news == UNTOUCHED, "a node has news before it is written");
     expect(revroute_node_hear(&two[to], place, 0) == REVROUTE_NO_MESSAGE, "no bytes are a message");
-    expect(revroute_node_written(&two[to]) == REVROUTE_ANSWERED, "a node is not written");
+    confirm_only_the_last(&two[to], 7);
+    hear_later_starts(&two[to], 1, message);
+}
+
+/* A router that starts with a smaller boot number than before. Its neighbour says so, also over a link that is down. */
+static void start_too_early(revroute_node *gateway) {
+    revroute_node router = REVROUTE_NO_NODE;
+    uint8_t message[REVROUTE_MESSAGE_LENGTH];
+    size_t length;
+    for (uint64_t boot = 1; boot + 1; boot = boot == 1 ? 9 : boot == 9 ? 8 : UINT64_MAX) {
+        expect(revroute_node_open(&router, 1, boot, 1, &policies[2]) == REVROUTE_ANSWERED, "a router does not start");
+        expect(revroute_node_know(&router, 0) == REVROUTE_ANSWERED, "a neighbour is not known");
+        expect(revroute_node_say(gateway, 1, message, sizeof message, &length) == REVROUTE_ANSWERED, "a gateway is silent");
+        revroute_status heard_as = revroute_node_hear(&router, message, sizeof message);
+        expect(heard_as == (boot == 8 ? REVROUTE_LATER_START : REVROUTE_ANSWERED), "a start counts as another");
+        expect(revroute_node_link_up(&router, 0) == REVROUTE_ANSWERED, "a link does not come up");
+        confirm(&router);
+        expect(revroute_node_say(&router, 0, message, sizeof message, &length) == REVROUTE_ANSWERED, "a router is silent");
+        expect(revroute_node_hear(gateway, message, sizeof message) == REVROUTE_ANSWERED, "a gateway hears nothing");
+        confirm(gateway);
+    }
+    revroute_node_close(&router);
 }
 
 static void talk(void) {
     revroute_node two[2] = {REVROUTE_NO_NODE, REVROUTE_NO_NODE};
     uint32_t *ways = (uint32_t *)(void *)place_end, distance = UNTOUCHED;
-    uint64_t height = UNTOUCHED;
+    uint64_t height = UNTOUCHED, state;
     size_t length = 99;
     open_two(two);
     expect(revroute_node_distance(&two[1], &distance) == REVROUTE_NO_ROUTE && distance == UNTOUCHED, "a router has a distance from nothing");
     for (uint32_t at = 0; at < 4; at++) pass_on(two, at % 2);
-    expect(revroute_node_ways(&two[1], ways, 0, &length) == REVROUTE_TOO_SHORT && length == 1, "a way fits where it does not");
-    expect(revroute_node_ways(&two[1], ways - 1, 1, &length) == REVROUTE_ANSWERED && length == 1 && ways[-1] == 0, "there is no way");
+    expect(revroute_node_ways(&two[1], ways, 0, &length, &state) == REVROUTE_TOO_SHORT && length == 1, "a way fits where it does not");
+    expect(revroute_node_ways(&two[1], ways - 1, 1, &length, &state) == REVROUTE_ANSWERED && length == 1 && ways[-1] == 0, "there is no way");
+    expect(revroute_node_gates(&two[0], ways, 0, &length, &state) == REVROUTE_TOO_SHORT && length == 1, "a gate fits where it does not");
+    expect(revroute_node_gates(&two[0], ways - 1, 1, &length, &state) == REVROUTE_ANSWERED && length == 1 && ways[-1] == 1, "there is no gate");
     expect(revroute_node_distance(&two[1], &distance) == REVROUTE_ANSWERED && distance == 1, "the distance is another");
     expect(revroute_node_height(&two[1], &height) == REVROUTE_ANSWERED && height == 1, "the height is another");
     expect(revroute_node_distance(&two[0], &distance) == REVROUTE_ANSWERED && distance == 0, "a gateway is far");
-    expect(revroute_node_ways(&two[0], ways, 0, &length) == REVROUTE_ANSWERED && !length, "a gateway has a way");
+    expect(revroute_node_ways(&two[0], ways, 0, &length, &state) == REVROUTE_ANSWERED && !length, "a gateway has a way");
     expect(revroute_node_lets_in(&two[0], 1) == 1 && revroute_node_sends_to(&two[0], 1) == 0, "a gateway is closed");
     expect(revroute_node_lets_in(&two[1], 7) == 0 && revroute_node_sends_to(&two[1], 0) == 1, "a router does not send");
     expect(revroute_node_link_down(&two[1], 0) == REVROUTE_ANSWERED && !revroute_node_sends_to(&two[1], 0), "a link that is down is a way");
-    expect(revroute_node_ways(&two[1], ways, 0, &length) == REVROUTE_ANSWERED && !length, "a link that is down is listed");
+    expect(revroute_node_ways(&two[1], ways, 0, &length, &state) == REVROUTE_ANSWERED && !length, "a link that is down is listed");
+    expect(revroute_node_gates(&two[1], ways, 0, &length, &state) == REVROUTE_ANSWERED && !length, "a link that is down is let in");
+    start_too_early(&two[0]);
     for (int at = 0; at < 2; at++) revroute_node_close(&two[at]);
     expect(!refusing_held, "closed nodes hold memory");
 }
 
-/* A router with its forwarding table: the neighbours that it sends to, and those that it lets in, as bits. */
+/* The neighbours that a router sends to, and those that it lets in, as bits. */
+typedef struct table {
+    uint32_t ways, gates;
+    uint64_t state;
+} table;
+
+/* A router with its forwarding table, and the table that it has read last and may write later. */
 typedef struct router {
     revroute_node node;
-    uint64_t boot;
-    uint32_t ways, gates;
+    uint64_t boot, events;
+    table written, read;
     int is_stale; /* an event came after the table was written */
 } router;
 
@@ -223,8 +350,10 @@ static uint32_t drawn(uint32_t below) {
 /* Starts a router with an empty table. Its links are to all others, and down. */
 static void start(uint32_t me, int is_gateway, const revroute_policy *policy) {
     router *it = &routers[me];
-    it->ways = it->gates = 0;
+    memset(&it->written, 0, sizeof it->written);
+    memset(&it->read, 0, sizeof it->read);
     it->is_stale = 0;
+    it->events = 0;
     it->boot++;
     revroute_status status = is_gateway ? revroute_node_open_gateway(&it->node, me, it->boot)
                                         : revroute_node_open(&it->node, me, it->boot, drawn(4), policy);
@@ -233,17 +362,31 @@ static void start(uint32_t me, int is_gateway, const revroute_policy *policy) {
         if (other != me) expect(revroute_node_know(&it->node, other) == REVROUTE_ANSWERED, "a neighbour is not known");
 }
 
-static void write_table(router *it) {
-    uint32_t ways[ROUTERS];
-    size_t length;
-    expect(revroute_node_ways(&it->node, ways, ROUTERS, &length) == REVROUTE_ANSWERED, "there are no ways");
-    it->ways = it->gates = 0;
-    for (size_t at = 0; at < length; at++) it->ways |= 1u << ways[at];
-    for (uint32_t other = 0; other < ROUTERS; other++) {
-        it->gates |= revroute_node_lets_in(&it->node, other) << other;
-        expect((it->ways >> other & 1) == revroute_node_sends_to(&it->node, other), "a way is not listed");
+static void read_table(router *it) {
+    uint32_t list[ROUTERS];
+    uint64_t state = UNTOUCHED;
+    size_t length, at = 0;
+    it->read.ways = it->read.gates = 0;
+    expect(revroute_node_ways(&it->node, list, ROUTERS, &length, &it->read.state) == REVROUTE_ANSWERED, "there are no ways");
+    for (; at < length; at++) it->read.ways |= 1u << list[at];
+    expect(revroute_node_gates(&it->node, list, ROUTERS, &length, &state) == REVROUTE_ANSWERED, "there are no gates");
+    expect(state == it->read.state && state == it->events, "a state has another number");
+    for (at = 0; at < length; at++) {
+        expect(!at || list[at - 1] < list[at], "gates are not in the order of their neighbours");
+        it->read.gates |= 1u << list[at];
     }
-    it->is_stale = 0;
+    for (uint32_t other = 0; other < ROUTERS; other++) {
+        expect((it->read.ways >> other & 1) == revroute_node_sends_to(&it->node, other), "a way is not listed");
+        expect((it->read.gates >> other & 1) == revroute_node_lets_in(&it->node, other), "a gate is not listed");
+    }
+}
+
+/* Writes the table that was read last. The node takes it only if no event came since. */
+static void write_table(router *it) {
+    it->written = it->read;
+    revroute_status status = revroute_node_written(&it->node, it->read.state);
+    expect(status == (it->read.state == it->events ? REVROUTE_ANSWERED : REVROUTE_OUTDATED), "a table is confirmed at a wrong time");
+    if (status == REVROUTE_ANSWERED) it->is_stale = 0;
 }
 
 /* Whether packets can go round in a circle: routers that can only send to routers outside of it are taken out of `left`
@@ -255,7 +398,7 @@ static int has_loop(void) {
         for (uint32_t from = 0; from < ROUTERS; from++) {
             uint32_t sends = 0;
             for (uint32_t to = 0; to < ROUTERS; to++)
-                sends |= (routers[from].ways >> to & routers[to].gates >> from & left >> to & 1) << to;
+                sends |= (routers[from].written.ways >> to & routers[to].written.gates >> from & left >> to & 1) << to;
             if (!sends) left &= ~(1u << from);
         }
     }
@@ -272,11 +415,12 @@ static void step(router *it, uint32_t me, int is_wrong, int is_gateway, const re
     } else if (what < 12) {
         expect((drawn(6) ? revroute_node_link_up : revroute_node_link_down)(&it->node, other) == REVROUTE_ANSWERED, "a link stays");
         it->is_stale = 1;
+        it->events++;
     } else if (what < 26) {
-        if (is_wrong && revroute_node_written(&it->node) != REVROUTE_ANSWERED) stop("a node is not written");
-        if (is_wrong && drawn(3)) return;
-        write_table(it);
-        expect(revroute_node_written(&it->node) == REVROUTE_ANSWERED, "a node is not written");
+        if (is_wrong && revroute_node_written(&it->node, it->events) != REVROUTE_ANSWERED) stop("a node is not written");
+        if (is_wrong && drawn(5)) return;
+        if (is_wrong || drawn(3)) read_table(it);
+        if (is_wrong || drawn(4)) write_table(it);
     } else {
         revroute_status status = revroute_node_say(&it->node, other, message, sizeof message, &length);
         if (!is_wrong && it->is_stale) expect(status == REVROUTE_UNWRITTEN, "a node says something before it is written");
@@ -294,6 +438,7 @@ static void deliver(void) {
     router *it = &routers[pool[at].to];
     expect(revroute_node_hear(&it->node, pool[at].bytes, REVROUTE_MESSAGE_LENGTH) == REVROUTE_ANSWERED, "a message is noise");
     it->is_stale = 1;
+    it->events++;
     heard++;
     if (drawn(2)) pool[at] = pool[--pooled];
 }

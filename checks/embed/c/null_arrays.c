@@ -9,6 +9,7 @@ typedef struct places {
     revroute_round round;
     revroute_refusal why;
     size_t length, taken, starts[8];
+    uint64_t state;
     uint32_t nodes[8];
     uint8_t bytes[REVROUTE_LEAST_ROOM];
     uint8_t beyond[256];
@@ -78,7 +79,8 @@ static void pass_null(void) {
     LOOK(way_reader_ways(&way_reader, 2, NULL, 8, &at->length));
     LOOK(node_hear(&node, NULL, REVROUTE_MESSAGE_LENGTH));
     LOOK(node_say(&node, 1, NULL, REVROUTE_MESSAGE_LENGTH, &at->length));
-    LOOK(node_ways(&node, NULL, 8, &at->length));
+    LOOK(node_ways(&node, NULL, 8, &at->length, &at->state));
+    LOOK(node_gates(&node, NULL, 8, &at->length, &at->state));
     LOOK(version(NULL, 16, &at->length));
 }
 

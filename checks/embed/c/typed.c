@@ -88,7 +88,7 @@ static state state_of(revroute *session) {
     if (revroute_hops(session, all.hops, MOST, &all.hops_length) != all.status) stop("there are no hops");
     if (revroute_counts(session, all.counts, MOST, &all.counts_length) != all.status) stop("there are no counts");
     if (revroute_links(session, all.links, MOST * (MOST - 1) / 2, &all.links_length) != all.status) stop("there are no links");
-    if (revroute_changed(session, all.rerouted, MOST, &all.rerouted_length) != REVROUTE_ANSWERED) stop("there are no rerouted nodes");
+    if (revroute_changed(session, all.rerouted, MOST, &all.rerouted_length) != all.status) stop("there are no rerouted nodes");
     return all;
 }
 

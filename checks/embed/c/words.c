@@ -41,7 +41,7 @@ static void pass_null(revroute *session, revroute_reader *reader) {
     expect(revroute_change_shrink(session, NULL, 0, &length) == REVROUTE_ANSWERED && !length, "something is kept to shrink before a network");
     expect(revroute_closed_walk_of(2, NULL, 0, NULL, 0, &length) == REVROUTE_NO_WALK, "there is a cycle of no links");
     expect(revroute_version(NULL, 0, &length) == REVROUTE_TOO_SHORT && length == strlen(REVROUTE_VERSION), "null is a text");
-    expect(revroute_changed(session, NULL, 0, &length) == REVROUTE_ANSWERED && !length, "a node is rerouted before a network");
+    expect(revroute_changed(session, NULL, 0, &length) == REVROUTE_NO_NETWORK && !length, "a node is rerouted before a network");
     expect(revroute_open(session, 2, 1, NULL, 0, &round, &why) == REVROUTE_ANSWERED, "there is no network without links");
     expect(revroute_change(session, NULL, 0, &round, &why) == REVROUTE_ANSWERED && round.cut_off == 1, "no edits are no batch");
     expect(revroute_closed_walk(session, NULL, 0, NULL, 0, &length) == REVROUTE_NO_WALK, "there is a cycle of no edits");
@@ -86,10 +86,13 @@ static void pass_null_to_way_reader(void) {
 static void pass_null_to_node(void) {
     revroute_node node = REVROUTE_NO_NODE;
     size_t length;
+    uint64_t state = 9;
     expect(revroute_node_open_gateway(&node, 0, 1) == REVROUTE_ANSWERED, "there is no gateway");
     expect(revroute_node_hear(&node, NULL, 0) == REVROUTE_NO_MESSAGE, "null is a message");
     expect(revroute_node_say(&node, 1, NULL, 0, &length) == REVROUTE_TOO_SHORT && length == REVROUTE_MESSAGE_LENGTH, "a message fits into null");
-    expect(revroute_node_ways(&node, NULL, 0, &length) == REVROUTE_ANSWERED && !length, "a gateway has a way");
+    expect(revroute_node_ways(&node, NULL, 0, &length, &state) == REVROUTE_ANSWERED && !length && !state, "a gateway has a way");
+    expect(revroute_node_link_up(&node, 1) == REVROUTE_ANSWERED && revroute_node_know(&node, 1) == REVROUTE_ANSWERED, "there is no neighbour");
+    expect(revroute_node_gates(&node, NULL, 0, &length, &state) == REVROUTE_ANSWERED && !length && state == 1, "a neighbour is let in");
     revroute_node_close(&node);
     node = REVROUTE_NO_NODE;
     expect(!node.at, "what is new is not null");

@@ -21,8 +21,10 @@ revroute_status engine_node_hear(revroute_node *, const uint8_t *, size_t);
 uint32_t engine_node_lets_in(revroute_node *, uint32_t);
 revroute_status engine_node_link_down(revroute_node *, uint32_t);
 revroute_status engine_node_say(revroute_node *, uint32_t, uint8_t *, size_t, size_t *);
-revroute_status engine_node_ways(revroute_node *, uint32_t *, size_t, size_t *);
-revroute_status engine_node_written(revroute_node *);
+revroute_status engine_node_ways(revroute_node *, uint32_t *, size_t, size_t *, uint64_t *);
+revroute_status engine_node_gates(revroute_node *, uint32_t *, size_t, size_t *, uint64_t *);
+revroute_status engine_node_written(revroute_node *, uint64_t);
+revroute_status engine_node_open(revroute_node *, uint32_t, uint64_t, uint64_t, const revroute_policy *);
 revroute_status engine_open(revroute *, uint32_t, uint32_t, const revroute_link *, size_t, revroute_round *, revroute_refusal *);
 revroute_status engine_push_order(const uint32_t *, size_t, const uint32_t *, size_t, uint32_t *, size_t, size_t *, revroute_refusal *);
 revroute_status engine_pushes(revroute *, const uint32_t *, size_t, uint32_t *, size_t, size_t *);
@@ -148,6 +150,14 @@ enum {
     a_message_that_is_not_heard,
     a_way_of_a_node_too_few,
     a_gate_that_is_open_too_early,
+    a_gate_too_few,
+    gates_by_number,
+    gates_with_no_number,
+    a_state_that_is_never_outdated,
+    a_later_start_that_is_not_told,
+    a_later_start_of_a_stranger,
+    a_later_start_that_is_an_event,
+    a_great_height_taken,
     a_null_node_that_lets_in
 };
 
@@ -552,8 +562,17 @@ revroute_status revroute_version(uint8_t *text, size_t room, size_t *length) {
     return status;
 }
 
+/* Confirms the state as it is now. */
+static revroute_status confirm_now(revroute_node *node) {
+    uint64_t state = 0;
+    size_t length;
+    uint32_t none;
+    engine_node_gates(node, &none, 0, &length, &state);
+    return engine_node_written(node, state);
+}
+
 revroute_status revroute_node_say(revroute_node *node, uint32_t neighbour, uint8_t *message, size_t room, size_t *length) {
-    if (FAULT == a_node_that_speaks_before_it_is_written) engine_node_written(node);
+    if (FAULT == a_node_that_speaks_before_it_is_written) confirm_now(node);
     revroute_status status = engine_node_say(node, neighbour, message, room, length);
     if (FAULT == a_short_message_that_is_written && status == REVROUTE_TOO_SHORT && room) message[0] = 'F';
     return status;
@@ -565,12 +584,24 @@ revroute_status revroute_node_hear(revroute_node *node, const uint8_t *bytes, si
     if (FAULT == the_message_read_too_far) (void)*(const volatile uint8_t *)(bytes + count);
     revroute_status status = engine_node_hear(node, bytes, count);
     if (FAULT == noise_that_is_to_be_written && status == REVROUTE_NO_MESSAGE) engine_node_link_down(node, UINT32_MAX);
+    if (FAULT == a_later_start_that_is_an_event && status == REVROUTE_LATER_START) engine_node_link_down(node, UINT32_MAX);
+    if (FAULT == a_later_start_that_is_not_told && status == REVROUTE_LATER_START) return engine_node_link_down(node, UINT32_MAX);
+    if (FAULT == a_later_start_of_a_stranger && status == REVROUTE_ANSWERED && bytes[4] == 0x40) return REVROUTE_LATER_START;
     return FAULT == noise_told_as_heard && status == REVROUTE_NO_MESSAGE ? REVROUTE_ANSWERED : status;
 }
 
-revroute_status revroute_node_ways(revroute_node *node, uint32_t *ways, size_t room, size_t *length) {
-    revroute_status status = engine_node_ways(node, ways, room, length);
+revroute_status revroute_node_ways(revroute_node *node, uint32_t *ways, size_t room, size_t *length, uint64_t *state) {
+    revroute_status status = engine_node_ways(node, ways, room, length, state);
     if (FAULT == a_way_of_a_node_too_few && status == REVROUTE_ANSWERED && *length > 1) --*length;
+    return status;
+}
+
+revroute_status revroute_node_gates(revroute_node *node, uint32_t *gates, size_t room, size_t *length, uint64_t *state) {
+    uint64_t was = *state;
+    revroute_status status = engine_node_gates(node, gates, room, length, state);
+    if (FAULT == a_gate_too_few && status == REVROUTE_ANSWERED && *length > 2) --*length;
+    if (FAULT == gates_by_number && status == REVROUTE_ANSWERED) qsort(gates, *length, sizeof *gates, compare_numbers);
+    if (FAULT == gates_with_no_number && status == REVROUTE_TOO_SHORT) *state = was;
     return status;
 }
 
@@ -584,6 +615,11 @@ revroute_status revroute_node_link_down(revroute_node *node, uint32_t neighbour)
     return engine_node_link_down(node, neighbour);
 }
 
-revroute_status revroute_node_written(revroute_node *node) {
-    return engine_node_written(node);
+revroute_status revroute_node_written(revroute_node *node, uint64_t state) {
+    if (FAULT == a_state_that_is_never_outdated) return node->at ? confirm_now(node) : REVROUTE_NO_NETWORK;
+    return engine_node_written(node, state);
+}
+
+revroute_status revroute_node_open(revroute_node *node, uint32_t me, uint64_t boot, uint64_t height, const revroute_policy *policy) {
+    return engine_node_open(node, me, boot, FAULT == a_great_height_taken ? height & INT64_MAX : height, policy);
 }

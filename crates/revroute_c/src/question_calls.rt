@@ -57,18 +57,24 @@ pub extern "C" fn revroute_hops(handle: &mut Handle, hops: &mut [u32], size: &mu
 
 /// Writes the nodes that the last accepted round rerouted to the front of `nodes`, in push order, and their number to
 /// `size`. A new network reroutes the nodes whose hop differs from that in the network before. A number that is not a
-/// node of one of the two networks counts as cut off there. Returns `TOO_SHORT` if there is too little room; then
-/// `nodes` is unchanged. O(r) for r rerouted nodes.
+/// node of one of the two networks counts as cut off there. Returns `TOO_SHORT` if there is too little room, and
+/// `NO_NETWORK`, with `size` 0, if there is no network yet. In both cases `nodes` is unchanged. O(r) for r rerouted
+/// nodes.
 #[unsafe(no_mangle)]
 pub extern "C" fn revroute_changed(handle: &mut Handle, nodes: &mut [u32], size: &mut usize) -> u32
     ensures same { IsUnchanged handle.old handle.new }
     ensures gives { GivesList (λ listed. listed ≡ handle.old.rerouted) (outcome result nodes.old nodes.new size.new) }
-    ensures status { (result ≡ REVROUTE_ANSWERED) ⊎ (result ≡ REVROUTE_TOO_SHORT) }
+    ensures no_network { (result ≡ REVROUTE_NO_NETWORK) ↔ (handle.old.session ≡ None) }
+    ensures status { (result ≡ REVROUTE_ANSWERED) ⊎ (result ≡ REVROUTE_TOO_SHORT) ⊎ (result ≡ REVROUTE_NO_NETWORK) }
 {
-    match handle.session_state_mut() {
-        Some(engine) => hand_out(engine.published.rerouted(), nodes, size),
-        None => hand_out(&[], nodes, size),
+    *size = 0;
+    let Some(engine) = handle.session_state_mut() else {
+        return NO_NETWORK;
+    };
+    if engine.session().router().is_none() {
+        return NO_NETWORK;
     }
+    hand_out(engine.published.rerouted(), nodes, size)
 }
 
 /// Writes the nodes whose hop differs from that in the caller's table to the front of `nodes`, in push order, and their

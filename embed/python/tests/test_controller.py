@@ -1,14 +1,12 @@
 """Tests the controller with routers that confirm a push, refuse it, or do not answer."""
 
+import doctest
 import random
-import sys
 import unittest
-from pathlib import Path
 
+import revroute.controller
 from revroute import Network, NoHop
-
-sys.path.insert(0, str(Path(__file__).resolve().parent.parent))
-from controller import Controller  # noqa: E402
+from revroute.controller import Controller
 
 SIDE = 5
 LINKS = [(x, y) for x in range(SIDE * SIDE) for y in (x - 1, x - SIDE) if y >= 0 and (y == x - SIDE or x % SIDE)]
@@ -52,6 +50,9 @@ class Routers:
 
 
 class TestController(unittest.TestCase):
+    def test_the_examples(self):
+        self.assertEqual(doctest.testmod(revroute.controller).failed, 0)
+
     def test_no_route_is_withdrawn_too_early(self):
         """Router 3 gives no answer, and may still send over router 2, which is cut off."""
         network = Network(5, 0, [(2, 0), (3, 2), (3, 4), (4, 0), (1, 0)])

@@ -54,6 +54,8 @@ class MemoryTest(unittest.TestCase):
         for make in (lambda: revroute.Node(1, 1), lambda: revroute.Node.gateway(1, 1)):
             left.value = 1
             self.assertRaises(MemoryError, make)
+        left.value = 1
+        self.assertRaises(ValueError, revroute.Node, 1, 1, 2**64 - 1)
         node = revroute.Node(1, 1)
         # One allocation is for the list of ways, and one for the neighbours.
         for number in (1, 2, 1):
@@ -62,13 +64,15 @@ class MemoryTest(unittest.TestCase):
         left.value = 1
         self.assertRaises(ValueError, node.know, 1)
         node.link_up(2)
-        node.written()
+        node.written(node.table().state)
         self.assertIsNone(node.say(2))
         left.value = 0
         node.know(2)
+        left.value = 1
         node.link_up(2)
-        node.written()
+        node.written(node.table().state)
         self.assertIsNotNone(node.say(2))
+        left.value = 0
 
     def test_without_memory_the_session_is_as_it_was(self):
         left = ctypes.c_long.in_dll(library, "refusing_left")

@@ -6,6 +6,7 @@ import copy
 import doctest
 import gc
 import importlib.util
+import json
 import os
 import pickle
 import random
@@ -375,10 +376,15 @@ class NetworkTests(unittest.TestCase):
             (lambda: network.batch([("cut", 1, 0), ("cut", 0, 1)]), "refused 8, edit 1: no link joins 0 and 1"),
             (lambda: network.move_dest(7), "refused 4: there is no node 7"),
             (lambda: Network(3, 7, [(0, 1)]), "refused 4: there is no node 7"),
+            (lambda: Network(0, 0), "refused 4: there is no node 0"),
         ):
             with self.assertRaises(Refused) as met:
                 call()
             self.assertEqual(str(met.exception), words)
+        for count in (-1, -(1 << 40)):
+            with self.assertRaisesRegex(ValueError, f"the number of nodes is {count}") as wrong:
+                Network(count, 0)
+            self.assertNotIsInstance(wrong.exception, Refused)
         with self.assertRaises(Refused) as met:
             Network(3, 0, [(0, 1), (2, 1), (1, 2)])
         self.assertEqual((met.exception.number, {*met.exception.nodes}), (6, {1, 2}))
@@ -534,7 +540,7 @@ class NetworkTests(unittest.TestCase):
 
         def handle(*_):
             for call in (network.hops, lambda: network.next_hop(1), lambda: network.cut(2, 1), network.close):
-                with self.assertRaises(RuntimeError):
+                with self.assertRaisesRegex(RuntimeError, "the network is in a call"):
                     call()
                 refused.append(call)
 
@@ -569,6 +575,53 @@ class NetworkTests(unittest.TestCase):
             self.assertEqual(os.waitpid(child, 0)[1], 0)
             goes_on.set()
             self.assertEqual(changing.result(20), (0, 1))
+
+    def test_links_and_neighbors_are_those_of_the_list(self):
+        draw = random.Random(7)
+        for _ in range(50):
+            count = draw.randrange(1, 12)
+            names = draw.choice([None, [f"node {it}" for it in range(count)]])
+            pairs = [(u, v) for u in range(count) for v in range(u) if draw.random() < 0.3]
+            name = (lambda it: it) if names is None else names.__getitem__
+            network = Network(count, name(0), [(name(u), name(v)) for u, v in pairs], names=names)
+            before = network.links(), network.changed(), network.report, network.counts()
+            for u in range(count):
+                near = [v for v in range(count) if (u, v) in pairs or (v, u) in pairs]
+                self.assertEqual(network.neighbors(name(u)), [*map(name, near)])
+                self.assertEqual([v for v in range(count) if network.has_link(name(u), name(v))], near)
+            self.assertEqual((network.links(), network.changed(), network.report, network.counts()), before)
+            for bad in (count, -1, 1 << 40) if names is None else (0, "node"):
+                self.assertRaises(revroute.NoSuchNode, network.neighbors, bad)
+                self.assertRaises(revroute.NoSuchNode, network.has_link, name(0), bad)
+                self.assertRaises(revroute.NoSuchNode, network.has_link, bad, name(0))
+
+    def test_what_is_saved_makes_the_network_again(self):
+        draw = random.Random(11)
+        for _ in range(50):
+            count = draw.randrange(1, 12)
+            names = draw.choice([None, [f"node {it}" for it in range(count)], [(it, "x") for it in range(count)]])
+            name = (lambda it: it) if names is None else names.__getitem__
+            pairs = [(u, v) for u in range(count) for v in range(u) if draw.random() < 0.3]
+            network = Network(count, name(0), [(name(u), name(v)) for u, v in pairs], names=names)
+            network.move_dest(name(draw.randrange(count)))
+            saved = network.save()
+            if names is None or isinstance(names[0], str):
+                saved = json.loads(json.dumps(saved))
+            if pairs:
+                network.cut(*map(name, pairs[0]))
+                network.join(*map(name, pairs[0]))
+            again = Network(**saved)
+            self.assertEqual((len(again), again.save()), (count, Network(**again.save()).save()))
+            wanted = {frozenset((name(u), name(v))) for u, v in pairs}
+            self.assertEqual({frozenset(it) for it in again.links()}, wanted)
+            self.assertEqual((again.dest, [*map(tuple, saved["links"])]), (saved["dest"], again.links()))
+        session = revroute.Session()
+        self.assertIsNone(session.save())
+        session.answer('["net",5,0,[[0,1],[1,2],[3,4]]]')
+        line = session.save()
+        self.assertEqual(json.loads(line), ["net", 5, 0, [[1, 0], [2, 1], [3, 4]]])
+        session.answer(line)
+        self.assertEqual((session.save(), session.report), (line, (10, 2)))
 
     def test_what_is_left_behind_is_closed(self):
         networks = [Network(2, 0, [(1, 0)]) for _ in range(100)]
@@ -699,7 +752,9 @@ class NetworkTests(unittest.TestCase):
         for call in (network.table, lambda: network.pushes({}), lambda: network.pushes([NoHop.HERE, 0])):
             self.assertRaises(ValueError, call)
         for call in (network.hops, network.changed, network.links, network.counts, lambda: network.walk(1), lambda: network.cut(1, 0)):
-            self.assertRaises(ValueError, call)
+            self.assertRaisesRegex(ValueError, "the network is closed", call)
+        for call in (network.save, network.copy, lambda: network.neighbors(1), lambda: network.has_link(1, 0)):
+            self.assertRaisesRegex(ValueError, "the network is closed", call)
         self.assertRaises(ValueError, network.hops_into, array.array("I", [7] * 2))
         for call in (lambda: network.next_hop(1), lambda: network.batch([]), lambda: network.move_dest(1), lambda: network.size, lambda: network.dest):
             self.assertRaises(ValueError, call)

@@ -2,14 +2,47 @@
 
 import copy
 import doctest
+import os
 import pickle
+import signal
+import threading
 import unittest
+import warnings
+from concurrent.futures import ThreadPoolExecutor
+from unittest import mock
 
 import revroute
 import revroute.node
-from revroute import MESSAGE_LENGTH, Node, NotAMessage, Unwritten
+from revroute import MESSAGE_LENGTH, LaterStart, Node, NodeTable, NotAMessage, Outdated, Unwritten
 
 ROUTERS = 5
+QUESTIONS = revroute.node.questions
+
+
+def write(node):
+    """Says that the table is written as it is now."""
+    node.written(node.table().state)
+
+
+def that_knows(message, boot):
+    """The message of a sender that knows this boot number of its receiver."""
+    return message[:24] + boot.to_bytes(8, "big") + message[32:]
+
+
+def ends_well(what):
+    """Whether a child of this process finishes its task in time."""
+    with warnings.catch_warnings():
+        # that it is forked while threads run is what is tried
+        warnings.simplefilter("ignore", DeprecationWarning)
+        child = os.fork()
+    if child:
+        return os.waitpid(child, 0)[1] == 0
+    signal.alarm(5)
+    try:
+        what()
+        os._exit(0)
+    except BaseException:
+        os._exit(1)
 
 
 def ring(**policy):
@@ -19,13 +52,13 @@ def ring(**policy):
         for other in ((me - 1) % ROUTERS, (me + 1) % ROUTERS):
             node.know(other)
             node.link_up(other)
-        node.written()
+        write(node)
     return nodes
 
 
 def pass_on(nodes, me, to):
     nodes[to].hear(nodes[me].say(to))
-    nodes[to].written()
+    write(nodes[to])
 
 
 def settle(nodes):
@@ -59,7 +92,7 @@ class NodeTest(unittest.TestCase):
                 self.assertEqual(node.distance, nearest.distance + 1)
             for me, other in ((0, 1), (1, 0)):
                 nodes[me].link_down(other)
-                nodes[me].written()
+                write(nodes[me])
             settle(nodes)
             self.assertEqual([it.distance for it in nodes], [0, 4, 3, 2, 1])
             self.assertEqual([it.ways() for it in nodes], [[], [2], [3], [4], [0]])
@@ -75,14 +108,88 @@ class NodeTest(unittest.TestCase):
             self.assertRaises(Unwritten, node.say, 2)
             self.assertRaises(Unwritten, node.has_news, 2)
             event()
-            node.written()
+            write(node)
             node.has_news(2)
+
+    def test_only_the_last_table_can_be_confirmed(self):
+        node = Node.gateway(0, 1)
+        for other in (9, 5, 7):
+            node.know(other)
+            node.link_up(other)
+        early = node.table()
+        self.assertEqual(early, NodeTable([], [9, 5, 7], 3))
+        node.link_down(5)
+        self.assertEqual((node.table(), node.gates()), (NodeTable([], [9, 7], 4), [9, 7]))
+        for state in (early.state, 0, 5, 2**64 - 1):
+            self.assertRaises(Outdated, node.written, state)
+            self.assertRaises(Unwritten, node.say, 9)
+        node.written(4)
+        self.assertEqual(len(node.say(9)), MESSAGE_LENGTH)
+        node.written(4)
+        self.assertRaises(Outdated, node.written, early.state)
+        for state in (-1, 2**64):
+            self.assertRaises(OverflowError, node.written, state)
+        self.assertRaises(TypeError, node.written)
+        self.assertRaises(TypeError, node.written, node.table())
+
+    def test_a_table_is_of_one_moment(self):
+        """A thread reads the table again and again while another one makes events. In each table the gates are those of
+        its number."""
+        node, ends = Node.gateway(0, 1), threading.Event()
+        for other in range(1, 100):
+            node.know(other)
+
+        def read():
+            tables = []
+            while not ends.is_set():
+                tables.append(node.table())
+            return tables
+
+        with ThreadPoolExecutor(1) as pool:
+            reading = pool.submit(read)
+            for state in range(20_000):
+                node.link_up(state % 99 + 1) if state // 99 % 2 == 0 else node.link_down(state % 99 + 1)
+            ends.set()
+            for table in reading.result():
+                rounds, at = divmod(table.state, 99)
+                wanted = range(1, at + 1) if rounds % 2 == 0 else range(at + 1, 100)
+                self.assertEqual(table.gates, [*wanted])
+
+    def test_a_handler_may_come_between_ways_and_gates(self):
+        node, ways = Node.gateway(0, 1), QUESTIONS.revroute_node_ways
+        node.know(1)
+        events = iter([node.link_up])
+
+        def interrupted(*words):
+            status = ways(*words)
+            for event in events:
+                event(1)
+            return status
+
+        with mock.patch.object(QUESTIONS, "revroute_node_ways", interrupted):
+            self.assertEqual(node.table(), NodeTable([], [1], 1))
+
+    def test_a_boot_number_that_did_not_grow_is_noticed(self):
+        neighbour, node = Node(2, 1), Node(1, 5)
+        neighbour.know(1)
+        neighbour.link_up(1)
+        write(neighbour)
+        greeting, before = neighbour.say(1), node.table()
+        node.know(2)
+        for later in (6, 2**40, 2**64 - 1):
+            self.assertRaises(LaterStart, node.hear, that_knows(greeting, later))
+            self.assertRaises(NotAMessage, node.hear, b"G" + that_knows(greeting, later)[1:])
+        self.assertEqual(node.table(), before)
+        self.assertIsNone(node.say(2))
+        for boot in (0, 4, 5):
+            node.hear(that_knows(greeting, boot))
+        self.assertEqual(node.table().state, before.state + 3)
 
     def test_what_is_no_message_changes_nothing(self):
         node = Node(1, 1)
         node.know(2)
         node.link_up(2)
-        node.written()
+        write(node)
         message = node.say(2)
         self.assertEqual((len(message), message[:4]), (MESSAGE_LENGTH, b"FRN\1"))
         for noise in (b"", message[1:], message + b"\0", bytes(MESSAGE_LENGTH), b"FRN\2" + message[4:]):
@@ -94,8 +201,11 @@ class NodeTest(unittest.TestCase):
         self.assertRaises(Unwritten, node.say, 2)
 
     def test_words(self):
-        node = Node(1, 2**64 - 1, 2**64 - 1)
-        self.assertEqual((node.height, node.distance, node.ways()), (2**64 - 1, None, []))
+        node = Node(1, 2**64 - 1, 2**63 - 1)
+        self.assertEqual((node.height, node.distance, node.ways(), node.gates()), (2**63 - 1, None, [], []))
+        for height in (2**63, 2**64 - 1):
+            self.assertRaises(ValueError, Node, 1, 1, height)
+        self.assertRaises(OverflowError, Node, 1, 1, 2**64)
         self.assertRaises(ValueError, node.know, 1)
         for number in (-1, 2**32):
             self.assertRaises(OverflowError, node.know, number)
@@ -114,8 +224,50 @@ class NodeTest(unittest.TestCase):
             self.assertEqual(repr(node), "<revroute.Node>")
         node.close()
         self.assertEqual(repr(node), "<revroute.Node, closed>")
-        for call in (node.ways, node.written, lambda: node.height, lambda: node.say(1), lambda: node.hear(b""), lambda: node.lets_in(1)):
+        questions = (node.ways, node.gates, node.table, lambda: node.height, lambda: node.say(1), lambda: node.lets_in(1))
+        for call in (*questions, lambda: node.written(0), lambda: node.hear(b"")):
             self.assertRaises(ValueError, call)
+
+    def test_a_child_has_nodes_of_its_own(self):
+        def ask():
+            node.link_up(2)
+            assert node.gates() == [2]
+            node.close()
+
+        node = Node.gateway(0, 1)
+        node.know(2)
+        self.assertTrue(ends_well(ask))
+        self.assertEqual((node.gates(), node.table().state), ([], 0))
+
+    def test_a_child_does_not_wait_for_a_node_that_was_in_a_call(self):
+        """Without a lock of its own the child would wait for ever for a thread that it does not have."""
+
+        def ask():
+            for call in (node.ways, lambda: node.link_up(1), lambda: node.height):
+                try:
+                    call()
+                except RuntimeError:
+                    continue
+                raise AssertionError("the node is used")
+            node.close()
+            assert other.height == 7
+
+        def waits(*words):
+            is_in.set()
+            goes_on.wait(20)
+            return height(*words)
+
+        is_in, goes_on, height = threading.Event(), threading.Event(), QUESTIONS.revroute_node_height
+        node, other = Node(1, 1, 3), Node(2, 1, 7)
+        with mock.patch.object(QUESTIONS, "revroute_node_height", waits), ThreadPoolExecutor(1) as pool:
+            found = pool.submit(lambda: node.height)
+            is_in.wait(20)
+            with mock.patch.object(QUESTIONS, "revroute_node_height", height):
+                is_well = ends_well(ask)
+            goes_on.set()
+            self.assertEqual(found.result(), 3)
+        self.assertTrue(is_well)
+        self.assertEqual(node.height, 3)
 
 
 if __name__ == "__main__":

@@ -4,6 +4,7 @@ use crate::sys;
 
 /// Where a node forwards traffic for the destination.
 #[derive(Debug, Clone, Copy, PartialEq, Eq, Hash)]
+#[non_exhaustive]
 pub enum Hop {
     /// To this node, the next one on the route.
     To(u32),

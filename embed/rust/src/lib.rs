@@ -46,7 +46,9 @@ mod way_reader;
 
 pub use hop::{Hop, Report, Size};
 pub use network::{Edit, Network, Walk};
-pub use node::{MESSAGE_LENGTH, Node, NodeFault, NodeTable, Policy, Rise, Unwritten};
+pub use node::{
+    HearFault, MESSAGE_LENGTH, Node, NodeFault, NodeTable, Outdated, Policy, Rise, Unwritten,
+};
 pub use pieces::TakeFault;
 pub use push_order::push_order;
 pub use reader::{MAX_NODES, Reader, Walked};

@@ -11,7 +11,7 @@ use std::iter::FusedIterator;
 ///
 /// Nodes are numbered from 0. A change succeeds as a whole, and then the links lead to the destination again.
 /// Otherwise it returns [`Refused`], and nothing changes. A question about a number that is not a node panics, as
-/// indexing does.
+/// indexing does. The same question with `try_` before its name returns `None` then.
 ///
 /// A network can be sent to another thread, and each thread can have its own:
 ///
@@ -35,6 +35,7 @@ pub struct Network {
 
 /// An edit in a batch. It names the two nodes of its link.
 #[derive(Debug, Clone, Copy, PartialEq, Eq, Hash)]
+#[non_exhaustive]
 pub enum Edit {
     /// Removes the link between the two nodes, whichever way it points.
     Cut(u32, u32),
@@ -98,8 +99,9 @@ impl Network {
 
     /// Removes the link between two nodes, whichever way it points.
     ///
-    /// `O(d)` if no node turns. Otherwise the cost is that of the links at the nodes that turn, and at the nodes that
-    /// had one of these as their next hop. It is `O(n + m)` at most.
+    /// `O(d)`, and if nodes turn `O(d log d)` for each of them and for each node that had one of these as its next hop.
+    /// It costs `O(n)` more in the first change, after a change that ran out of memory, and as long as nodes that have
+    /// links are cut off.
     ///
     /// ```
     /// use revroute::{Network, Refused, Report};
@@ -122,7 +124,8 @@ impl Network {
     ///
     /// It costs what [`cut`](Network::cut) costs, and a search if this is needed. The engine keeps a height for each
     /// node, so that links point from higher nodes to lower ones. If u is not higher than v, it searches the links of
-    /// the nodes with heights between theirs.
+    /// the nodes with heights between theirs. It costs `O(n + m)` if heights have to be computed again, or if the links
+    /// at a node need a larger place.
     ///
     /// ```
     /// use revroute::{Network, Refused};
@@ -349,17 +352,34 @@ impl Network {
     /// If there is no such node.
     #[track_caller]
     pub fn walk(&self, node: u32) -> Walk<'_> {
-        let is_joined = self.next_hop(node) != Hop::CutOff;
+        self.walk_by(node, self.next_hop(node))
+    }
+
+    /// What [`walk`](Network::walk) returns, or `None` if there is no such node. `O(1)`, and needs no memory.
+    ///
+    /// ```
+    /// let network = revroute::Network::new(3, 0, &[(0, 1)])?;
+    /// assert!(network.try_walk(1).unwrap().eq([1, 0]));
+    /// assert_eq!(network.try_walk(2).unwrap().next(), None); // it is cut off
+    /// assert!(network.try_walk(3).is_none());
+    /// # Ok::<(), revroute::Refused>(())
+    /// ```
+    pub fn try_walk(&self, node: u32) -> Option<Walk<'_>> {
+        Some(self.walk_by(node, self.try_next_hop(node)?))
+    }
+
+    /// The walk of a node with this next hop.
+    fn walk_by(&self, node: u32, hop: Hop) -> Walk<'_> {
         Walk {
             network: self,
-            next: is_joined.then_some(node),
+            next: (hop != Hop::CutOff).then_some(node),
         }
     }
 
     /// The ways of a node: the nodes to which its links point, nearest first. They are ordered by their
     /// [`distance`](Network::distance), and then by number. The destination has none, and neither has a node that is
-    /// cut off. `O(d log d)`. The first call of `ways`, `distance` or `nearest` also measures the distances of all nodes, in
-    /// `O(n + m)`. From then on each change keeps them up to date.
+    /// cut off. `O(d log d)`. The first call of `ways`, `distance`, `nearest` or `batch_with_ways`, or the first reader of
+    /// ways, also measures the distances of all nodes, in `O(n + m)`. From then on each change keeps them up to date.
     ///
     /// A router may hold all its ways, and send each packet to any of them. Whichever ways routers take, and whatever
     /// links fail, no packet visits a node twice.
@@ -386,6 +406,23 @@ impl Network {
         Ok(self.found_of(node, ways).unwrap_or_default())
     }
 
+    /// What [`ways`](Network::ways) returns, or `None` if there is no such node. It costs the same.
+    ///
+    /// ```
+    /// let network = revroute::Network::new(3, 0, &[(1, 0)])?;
+    /// let ways = [1, 2, 3].map(|node| network.try_ways(node).unwrap());
+    /// assert_eq!(ways, [Some(vec![0]), Some(vec![]), None]);
+    /// # Ok::<(), revroute::Refused>(())
+    /// ```
+    ///
+    /// # Errors
+    ///
+    /// If memory for the list runs out.
+    pub fn try_ways(&self, node: u32) -> Result<Option<Vec<u32>>, NoMemory> {
+        let ways = self.engine.ways(node)?;
+        Ok(self.try_found_of(node, ways).map(Option::unwrap_or_default))
+    }
+
     /// The [`ways`](Network::ways) of each node, in the order of the nodes. `O(n + m log d)`.
     ///
     /// ```
@@ -403,7 +440,7 @@ impl Network {
 
     /// The nodes on the nearest route from a node to the destination, both included: each is the first of the
     /// [`ways`](Network::ways) of the one before. No route along the links is shorter. `None` if the node is cut off.
-    /// `O(k d)` for k nodes.
+    /// `O(k d)` for k nodes, and the first time as for [`ways`](Network::ways).
     ///
     /// ```
     /// let network = revroute::Network::new(5, 0, &[(2, 0), (1, 2), (3, 0), (4, 1), (4, 3)])?;
@@ -425,8 +462,25 @@ impl Network {
         Ok(self.found_of(node, route))
     }
 
+    /// What [`nearest`](Network::nearest) returns, or `None` if there is no such node. It costs the same.
+    ///
+    /// ```
+    /// let network = revroute::Network::new(3, 0, &[(1, 0)])?;
+    /// let routes = [1, 2, 3].map(|node| network.try_nearest(node).unwrap());
+    /// assert_eq!(routes, [Some(Some(vec![1, 0])), Some(None), None]);
+    /// # Ok::<(), revroute::Refused>(())
+    /// ```
+    ///
+    /// # Errors
+    ///
+    /// If memory for the list runs out.
+    pub fn try_nearest(&self, node: u32) -> Result<Option<Option<Vec<u32>>>, NoMemory> {
+        let route = self.engine.nearest(node)?;
+        Ok(self.try_found_of(node, route))
+    }
+
     /// The distance of a node: the fewest links that lead from it down to the destination. `None` if the node is cut
-    /// off. `O(1)`, and needs no memory.
+    /// off. `O(1)`, and the first time as for [`ways`](Network::ways). It needs no memory.
     ///
     /// ```
     /// let network = revroute::Network::new(4, 0, &[(1, 0), (2, 1)])?;
@@ -444,6 +498,19 @@ impl Network {
         self.found_of(node, self.engine.distance(node))
     }
 
+    /// What [`distance`](Network::distance) returns, or `None` if there is no such node. It costs the same.
+    ///
+    /// ```
+    /// let network = revroute::Network::new(3, 0, &[(1, 0)])?;
+    /// let distances = [0, 1, 2, 3].map(|node| network.try_distance(node));
+    /// assert_eq!(distances, [Some(Some(0)), Some(Some(1)), Some(None), None]);
+    /// # Ok::<(), revroute::Refused>(())
+    /// ```
+    #[inline]
+    pub fn try_distance(&self, node: u32) -> Option<Option<u32>> {
+        self.try_found_of(node, self.engine.distance(node))
+    }
+
     /// What was found of a node. Panics if nothing was found because there is no such node.
     #[track_caller]
     fn found_of<T>(&self, node: u32, found: Option<T>) -> Option<T> {
@@ -451,6 +518,14 @@ impl Network {
             self.next_hop(node);
         }
         found
+    }
+
+    /// What was found of a node. `None` if nothing was found because there is no such node.
+    fn try_found_of<T>(&self, node: u32, found: Option<T>) -> Option<Option<T>> {
+        match found {
+            None => self.try_next_hop(node).map(|_| None),
+            found => Some(found),
+        }
     }
 
     /// The nodes whose next hop the last change changed, each with its new next hop. They are in push order: each node
@@ -526,7 +601,8 @@ impl Network {
     }
 
     /// What to push first to routers that hold all their [`ways`](Network::ways): each node that loses a way, with the
-    /// ways that it keeps. Nodes that keep one come first, by number, and then those that keep none. `O(n + m log d)`.
+    /// ways that it keeps. Nodes that keep one come first, by number, and then those that keep none. `O(n + m log d + k)`
+    /// for k ways in the table.
     ///
     /// Your table has a list for each node: the ways that its router may hold. These are the ways that it has confirmed
     /// last, and those of each later push that it has not confirmed. They may have cycles, and may name any numbers.
@@ -579,7 +655,7 @@ impl Network {
     }
 
     /// What to push once all routers have confirmed the pushes of [`shrink`](Network::shrink): each node whose list then
-    /// still differs, with all its ways, nearest first. The nodes come by number. `O(n + m log d)`.
+    /// still differs, with all its ways, nearest first. The nodes come by number. It costs what `shrink` costs.
     ///
     /// The result is the same for the table that was given to `shrink` and for the table after its pushes.
     ///

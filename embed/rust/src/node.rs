@@ -1,16 +1,21 @@
 //! The state machine of one router, in a network without a controller.
 
-use crate::engine::filled;
+use crate::engine::filled_with;
+use crate::reader::TableName;
 use crate::{NoMemory, sys};
 use std::cell::UnsafeCell;
+use std::error::Error;
 use std::fmt;
-use std::ops::Deref;
 
 /// The length of a message in bytes.
 pub const MESSAGE_LENGTH: usize = 56;
 
+/// How many neighbours there is room for in the first call that lists some.
+const FEW: usize = 16;
+
 /// When a node raises its height.
 #[derive(Debug, Clone, Copy, PartialEq, Eq)]
+#[non_exhaustive]
 pub enum Rise {
     /// If it has no way: above all neighbours. This is full link reversal. Routers that are cut off from all gateways
     /// raise their heights for ever.
@@ -32,6 +37,28 @@ pub struct Policy {
     pub wait: bool,
 }
 
+/// The policy to start with: [`Rise::Full`], with `lower` and with `wait`.
+///
+/// Full reversal needs no number that depends on the network, and packets arrive once messages have arrived and no
+/// router raises its height. With `lower`, routers come down to their distances, so routes are short. With `wait`, a
+/// router keeps its gates open while its neighbours learn of its new height, so it drops fewer packets. Choose another
+/// policy if routers that are cut off from all gateways have to fall silent: [`Rise::Jump`].
+///
+/// ```
+/// use revroute::{Policy, Rise};
+///
+/// assert_eq!(Policy::default(), Policy { rise: Rise::Full, lower: true, wait: true });
+/// ```
+impl Default for Policy {
+    fn default() -> Policy {
+        Policy {
+            rise: Rise::Full,
+            lower: true,
+            wait: true,
+        }
+    }
+}
+
 impl Policy {
     fn of_c(self) -> sys::NodePolicy {
         let (rise, cap) = match self.rise {
@@ -47,201 +74,351 @@ impl Policy {
     }
 }
 
-/// Why a neighbour cannot be made known.
+/// Why a router cannot start, or a neighbour cannot be made known. Nothing has changed.
 #[derive(Debug, Clone, Copy, PartialEq, Eq)]
+#[non_exhaustive]
 pub enum NodeFault {
-    /// It is the router itself.
+    /// The neighbour is the router itself.
     Itself,
+    /// The height is 2^63 or more. Neighbours have to be able to rise above it.
+    TooHigh,
     /// Memory ran out.
-    Memory,
+    NoMemory,
 }
 
 impl fmt::Display for NodeFault {
     fn fmt(&self, f: &mut fmt::Formatter<'_>) -> fmt::Result {
+        match self {
+            NodeFault::Itself => f.write_str("a router is no neighbour of itself"),
+            NodeFault::TooHigh => f.write_str("a router starts at a height below 2^63"),
+            NodeFault::NoMemory => NoMemory.fmt(f),
+        }
+    }
+}
+
+impl Error for NodeFault {}
+
+impl From<NoMemory> for NodeFault {
+    fn from(_: NoMemory) -> NodeFault {
+        NodeFault::NoMemory
+    }
+}
+
+/// Why a message is not heard. Nothing has changed, and it was no event.
+#[derive(Debug, Clone, Copy, PartialEq, Eq)]
+#[non_exhaustive]
+pub enum HearFault {
+    /// The bytes are not a message, because of their number or their header.
+    NotAMessage,
+    /// A neighbour knows a start of this router with a greater boot number. Either the boot number was not greater than
+    /// at all earlier starts, or another router has the number of this one. The promise of a [`Node`] does not hold
+    /// then: start the router again with a greater boot number, or with a number of its own.
+    LaterStart,
+}
+
+impl fmt::Display for HearFault {
+    fn fmt(&self, f: &mut fmt::Formatter<'_>) -> fmt::Result {
         f.write_str(match self {
-            NodeFault::Itself => "a router is no neighbour of itself",
-            NodeFault::Memory => "no memory",
+            HearFault::NotAMessage => "the bytes are not a message",
+            HearFault::LaterStart => "a neighbour knows a later start of this router",
         })
     }
 }
 
-impl std::error::Error for NodeFault {}
+impl Error for HearFault {}
 
-/// What a router writes to its forwarding table: its ways, and the neighbours that it lets in. A [`Node`] and an
-/// [`Unwritten`] have it.
-pub struct NodeTable {
-    handle: UnsafeCell<sys::NodeHandle>,
+/// The ways and gates of the node have to be written first, and then [`Node::written`] has to be called.
+#[derive(Debug, Clone, Copy, PartialEq, Eq)]
+pub struct Unwritten;
+
+impl fmt::Display for Unwritten {
+    fn fmt(&self, f: &mut fmt::Formatter<'_>) -> fmt::Result {
+        f.write_str("the ways and gates are not written yet")
+    }
 }
 
-// SAFETY: the library proves that a handle may go to another thread; the cell keeps it from being shared by two.
-unsafe impl Send for NodeTable {}
+impl Error for Unwritten {}
 
-/// The state machine of one router, for one destination. Its ways and gates are written, so its messages may be sent.
+/// An event came after the table was handed out, or another node handed it out. Nothing has changed: ask for the
+/// [`table`](Node::table) again, and write that.
+#[derive(Debug, Clone, Copy, PartialEq, Eq)]
+pub struct Outdated;
+
+impl fmt::Display for Outdated {
+    fn fmt(&self, f: &mut fmt::Formatter<'_>) -> fmt::Result {
+        f.write_str("an event came after the table was handed out")
+    }
+}
+
+impl Error for Outdated {}
+
+/// What a router writes to its forwarding table: its ways, and the neighbours that it lets in, at one moment.
+/// [`Node::table`] hands it out, and [`Node::written`] takes it back once it is written.
+#[derive(Debug)]
+#[must_use = "the ways and gates have to be written"]
+pub struct NodeTable {
+    ways: Vec<u32>,
+    gates: Vec<u32>,
+    state: u64,
+    node: TableName,
+}
+
+impl NodeTable {
+    /// The neighbours to which packets may be sent, the nearest first, and equally near ones by number. A gateway has
+    /// none.
+    pub fn ways(&self) -> &[u32] {
+        &self.ways
+    }
+
+    /// The neighbours from which packets are let in, in the order in which they were made known. All other packets have
+    /// to be dropped.
+    pub fn gates(&self) -> &[u32] {
+        &self.gates
+    }
+}
+
+/// The state machine of one router, for one destination, in a network without a controller.
 ///
-/// Each event takes the node and returns an [`Unwritten`], which cannot say anything. The caller writes the ways and
-/// gates of this [`NodeTable`] into the forwarding table, and gets the node back by [`written`](Unwritten::written).
+/// Events are [`link_up`](Node::link_up), [`link_down`](Node::link_down) and [`hear`](Node::hear). After an event, write
+/// the ways and gates of the [`table`](Node::table) into the forwarding table, and then give it back by
+/// [`written`](Node::written). Until then the node says nothing.
 ///
 /// At no moment do the links that routers use contain a loop, whatever happens to messages and whichever routers
-/// restart, if each router drops what comes from neighbours that it does not let in. `docs/NODES.md` says more.
+/// restart, if each router drops what comes from neighbours that it does not let in. `docs/NODES.md` has all rules.
 ///
 /// ```
-/// use revroute::{Node, Policy, Rise};
+/// use revroute::{Node, Policy};
 ///
-/// let policy = Policy { rise: Rise::Jump(16), lower: true, wait: true };
-/// let (mut gateway, mut router) = (Node::gateway(0, 1)?, Node::new(1, 1, 1, policy)?);
+/// /// Writes the table of a router.
+/// fn write(node: &mut Node) -> Result<(), Box<dyn std::error::Error>> {
+///     let table = node.table()?;
+///     println!("send to {:?}, let in {:?}", table.ways(), table.gates());
+///     Ok(node.written(table)?)
+/// }
+///
+/// let (mut gateway, mut router) = (Node::gateway(0, 1)?, Node::new(1, 1, 0, Policy::default())?);
 /// gateway.know(1)?;
 /// router.know(0)?;
-/// let mut gateway = gateway.link_up(1).written();
-/// let mut router = router.link_up(0).written();
-/// for _ in 0..2 {
-///     router = router.hear(&gateway.say(1).unwrap()).unwrap().written();
-///     gateway = gateway.hear(&router.say(0).unwrap()).unwrap().written();
+/// gateway.link_up(1);
+/// router.link_up(0);
+/// write(&mut gateway)?;
+/// write(&mut router)?;
+/// for _ in 0..4 {
+///     router.hear(&gateway.say(1)?.expect("the link is up"))?;
+///     write(&mut router)?;
+///     gateway.hear(&router.say(0)?.expect("the link is up"))?;
+///     write(&mut gateway)?;
 /// }
-/// assert_eq!(router.ways()?, [0]);
-/// assert!(gateway.lets_in(1));
+/// assert_eq!(router.table()?.ways(), [0]);
+/// assert_eq!(gateway.table()?.gates(), [1]);
 /// # Ok::<(), Box<dyn std::error::Error>>(())
+/// ```
+///
+/// A node can be sent to another thread, but threads cannot share it:
+///
+/// ```compile_fail,E0277
+/// fn is_shared<T: Sync>() {}
+/// is_shared::<revroute::Node>();
 /// ```
 ///
 /// In the costs, d is the number of known neighbours.
 pub struct Node {
-    table: NodeTable,
+    handle: UnsafeCell<sys::NodeHandle>,
+    name: TableName,
 }
 
-/// A router whose ways and gates have to be written before it can say anything. More events may come before.
-#[must_use = "the ways and gates have to be written"]
-pub struct Unwritten {
-    table: NodeTable,
-}
+// SAFETY: the library proves that a handle may go to another thread; the cell keeps it from being shared by two.
+unsafe impl Send for Node {}
+
+/// A call that lists neighbours, and writes the number of the node's state.
+type List =
+    unsafe extern "C" fn(*mut sys::NodeHandle, *mut u32, usize, *mut usize, *mut u64) -> u32;
 
 impl Node {
     /// A router that starts at this height. No other router has the number `me`. `boot` is greater than at all earlier
     /// starts of this router. `O(1)`.
-    pub fn new(me: u32, boot: u64, height: u64, policy: Policy) -> Result<Node, NoMemory> {
+    ///
+    /// # Errors
+    ///
+    /// [`TooHigh`](NodeFault::TooHigh) and [`NoMemory`](NodeFault::NoMemory).
+    pub fn new(me: u32, boot: u64, height: u64, policy: Policy) -> Result<Node, NodeFault> {
         let policy = policy.of_c();
         // SAFETY: the handle is null, and the policy is another value.
         Node::opened(|handle| unsafe { sys::revroute_node_open(handle, me, boot, height, &policy) })
     }
 
-    /// A gateway that starts: it takes packets out of the network, and sends them to no neighbour. `boot` is as for
-    /// [`Node::new`]. `O(1)`.
+    /// A gateway that starts: it takes packets out of the network, and sends them to no neighbour. One destination may
+    /// have several gateways. `boot` is as for [`Node::new`]. `O(1)`.
+    ///
+    /// # Errors
+    ///
+    /// If memory runs out.
     pub fn gateway(me: u32, boot: u64) -> Result<Node, NoMemory> {
         // SAFETY: the handle is null.
         Node::opened(|handle| unsafe { sys::revroute_node_open_gateway(handle, me, boot) })
+            .map_err(|_| NoMemory)
     }
 
-    fn opened(open: impl FnOnce(*mut sys::NodeHandle) -> u32) -> Result<Node, NoMemory> {
-        let mut table = NodeTable {
+    fn opened(open: impl FnOnce(*mut sys::NodeHandle) -> u32) -> Result<Node, NodeFault> {
+        let node = Node {
             handle: UnsafeCell::new(sys::NodeHandle::NONE),
+            name: TableName::new(),
         };
-        match open(table.handle.get_mut()) {
-            sys::ANSWERED => Ok(Node { table }),
-            sys::NO_MEMORY => Err(NoMemory),
-            _ => unreachable!("each policy of the crate is known"),
+        match open(node.handle.get()) {
+            sys::ANSWERED => Ok(node),
+            // Each policy of the crate is known.
+            sys::REFUSED => Err(NodeFault::TooHigh),
+            sys::NO_MEMORY => Err(NodeFault::NoMemory),
+            _ => unreachable!("a start has three ends"),
         }
     }
 
-    /// Makes a neighbour known. The link to it is down, until it comes up. A neighbour that is known stays as it is. This
-    /// is the only call on a node that takes memory. If it fails, nothing has changed. `O(d)`.
+    /// Makes a neighbour known. The link to it is down, until it comes up. A neighbour that is known stays as it is. It
+    /// may come at any time, and is no event. `O(d)`.
+    ///
+    /// # Errors
+    ///
+    /// [`Itself`](NodeFault::Itself) and [`NoMemory`](NodeFault::NoMemory).
     pub fn know(&mut self, neighbour: u32) -> Result<(), NodeFault> {
-        self.table.know(neighbour)
+        // SAFETY: the handle is the library's own, and no other call has it.
+        match unsafe { sys::revroute_node_know(self.handle.get(), neighbour) } {
+            sys::ANSWERED => Ok(()),
+            sys::REFUSED => Err(NodeFault::Itself),
+            sys::NO_MEMORY => Err(NodeFault::NoMemory),
+            _ => unreachable!("a node is not null"),
+        }
     }
 
-    /// The link to a neighbour comes up. If the neighbour is not known, no link changes. `O(d)`.
-    pub fn link_up(self, neighbour: u32) -> Unwritten {
-        self.unwritten().link_up(neighbour)
+    /// An event: the link to a neighbour comes up. If the neighbour is not known, no link changes. `O(d)`, and needs no
+    /// memory.
+    pub fn link_up(&mut self, neighbour: u32) {
+        // SAFETY: the handle is the library's own, and no other call has it.
+        let status = unsafe { sys::revroute_node_link_up(self.handle.get(), neighbour) };
+        assert_eq!(status, sys::ANSWERED, "a node is not null");
     }
 
-    /// The link to a neighbour goes down. `O(d)`.
-    pub fn link_down(self, neighbour: u32) -> Unwritten {
-        self.unwritten().link_down(neighbour)
+    /// An event: the link to a neighbour goes down. What was heard on it is kept. If the neighbour is not known, no link
+    /// changes. `O(d)`, and needs no memory.
+    pub fn link_down(&mut self, neighbour: u32) {
+        // SAFETY: the handle is the library's own, and no other call has it.
+        let status = unsafe { sys::revroute_node_link_down(self.handle.get(), neighbour) };
+        assert_eq!(status, sys::ANSWERED, "a node is not null");
     }
 
-    /// Hears a message. Bytes that are not a message change nothing, and the node comes back in `Err`. `O(d)`.
-    pub fn hear(mut self, bytes: &[u8]) -> Result<Unwritten, Node> {
-        match self.table.hear(bytes) {
-            true => Ok(self.unwritten()),
-            false => Err(self),
+    /// An event: a message is heard. It changes what is known of its sender only if it is for this router, from a known
+    /// neighbour, and not from an earlier start of either. `O(d)`, and needs no memory.
+    ///
+    /// # Errors
+    ///
+    /// The first variant of [`HearFault`] that holds.
+    pub fn hear(&mut self, bytes: &[u8]) -> Result<(), HearFault> {
+        let (at, count) = (bytes.as_ptr(), bytes.len());
+        // SAFETY: the handle is the library's own, no other call has it, and the bytes are a slice.
+        match unsafe { sys::revroute_node_hear(self.handle.get(), at, count) } {
+            sys::ANSWERED => Ok(()),
+            sys::NO_MESSAGE => Err(HearFault::NotAMessage),
+            sys::LATER_START => Err(HearFault::LaterStart),
+            _ => unreachable!("a node is not null"),
+        }
+    }
+
+    /// What to write to the forwarding table: the ways and gates as they are now. `O(d log d)`.
+    ///
+    /// # Errors
+    ///
+    /// If memory for the lists runs out.
+    pub fn table(&self) -> Result<NodeTable, NoMemory> {
+        let (ways, state) = self.listed(sys::revroute_node_ways)?;
+        let (gates, same) = self.listed(sys::revroute_node_gates)?;
+        assert_eq!(state, same, "no event comes between two calls");
+        Ok(NodeTable {
+            ways,
+            gates,
+            state,
+            node: self.name,
+        })
+    }
+
+    /// The neighbours that a call lists, and the number of the node's state.
+    fn listed(&self, list: List) -> Result<(Vec<u32>, u64), NoMemory> {
+        let mut state = 0;
+        // SAFETY: the handle is the library's own, no other call has it, and the places are those of a slice, which
+        // overlaps neither its length nor the number.
+        let found = filled_with(FEW, |places, room, length| unsafe {
+            list(self.handle.get(), places, room, length, &mut state)
+        })?;
+        Ok((found.unwrap_or_default(), state))
+    }
+
+    /// Call this once the ways and gates of a table are written, with that table. From then on the node says messages,
+    /// until the next event. `O(1)`.
+    ///
+    /// ```
+    /// use revroute::{Node, Outdated};
+    ///
+    /// let mut node = Node::gateway(0, 1)?;
+    /// let table = node.table()?;
+    /// node.link_up(1); // while the table is written
+    /// assert_eq!(node.written(table), Err(Outdated));
+    /// let table = node.table()?;
+    /// assert_eq!(node.written(table), Ok(()));
+    /// # Ok::<(), revroute::NoMemory>(())
+    /// ```
+    ///
+    /// # Errors
+    ///
+    /// [`Outdated`], if an event came after the table was handed out, or if another node handed it out.
+    pub fn written(&mut self, table: NodeTable) -> Result<(), Outdated> {
+        if table.node != self.name {
+            return Err(Outdated);
+        }
+        // SAFETY: the handle is the library's own, and no other call has it.
+        match unsafe { sys::revroute_node_written(self.handle.get(), table.state) } {
+            sys::ANSWERED => Ok(()),
+            sys::OUTDATED => Err(Outdated),
+            _ => unreachable!("a node is not null"),
         }
     }
 
     /// The message for a neighbour. `None` if the neighbour is not known, or the link to it is down. It may be said as
-    /// often as you like. `O(d)`.
-    pub fn say(&mut self, neighbour: u32) -> Option<[u8; MESSAGE_LENGTH]> {
+    /// often as you like. Messages may be lost, so say one to each neighbour again after some time. `O(d)`, and needs no
+    /// memory.
+    ///
+    /// # Errors
+    ///
+    /// [`Unwritten`], if an event came since the last table that was written. No event comes before a node starts, so it
+    /// may be called at once.
+    pub fn say(&mut self, neighbour: u32) -> Result<Option<[u8; MESSAGE_LENGTH]>, Unwritten> {
         let (mut message, mut length) = ([0; MESSAGE_LENGTH], 0);
         let (place, room) = (message.as_mut_ptr(), message.len());
         // SAFETY: the handle is the library's own, no other call has it, and the three do not overlap.
         let status = unsafe {
-            sys::revroute_node_say(self.table.handle(), neighbour, place, room, &mut length)
+            sys::revroute_node_say(self.handle.get(), neighbour, place, room, &mut length)
         };
         match status {
-            sys::ANSWERED => Some(message),
-            sys::LINK_DOWN => None,
-            _ => unreachable!("a node is written, and a message has room"),
+            sys::ANSWERED => Ok(Some(message)),
+            sys::LINK_DOWN => Ok(None),
+            sys::UNWRITTEN => Err(Unwritten),
+            _ => unreachable!("a message has room"),
         }
     }
 
     /// Whether there is news for a neighbour: the link to it is up, and the message for it is not the last one that was
-    /// said. `O(d)`.
-    pub fn has_news(&self, neighbour: u32) -> bool {
+    /// said. `O(d)`, and needs no memory.
+    ///
+    /// # Errors
+    ///
+    /// As for [`say`](Node::say).
+    pub fn has_news(&self, neighbour: u32) -> Result<bool, Unwritten> {
         let mut news = 0;
         // SAFETY: the handle is the library's own, no other call has it, and the two do not overlap.
         let status =
-            unsafe { sys::revroute_node_has_news(self.table.handle.get(), neighbour, &mut news) };
+            unsafe { sys::revroute_node_has_news(self.handle.get(), neighbour, &mut news) };
         match status {
-            sys::ANSWERED => news != 0,
-            _ => unreachable!("a node is written"),
+            sys::ANSWERED => Ok(news != 0),
+            sys::UNWRITTEN => Err(Unwritten),
+            _ => unreachable!("a node is not null"),
         }
-    }
-
-    fn unwritten(self) -> Unwritten {
-        Unwritten { table: self.table }
-    }
-}
-
-impl Unwritten {
-    /// The link to a neighbour comes up, before the ways and gates are written. `O(d)`.
-    pub fn link_up(mut self, neighbour: u32) -> Unwritten {
-        // SAFETY: the handle is the library's own, and no other call has it.
-        let status = unsafe { sys::revroute_node_link_up(self.table.handle(), neighbour) };
-        assert_eq!(status, sys::ANSWERED, "a node is not null");
-        self
-    }
-
-    /// The link to a neighbour goes down, before the ways and gates are written. `O(d)`.
-    pub fn link_down(mut self, neighbour: u32) -> Unwritten {
-        // SAFETY: the handle is the library's own, and no other call has it.
-        let status = unsafe { sys::revroute_node_link_down(self.table.handle(), neighbour) };
-        assert_eq!(status, sys::ANSWERED, "a node is not null");
-        self
-    }
-
-    /// Hears a message before the ways and gates are written. Bytes that are not a message change nothing, and the router
-    /// comes back in `Err`. `O(d)`.
-    pub fn hear(mut self, bytes: &[u8]) -> Result<Unwritten, Unwritten> {
-        match self.table.hear(bytes) {
-            true => Ok(self),
-            false => Err(self),
-        }
-    }
-
-    /// The caller says that the ways and gates are written. `O(1)`.
-    pub fn written(mut self) -> Node {
-        // SAFETY: the handle is the library's own, and no other call has it.
-        let status = unsafe { sys::revroute_node_written(self.table.handle()) };
-        assert_eq!(status, sys::ANSWERED, "a node is not null");
-        Node { table: self.table }
-    }
-}
-
-impl NodeTable {
-    /// The neighbours to which packets may be sent, the nearest first, and equally near ones by number. A gateway has
-    /// none. `O(d log d)`.
-    pub fn ways(&self) -> Result<Vec<u32>, NoMemory> {
-        // SAFETY: the handle is the library's own, no other call has it, and the places are those of a slice.
-        let ways = filled(|places, room, length| unsafe {
-            sys::revroute_node_ways(self.handle.get(), places, room, length)
-        })?;
-        Ok(ways.unwrap_or_default())
     }
 
     /// How many links a packet crosses from this router to a gateway, by what it has heard: 0 at a gateway. `None` if
@@ -262,60 +439,20 @@ impl NodeTable {
         height
     }
 
-    /// Whether packets from a neighbour are let in. All others have to be dropped. `O(d)`.
+    /// Whether packets from a neighbour are let in now. `O(d)`.
     pub fn lets_in(&self, neighbour: u32) -> bool {
         // SAFETY: the handle is the library's own, and no other call has it.
         unsafe { sys::revroute_node_lets_in(self.handle.get(), neighbour) != 0 }
     }
 
-    /// Whether packets may be sent to a neighbour. `O(d)`.
+    /// Whether packets may be sent to a neighbour now. `O(d)`.
     pub fn sends_to(&self, neighbour: u32) -> bool {
         // SAFETY: the handle is the library's own, and no other call has it.
         unsafe { sys::revroute_node_sends_to(self.handle.get(), neighbour) != 0 }
     }
-
-    fn handle(&mut self) -> *mut sys::NodeHandle {
-        self.handle.get()
-    }
-
-    fn know(&mut self, neighbour: u32) -> Result<(), NodeFault> {
-        // SAFETY: the handle is the library's own, and no other call has it.
-        match unsafe { sys::revroute_node_know(self.handle(), neighbour) } {
-            sys::ANSWERED => Ok(()),
-            sys::REFUSED => Err(NodeFault::Itself),
-            _ => Err(NodeFault::Memory),
-        }
-    }
-
-    /// Whether the bytes are a message, which is then heard.
-    fn hear(&mut self, bytes: &[u8]) -> bool {
-        let (at, count) = (bytes.as_ptr(), bytes.len());
-        // SAFETY: the handle is the library's own, no other call has it, and the bytes are a slice.
-        match unsafe { sys::revroute_node_hear(self.handle(), at, count) } {
-            sys::ANSWERED => true,
-            sys::NO_MESSAGE => false,
-            _ => unreachable!("a node is not null"),
-        }
-    }
 }
 
-impl Deref for Node {
-    type Target = NodeTable;
-
-    fn deref(&self) -> &NodeTable {
-        &self.table
-    }
-}
-
-impl Deref for Unwritten {
-    type Target = NodeTable;
-
-    fn deref(&self) -> &NodeTable {
-        &self.table
-    }
-}
-
-impl Drop for NodeTable {
+impl Drop for Node {
     fn drop(&mut self) {
         // SAFETY: the handle is null or the library's own, and no call has it.
         unsafe { sys::revroute_node_close(self.handle.get()) }
@@ -325,11 +462,5 @@ impl Drop for NodeTable {
 impl fmt::Debug for Node {
     fn fmt(&self, f: &mut fmt::Formatter<'_>) -> fmt::Result {
         f.debug_struct("Node").finish_non_exhaustive()
-    }
-}
-
-impl fmt::Debug for Unwritten {
-    fn fmt(&self, f: &mut fmt::Formatter<'_>) -> fmt::Result {
-        f.debug_struct("Unwritten").finish_non_exhaustive()
     }
 }

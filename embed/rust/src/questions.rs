@@ -143,7 +143,7 @@ impl Session {
 
     /// What to push first to routers that hold all their ways: each node that loses a way, with the ways that it keeps.
     /// See [`Network::shrink`](crate::Network::shrink). Before the first network there are no nodes, so it accepts only
-    /// the empty table. `O(n + m log d)`.
+    /// the empty table. It costs the same.
     ///
     /// ```
     /// let mut session = revroute::Session::new();
@@ -167,7 +167,7 @@ impl Session {
     }
 
     /// What to push once all routers have confirmed the pushes of [`shrink`](Session::shrink): each node whose list then
-    /// still differs, with all its ways, nearest first. `O(n + m log d)`.
+    /// still differs, with all its ways, nearest first. It costs the same.
     ///
     /// # Errors
     ///
@@ -272,7 +272,8 @@ impl Session {
     }
 
     /// The distance of a node: the fewest links that lead from it down to the destination. `None` if the node is cut
-    /// off, or if there is no such node. `O(1)`, and needs no memory.
+    /// off, or if there is no such node. `O(1)`, and the first time as for [`Network::ways`](crate::Network::ways). It
+    /// needs no memory.
     ///
     /// ```
     /// let mut session = revroute::Session::new();

@@ -59,12 +59,12 @@ pub struct Reader {
     table: TableName,
 }
 
-/// Tells the tables of different networks apart, which the library cannot do.
-#[derive(Clone, Copy, PartialEq, Eq)]
+/// Tells the tables of different networks, or nodes, apart, which the library cannot do.
+#[derive(Debug, Clone, Copy, PartialEq, Eq)]
 pub(crate) struct TableName(u64);
 
 impl TableName {
-    /// A name that no other table of the process has.
+    /// A name that no other table and no other node of the process has.
     pub(crate) fn new() -> TableName {
         static NEXT: AtomicU64 = AtomicU64::new(0);
         TableName(NEXT.fetch_add(1, Ordering::Relaxed))

@@ -69,11 +69,17 @@ pub const BEGUN: u32 = 8;
 /// The line is longer than the limit. Nothing was taken.
 pub const TOO_LONG: u32 = 9;
 // `NO_TABLE`, 10, is never returned: the crate checks a table before it passes it on. Neither is `NULL_ARRAY`, 11: no
-// slice is null. `UNWRITTEN`, 12, is never returned, because only a `Node` can say something.
+// slice is null.
+/// The ways and gates of the node have to be written first.
+pub const UNWRITTEN: u32 = 12;
 /// The bytes are not a message of a node. Nothing has changed.
 pub const NO_MESSAGE: u32 = 13;
 /// The neighbour is not known, or the link to it is down.
 pub const LINK_DOWN: u32 = 14;
+/// An event came after the ways and gates were handed out. Nothing has changed.
+pub const OUTDATED: u32 = 15;
+/// A neighbour knows a later start of this router. Nothing has changed.
+pub const LATER_START: u32 = 16;
 
 /// In place of a next hop: the node is the destination.
 pub const HERE: u32 = 0xffff_ffff;
@@ -421,7 +427,7 @@ unsafe extern "C" {
 
     pub fn revroute_node_hear(node: *mut NodeHandle, bytes: *const u8, count: usize) -> u32;
 
-    pub fn revroute_node_written(node: *mut NodeHandle) -> u32;
+    pub fn revroute_node_written(node: *mut NodeHandle, state: u64) -> u32;
 
     pub fn revroute_node_say(
         node: *mut NodeHandle,
@@ -438,6 +444,15 @@ unsafe extern "C" {
         ways: *mut u32,
         room: usize,
         length: *mut usize,
+        state: *mut u64,
+    ) -> u32;
+
+    pub fn revroute_node_gates(
+        node: *mut NodeHandle,
+        gates: *mut u32,
+        room: usize,
+        length: *mut usize,
+        state: *mut u64,
     ) -> u32;
 
     pub fn revroute_node_distance(node: *mut NodeHandle, distance: *mut u32) -> u32;

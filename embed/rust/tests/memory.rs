@@ -3,8 +3,7 @@
 #![cfg(refusing_heap)]
 
 use revroute::{
-    Edit, Hop, Network, NoMemory, Node, NodeFault, Policy, Refused, Report, Rise, Session,
-    TableFault,
+    Edit, Hop, Network, NoMemory, Node, NodeFault, Policy, Refused, Report, Session, TableFault,
 };
 use std::ffi::c_long;
 use std::sync::{Mutex, PoisonError};
@@ -261,23 +260,27 @@ fn without_memory_there_is_no_reader_of_ways_and_all_is_as_it_was() -> Result<()
 }
 
 #[test]
-fn without_memory_there_is_no_node_and_no_neighbour() -> Result<(), NoMemory> {
+fn without_memory_there_is_no_node_and_no_neighbour() -> Result<(), NodeFault> {
     let _held = COUNTER.lock().unwrap_or_else(PoisonError::into_inner);
-    let policy = Policy {
-        rise: Rise::Full,
-        lower: false,
-        wait: true,
-    };
-    assert!(poor(1, || Node::new(1, 1, 1, policy)).is_err());
+    let policy = Policy::default();
+    let refused = poor(1, || Node::new(1, 1, 1, policy)).err();
+    assert_eq!(refused, Some(NodeFault::NoMemory));
+    let refused = poor(1, || Node::new(1, 1, u64::MAX, policy)).err();
+    assert_eq!(refused, Some(NodeFault::TooHigh));
     assert!(poor(1, || Node::gateway(1, 1)).is_err());
     let mut node = Node::new(1, 1, 1, policy)?;
     // One allocation is for the list of ways, and one for the neighbours.
     for number in [1, 2, 1] {
-        assert_eq!(poor(number, || node.know(2)), Err(NodeFault::Memory));
+        assert_eq!(poor(number, || node.know(2)), Err(NodeFault::NoMemory));
     }
     assert_eq!(poor(1, || node.know(1)), Err(NodeFault::Itself));
     assert_eq!(node.know(2), Ok(()));
-    let mut node = poor(1, || node.link_up(2).written());
-    assert!(poor(1, || node.has_news(2) && node.say(2).is_some()));
+    let table = poor(1, || {
+        node.link_up(2);
+        node.table()
+    })?;
+    assert_eq!(poor(1, || node.written(table)), Ok(()));
+    assert_eq!(poor(1, || node.has_news(2)), Ok(true));
+    assert!(matches!(poor(1, || node.say(2)), Ok(Some(_))));
     Ok(())
 }

@@ -111,6 +111,7 @@ fn words_of(edit: Edit) -> String {
         Edit::Cut(u, v) => format!(r#"["cut",{u},{v}]"#),
         Edit::Add(u, v) => format!(r#"["add",{u},{v}]"#),
         Edit::Join(u, v) => format!(r#"["join",{u},{v}]"#),
+        _ => unreachable!("there are three kinds of edits"),
     }
 }
 
@@ -337,12 +338,15 @@ fn make(links: &mut Vec<(u32, u32)>, edit: Edit) {
         Edit::Cut(u, v) => links.retain(|&link| link != (u, v) && link != (v, u)),
         Edit::Join(u, v) if leads(links, v, u) => links.push((v, u)),
         Edit::Add(u, v) | Edit::Join(u, v) => links.push((u, v)),
+        _ => unreachable!("there are three kinds of edits"),
     }
 }
 
 /// Checks that the evidence shows why an edit is refused. `links` are the links before it.
 fn shows(why: &Refused, edit: Edit, links: &[(u32, u32)], nodes: u32) {
-    let (Edit::Cut(u, v) | Edit::Add(u, v) | Edit::Join(u, v)) = edit;
+    let (Edit::Cut(u, v) | Edit::Add(u, v) | Edit::Join(u, v)) = edit else {
+        unreachable!("there are three kinds of edits");
+    };
     let joined = links.contains(&(u, v)) || links.contains(&(v, u));
     match why {
         Refused::NoSuchNode(node) => assert!(*node >= nodes && [u, v].contains(node)),
@@ -395,6 +399,7 @@ impl Asked {
                     Edit::Cut(u, v) => network.cut(u, v),
                     Edit::Add(u, v) => network.add(u, v),
                     Edit::Join(u, v) => network.join(u, v),
+                    _ => unreachable!("there are three kinds of edits"),
                 };
                 ended.inspect_err(|why| shows(why, *edit, &links, nodes))
             }
@@ -701,10 +706,31 @@ fn a_wrong_table_has_no_pushes() -> Result<(), Box<dyn Error>> {
 }
 
 #[test]
+fn questions_that_do_not_panic_find_the_same() -> Result<(), Box<dyn Error>> {
+    let network = Network::new(6, 0, &[(2, 0), (1, 2), (3, 0), (4, 1), (4, 3)])?;
+    for node in 0..6 {
+        assert_eq!(network.try_next_hop(node), Some(network.next_hop(node)));
+        let walk: Option<Vec<u32>> = network.try_walk(node).map(Iterator::collect);
+        assert_eq!(walk, Some(network.walk(node).collect()));
+        assert_eq!(network.try_ways(node)?, Some(network.ways(node)?));
+        assert_eq!(network.try_nearest(node)?, Some(network.nearest(node)?));
+        assert_eq!(network.try_distance(node), Some(network.distance(node)));
+    }
+    assert_eq!(network.try_ways(4)?, Some(vec![3, 1]));
+    assert_eq!(network.try_ways(5)?, Some(vec![]));
+    assert_eq!(network.try_distance(5), Some(None));
+    Ok(())
+}
+
+#[test]
 fn what_is_no_node_panics() -> Result<(), Box<dyn Error>> {
     for node in [2, 4096, u32::MAX - 4, u32::MAX - 3, u32::MAX] {
         let network = Network::new(2, 0, &[(1, 0)])?;
         assert_eq!(network.try_next_hop(node), None);
+        assert!(network.try_walk(node).is_none());
+        assert_eq!(network.try_ways(node)?, None);
+        assert_eq!(network.try_nearest(node)?, None);
+        assert_eq!(network.try_distance(node), None);
         assert!(
             thread::spawn(move || network.next_hop(node))
                 .join()

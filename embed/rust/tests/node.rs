@@ -1,7 +1,10 @@
 //! Routers without a controller, as safe Rust sees them.
 
-use revroute::{MESSAGE_LENGTH, NoMemory, Node, NodeFault, Policy, Rise};
-use std::mem;
+use revroute::{
+    HearFault, MESSAGE_LENGTH, NoMemory, Node, NodeFault, NodeTable, Outdated, Policy, Rise,
+    Unwritten,
+};
+use std::error::Error;
 
 const POLICY: Policy = Policy {
     rise: Rise::Jump(16),
@@ -9,115 +12,258 @@ const POLICY: Policy = Policy {
     wait: true,
 };
 
+/// Asks for the table, and says that it is written.
+fn write(node: &mut Node) -> Result<(), Box<dyn Error>> {
+    let table = node.table()?;
+    Ok(node.written(table)?)
+}
+
+/// The message with another number of 8 bytes at an index.
+fn with_number(mut message: [u8; MESSAGE_LENGTH], at: usize, number: u64) -> [u8; MESSAGE_LENGTH] {
+    message[at..at + 8].copy_from_slice(&number.to_be_bytes());
+    message
+}
+
 /// Routers in a ring, of which router 0 is the gateway. Each says its news until nobody has any.
 struct Ring {
-    nodes: Vec<Option<Node>>,
+    nodes: Vec<Node>,
 }
 
 impl Ring {
-    fn new(count: u32) -> Result<Ring, Box<dyn std::error::Error>> {
+    fn new(count: u32, policy: Policy) -> Result<Ring, Box<dyn Error>> {
         let mut nodes = Vec::new();
         for me in 0..count {
             let mut node = match me {
                 0 => Node::gateway(0, 1)?,
-                _ => Node::new(me, 1, 1, POLICY)?,
+                _ => Node::new(me, 1, 1, policy)?,
             };
-            let (left, right) = ((me + count - 1) % count, (me + 1) % count);
-            node.know(left)?;
-            node.know(right)?;
-            nodes.push(Some(node.link_up(left).link_up(right).written()));
+            for other in [(me + count - 1) % count, (me + 1) % count] {
+                node.know(other)?;
+                node.link_up(other);
+            }
+            write(&mut node)?;
+            nodes.push(node);
         }
         Ok(Ring { nodes })
     }
 
-    fn node(&mut self, me: u32) -> &mut Node {
-        self.nodes[me as usize].as_mut().expect("the node is back")
-    }
-
-    fn hear(&mut self, me: u32, message: &[u8]) {
-        let place = &mut self.nodes[me as usize];
-        let node = place.take().expect("the node is back");
-        *place = Some(node.hear(message).expect("it is a message").written());
-    }
-
-    fn link(&mut self, u: u32, v: u32, up: bool) {
+    fn link(&mut self, u: u32, v: u32, event: fn(&mut Node, u32)) -> Result<(), Box<dyn Error>> {
         for (me, other) in [(u, v), (v, u)] {
-            let place = &mut self.nodes[me as usize];
-            let node = place.take().expect("the node is back");
-            let event = if up { Node::link_up } else { Node::link_down };
-            *place = Some(event(node, other).written());
+            event(&mut self.nodes[me as usize], other);
+            write(&mut self.nodes[me as usize])?;
         }
+        Ok(())
+    }
+
+    /// The links, from each router to its two neighbours.
+    fn links(&self) -> Vec<(usize, usize)> {
+        let count = self.nodes.len();
+        let both = |me| [(me, (me + 1) % count), (me, (me + count - 1) % count)];
+        (0..count).flat_map(both).collect()
+    }
+
+    /// A router says what it has to say to a neighbour, if their link is up.
+    fn pass_on(&mut self, from: usize, to: usize) -> Result<(), Box<dyn Error>> {
+        if let Some(message) = self.nodes[from].say(to as u32)? {
+            self.nodes[to].hear(&message)?;
+            write(&mut self.nodes[to])?;
+        }
+        Ok(())
     }
 
     /// Delivers messages until there is no news. Returns their number.
-    fn settle(&mut self) -> usize {
-        let count = self.nodes.len() as u32;
+    fn spread_news(&mut self) -> Result<usize, Box<dyn Error>> {
         for messages in 0..10_000 {
-            let next = (0..count)
-                .flat_map(|from| {
-                    [
-                        (from, (from + 1) % count),
-                        (from, (from + count - 1) % count),
-                    ]
-                })
-                .find(|&(from, to)| self.node(from).has_news(to));
-            let Some((from, to)) = next else {
-                return messages;
+            let has_news = |&(from, to): &(usize, usize)| self.nodes[from].has_news(to as u32);
+            let links = self.links();
+            let Some(&(from, to)) = links.iter().find(|link| has_news(link) == Ok(true)) else {
+                return Ok(messages);
             };
-            let message = self.node(from).say(to).expect("the link is up");
-            self.hear(to, &message);
+            self.pass_on(from, to)?;
         }
         panic!("routers talk for ever");
+    }
+
+    /// Delivers news, and says everything again, until nothing has changed three times. A router that waits for
+    /// acknowledgements may take its next step only when it hears something.
+    fn settle(&mut self) -> Result<(), Box<dyn Error>> {
+        let mut still = 0;
+        for _ in 0..1_000 {
+            let before = self.picture();
+            self.spread_news()?;
+            for (from, to) in self.links() {
+                self.pass_on(from, to)?;
+            }
+            still = if self.picture() == before {
+                still + 1
+            } else {
+                0
+            };
+            if still == 3 {
+                return Ok(());
+            }
+        }
+        panic!("routers do not come to rest");
+    }
+
+    fn picture(&self) -> Vec<(u64, Option<u32>)> {
+        let of = |node: &Node| (node.height(), node.distance());
+        self.nodes.iter().map(of).collect()
     }
 }
 
 #[test]
-fn a_ring_finds_its_ways_and_heals() -> Result<(), Box<dyn std::error::Error>> {
-    let mut ring = Ring::new(5)?;
-    assert!(ring.settle() > 0);
-    for me in 1..5 {
-        let nearest = ring.node(me).ways()?[0];
-        let distance = ring.node(nearest).distance().expect("a way has a distance");
-        assert_eq!(ring.node(me).distance(), Some(distance + 1));
+fn a_ring_finds_its_ways_and_heals() -> Result<(), Box<dyn Error>> {
+    for policy in [POLICY, Policy::default()] {
+        let mut ring = Ring::new(5, policy)?;
+        assert!(ring.spread_news()? > 0);
+        ring.settle()?;
+        for me in 1..5 {
+            let nearest = ring.nodes[me].table()?.ways()[0];
+            let distance = ring.nodes[nearest as usize].distance();
+            assert_eq!(ring.nodes[me].distance(), distance.map(|it| it + 1));
+        }
+        ring.link(0, 1, Node::link_down)?;
+        ring.settle()?;
+        let distances: Vec<_> = ring.nodes.iter().map(Node::distance).collect();
+        assert_eq!(distances, [0, 4, 3, 2, 1].map(Some));
+        assert_eq!(ring.nodes[1].table()?.ways(), [2]);
+        assert!(ring.nodes[2].table()?.gates().contains(&1));
+        assert!(ring.nodes[2].lets_in(1) && !ring.nodes[2].sends_to(1));
     }
-    ring.link(0, 1, false);
-    ring.settle();
-    let distances: Vec<_> = (0..5).map(|me| ring.node(me).distance()).collect();
-    assert_eq!(distances, [0, 4, 3, 2, 1].map(Some));
-    assert_eq!(ring.node(1).ways()?, [2]);
-    assert!(ring.node(2).lets_in(1) && !ring.node(2).sends_to(1));
     Ok(())
 }
 
 #[test]
-fn what_is_no_message_changes_nothing() -> Result<(), NoMemory> {
+fn only_the_last_table_can_be_confirmed() -> Result<(), Box<dyn Error>> {
+    let mut node = Node::gateway(0, 1)?;
+    for neighbour in [9, 5, 7] {
+        node.know(neighbour)?;
+        node.link_up(neighbour);
+    }
+    let early = node.table()?;
+    assert_eq!((early.ways(), early.gates()), (&[][..], &[9, 5, 7][..]));
+    node.link_down(5);
+    let (first, second) = (node.table()?, node.table()?);
+    assert_eq!(node.written(early), Err(Outdated));
+    assert_eq!(node.say(9), Err(Unwritten));
+    assert_eq!(node.has_news(9), Err(Unwritten));
+    assert_eq!(first.gates(), [9, 7]);
+    assert_eq!(node.written(first), Ok(()));
+    assert_eq!(node.has_news(9), Ok(true));
+    assert!(node.say(9)?.is_some());
+    assert_eq!(node.say(5), Ok(None));
+    assert_eq!(node.written(second), Ok(()));
+    Ok(())
+}
+
+#[test]
+fn a_table_of_another_node_is_not_confirmed() -> Result<(), Box<dyn Error>> {
+    let (mut node, mut other) = (Node::gateway(0, 1)?, Node::gateway(0, 1)?);
+    node.link_up(1);
+    other.link_up(1);
+    assert_eq!(node.written(other.table()?), Err(Outdated));
+    assert_eq!(node.say(1), Err(Unwritten));
+    let old = node.table()?;
+    node = Node::gateway(0, 2)?;
+    node.link_up(1);
+    assert_eq!(node.written(old), Err(Outdated));
+    Ok(())
+}
+
+#[test]
+fn a_neighbour_may_become_known_at_any_time() -> Result<(), Box<dyn Error>> {
+    let mut node = Node::new(1, 1, 0, Policy::default())?;
+    node.link_up(2);
+    let table: NodeTable = node.table()?;
+    node.know(3)?;
+    node.know(3)?;
+    assert_eq!(node.know(1), Err(NodeFault::Itself));
+    assert_eq!(node.written(table), Ok(()));
+    Ok(())
+}
+
+#[test]
+fn what_is_no_message_changes_nothing() -> Result<(), Box<dyn Error>> {
     let mut node = Node::new(1, 1, 7, POLICY)?;
     assert_eq!(node.know(1), Err(NodeFault::Itself));
     assert_eq!(node.know(2), Ok(()));
-    assert_eq!(node.say(2), None);
+    assert_eq!(node.say(2), Ok(None));
     for bytes in [&[][..], &[0; MESSAGE_LENGTH], &[0; 400]] {
-        node = node.hear(bytes).expect_err("it is no message");
-        let unwritten = node.link_up(2);
-        node = unwritten
-            .hear(bytes)
-            .expect_err("it is no message")
-            .written();
+        assert_eq!(node.hear(bytes), Err(HearFault::NotAMessage));
+        assert_eq!(node.say(3), Ok(None));
     }
-    let message = node.say(2).expect("the link is up");
+    node.link_up(2);
+    let table = node.table()?;
+    assert_eq!(node.hear(&[1]), Err(HearFault::NotAMessage));
+    node.written(table)?;
+    let message = node.say(2)?.expect("the link is up");
     assert_eq!(message[..4], [0x46, 0x52, 0x4e, 1]);
-    assert!(node.hear(&message[1..]).is_err());
+    assert_eq!(node.hear(&message[1..]), Err(HearFault::NotAMessage));
+    Ok(())
+}
+
+#[test]
+fn a_boot_number_that_did_not_grow_is_noticed() -> Result<(), Box<dyn Error>> {
+    let mut neighbour = Node::new(2, 1, 0, POLICY)?;
+    neighbour.know(1)?;
+    neighbour.link_up(1);
+    write(&mut neighbour)?;
+    let greeting = neighbour.say(1)?.expect("the link is up");
+    let mut node = Node::new(1, 5, 0, POLICY)?;
+    node.know(2)?;
+    let table = node.table()?;
+    for later in [6, 1 << 40, u64::MAX] {
+        let heard = node.hear(&with_number(greeting, 24, later));
+        assert_eq!(heard, Err(HearFault::LaterStart));
+    }
+    assert_eq!(node.written(table), Ok(()));
+    for boot in [0, 4, 5] {
+        assert_eq!(node.hear(&with_number(greeting, 24, boot)), Ok(()));
+    }
+    Ok(())
+}
+
+#[test]
+fn no_router_starts_too_high() -> Result<(), Box<dyn Error>> {
+    for policy in [POLICY, Policy::default()] {
+        for height in [1 << 63, (1 << 63) + 1, u64::MAX] {
+            let refused = Node::new(1, 1, height, policy).err();
+            assert_eq!(refused, Some(NodeFault::TooHigh));
+        }
+        let highest = (1 << 63) - 1;
+        assert_eq!(Node::new(1, 1, highest, policy)?.height(), highest);
+    }
     Ok(())
 }
 
 #[test]
 fn a_node_may_go_to_another_thread() -> Result<(), NoMemory> {
     fn is_sent<T: Send>(_: &T) {}
-    let node = Node::gateway(0, 1)?;
+    let mut node = Node::gateway(0, 1)?;
     is_sent(&node);
-    let node = std::thread::spawn(move || node.link_down(9).written())
-        .join()
-        .expect("it ends");
+    let node = std::thread::spawn(move || {
+        node.link_down(9);
+        node
+    });
+    let node = node.join().expect("it ends");
     assert_eq!((node.height(), node.distance()), (0, Some(0)));
-    assert_eq!(mem::size_of::<Node>(), mem::size_of::<usize>());
     Ok(())
+}
+
+#[test]
+fn faults_are_errors() {
+    let faults: [Box<dyn Error>; 7] = [
+        HearFault::NotAMessage.into(),
+        HearFault::LaterStart.into(),
+        Outdated.into(),
+        Unwritten.into(),
+        NodeFault::Itself.into(),
+        NodeFault::TooHigh.into(),
+        NodeFault::from(NoMemory).into(),
+    ];
+    let mut texts: Vec<_> = faults.iter().map(|it| it.to_string()).collect();
+    texts.sort();
+    texts.dedup();
+    assert_eq!(texts.len(), faults.len());
 }

@@ -32,6 +32,7 @@ Questions:
     shrink(table)     for routers that hold all their ways: the nodes that lose a way, with the ways that they keep
     grow(table)       once routers have confirmed these: the nodes whose ways still differ, with all their ways
     change_shrink()   what shrink returns for the ways before the last batch_with_ways, without a table; also change_grow()
+    has_link(u, v)    whether a link connects two nodes; neighbors(node) lists those that a link connects with a node
     counts(), links(), report, size, dest, len(network), x in network
 
 If forwarding tables get their hops in push order, no new loop appears in them. This is a complete controller. `send`
@@ -50,6 +51,7 @@ gives a router its hop, and returns once the router has confirmed it:
 []
 
 `push_order(old, new)` has the pushes from a table of your own to another one, whatever method made them.
+`revroute.controller` has a controller for routers that may not answer.
 
 While one thread changes the network, other threads can read next hops or ways. Give each of them a reader. It never
 waits for a change:
@@ -57,8 +59,9 @@ waits for a change:
     reader()          a Reader, with next_hop(node), walk(node), copy() and close()
     way_reader()      a WayReader, with ways(node), way(node, choice), copy() and close()
 
-`copy()` makes another network, to try changes on. `Network.from_networkx(graph, dest)` makes a network from a networkx
-graph and keeps its names. `to_networkx()` makes a networkx graph.
+`copy()` makes another network, to try changes on. `save()` returns the arguments that make this network again.
+`Network.from_networkx(graph, dest)` makes a network from a networkx graph and keeps its names. `to_networkx()` makes a
+networkx graph.
 
 A `Session` answers lines of text, as the program `revroute run` does.
 
@@ -66,7 +69,7 @@ A `Node` is the state machine of one router, in a network without a controller.
 """
 
 from .network import Network, Refused
-from .node import MESSAGE_LENGTH, Node, NotAMessage, Unwritten
+from .node import MESSAGE_LENGTH, LaterStart, Node, NodeTable, NotAMessage, Outdated, Unwritten
 from .reader import Reader, WalkTooLong
 from .session import AnswerLost, LineTooLong, NoHop, NoSuchNode, Report, Session, Size, version
 from .tables import push_order
@@ -75,13 +78,16 @@ from .way_reader import WayReader
 __version__ = version()
 __all__ = [
     "AnswerLost",
+    "LaterStart",
     "LineTooLong",
     "MESSAGE_LENGTH",
     "Network",
     "NoHop",
     "NoSuchNode",
     "Node",
+    "NodeTable",
     "NotAMessage",
+    "Outdated",
     "Reader",
     "Refused",
     "Report",

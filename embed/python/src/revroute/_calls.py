@@ -11,7 +11,7 @@ from typing import Any
 
 # The status NULL_ARRAY, 11, is never returned: no argument here is null.
 ANSWERED, BLANK, TOO_SHORT, NO_MEMORY, NO_NETWORK, NO_ROUTE, REFUSED, NO_WALK, BEGUN, TOO_LONG, NO_TABLE = range(11)
-UNWRITTEN, NO_MESSAGE, LINK_DOWN = range(12, 15)
+UNWRITTEN, NO_MESSAGE, LINK_DOWN, OUTDATED, LATER_START = range(12, 17)
 HERE, CUT_OFF, NO_SUCH_NODE, NO_HOP = range(0xFFFFFFFF, 0xFFFFFFFB, -1)
 CUT, ADD, JOIN = range(3)
 FULL, JUMP = range(2)
@@ -119,10 +119,11 @@ _WORDS: dict[str, list[Any]] = {
     "node_link_up": [_node, _number],
     "node_link_down": [_node, _number],
     "node_hear": [_node, ctypes.c_char_p, _size],
-    "node_written": [_node],
+    "node_written": [_node, _wide],
     "node_say": [_node, _number, _text, _size, _length],
     "node_has_news": [_node, _number, _numbers],
-    "node_ways": [_node, _numbers, _size, _length],
+    "node_ways": [_node, _numbers, _size, _length, ctypes.POINTER(_wide)],
+    "node_gates": [_node, _numbers, _size, _length, ctypes.POINTER(_wide)],
     "node_distance": [_node, _numbers],
     "node_height": [_node, ctypes.POINTER(_wide)],
     "node_lets_in": [_node, _number],

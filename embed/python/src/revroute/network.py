@@ -101,13 +101,18 @@ class Network(Generic[Name]):
     - `way_reader`: O(4,096 + m log d) for the first reader, and O(1) for each later one. Each change then costs what
       `batch_with_ways` costs.
     - `walk` and `changed`: linear in the length of the result.
-    - `ways`: O(d log d) for d links at the node. `nearest`: O(k d) for a route of k nodes.
+    - `ways`: O(d log d) for d links at the node. `nearest`: O(k d) for a route of k nodes. The first of these calls or
+      of `distance` in a network costs O(n + m) more.
     - `hops`, `hops_into`, `table`, `pushes` and `counts`: O(n).
-    - `links` and `copy`: O(n + m).
-    - `all_ways`, `shrink` and `grow`: O(n + m log d).
+    - `has_link`: O(d) for d links at the two nodes.
+    - `links`, `neighbors`, `save` and `copy`: O(n + m).
+    - `all_ways`: O(n + m log d). `shrink` and `grow`: O(n + m log d + k) for k ways in the table.
     - `move_dest` and a new network: O(n + m), plus the round.
-    - `cut`, `add`, `join`, `batch` and `batch_with_ways`: O(n + m) at most. If few nodes turn, only the links at these nodes, and at the
-      nodes that had one of these as their next hop.
+    - `cut`, `add`, `join` and `batch`: O(d) for each edit, and if nodes turn O(d log d) for each of them and for each
+      node that had one of these as its next hop. A link that is added may cost a search, and O(n + m). The first
+      change, and each one while nodes that have links are cut off, costs O(n) more.
+    - `batch_with_ways`: the same, and O(d log d) for each node whose ways may have changed. The first one costs
+      O(n + m) more.
     """
 
     HERE, CUT_OFF = 0xFFFFFFFF, 0xFFFFFFFE
@@ -115,6 +120,8 @@ class Network(Generic[Name]):
 
     def __init__(self, nodes: int, dest: Name, links: Iterable[tuple[Name, Name]] = (), *, names: Optional[Sequence[Name]] = None) -> None:
         count = index(nodes)
+        if count < 0:
+            raise ValueError(f"the number of nodes is {count}, and may not be less than 0")
         if names is not None and len(names) != count:
             raise ValueError("there is not one name for each node")
         self._names = None if names is None else list(names)
@@ -127,8 +134,9 @@ class Network(Generic[Name]):
         self._bound = count if names is None else 0
         ends = [self._number(node) for u, v in links for node in (u, v)]
         self._session = Session()
+        self._session._kind = "network"
         self._live = self._session._live
-        count = min(max(count, 0), _NO_NODE)
+        count = min(count, _NO_NODE)
         home = self._number(dest)
         words = count, _clamped(home), _packed(ends), len(ends) // 2
         made = self._session._begin_round(library.revroute_open, _closed_walk_of, *words)
@@ -377,6 +385,34 @@ class Network(Generic[Name]):
         """The links as (tail, head), in rising order of the nodes' numbers."""
         return [(self._name(u), self._name(v)) for u, v in self._session.links()]
 
+    def has_link(self, u: Name, v: Name) -> bool:
+        """Whether a link connects two nodes, whichever way it points. O(d) for d links at them, and one step for each
+        node that has links and is cut off.
+
+        >>> network = Network(3, 0, [(1, 0), (2, 1)])
+        >>> network.has_link(1, 2), network.has_link(0, 2), network.has_link(1, 1)
+        (True, False, False)
+
+        Raises NoSuchNode if one of them is not a node.
+        """
+        ends = [self._known(u), self._known(v)]
+        # To cut one link twice is always refused: the first cut if there is no link, and otherwise the second.
+        twice = [_calls.CUT, *ends] * 2
+        made = self._session._begin_round(_calls.change, None, _packed(twice), ctypes.c_size_t(2))
+        return isinstance(made, _Why) and made.at == 1
+
+    def neighbors(self, node: Name) -> list[Name]:
+        """The nodes that a link connects with a node, whichever way it points, in the order of the nodes. O(n + m).
+
+        >>> Network(4, 0, [(1, 0), (2, 1), (3, 0)]).neighbors(1)
+        [0, 2]
+
+        Raises NoSuchNode if there is no such node.
+        """
+        number = self._known(node)
+        links = self._session.links()
+        return [self._name(it) for it in sorted(v if u == number else u for u, v in links if number in (u, v))]
+
     def walk(self, node: Name) -> Optional[list[Name]]:
         """The nodes on the route from a node to the destination, both included. None if the node is cut off."""
         return self._named(self._session.walk(self._number(node)))
@@ -384,7 +420,8 @@ class Network(Generic[Name]):
     def ways(self, node: Name) -> list[Name]:
         """The ways of a node: the nodes to which its links point, nearest first. They are ordered by their distance,
         and then by number. The destination has none, and neither has a node that is cut off. The first call of
-        `ways`, `distance` or `nearest` measures the distances of all nodes, and each later change keeps them up to date.
+        `ways`, `distance`, `nearest` or `batch_with_ways`, or the first reader of ways, measures the distances of all
+        nodes, and each later change keeps them up to date.
 
         A router may hold all its ways, and send each packet to any of them. Whichever ways routers take, and whatever
         links fail, no packet visits a node twice.
@@ -431,6 +468,27 @@ class Network(Generic[Name]):
         dest = self._session.dest
         return self._name(0 if dest is None else dest)
 
+    def save(self) -> dict[str, Any]:
+        """The arguments that make this network again: `Network(**network.save())`. They are the number of nodes, the
+        destination, the links as they point now, and the names, or None.
+
+        The other network is as `copy` would make it. If JSON can hold the names, it can hold what `save` returns, and
+        what it makes of that can be used in the same way.
+
+        >>> import json
+        >>> network = Network(3, 0, [(1, 0), (2, 1), (2, 0)])
+        >>> network.cut(1, 0)
+        Report(turned=1, cut_off=0)
+        >>> network.save()
+        {'nodes': 3, 'dest': 0, 'links': [(1, 2), (2, 0)], 'names': None}
+        >>> Network(**json.loads(json.dumps(network.save()))).table() == network.table()
+        True
+        """
+        with self._session._lock:
+            dest, links = self.dest, self.links()
+        names = None if self._names is None else list(self._names)
+        return {"nodes": len(self._nodes), "dest": dest, "links": links, "names": names}
+
     def copy(self) -> Network[Name]:
         """A network with the same names, links, destination and next hops, to try changes on. Its `report`, `counts` and
         `changed` are those of a new network with these links, in which only nodes that are cut off turn. It has no
@@ -443,9 +501,7 @@ class Network(Generic[Name]):
         >>> network.walk(1), other.walk(1)
         ([1, 0], [1, 2, 0])
         """
-        with self._session._lock:
-            dest, links = self.dest, self.links()
-        return Network(len(self._nodes), dest, links, names=self._names)
+        return Network(**self.save())
 
     def __copy__(self) -> Network[Name]:
         return self.copy()
@@ -519,6 +575,13 @@ class Network(Generic[Name]):
             return self._numbers[node]
         except KeyError:
             raise NoSuchNode(node) from None
+
+    def _known(self, node: Name) -> int:
+        """The number of a node. Raises NoSuchNode if there is no such node."""
+        number = self._number(node)
+        if not 0 <= number < len(self._nodes):
+            raise NoSuchNode(number)
+        return number
 
     def _name(self, number: int) -> Name:
         return self._names[number] if self._names is not None else number  # type: ignore[return-value]

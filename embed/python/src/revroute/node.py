@@ -3,24 +3,53 @@
 from __future__ import annotations
 
 import ctypes
+import os
 import weakref
 from operator import index
-from threading import RLock
-from typing import Any, NoReturn, Optional
+from threading import RLock, get_ident
+from typing import Any, NamedTuple, NoReturn, Optional
 
 from . import _calls
 from ._calls import questions
 
 MESSAGE_LENGTH = 56
 _MOST = {4: 0xFFFFFFFF, 8: 0xFFFFFFFFFFFFFFFF}
+# How many neighbours there is room for in the first try.
+_FEW = 16
+# The caller of a node that was in a call of another thread at a fork. No thread of the child has this number.
+_GONE = 0
+_nodes: weakref.WeakValueDictionary[int, Node] = weakref.WeakValueDictionary()
 
 
 class Unwritten(Exception):
     """The ways and gates of the node have to be written first, and then `Node.written` has to be called."""
 
 
+class Outdated(Exception):
+    """An event came after the ways and gates were handed out. Nothing has changed: write the `Node.table` as it is
+    now."""
+
+
 class NotAMessage(ValueError):
     """The bytes are not a message of a node. Nothing has changed."""
+
+
+class LaterStart(Exception):
+    """A neighbour knows a start of this router with a greater boot number. Nothing has changed. Either `boot` was not
+    greater than at all earlier starts, or another router has the number of this one. What a `Node` promises does not hold
+    then: start it again with a greater `boot`, or with a number of its own."""
+
+
+class NodeTable(NamedTuple):
+    """What a router writes to its forwarding table."""
+
+    ways: list[int]
+    """The neighbours to which packets may be sent, the nearest first, and equally near ones by number."""
+    gates: list[int]
+    """The neighbours from which packets are let in, in the order in which they were made known. All others have to be
+    dropped."""
+    state: int
+    """The number of the node's state, which `Node.written` takes."""
 
 
 def _number(value: int, size: int = 4) -> int:
@@ -41,20 +70,24 @@ class Node:
     each router drops packets from neighbours that it does not let in, and `boot` is greater at each start.
 
     >>> import revroute
+    >>> def write(node):
+    ...     table = node.table()
+    ...     # write table.ways and table.gates to the forwarding table
+    ...     node.written(table.state)
     >>> gateway, router = revroute.Node.gateway(0, boot=1), revroute.Node(1, boot=1, height=1, cap=16)
     >>> gateway.know(1), router.know(0)
     (None, None)
     >>> gateway.link_up(1), router.link_up(0)
     (None, None)
-    >>> gateway.written(), router.written()
+    >>> write(gateway), write(router)
     (None, None)
     >>> for _ in range(2):
     ...     router.hear(gateway.say(1))
-    ...     router.written()
+    ...     write(router)
     ...     gateway.hear(router.say(0))
-    ...     gateway.written()
-    >>> router.ways(), router.distance, gateway.lets_in(1)
-    ([0], 1, True)
+    ...     write(gateway)
+    >>> router.ways(), router.distance, gateway.gates()
+    ([0], 1, [1])
 
     `me` is the number of the router, which no other router has. `boot` is greater than at all earlier starts of this
     router. `height` is the height at which it starts. Without a `cap`, a router that has no way rises above all its
@@ -64,11 +97,14 @@ class Node:
     `wait`, it keeps its old height and ways until the neighbours that it lets in have acknowledged a greater height. No
     choice can make a loop.
 
-    Raises OverflowError if `boot` or `height` has more than 64 bits or another number has more than 32, and
-    MemoryError if memory runs out. A call on a closed node raises ValueError. Any thread may call. Calls on one node
-    wait for each other.
+    Raises OverflowError if `boot` or `height` has more than 64 bits or another number has more than 32, ValueError if
+    `height` is 2^63 or more, since neighbours have to be able to rise above it, and MemoryError if memory runs out. A call on a
+    closed node raises ValueError. Any thread may call. Calls on one node wait for each other. The child of `os.fork` has
+    its own copies of all nodes, but only one of the two processes may send messages. If another thread was in a call on a
+    node during the fork, a call on this node raises RuntimeError in the child.
 
-    Costs: all calls are O(d) for d known neighbours, `ways` is O(d log d), and `height` and `written` are O(1).
+    Costs: all calls are O(d) for d known neighbours, except that `ways` and `table` are O(d log d), and that a start,
+    `height`, `written` and `close` are O(1).
     """
 
     def __init__(
@@ -90,11 +126,16 @@ class Node:
 
     def _start(self, opened: Any) -> None:
         self._lock, self._handle = RLock(), _calls.NodeHandle()
+        self._caller: Optional[int] = None
         self._at = ctypes.byref(self._handle)
-        if opened(self._at) == _calls.NO_MEMORY:
+        status = opened(self._at)
+        if status == _calls.NO_MEMORY:
             raise MemoryError
+        if status == _calls.REFUSED:
+            raise ValueError("a router starts at a height below 2^63")
         self._end = weakref.finalize(self, questions.revroute_node_close, self._at)
         self._end.atexit = False
+        _nodes[id(self)] = self
 
     def know(self, neighbour: int) -> None:
         """Makes a neighbour known. The link to it is down until `link_up`. A neighbour that is known stays as it is.
@@ -116,19 +157,51 @@ class Node:
         self._call(questions.revroute_node_link_down, _number(neighbour))
 
     def hear(self, message: bytes) -> None:
-        """An event: a message is heard. It changes the node only if it is for this router, from a known neighbour, and
-        not from an earlier start of either.
+        """An event: a message is heard. It changes what is known of its sender only if it is for this router, from a
+        known neighbour, and not from an earlier start of either.
 
-        Raises NotAMessage if the bytes are not a message, because of their number or their header. Then nothing has
-        changed.
+        Raises, for the first reason that holds, and then it was no event and nothing has changed:
+
+        - NotAMessage if the bytes are not a message, because of their number or their header.
+        - LaterStart if the message is for this router and from a known neighbour, which knows a start of this router with
+          a greater boot number.
         """
         message = bytes(memoryview(message))
-        if self._call(questions.revroute_node_hear, message, len(message)) == _calls.NO_MESSAGE:
+        status = self._call(questions.revroute_node_hear, message, len(message))
+        if status == _calls.NO_MESSAGE:
             raise NotAMessage("the bytes are not a message")
+        if status == _calls.LATER_START:
+            raise LaterStart("a neighbour knows a later start of this router")
 
-    def written(self) -> None:
-        """Call this once the ways and gates are written to the forwarding table, as they are now."""
-        self._call(questions.revroute_node_written)
+    def table(self) -> NodeTable:
+        """What to write to the forwarding table: the ways and gates of one moment, and the number of the state that has
+        them. Close the gates that are not listed, change the ways, and then open gates. Then call `written` with the
+        number."""
+        with self._lock:
+            while True:
+                ways, state = self._listed(questions.revroute_node_ways)
+                gates, same = self._listed(questions.revroute_node_gates)
+                # They differ if a signal handler has made a call between the two.
+                if state == same:
+                    return NodeTable(ways, gates, state)
+
+    def written(self, state: int) -> None:
+        """Call this once the ways and gates of a `table` are written, with the `state` of that table. From then on `say`
+        has messages, until the next event.
+
+        >>> import revroute
+        >>> node = revroute.Node.gateway(0, boot=1)
+        >>> table = node.table()
+        >>> node.link_up(1)  # while the table is written
+        >>> node.written(table.state)
+        Traceback (most recent call last):
+        revroute.node.Outdated: an event came after the ways and gates were handed out
+        >>> node.written(node.table().state)
+
+        Raises Outdated if an event came after the table was handed out.
+        """
+        if self._call(questions.revroute_node_written, _number(state, 8)) == _calls.OUTDATED:
+            raise Outdated("an event came after the ways and gates were handed out")
 
     def say(self, neighbour: int) -> Optional[bytes]:
         """The message for a neighbour, or None if the link to it is down. It may be said as often as you like.
@@ -152,15 +225,24 @@ class Node:
         return bool(news.value)
 
     def ways(self) -> list[int]:
-        """The neighbours to which packets may be sent, the nearest first, and equally near ones by number. The router
+        """The neighbours to which packets may be sent now, the nearest first, and equally near ones by number. The router
         may send packets to any of them. A gateway has none."""
-        room, length, status = 8, ctypes.c_size_t(), _calls.TOO_SHORT
-        with self._lock:
-            while status == _calls.TOO_SHORT:
-                ways = (ctypes.c_uint32 * room)()
-                status = self._call(questions.revroute_node_ways, ways, room, ctypes.byref(length))
-                room = length.value
-        return ways[: length.value]
+        return self._listed(questions.revroute_node_ways)[0]
+
+    def gates(self) -> list[int]:
+        """The neighbours from which packets are let in now, in the order in which they were made known. All others have
+        to be dropped."""
+        return self._listed(questions.revroute_node_gates)[0]
+
+    def _listed(self, question: Any) -> tuple[list[int], int]:
+        """The neighbours that a question lists, and the number of the node's state."""
+        room, length, state = _FEW, ctypes.c_size_t(), ctypes.c_uint64()
+        while True:
+            places = (ctypes.c_uint32 * room)()
+            status = self._call(question, places, room, ctypes.byref(length), ctypes.byref(state))
+            if status != _calls.TOO_SHORT:
+                return places[: length.value], state.value
+            room = length.value
 
     @property
     def distance(self) -> Optional[int]:
@@ -192,9 +274,24 @@ class Node:
 
     def _call(self, call: Any, *words: Any) -> int:
         with self._lock:
+            before = self._caller
+            if before == _GONE:
+                raise RuntimeError("another thread was in a call on the node as this process was forked")
             if not self._end.alive:
                 raise ValueError("the node is closed")
-            return call(self._at, *words)  # type: ignore[no-any-return]
+            # A signal handler may make a call while this thread is in one.
+            self._caller = get_ident()
+            try:
+                return call(self._at, *words)  # type: ignore[no-any-return]
+            finally:
+                self._caller = before
+
+    def _inherit(self) -> None:
+        """Makes the node usable in the child of a fork, or unusable if another thread was in a call on it."""
+        self._lock = RLock()
+        if self._caller not in (None, get_ident()):
+            self._caller = _GONE
+            self._end.detach()
 
     def _expect_written(self, status: int) -> None:
         if status == _calls.UNWRITTEN:
@@ -211,3 +308,11 @@ class Node:
 
     def __repr__(self) -> str:
         return "<revroute.Node>" if self._end.alive else "<revroute.Node, closed>"
+
+
+def _inherit_nodes() -> None:
+    for node in list(_nodes.values()):
+        node._inherit()
+
+
+os.register_at_fork(after_in_child=_inherit_nodes)

@@ -17,6 +17,7 @@ from __future__ import annotations
 
 import ctypes
 import enum
+import json
 import os
 import sys
 import warnings
@@ -39,8 +40,6 @@ _FIRST_ROOM = 4096
 _FEW = 64
 # The caller of a session that was in a call of another thread at a fork. No thread of the child has this number.
 _GONE = 0
-_INTERRUPTED = "the session is in a call that this one has interrupted"
-_LEFT_BEHIND = "another thread was in a call on the session as this process was forked"
 
 # A handle without a network. A question that does not take the session's lock gets this handle while a call of another
 # thread may change the session, and so learns that it has to wait. In an interpreter without a global lock it always
@@ -220,12 +219,16 @@ class Session:
     - `way_reader`: O(4,096 + m log d) for the first reader, and O(1) for each later one. A line that
       begins a round then costs that too.
     - `walk` and `changed`: linear in the length of the result.
-    - `ways`: O(d log d) for d links at the node. `nearest`: O(k d) for a route of k nodes.
+    - `ways`: O(d log d) for d links at the node. `nearest`: O(k d) for a route of k nodes. The first of these calls or
+      of `distance` in a network costs O(n + m) more.
     - `hops`, `pushes` and `counts`: O(n).
-    - `links`: O(n + m).
-    - `all_ways`, `shrink` and `grow`: O(n + m log d).
+    - `links` and `save`: O(n + m).
+    - `all_ways`: O(n + m log d). `shrink` and `grow`: O(n + m log d + k) for k ways in the table.
     - `answer`, `take` and `finish`: O(b) for b bytes of lines and answers, plus the same calls of a Network.
     """
+
+    # What a fault is about: a Network has a session too.
+    _kind = "session"
 
     def __init__(self) -> None:
         self._handle = _calls.Handle()
@@ -288,7 +291,7 @@ class Session:
         if self._caller is not None:
             self._refuse()
         if self._is_closed:
-            raise ValueError("the session is closed")
+            raise ValueError(f"the {self._kind} is closed")
         if self._lost is None:
             self._lost = AnswerLost("the call is answered, but there was no memory for the answer")
         self._caller = get_ident()
@@ -666,6 +669,27 @@ class Session:
         distance = self._number_of(questions.revroute_distance, node)
         return None if distance == _calls.CUT_OFF else distance
 
+    def save(self) -> Optional[str]:
+        """A line that makes this network again in another session: a request `net`, with the links as they point now.
+        None before the first network.
+
+        The other session has the same nodes, links, directions, destination and next hops. Its `report`, `counts` and
+        `changed` are those of a new network, in which only nodes that are cut off turn.
+
+        >>> with Session() as session, Session() as other:
+        ...     session.answer('["net",4,0,[[0,1],[1,2]]]')
+        ...     session.save()
+        ...     other.answer(session.save())
+        ...     other.links() == session.links(), other.hops() == session.hops()
+        'turned 3 cut 1'
+        '["net",4,0,[[1,0],[2,1]]]'
+        'turned 0 cut 1'
+        (True, True)
+        """
+        with self._lock:
+            size, dest, links = self.size, self.dest, self.links()
+        return None if size is None else json.dumps(["net", size.nodes, dest, links], separators=(",", ":"))
+
     @property
     def report(self) -> Optional[Report]:
         """The report of the last round. None before the first network.
@@ -813,7 +837,9 @@ class Session:
             self._end()
 
     def _refuse(self) -> NoReturn:
-        raise RuntimeError(_INTERRUPTED if self._caller == get_ident() else _LEFT_BEHIND)
+        if self._caller == get_ident():
+            raise RuntimeError(f"the {self._kind} is in a call that this one has interrupted")
+        raise RuntimeError(f"another thread was in a call on the {self._kind} as this process was forked")
 
     def _inherit(self) -> None:
         """Makes the session usable in the child of a fork, or unusable if another thread was in a call on it."""
