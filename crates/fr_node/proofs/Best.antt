@@ -7,7 +7,7 @@ use Rattle.std.proofs.lemmas.List.{take_all, take_more}
 use Rattle.std.proofs.lemmas.List.Elements.{All-nil, All-push, All-weaker, Contains-append_left, Contains-push}
 use Rattle.fr_node.specs.declared.link.Link.{Link}
 use Rattle.fr_node.specs.Links.{unknown}
-use Rattle.fr_node.specs.Policies.{IsBest, IsBestOrNone, better_of, is_higher, is_nearer}
+use Rattle.fr_node.specs.Policies.{IsBest, IsBestOrNone, better_of, is_higher}
 
 false_true : {b : Bool} → b ≡ false → b ≡ true → ⊥
 false_true f t = cc
@@ -101,12 +101,6 @@ best_of_all p better o ls = let found = best_of p better o ls (length ls) (omega
 
 pub by_height : IsStrictWeakOrder is_higher
 by_height = record {
-  one_way = λ x y t. grind (arith, nat_tests);
-  chain = λ x y z a b. grind (arith, nat_tests);
-}
-
-pub by_nearness : IsStrictWeakOrder is_nearer
-by_nearness = record {
   one_way = λ x y t. grind (arith, nat_tests);
   chain = λ x y z a b. grind (arith, nat_tests);
 }

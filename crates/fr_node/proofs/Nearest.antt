@@ -5,7 +5,7 @@ use Rattle.std.proofs.lemmas.List.{get_or_default}
 use Rattle.fr_node.specs.declared.link.Link.{Link}
 use Rattle.fr_node.specs.declared.node.Node.{Node}
 use Rattle.fr_node.specs.declared.own.Own.{Own}
-use Rattle.fr_node.specs.Distances.{HasNoWay, IsDistance, IsNearest, cap_of}
+use Rattle.fr_node.specs.Distances.{HasNoWay, IsDistance, IsNearest}
 use Rattle.fr_node.specs.Links.{is_way, unknown}
 
 -- r is the least distance of the first n links on which packets may be sent
@@ -106,16 +106,8 @@ some_nearest own ls (suc n) = let before = some_nearest own ls n in rw (← add-
 by_nearest : (n : Node) (a b : ℕ) (r : Option ℕ) → ¬ IsTrue n.gateway
     → MatchOption r (HasNoWay n.own n.links.items) (IsNearest n.own n.links.items)
     → IsDistance n a → IsDistance n b → a ≡ b
-by_nearest n a b None router none x y = let far : (k : ℕ) → IsNearest n.own n.links.items k → cap_of n.policy.rise ≤ k
-    = λ k k_is. absurd (not_both n.own (get_or n.links.items k_is.some.0 unknown) (none k_is.some.0 k_is.some.1)
-    k_is.some.2) in
-    omega (arith, x.far router far, y.far router far)
-by_nearest n a b (Some d) router at x y = ⊎_elim
-    (λ less. omega (arith, x.near router d at less, y.near router d at less))
-    (λ more. let far : (k : ℕ) → IsNearest n.own n.links.items k → cap_of n.policy.rise ≤ k
-    = λ k k_is. omega (arith, more, nearest_once n.own n.links.items k d k_is at) in
-    omega (arith, x.far router far, y.far router far))
-    (cases_lt d (cap_of n.policy.rise))
+by_nearest n a b None router none x y = omega (arith, x.far router none, y.far router none)
+by_nearest n a b (Some d) router at x y = omega (arith, x.near router d at, y.near router d at)
 
 -- a node has one distance
 pub distance_once : (n : Node) (a b : ℕ) → IsDistance n a → IsDistance n b → a ≡ b

@@ -6,8 +6,6 @@ use Rattle.fr_node.specs.declared.link.Link.{Link}
 use Rattle.fr_node.specs.declared.message.TheConstants.{CUT_OFF}
 use Rattle.fr_node.specs.declared.node.Node.{Node}
 use Rattle.fr_node.specs.declared.own.Own.{Own}
-use Rattle.fr_node.specs.declared.policy.Rise.{Rise}
-use Rattle.fr_node.specs.declared.policy.Rise.TheVariants.{Full, Jump}
 use Rattle.fr_node.specs.declared.way.Way.{Way}
 use Rattle.fr_node.specs.Links.{is_way, unknown}
 
@@ -22,16 +20,11 @@ pub record IsNearest (own : Own) (ls : List Link) (d : ℕ) : Type 0 where
 abbrev pub HasNoWay : Own → List Link → Type 0
 HasNoWay own ls = (k : ℕ) → k < length ls → is_way own (slice_index_or ls k unknown) ≡ false
 
--- a node passes on distances below its cap
-abbrev pub cap_of : Rise → ℕ
-cap_of Full = CUT_OFF - 1
-cap_of (Jump cap) = min cap (CUT_OFF - 1)
-
--- the distance of the node: one more than that of its nearest way, if this is below the cap
+-- the distance of the node: one more than that of its nearest way, if that has one
 pub record IsDistance (n : Node) (d : ℕ) : Type 0 where
   pub gateway : IsTrue n.gateway → d ≡ 0
-  pub near : ¬ IsTrue n.gateway → (k : ℕ) → IsNearest n.own n.links.items k → k < cap_of n.policy.rise → d ≡ k + 1
-  pub far : ¬ IsTrue n.gateway → ((k : ℕ) → IsNearest n.own n.links.items k → cap_of n.policy.rise ≤ k) → d ≡ CUT_OFF
+  pub near : ¬ IsTrue n.gateway → (k : ℕ) → IsNearest n.own n.links.items k → d ≡ min (k + 1) CUT_OFF
+  pub far : ¬ IsTrue n.gateway → HasNoWay n.own n.links.items → d ≡ CUT_OFF
 
 -- a link as a way, and the number by which ways are sorted: by distance, and equally near ones by number
 abbrev pub way_of : Link → Way

@@ -1,12 +1,12 @@
 -- Which height a node announces by its policy, and when it uses it. The definitions are this project's own.
-use Rattle.std.specs.Prelude.{All, Bool, List, MatchOption, Option, false, true, nat_lt, if◌then◌else◌, ℕ, ◌+◌, ◌^◌, ◌<◌, ◌≤◌, ◌≡◌, ◌≢◌, ◌==◌, ◌&&◌, ◌||◌, ◌⊎◌}
+use Rattle.std.specs.Prelude.{All, Bool, List, MatchOption, Option, min, false, true, nat_lt, if◌then◌else◌, ℕ, ◌+◌, ◌^◌, ◌<◌, ◌≤◌, ◌≡◌, ◌≢◌, ◌==◌, ◌&&◌, ◌||◌, ◌⊎◌}
 use Rattle.std.specs.List.{Contains}
 use Rattle.fr_node.specs.declared.link.Link.{Link}
 use Rattle.fr_node.specs.declared.message.TheConstants.{CUT_OFF}
 use Rattle.fr_node.specs.declared.node.Node.{Node}
 use Rattle.fr_node.specs.declared.own.Own.{Own}
 use Rattle.fr_node.specs.declared.policy.Rise.{Rise}
-use Rattle.fr_node.specs.declared.policy.Rise.TheVariants.{Full, Jump}
+use Rattle.fr_node.specs.declared.policy.Rise.TheVariants.{Ceiling, Full}
 use Rattle.fr_node.specs.Distances.{IsDistance}
 use Rattle.fr_node.specs.Links.{has_answered, is_lower, is_way}
 
@@ -31,15 +31,6 @@ is_up l = l.up
 abbrev pub is_higher : Link → Link → Bool
 is_higher l k = nat_lt k.seen l.seen
 
--- the neighbour at link l is nearer to a gateway than the one at k: by distance, then by height, then by number
-abbrev pub is_nearer : Link → Link → Bool
-is_nearer l k = nat_lt l.distance k.distance || (l.distance == k.distance
-    && (nat_lt l.seen k.seen || (l.seen == k.seen && nat_lt l.neighbour k.neighbour)))
-
--- the link is up, and a distance below the cap was heard on it
-abbrev pub has_distance : ℕ → Link → Bool
-has_distance cap l = l.up && (nat_lt 0 l.heard && nat_lt l.distance cap)
-
 -- the router is a sink: each neighbour at a link that is up has been heard, and none is lower
 abbrev pub IsSink : Own → List Link → Type 0
 IsSink own ls = All (λ l. l.up ≡ true → (0 < l.heard) × (is_lower own l ≡ false)) ls
@@ -50,19 +41,14 @@ pub record IsAboveAll (n : Node) (v : ℕ) : Type 0 where
   pub highest : (x : Link) × IsBest is_up is_higher n.links.items x × (v ≡ x.seen + 1)
   pub fits : v < 2 ^ 64
 
--- the least height with which router `me` is above the neighbour at link x
-abbrev pub just_above : ℕ → Link → ℕ
-just_above me x = if nat_lt x.neighbour me then x.seen else x.seen + 1
-
--- a node that knows no distance jumps to v: just above the nearest neighbour whose distance is below the cap
-pub record IsAboveNearest (n : Node) (cap v : ℕ) : Type 0 where
-  pub far : IsDistance n CUT_OFF
-  pub nearest : (x : Link) × IsBest (has_distance cap) is_nearer n.links.items x × (v ≡ just_above n.own.me x)
-  pub fits : v < 2 ^ 64
+-- the same, but to the ceiling at most
+pub record IsBelowCeiling (n : Node) (ceiling v : ℕ) : Type 0 where
+  pub sink : IsSink n.own n.links.items
+  pub highest : (x : Link) × IsBest is_up is_higher n.links.items x × (v ≡ min (x.seen + 1) ceiling)
 
 abbrev pub rises_to : Rise → Node → ℕ → Type 0
 rises_to Full n v = IsAboveAll n v
-rises_to (Jump cap) n v = IsAboveNearest n cap v
+rises_to (Ceiling ceiling) n v = IsBelowCeiling n ceiling v
 
 -- the policy of the node raises it to v, if that is greater than its height
 abbrev pub RisesTo : Node → ℕ → Type 0

@@ -3,7 +3,6 @@
 ghost use Rattle.std.specs.Prelude.{◌≡◌, ◌≢◌, ◌<◌, ◌≤◌, ◌⊎◌, ◌↔◌, IsTrue, false};
 ghost use Rattle.fr_node.specs.Distances.{way_of};
 ghost use Rattle.fr_node.specs.Links.{IsHeard, has_answered, is_lower, is_way};
-ghost use Rattle.fr_node.specs.Policies.{has_distance, is_nearer};
 
 use crate::message::{CUT_OFF, Message};
 use crate::own::Own;
@@ -146,22 +145,6 @@ impl Link {
         ensures { result ≡ has_answered own.now self.now }
     {
         self.acked >= own.used_since
-    }
-
-    /// Whether the link is up, and a distance below the cap was heard on it.
-    pub(crate) fn has_distance(&self, cap: u32) -> bool
-        ensures { result ≡ has_distance cap self.now }
-    {
-        self.up && self.heard > 0 && self.distance < cap
-    }
-
-    /// Whether the neighbour is nearer to a gateway than another one: by distance, then by height, then by number.
-    pub(crate) fn is_nearer(&self, other: &Link) -> bool
-        ensures { result ≡ is_nearer self.now other.now }
-    {
-        let is_before = self.seen < other.seen
-            || self.seen == other.seen && self.neighbour < other.neighbour;
-        self.distance < other.distance || self.distance == other.distance && is_before
     }
 
     /// Whether this was the last message that was said to the neighbour.

@@ -7,7 +7,7 @@ ghost use Rattle.fr_node.specs.Histories.{Announces};
 ghost use Rattle.fr_node.specs.declared.fault.NodeFault.TheVariants.{Itself, LaterStart, Memory, Outdated, TooHigh, Unwritten};
 ghost use Rattle.fr_node.specs.Links.{Hears, IsKnown, SetsUp, has_answered, is_lower, is_way, leads_to, link_to, unknown};
 ghost use Rattle.fr_node.specs.Distances.{AreWays, HasNoWay, IsDistance, IsNearest, ways_of};
-ghost use Rattle.fr_node.specs.Policies.{Acts, Announcement, FallsTo, IsAboveAll, IsAboveNearest, IsBestOrNone, MaySettle, RisesTo, better_of, has_distance, is_higher, is_nearer, is_up};
+ghost use Rattle.fr_node.specs.Policies.{Acts, Announcement, FallsTo, IsAboveAll, IsBelowCeiling, IsBestOrNone, MaySettle, RisesTo, better_of, is_higher, is_up};
 ghost use Rattle.fr_node.specs.Nodes.{IsMessageTo, Steps, lets_in, sends_to};
 ghost use Rattle.fr_node.specs.Events.{IsAfterEvent, IsNews, IsStarted, KnowsLaterStart, SaysTo, gates_of, is_gate};
 ghost use Rattle.fr_node.specs.Histories.{IsHistory};
@@ -337,17 +337,16 @@ impl Node {
     }
 
     /// How many links a packet crosses from this router to a gateway, by what it has heard: 0 at a gateway, else one more
-    /// than at the nearest way. `CUT_OFF` if it has no way, or if that is not below the cap of the policy. O(d).
+    /// than at the nearest way. `CUT_OFF` if it has no way, or if that has no distance. O(d).
     pub fn distance(&self) -> u32
         ensures { IsDistance self.now result }
     {
         if self.gateway {
             return 0;
         }
-        let cap = self.policy.rise.cap();
         match nearest_way_distance(&self.links, &self.own) {
-            Some(nearest) if nearest < cap => nearest + 1,
-            _ => CUT_OFF,
+            Some(nearest) => nearest.saturating_add(1),
+            None => CUT_OFF,
         }
     }
 
@@ -486,7 +485,7 @@ impl Node {
     {
         match self.policy.rise {
             Rise::Full => self.height_above_all(),
-            Rise::Jump(cap) => self.height_above_nearest(cap),
+            Rise::Ceiling(ceiling) => self.height_below_ceiling(ceiling),
         }
     }
 
@@ -501,19 +500,15 @@ impl Node {
         highest.seen.checked_add(1)
     }
 
-    /// Above the neighbour with the least distance below the cap, if the router knows no distance.
-    fn height_above_nearest(&self, cap: u32) -> Option<u64>
-        ensures { MatchOption result ((v : ℕ) → ¬ IsAboveNearest self.now cap v) (IsAboveNearest self.now cap) }
+    /// Above all neighbours, if all are known to be higher, but at most the ceiling.
+    fn height_below_ceiling(&self, ceiling: u32) -> Option<u64>
+        ensures { MatchOption result ((v : ℕ) → ¬ IsBelowCeiling self.now ceiling v) (IsBelowCeiling self.now ceiling) }
     {
-        if self.distance() != CUT_OFF {
+        if !is_sink(&self.links, &self.own) {
             return None;
         }
-        let nearest = nearest_below(&self.links, cap)?;
-        if nearest.neighbour < self.own.me {
-            Some(nearest.seen)
-        } else {
-            nearest.seen.checked_add(1)
-        }
+        let highest = highest_link(&self.links)?;
+        Some(highest.seen.saturating_add(1).min(u64::from(ceiling)))
     }
 }
 
@@ -563,29 +558,6 @@ fn higher_link(best: Option<Link>, link: Link) -> Link
 {
     match best {
         Some(b) if link.seen <= b.seen => b,
-        _ => link,
-    }
-}
-
-/// The link to the nearest neighbour, of those whose distance is below the cap.
-fn nearest_below(links: &[Link], cap: u32) -> Option<Link>
-    ensures { IsBestOrNone (has_distance cap) is_nearer links.now result }
-{
-    let mut best = None;
-    for link in links {
-        if link.has_distance(cap) {
-            best = Some(nearer_link(best, *link));
-        }
-    }
-    best
-}
-
-/// The link to the nearer neighbour, of which the first may not be known.
-fn nearer_link(best: Option<Link>, link: Link) -> Link
-    ensures { MatchOption best (result ≡ link) (λ b. result ≡ better_of is_nearer b link) }
-{
-    match best {
-        Some(b) if !link.is_nearer(&b) => b,
         _ => link,
     }
 }

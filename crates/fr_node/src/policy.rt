@@ -1,31 +1,14 @@
 //! When a router changes its height. No policy can make a loop.
 
-ghost use Rattle.std.specs.Prelude.{◌≡◌};
-ghost use Rattle.fr_node.specs.Distances.{cap_of};
-
-use crate::message::CUT_OFF;
-
 /// When a router raises its height.
 #[derive(Clone, Copy, Debug, PartialEq, Eq)]
 pub enum Rise {
-    /// It raises its height if it has no way, above all neighbours. This is full link reversal. Routers that are cut
-    /// off from all gateways raise their heights for ever.
+    /// It rises above all neighbours if it has no way. This is full link reversal. Routers that are cut off from all
+    /// gateways raise their heights for ever.
     Full,
-    /// It raises its height if it knows no distance, to send packets to the neighbour with the least distance, if that
-    /// is below this cap.
-    Jump(u32),
-}
-
-impl Rise {
-    /// The router passes on distances below this one.
-    pub(crate) fn cap(&self) -> u32
-        ensures { result ≡ cap_of self.now }
-    {
-        match self {
-            Rise::Full => CUT_OFF - 1,
-            Rise::Jump(cap) => (*cap).min(CUT_OFF - 1),
-        }
-    }
+    /// It rises as by full link reversal, but to this ceiling at most. Routers that are cut off from all gateways stop at
+    /// the ceiling. It is to be at least the number of routers, and all routers lower their heights then.
+    Ceiling(u32),
 }
 
 /// When a router changes its height, and when it uses a greater height.

@@ -2,6 +2,7 @@ use Rattle.std.proofs.Common.{List, arith, subst}
 use Rattle.fr_node.specs.declared.link.Link.{Link}
 use Rattle.fr_node.specs.Distances.{IsNearest}
 use Rattle.fr_node.proofs.Nearest.{nearest_once}
+use Rattle.fr_node.proofs.Policies.{false_true}
 use Rattle.fr_node.proofs.node.Node.distance.Goals as goal
 
 pub returns-in-Some : goal.returns-in-Some
@@ -13,6 +14,6 @@ returns-in-Some c =
     (ls : List Link). IsNearest own ls n) c.deref.ensures.value c.in-Some.ensures in
     record {
       gateway = λ g. cc (c.if-self.false);
-      near = λ _ k is less. omega (arith, nearest_once own links n k at is);
-      far = λ _ all. absurd (omega (arith, all n at, c.if-nearest-cap.true, c.cap-cap.ensures));
+      near = λ _ k is. omega (arith, c.saturating_add.ensures, nearest_once own links n k at is);
+      far = λ _ none. absurd (false_true _ (none at.some.0 at.some.1) at.some.2);
     }
