@@ -145,7 +145,7 @@ class Routers:
         self.said = "Each router has sent its first messages. None has arrived."
 
     def started(self, x, boot):
-        """A router that starts. Without a cap it acts by full link reversal: without a way it rises above all its
+        """A router that starts. Without a ceiling it acts by full link reversal: without a way it rises above all its
         neighbours. Without a wait it uses its new height at once, and closes its gates meanwhile: this can be seen."""
         if x == self.home:
             return Router(self.node.gateway(x, boot), self.near[x], boot)

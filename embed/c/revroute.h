@@ -735,18 +735,18 @@ typedef enum revroute_rise {
     /* If it has no way: above all neighbours. This is full link reversal. Routers that are cut off from all gateways
      * raise their heights for ever. */
     REVROUTE_FULL = 0,
-    /* If it knows no distance: above the neighbour with the least distance below the cap. The number of routers is a
-     * large enough cap. */
-    REVROUTE_JUMP = 1
+    /* The same, but to a ceiling at most, so routers that are cut off from all gateways stop there. The ceiling is at
+     * least the number of routers, and all routers use `lower`: otherwise a router may stay without a way. */
+    REVROUTE_CEILING = 1
 } revroute_rise;
 
 /* When a node changes its height. No policy can make a loop. `rise` is one of the two kinds, and a call refuses any
- * other number. `cap` is the cap of REVROUTE_JUMP. If `lower` is not 0, the node lowers its height to its distance once
+ * other number. `ceiling` is the ceiling of REVROUTE_CEILING. If `lower` is not 0, the node lowers its height to its distance once
  * its nearest way stays a way. If `wait` is not 0, it keeps its old height and ways until the neighbours that it lets in
  * have acknowledged a greater height. */
 typedef struct revroute_policy {
     uint32_t rise;
-    uint32_t cap;
+    uint32_t ceiling;
     uint32_t lower;
     uint32_t wait;
 } revroute_policy;
@@ -812,8 +812,7 @@ revroute_status revroute_node_ways(revroute_node *node, uint32_t *ways, size_t r
 revroute_status revroute_node_gates(revroute_node *node, uint32_t *gates, size_t room, size_t *length, uint64_t *state);
 
 /* Writes to *distance how many links a packet crosses from this router to a gateway, by what it has heard: 0 at a
- * gateway. REVROUTE_NO_ROUTE, and *distance is unchanged, if there is no way, or if the distance is not below the cap of
- * the policy. O(d). */
+ * gateway. REVROUTE_NO_ROUTE, and *distance is unchanged, if there is no way, or if no way has a distance. O(d). */
 revroute_status revroute_node_distance(revroute_node *node, uint32_t *distance);
 
 /* Writes the height in use to *height. O(1). */

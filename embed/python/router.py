@@ -14,7 +14,7 @@ import time
 
 from revroute import LaterStart, Node, NotAMessage
 
-HELLO, DEAD, CAP = 0.1, 0.5, 64
+HELLO, DEAD, CEILING = 0.1, 0.5, 64
 NOTHING = {"ways": [], "gates": [], "distance": None}
 
 
@@ -27,7 +27,7 @@ class Router:
     def __init__(self, me, port, neighbours):
         # The boot number has to grow: this clock must not go back. A counter in a file would do as well.
         boot = time.time_ns()
-        self.node = Node(me, boot, cap=CAP) if me else Node.gateway(me, boot)
+        self.node = Node(me, boot, ceiling=CEILING) if me else Node.gateway(me, boot)
         self.addresses = {number: ("127.0.0.1", at) for number, at in neighbours.items()}
         self.heard, self.table = dict.fromkeys(neighbours, None), NOTHING
         for number in neighbours:

@@ -90,7 +90,7 @@ class Router:
     """A node with its kernel and its neighbours."""
 
     # a router that starts high finds its nearest ways: it comes down to its distance
-    policy = {"height": 64, "cap": 64}
+    policy = {"height": 64, "ceiling": 64}
 
     def __init__(self, me, target, neighbours):
         boot = self.boot()

@@ -22,7 +22,7 @@
 enum { ROUTERS = 6, POOL = 64, STEPS = 60000, SEEDS = 20, FENCED = 1 << 16, UNTOUCHED = 0x5a, NEIGHBOURS = 38 };
 
 static const revroute_policy policies[] = {
-    {REVROUTE_FULL, 0, 0, 0}, {REVROUTE_FULL, 0, 1, 1}, {REVROUTE_JUMP, ROUTERS, 0, 1}, {REVROUTE_JUMP, ROUTERS, 1, 0}};
+    {REVROUTE_FULL, 0, 0, 0}, {REVROUTE_FULL, 0, 1, 1}, {REVROUTE_CEILING, ROUTERS, 0, 1}, {REVROUTE_CEILING, ROUTERS, 1, 0}};
 static uint8_t *place_end;
 static long refusals, told;
 
@@ -59,7 +59,7 @@ static void ask_null(void) {
 
 /* Calls that take memory, with each allocation refused in turn. Neither the handle nor the node may change. */
 static revroute_status call_poor(revroute_node *node, int call, uint32_t number) {
-    static const revroute_policy policy = {REVROUTE_JUMP, 9, 1, 1};
+    static const revroute_policy policy = {REVROUTE_CEILING, 9, 1, 1};
     if (call == 0) return revroute_node_open(node, 1, number, 3, &policy);
     if (call == 1) return revroute_node_open_gateway(node, 1, number);
     return revroute_node_know(node, number);

@@ -148,6 +148,7 @@ impl Node {
         ensures heard { OnOk result (Hears self.old.own message.now self.old.links.items self.new.links.items) }
         ensures after { OnOk result (IsAfterEvent (message.now ∷ []) self.old self.new) }
         ensures kept { OnErr result (self.new ≡ self.old) }
+        ensures neighbours { map (λ l. l.neighbour) self.new.links.items ≡ map (λ l. l.neighbour) self.old.links.items }
         ensures fault { MatchResult result (λ _. ¬ KnowsLaterStart self.old message.now)
             (λ f. (f ≡ LaterStart) × KnowsLaterStart self.old message.now) }
     {

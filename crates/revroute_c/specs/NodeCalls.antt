@@ -6,7 +6,7 @@ use Rattle.fr_node.specs.declared.message.TheConstants.{CUT_OFF, MESSAGE_LENGTH}
 use Rattle.fr_node.specs.declared.node.Node.{Node}
 use Rattle.fr_node.specs.declared.node.TheConstants.{START_HEIGHTS}
 use Rattle.fr_node.specs.declared.policy.Policy.{Policy}
-use Rattle.fr_node.specs.declared.policy.Rise.TheVariants.{Full, Jump}
+use Rattle.fr_node.specs.declared.policy.Rise.TheVariants.{Ceiling, Full}
 use Rattle.fr_node.specs.declared.way.Way.{Way}
 use Rattle.fr_node.specs.Bytes.{bytes_of}
 use Rattle.fr_node.specs.Distances.{AreWays, IsDistance}
@@ -34,14 +34,14 @@ abbrev pub OfNode : (Node → Type 0) → Type 0 → HeldNode → Type 0
 OfNode Is none None = none
 OfNode Is none (Some k) = Is k
 
--- the kind of rise is not one of the two: 0 is `Full`, and 1 is `Jump`
+-- the kind of rise is not one of the two: 0 is `Full`, and 1 is `Ceiling`
 abbrev pub IsNoRise : NodePolicy → Type 0
 IsNoRise p = 1 < p.rise
 
 -- the policy that the struct of C names
 abbrev pub policy_of : NodePolicy → Policy
 policy_of p = record {
-  rise = if p.rise == 0 then Full else Jump p.cap;
+  rise = if p.rise == 0 then Full else Ceiling p.ceiling;
   lower = not (p.lower == 0);
   wait = not (p.wait == 0);
 }

@@ -22,10 +22,10 @@ use std::alloc::Global;
 #[repr(C)]
 #[derive(Clone, Copy)]
 pub struct NodePolicy {
-    /// When it raises its height: one of [`FULL`] and [`JUMP`].
+    /// When it raises its height: one of [`FULL`] and [`CEILING`].
     pub rise: u32,
-    /// The cap of [`JUMP`].
-    pub cap: u32,
+    /// The ceiling of [`CEILING`].
+    pub ceiling: u32,
     /// Whether it lowers its height. 0: no.
     pub lower: u32,
     /// Whether it waits for acknowledgements before it uses a greater height. 0: no.
@@ -35,17 +35,17 @@ pub struct NodePolicy {
 /// The node raises its height above all neighbours if it has no way.
 const FULL: u32 = 0;
 
-/// The node raises its height above the nearest neighbour if it knows no distance.
-const JUMP: u32 = 1;
+/// The same, but to a ceiling at most.
+const CEILING: u32 = 1;
 
-/// The policy that a struct of C names. A kind that is not `FULL` counts as `JUMP`.
+/// The policy that a struct of C names. A kind that is not `FULL` counts as `CEILING`.
 fn policy_in(policy: NodePolicy) -> Policy
     ensures { result ≡ policy_of policy }
 {
     let rise = if policy.rise == FULL {
         Rise::Full
     } else {
-        Rise::Jump(policy.cap)
+        Rise::Ceiling(policy.ceiling)
     };
     Policy {
         rise,
@@ -76,7 +76,7 @@ pub extern "C" fn revroute_node_open(
     ensures refused { (result ≡ REVROUTE_REFUSED) ↔ IsNoStart height policy.now }
     ensures status { (result ≡ REVROUTE_ANSWERED) ⊎ (result ≡ REVROUTE_NO_MEMORY) ⊎ (result ≡ REVROUTE_REFUSED) }
 {
-    if policy.rise > JUMP {
+    if policy.rise > CEILING {
         return REFUSED;
     }
     let Ok(node) = Node::new(alloc, me, boot, height, policy_in(*policy)) else {
@@ -307,7 +307,7 @@ pub extern "C" fn revroute_node_gates(
 /// Writes to `distance` how many links a packet crosses from this router to a gateway, by what it has heard: 0 at a
 /// gateway. Returns `ANSWERED`, or:
 ///
-/// - `NO_ROUTE`: there is no way, or the distance is not below the cap of the policy.
+/// - `NO_ROUTE`: there is no way, or no way has a distance.
 /// - `NO_NETWORK`: the handle is null.
 ///
 /// In both cases `distance` is unchanged. O(d).

@@ -32,7 +32,7 @@ fn tell<R: Alloc<A = Global> + Print>(rt: &R, steps: u32, choice: u32) -> io::Re
         rise: if choice % 2 == 0 {
             Rise::Full
         } else {
-            Rise::Jump(9)
+            Rise::Ceiling(9)
         },
         lower: choice / 2 % 2 == 1,
         wait: choice / 4 % 2 == 1,

@@ -154,13 +154,6 @@ impl Rules {
         }
     }
 
-    fn cap(&self) -> u32 {
-        match self.policy.rise {
-            Rise::Full => CUT_OFF - 1,
-            Rise::Jump(cap) => cap.min(CUT_OFF - 1),
-        }
-    }
-
     pub fn distance(&self) -> u32 {
         if self.gateway {
             return 0;
@@ -171,11 +164,7 @@ impl Rules {
                 least = least.min(seen.distance);
             }
         }
-        if least < self.cap() {
-            least.saturating_add(1)
-        } else {
-            CUT_OFF
-        }
+        least.saturating_add(1)
     }
 
     pub fn message(&self, w: u32) -> Option<Message> {
@@ -255,7 +244,7 @@ impl Rules {
     fn raise(&self) -> Option<u64> {
         match self.policy.rise {
             Rise::Full => self.above_all(),
-            Rise::Jump(cap) => self.above_nearest(cap),
+            Rise::Ceiling(ceiling) => self.above_all().map(|height| height.min(u64::from(ceiling))),
         }
     }
 
@@ -270,24 +259,5 @@ impl Rules {
             }
         }
         most?.checked_add(1)
-    }
-
-    fn above_nearest(&self, cap: u32) -> Option<u64> {
-        if self.distance() != CUT_OFF {
-            return None;
-        }
-        let mut best: Option<(u32, u64, u32)> = None;
-        for seen in &self.seen {
-            let key = (seen.distance, seen.height, seen.neighbour);
-            if seen.up && seen.number > 0 && seen.distance < cap && best.is_none_or(|b| key < b) {
-                best = Some(key);
-            }
-        }
-        let (_, height, w) = best?;
-        if w < self.me {
-            Some(height)
-        } else {
-            height.checked_add(1)
-        }
     }
 }

@@ -84,7 +84,7 @@ class NodeTest(unittest.TestCase):
         self.assertEqual(doctest.testmod(revroute.node).failed, 0)
 
     def test_a_ring_heals(self):
-        for policy in ({}, {"cap": 16}, {"cap": 16, "lower": False}, {"wait": False}, {"height": 7, "wait": False, "lower": False}):
+        for policy in ({}, {"ceiling": 16}, {"ceiling": 16, "lower": False}, {"wait": False}, {"height": 7, "wait": False, "lower": False}):
             nodes = ring(**policy)
             settle(nodes)
             for node in nodes[1:]:

@@ -20,9 +20,9 @@ pub enum Rise {
     /// If it has no way: above all neighbours. This is full link reversal. Routers that are cut off from all gateways
     /// raise their heights for ever.
     Full,
-    /// If it knows no distance: above the neighbour with the least distance below this cap. The number of routers is a
-    /// large enough cap.
-    Jump(u32),
+    /// The same, but to this ceiling at most, so routers that are cut off from all gateways stop there. The ceiling is at
+    /// least the number of routers, and all routers use `lower`: otherwise a router may stay without a way.
+    Ceiling(u32),
 }
 
 /// When a node changes its height. No policy can make a loop.
@@ -42,7 +42,7 @@ pub struct Policy {
 /// Full reversal needs no number that depends on the network, and packets arrive once messages have arrived and no
 /// router raises its height. With `lower`, routers come down to their distances, so routes are short. With `wait`, a
 /// router keeps its gates open while its neighbours learn of its new height, so it drops fewer packets. Choose another
-/// policy if routers that are cut off from all gateways have to fall silent: [`Rise::Jump`].
+/// policy if routers that are cut off from all gateways have to fall silent: [`Rise::Ceiling`].
 ///
 /// ```
 /// use revroute::{Policy, Rise};
@@ -61,13 +61,13 @@ impl Default for Policy {
 
 impl Policy {
     fn of_c(self) -> sys::NodePolicy {
-        let (rise, cap) = match self.rise {
+        let (rise, ceiling) = match self.rise {
             Rise::Full => (sys::FULL, 0),
-            Rise::Jump(cap) => (sys::JUMP, cap),
+            Rise::Ceiling(ceiling) => (sys::CEILING, ceiling),
         };
         sys::NodePolicy {
             rise,
-            cap,
+            ceiling,
             lower: self.lower.into(),
             wait: self.wait.into(),
         }
@@ -422,7 +422,7 @@ impl Node {
     }
 
     /// How many links a packet crosses from this router to a gateway, by what it has heard: 0 at a gateway. `None` if
-    /// there is no way, or if the distance is not below the cap. `O(d)`.
+    /// there is no way, or if no way has a distance. `O(d)`.
     pub fn distance(&self) -> Option<u32> {
         let mut distance = 0;
         // SAFETY: the handle is the library's own, no other call has it, and the two do not overlap.

@@ -149,13 +149,13 @@ pub struct Refusal {
 
 /// The kinds of rise of a node.
 pub const FULL: u32 = 0;
-pub const JUMP: u32 = 1;
+pub const CEILING: u32 = 1;
 
 /// When a node changes its height.
 #[repr(C)]
 pub struct NodePolicy {
     pub rise: u32,
-    pub cap: u32,
+    pub ceiling: u32,
     pub lower: u32,
     pub wait: u32,
 }

@@ -7,7 +7,7 @@ use revroute::{
 use std::error::Error;
 
 const POLICY: Policy = Policy {
-    rise: Rise::Jump(16),
+    rise: Rise::Ceiling(16),
     lower: true,
     wait: true,
 };

@@ -14,7 +14,7 @@ ANSWERED, BLANK, TOO_SHORT, NO_MEMORY, NO_NETWORK, NO_ROUTE, REFUSED, NO_WALK, B
 UNWRITTEN, NO_MESSAGE, LINK_DOWN, OUTDATED, LATER_START = range(12, 17)
 HERE, CUT_OFF, NO_SUCH_NODE, NO_HOP = range(0xFFFFFFFF, 0xFFFFFFFB, -1)
 CUT, ADD, JOIN = range(3)
-FULL, JUMP = range(2)
+FULL, CEILING = range(2)
 UNKNOWN_EDIT, RANGE, SELF_LINK, TWICE, CLOSED_WALK, NO_LINK, TOO_MANY = 2, *range(4, 10)
 
 
@@ -45,7 +45,7 @@ class NodeHandle(ctypes.Structure):
 class Policy(ctypes.Structure):
     """When a node changes its height."""
 
-    _fields_ = [("rise", ctypes.c_uint32), ("cap", ctypes.c_uint32), ("lower", ctypes.c_uint32), ("wait", ctypes.c_uint32)]
+    _fields_ = [("rise", ctypes.c_uint32), ("ceiling", ctypes.c_uint32), ("lower", ctypes.c_uint32), ("wait", ctypes.c_uint32)]
 
 
 class Link(ctypes.Structure):

@@ -74,7 +74,7 @@ class Node:
     ...     table = node.table()
     ...     # write table.ways and table.gates to the forwarding table
     ...     node.written(table.state)
-    >>> gateway, router = revroute.Node.gateway(0, boot=1), revroute.Node(1, boot=1, height=1, cap=16)
+    >>> gateway, router = revroute.Node.gateway(0, boot=1), revroute.Node(1, boot=1, height=1, ceiling=16)
     >>> gateway.know(1), router.know(0)
     (None, None)
     >>> gateway.link_up(1), router.link_up(0)
@@ -90,10 +90,10 @@ class Node:
     ([0], 1, [1])
 
     `me` is the number of the router, which no other router has. `boot` is greater than at all earlier starts of this
-    router. `height` is the height at which it starts. Without a `cap`, a router that has no way rises above all its
-    neighbours: this is full link reversal, and routers that are cut off from all gateways rise for ever. With a `cap`,
-    a router that knows no distance rises above the nearest neighbour whose distance is below it; the number of routers
-    is a large enough cap. With `lower`, a router lowers its height to its distance if its nearest way stays a way. With
+    router. `height` is the height at which it starts. Without a `ceiling`, a router that has no way rises above all
+    its neighbours: this is full link reversal, and routers that are cut off from all gateways rise for ever. With a
+    `ceiling`, it rises to the ceiling at most, and such routers stop there. The ceiling is at least the number of routers,
+    and all routers use `lower` then: otherwise a router may stay without a way. With `lower`, a router lowers its height to its distance if its nearest way stays a way. With
     `wait`, it keeps its old height and ways until the neighbours that it lets in have acknowledged a greater height. No
     choice can make a loop.
 
@@ -108,10 +108,17 @@ class Node:
     """
 
     def __init__(
-        self, me: int, boot: int, height: int = 0, *, cap: Optional[int] = None, lower: bool = True, wait: bool = True
+        self,
+        me: int,
+        boot: int,
+        height: int = 0,
+        *,
+        ceiling: Optional[int] = None,
+        lower: bool = True,
+        wait: bool = True,
     ) -> None:
-        rise = _calls.FULL if cap is None else _calls.JUMP
-        policy = _calls.Policy(rise, _number(cap or 0), bool(lower), bool(wait))
+        rise = _calls.FULL if ceiling is None else _calls.CEILING
+        policy = _calls.Policy(rise, _number(ceiling or 0), bool(lower), bool(wait))
         words = _number(me), _number(boot, 8), _number(height, 8), ctypes.byref(policy)
         self._start(lambda at: questions.revroute_node_open(at, *words))
 
@@ -247,7 +254,7 @@ class Node:
     @property
     def distance(self) -> Optional[int]:
         """How many links a packet crosses from this router to a gateway, by what it has heard: 0 at a gateway. None if
-        there is no way, or if the distance is not below the cap."""
+        there is no way, or if no way has a distance."""
         distance = ctypes.c_uint32()
         status = self._call(questions.revroute_node_distance, ctypes.byref(distance))
         return distance.value if status == _calls.ANSWERED else None

@@ -1,4 +1,5 @@
-use Rattle.std.proofs.Common.{subst, sym}
+use Rattle.std.proofs.Common.{ap, map, subst, sym, ◌∙◌}
+use Rattle.fr_node.specs.declared.link.Link.{Link}
 use Rattle.fr_node.specs.declared.node.Node.{Node}
 use Rattle.fr_node.specs.Links.{Hears}
 use Rattle.fr_node.proofs.Stepping.{InTurn, after_hearing}
@@ -16,3 +17,7 @@ returns-clause-after c =
       announces = c.act.ensures.own;
       acts = c.act.ensures.policy;
     } in after_hearing c.args.message.now _ _ _ turn c.take_message.ensures.heard
+
+pub returns-clause-neighbours : goal.returns-clause-neighbours
+returns-clause-neighbours c = ap (λ (n : Node). map (λ (l : Link). l.neighbour) n.links.items) c.act.ensures.same
+    ∙ c.take_message.ensures.heard.neighbours
