@@ -7,3 +7,6 @@ pub mod Distances  -- how far a node is from a gateway
 pub mod Policies  -- which height a node announces, and when it uses it
 pub mod Nodes  -- which router of the laws a node is
 pub mod Arrivals  -- where packets end, once nothing more happens
+pub mod Paths  -- how many heights routers on a path announce, whatever else happens
+pub mod Lowerings  -- the same of routers that may lower their heights
+pub mod Heights  -- how often a router announces the same height
