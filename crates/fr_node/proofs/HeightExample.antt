@@ -172,55 +172,23 @@ step18 = first_changes pool7 a5 b1 c4 a6
     (inl (then_announces pool7 0 6 a5 (taken fourth a5)
     (takes pool7 0 a5 fourth (Contains-head fourth pool6) refl refl (omega arith) (λ _. omega arith))))
 
+-- what router 2 announces before router 0 hears of it
+abbrev after : List Net
+after = net a2 b1 c2 pool4 ∷ net a2 b1 c2 pool5 ∷ net a2 b1 c3 pool5 ∷ net a2 b1 c3 pool6 ∷ net a2 b1 c4 pool6
+    ∷ net a2 b1 c4 pool7 ∷ []
+
+announces : IsRun (net a2 b1 c1 pool4) after
+announces = (step9, (step10, (step11, (step12, (step13, (step14, tt))))))
+
 abbrev nets : List Net
 nets = net a0 b0 c0 pool1 ∷ net a0 b0 c0 pool2 ∷ net a0 b1 c0 pool2 ∷ net a0 b1 c1 pool2 ∷ net a0 b1 c1 pool3
-    ∷ net a1 b1 c1 pool3 ∷ net a1 b1 c1 pool4 ∷ net a2 b1 c1 pool4 ∷ net a2 b1 c2 pool4 ∷ net a2 b1 c2 pool5
-    ∷ net a2 b1 c3 pool5 ∷ net a2 b1 c3 pool6 ∷ net a2 b1 c4 pool6 ∷ net a2 b1 c4 pool7 ∷ []
+    ∷ net a1 b1 c1 pool3 ∷ net a1 b1 c1 pool4 ∷ net a2 b1 c1 pool4 ∷ after
+
+past : IsRun (net a0 b0 c0 []) nets
+past = (step1, (step2, (step3, (step4, (step5, (step6, (step7, (step8, announces))))))))
 
 abbrev later : List Net
 later = net a3 b1 c4 pool7 ∷ net a4 b1 c4 pool7 ∷ net a5 b1 c4 pool7 ∷ net a6 b1 c4 pool7 ∷ []
-
-past : IsRun (net a0 b0 c0 []) nets
-past = (
-  step1,
-  (
-    step2,
-    (
-      step3,
-      (
-        step4,
-        (
-          step5,
-          (
-            step6,
-            (
-              step7,
-              (
-                step8,
-                (
-                  step9,
-                  (
-                    step10,
-                    (
-                      step11,
-                      (
-                        step12,
-                        (
-                          step13,
-                          (step14, tt),
-                        ),
-                      ),
-                    ),
-                  ),
-                ),
-              ),
-            ),
-          ),
-        ),
-      ),
-    ),
-  ),
-)
 
 future : IsRun (net a2 b1 c4 pool7) later
 future = (step15, (step16, (step17, (step18, tt))))
