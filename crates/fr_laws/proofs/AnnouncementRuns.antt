@@ -18,7 +18,8 @@ use Rattle.fr_core.specs.Work.{IsConnectedNet}
 use Rattle.fr_core.specs.declared.entry.Entry.{Entry}
 use Rattle.fr_core.specs.declared.entry.Reply.TheVariants.{Turned}
 use Rattle.fr_graph.specs.Counts.{AreLawful, links_at}
-use Rattle.fr_laws.proofs.Announcing.{HasKept, HasRaised, raised_or_kept}
+use Rattle.fr_node.proofs.Announcing.{HasKept, HasRaised}
+use Rattle.fr_laws.proofs.Announcing.{raised_or_kept}
 use Rattle.fr_laws.proofs.NetworkSteps.{is_sink, stays, turns}
 use Rattle.fr_laws.proofs.QuietEnds.{turns-cons}
 use Rattle.fr_laws.specs.Announcements.{AllAnnounceFew, AnnouncementsAreARun, AreSteps, Configuration, EachAnnouncesFew}

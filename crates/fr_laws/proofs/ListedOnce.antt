@@ -7,7 +7,6 @@ use Rattle.std.proofs.lemmas.Bool.{cases_lt}
 use Rattle.std.proofs.lemmas.List.{get_or_default, get_or_past, length-map}
 use Rattle.std.proofs.lemmas.List.Elements.{Contains-get_or}
 use Rattle.std.proofs.lemmas.List.Sums.{fails_before_first, position_or_len_is}
-use Rattle.fr_node.proofs.Linking.{leads_there}
 use Rattle.fr_node.specs.Arrivals.{IsLinkedTo}
 use Rattle.fr_node.specs.Links.{leads_to, link_to, place_of, unknown}
 use Rattle.fr_node.specs.declared.link.Link.{Link}
@@ -48,29 +47,6 @@ the_link ls l once (k, within, is) = ap (λ (i : ℕ). get_or ls i unknown) plac
 
     place : place_of ls l.neighbour ≡ k
     place = subst (λ (j : Link). place_of ls j.neighbour ≡ k) here (once k within)
-
-up_known : (ls : List Link) (w : ℕ) → (link_to ls w).up ≡ true → place_of ls w < length ls
-up_known ls w up = ⊎_elim (λ l. l)
-    (λ past. absurd (down (ap (λ (l : Link). l.up) (get_or_past ls (place_of ls w) unknown past)) up))
-    (cases_lt (place_of ls w) (length ls))
-  where
-    down : (link_to ls w).up ≡ false → (link_to ls w).up ≡ true → ⊥
-    down f t = cc
-
--- if what is known of w is a link that is up, it is listed and leads to w
-pub up_listed : (ls : List Link) (w : ℕ) → (link_to ls w).up ≡ true → Contains ls (link_to ls w)
-up_listed ls w up = Contains-get_or ls (place_of ls w) unknown (up_known ls w up)
-
-pub up_leads : (ls : List Link) (w : ℕ) → (link_to ls w).up ≡ true → (link_to ls w).neighbour ≡ w
-up_leads ls w up = leads_there ls w (up_known ls w up)
-
-pub up_linked : (n : Node) (w : ℕ) → (link_to n.links.items w).up ≡ true → IsLinkedTo n w
-up_linked n w up = (
-  link_to n.links.items w,
-  up_listed n.links.items w up,
-  up,
-  up_leads n.links.items w up,
-)
 
 pub linked_up : (n : Node) (w : ℕ) → AreListedOnce n.links.items → IsLinkedTo n w
     → (link_to n.links.items w).up ≡ true

@@ -6,6 +6,9 @@ use Rattle.std.proofs.lemmas.List.{get_or-map, length-map}
 use Rattle.std.proofs.lemmas.List.Elements.{Contains-get_or}
 use Rattle.fr_graph.specs.Links.{Joins, Points}
 use Rattle.fr_graph.specs.Turn.{IsSink, turn, turned_link}
+use Rattle.fr_node.proofs.Announcing.{HasKept, HasRaised}
+use Rattle.fr_node.proofs.Arrivals.{up_linked}
+use Rattle.fr_node.proofs.Linking.{up_leads, up_listed}
 use Rattle.fr_node.specs.Arrivals.{IsLinkedTo}
 use Rattle.fr_node.specs.Histories.{IsHistory}
 use Rattle.fr_node.specs.Links.{link_to}
@@ -14,8 +17,8 @@ use Rattle.fr_node.specs.Routers.{GoesOn, IsBelow, IsFrom}
 use Rattle.fr_node.specs.declared.link.Link.{Link}
 use Rattle.fr_node.specs.declared.message.Message.{Message}
 use Rattle.fr_node.specs.declared.node.Node.{Node}
-use Rattle.fr_laws.proofs.Announcing.{HasKept, HasRaised, router_kept}
-use Rattle.fr_laws.proofs.ListedOnce.{linked_up, the_link, up_leads, up_linked, up_listed}
+use Rattle.fr_laws.proofs.Announcing.{router_kept}
+use Rattle.fr_laws.proofs.ListedOnce.{linked_up, the_link}
 use Rattle.fr_laws.specs.Announcements.{AreLinks, Configuration, IsLower, IsNetwork, IsNews, IsRouter, IsStep}
 use Rattle.fr_laws.specs.Announcements.{MayHear, height}
 

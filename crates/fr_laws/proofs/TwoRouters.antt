@@ -1,5 +1,5 @@
--- Two routers. The gateway says its height. The other router hears it, announces a height above it, and says so. Once
--- the gateway has heard that, nothing more happens.
+-- Two routers. One says that it has started, and the gateway says its height. The router hears it, announces a height
+-- above it, and says so. Once each has heard that its last announcement was heard, nothing more happens.
 use Rattle.std.proofs.Common.{All, Contains, List, None, [], ap, arith, count_by, eq-eqb, false, get_or, inl, inr}
 use Rattle.std.proofs.Common.{refl, subst, suc, sym, true, zero, ℕ, ⊎_elim, IsTrue, ◌+◌, ◌^◌, ◌⊎◌, ◌<◌, ◌∙◌, ◌∷◌, ◌≡◌}
 use Rattle.std.proofs.Common.{◌≢◌, ◌↔◌}
@@ -10,44 +10,36 @@ use Rattle.fr_core.specs.Walks.{IsConnected}
 use Rattle.fr_core.specs.Work.{IsConnectedNet}
 use Rattle.fr_graph.proofs.Members.{Contains-cases, Contains-head, Contains-none}
 use Rattle.fr_graph.specs.Links.{IsNet, Joins, Points, is_between}
+use Rattle.fr_node.proofs.Announcing.{true_false}
 use Rattle.fr_node.proofs.Histories.{Announces-none, Announces-raised, Announces-settled, Announces-then}
 use Rattle.fr_node.proofs.Linking.{hears_at}
 use Rattle.fr_node.proofs.Stepping.{InTurn, IsEvent, after_hearing}
 use Rattle.fr_node.specs.Arrivals.{IsLinkedTo, IsQuiet, IsStill, IsTold}
-use Rattle.fr_node.specs.Distances.{IsNearest}
+use Rattle.fr_node.specs.Distances.{IsDistance, IsNearest}
 use Rattle.fr_node.specs.Histories.{IsHistory}
-use Rattle.fr_node.specs.Links.{Hears, IsHeard, is_lower, unknown}
+use Rattle.fr_node.specs.Links.{Hears, IsHeard, is_lower, is_way, unknown}
 use Rattle.fr_node.specs.Nodes.{IsMessageTo, Steps}
 use Rattle.fr_node.specs.Policies.{Acts, IsAboveAll, is_higher, is_up}
 use Rattle.fr_node.specs.declared.link.Link.{Link}
 use Rattle.fr_node.specs.declared.message.Message.{Message}
+use Rattle.fr_node.specs.declared.message.TheConstants.{CUT_OFF}
 use Rattle.fr_node.specs.declared.node.Node.{Node}
 use Rattle.fr_node.specs.declared.own.Own.{Own}
 use Rattle.fr_node.specs.declared.policy.Policy.{Policy}
 use Rattle.fr_node.specs.declared.policy.Rise.TheVariants.{Full}
-use Rattle.fr_laws.proofs.Announcing.{true_false}
 use Rattle.fr_laws.proofs.HopsAlong.{falling_acyclic}
 use Rattle.fr_laws.proofs.NodeCalls.{hearing_is_a_call, same_links}
-use Rattle.fr_laws.specs.Announcements.{AreListedOnce, Configuration, IsLower, IsNetwork, IsRouter, IsStep}
+use Rattle.fr_laws.specs.Announcements.{AreListedOnce, AreSteps, Configuration, IsLower, IsNetwork, IsRouter, IsStep}
 use Rattle.fr_laws.specs.Announcements.{SomeRouterAnnounces}
 
--- a link that is up, on which this number was heard with the height 0
-abbrev link : ℕ → ℕ → Link
-link neighbour heard = record {
-  neighbour = neighbour;
-  up = true;
-  peer = 0;
-  heard = heard;
-  seen = 0;
-  distance = 0;
-  acked = 0;
-  said = None;
-}
+abbrev policy : Policy
+policy = record { rise = Full; lower = false; wait = false }
 
-abbrev own : ℕ → ℕ → ℕ → Own
+-- what a router knows of itself in its first start
+abbrev own : (me height number : ℕ) → Own
 own me height number = record {
   me = me;
-  boot = 0;
+  boot = 1;
   used = height;
   announced = height;
   number = number;
@@ -55,54 +47,86 @@ own me height number = record {
   announced_since = number;
 }
 
-abbrev policy : Policy
-policy = record { rise = Full; lower = false; wait = false }
+-- a link that is up, to a neighbour of which nothing is known
+abbrev new_link : ℕ → Link
+new_link neighbour = record (unknown) { neighbour = neighbour; up = true }
+
+-- What the routers say: 0 that it has started, the gateway 1 its height, 0 its height, and the gateway that it has
+-- heard that
+
+abbrev started : Message
+started = record { from = 0; to = 1; boot = 1; echo = 0; number = 1; height = 0; heard = 0; distance = CUT_OFF }
 
 abbrev hello : Message
-hello = record { from = 1; to = 0; boot = 0; echo = 0; number = 1; height = 0; heard = 0; distance = 0 }
-
--- the gateway's link, once it has heard the reply
-abbrev met : Link
-met = record {
-  neighbour = 0;
-  up = true;
-  peer = 0;
-  heard = 2;
-  seen = 1;
-  distance = 1;
-  acked = 1;
-  said = None;
-}
+hello = record { from = 1; to = 0; boot = 1; echo = 1; number = 1; height = 0; heard = 0; distance = 0 }
 
 abbrev reply : Message
-reply = record { from = 0; to = 1; boot = 0; echo = 0; number = 2; height = 1; heard = 1; distance = 1 }
+reply = record { from = 0; to = 1; boot = 1; echo = 1; number = 2; height = 1; heard = 1; distance = 1 }
+
+abbrev answer : Message
+answer = record { from = 1; to = 0; boot = 1; echo = 1; number = 1; height = 0; heard = 2; distance = 0 }
+
+-- the gateway's link, once it has heard that 0 has started, and the reply
+abbrev met : Link
+met = record (new_link 0) { peer = 1 }
+
+abbrev told : Link
+told = record met { heard = 2; seen = 1; distance = 1; acked = 1 }
+
+-- the other router's link, once it has heard the gateway's height, and the answer
+abbrev greeted : Link
+greeted = record (new_link 1) { peer = 1; heard = 1; distance = 0 }
+
+abbrev answered : Link
+answered = record greeted { acked = 2 }
 
 abbrev one_link : List (ℕ × ℕ)
 one_link = (1, 0) ∷ []
 
 -- What is heard
 
-heard : IsHeard (own 0 0 1) hello (link 1 0) (link 1 1)
-heard = record {
+-- the first link of a list of one
+hears_one : (o : Own) (m : Message) (l k : Link) → l.neighbour ≡ m.from → m.to ≡ o.me → IsHeard o m l k
+    → Hears o m (l ∷ []) (k ∷ [])
+hears_one o m l k from to heard = hears_at o m (l ∷ []) 0 l k (record {
+  place = rw (eq-eqb l.neighbour m.from from) refl;
+  within = omega arith;
+  here = refl;
+  neighbour = from;
+}) heard to
+
+hears_started : Hears (own 1 0 1) started (new_link 0 ∷ []) (met ∷ [])
+hears_started = hears_one (own 1 0 1) started (new_link 0) met refl refl (record {
+  neighbour = refl;
+  up = refl;
+  said = refl;
+  ignored = λ l. absurd (omega (arith, l));
+  start = λ _. refl;
+  informed = λ _ e _. absurd (omega (arith, e));
+  uninformed = λ e _. absurd (omega (arith, e));
+  forgotten = λ _ _. (refl, refl);
+  answered = λ _ e _ _. absurd (omega (arith, e));
+  unanswered = λ e _. absurd (omega (arith, e));
+  unacked = λ _ _. refl;
+})
+
+hears_hello : Hears (own 0 0 1) hello (new_link 1 ∷ []) (greeted ∷ [])
+hears_hello = hears_one (own 0 0 1) hello (new_link 1) greeted refl refl (record {
   neighbour = refl;
   up = refl;
   said = refl;
   ignored = λ l. absurd (omega (arith, l));
   start = λ _. refl;
   informed = λ _ _ _. (refl, refl, refl);
-  uninformed = λ _ why. ⊎_elim (λ other. absurd (other refl)) (λ l. absurd (omega (arith, l))) why;
-  forgotten = λ l _. absurd (omega (arith, l));
-  answered = λ _ _ _ less. absurd (omega (arith, less refl));
-  unanswered = λ _ _. refl;
-  unacked = λ l _. absurd (omega (arith, l));
-}
+  uninformed = λ e _. absurd (omega (arith, e));
+  forgotten = λ _ other. absurd (other refl);
+  answered = λ _ _ _ _. refl;
+  unanswered = λ e _. absurd (omega (arith, e));
+  unacked = λ _ _. refl;
+})
 
-hears : Hears (own 0 0 1) hello (link 1 0 ∷ []) (link 1 1 ∷ [])
-hears = hears_at (own 0 0 1) hello (link 1 0 ∷ []) 0 (link 1 0) (link 1 1)
-    (record { place = refl; within = omega arith; here = refl; neighbour = refl }) heard refl
-
-reply_heard : IsHeard (own 1 0 1) reply (link 0 0) met
-reply_heard = record {
+hears_reply : Hears (own 1 0 1) reply (met ∷ []) (told ∷ [])
+hears_reply = hears_one (own 1 0 1) reply met told refl refl (record {
   neighbour = refl;
   up = refl;
   said = refl;
@@ -115,21 +139,40 @@ reply_heard = record {
   unanswered = λ _ why. ⊎_elim (λ other. absurd (other refl))
       (⊎_elim (λ l. absurd (omega (arith, l))) (λ l. absurd (omega (arith, l)))) why;
   unacked = λ l _. absurd (omega (arith, l));
-}
+})
 
-reply_hears : Hears (own 1 0 1) reply (link 0 0 ∷ []) (met ∷ [])
-reply_hears = hears_at (own 1 0 1) reply (link 0 0 ∷ []) 0 (link 0 0) met
-    (record { place = refl; within = omega arith; here = refl; neighbour = refl }) reply_heard refl
+hears_answer : Hears (own 0 1 2) answer (greeted ∷ []) (answered ∷ [])
+hears_answer = hears_one (own 0 1 2) answer greeted answered refl refl (record {
+  neighbour = refl;
+  up = refl;
+  said = refl;
+  ignored = λ l. absurd (omega (arith, l));
+  start = λ _. refl;
+  informed = λ _ _ _. (refl, refl, refl);
+  uninformed = λ _ _. (refl, refl, refl);
+  forgotten = λ l _. absurd (omega (arith, l));
+  answered = λ _ _ _ _. refl;
+  unanswered = λ _ why. ⊎_elim (λ other. absurd (other refl))
+      (⊎_elim (λ l. absurd (omega (arith, l))) (λ l. absurd (omega (arith, l)))) why;
+  unacked = λ l _. absurd (omega (arith, l));
+})
 
--- What the router says of its distance
+-- What the router says of its distance: none at first, and 1 once it has heard the gateway
 
-is_near : IsNearest (own 0 1 2) (link 1 1 ∷ []) 0
+no_way : (k : ℕ) → ¬ IsNearest (own 0 0 1) (new_link 1 ∷ []) k
+no_way k nearest = at nearest.some.0 nearest.some.1 nearest.some.2
+  where
+    at : (j : ℕ) → j < 1 → is_way (own 0 0 1) (get_or (new_link 1 ∷ []) j unknown) ≡ true → ⊥
+    at zero l e = true_false e
+    at (suc j) l e = omega (arith, l)
+
+is_near : IsNearest (own 0 1 2) (greeted ∷ []) 0
 is_near = record { some = (0, omega arith, refl, refl); least = λ k l way. omega arith }
 
-near : (k : ℕ) → IsNearest (own 0 1 2) (link 1 1 ∷ []) k → 1 ≡ k + 1
+near : (k : ℕ) → IsNearest (own 0 1 2) (greeted ∷ []) k → 1 ≡ k + 1
 near k nearest = at nearest.some.0 nearest.some.1 nearest.some.3
   where
-    at : (j : ℕ) → j < 1 → (get_or (link 1 1 ∷ []) j unknown).distance ≡ k → 1 ≡ k + 1
+    at : (j : ℕ) → j < 1 → (get_or (greeted ∷ []) j unknown).distance ≡ k → 1 ≡ k + 1
     at zero l e = omega (arith, e)
     at (suc j) l e = absurd (omega (arith, l))
 
@@ -165,16 +208,17 @@ connected = record { is_net = net; dest = omega arith; joined = joined }
     joined (suc zero) l = (0, ([], (refl, refl)))
     joined (suc (suc x)) l = absurd (omega (arith, l))
 
-history : (me : ℕ) → IsHistory (own me 0 1) (λ n. 0)
-history me = record {
+history : (me height number : ℕ) → 0 < number → IsHistory (own me height number) (λ _. height)
+history me height number some = record {
   last = refl;
   used = λ n from upto. omega arith;
   announced = λ n from upto. omega arith;
   order = omega arith;
-  begins = (omega arith, omega arith);
+  begins = (some, some);
+  ends = (omega arith, omega arith);
 }
 
-first_only : (neighbour : ℕ) → AreListedOnce (link neighbour 0 ∷ [])
+first_only : (neighbour : ℕ) → AreListedOnce (new_link neighbour ∷ [])
 first_only neighbour zero l = rw (eq-eqb neighbour neighbour refl) refl
 first_only neighbour (suc i) l = absurd (omega (arith, l))
 
@@ -190,78 +234,79 @@ module _ (alloc : Global) where
     small = omega arith;
   }
 
+  -- router 0, as it starts and after its announcement, and the gateway, each with this link
+  abbrev router : Own → Link → Node
+  router o l = record { own = o; gateway = false; policy = policy; links = links l }
+
+  abbrev gate : Link → Node
+  gate l = record { own = own 1 0 1; gateway = true; policy = policy; links = links l }
+
   abbrev before : Node
-  before = record { own = own 0 0 1; gateway = false; policy = policy; links = links (link 1 0) }
+  before = router (own 0 0 1) (new_link 1)
 
   abbrev after : Node
-  after = record { own = own 0 1 2; gateway = false; policy = policy; links = links (link 1 1) }
+  after = router (own 0 1 2) greeted
 
-  abbrev gate : Node
-  gate = record { own = own 1 0 1; gateway = true; policy = policy; links = links (link 0 0) }
+  abbrev done : Node
+  done = router (own 0 1 2) answered
 
-  abbrev gate_then : Node
-  gate_then = record { own = own 1 0 1; gateway = true; policy = policy; links = links met }
+  abbrev gate0 : Node
+  gate0 = gate (new_link 0)
+
+  abbrev gate1 : Node
+  gate1 = gate met
+
+  abbrev gate2 : Node
+  gate2 = gate told
 
   abbrev nodes : Node → Node → ℕ → Node
   nodes a b zero = a
   nodes a b (suc zero) = b
-  nodes a b (suc (suc x)) = gate
+  nodes a b (suc (suc x)) = gate0
 
-  abbrev first_moment : Configuration
-  first_moment = record { node = nodes before gate; pool = [] }
-
-  abbrev second_moment : Configuration
-  second_moment = record { node = nodes before gate; pool = hello ∷ [] }
-
-  abbrev third_moment : Configuration
-  third_moment = record { node = nodes after gate; pool = hello ∷ [] }
-
-  abbrev fourth_moment : Configuration
-  fourth_moment = record { node = nodes after gate; pool = reply ∷ hello ∷ [] }
-
-  abbrev fifth_moment : Configuration
-  fifth_moment = record { node = nodes after gate_then; pool = reply ∷ hello ∷ [] }
+  abbrev moment : Node → Node → List Message → Configuration
+  moment a b pool = record { node = nodes a b; pool = pool }
 
   router_before : IsRouter 1 0 before
   router_before = record {
     me = refl;
     once = first_only 1;
-    announced = (λ n. 0, history 0);
+    announced = (λ n. 0, history 0 0 1 (omega arith));
     gateway = (λ g. absurd (true_false g), λ e. absurd (omega (arith, e)));
     used = λ e. refl;
     full = λ other. (refl, refl);
   }
 
-  router_gate : IsRouter 1 1 gate
+  router_gate : IsRouter 1 1 gate0
   router_gate = record {
     me = refl;
     once = first_only 0;
-    announced = (λ n. 0, history 1);
+    announced = (λ n. 0, history 1 0 1 (omega arith));
     gateway = (λ g. refl, λ e. refl);
     used = λ e. refl;
     full = λ other. absurd (other refl);
   }
 
-  network : IsNetwork 2 1 one_link first_moment
+  network : IsNetwork 2 1 one_link (moment before gate0 [])
   network = record {
-    router = router;
+    router = routers;
     linked = record { up = up; down = down };
     heard = λ x l inside listed up some. absurd (none x l listed some);
     said = λ m h. absurd (Contains-none m h);
   }
     where
-      router : (x : ℕ) → x < 2 → IsRouter 1 x (nodes before gate x)
-      router zero l = router_before
-      router (suc zero) l = router_gate
-      router (suc (suc x)) l = absurd (omega (arith, l))
+      routers : (x : ℕ) → x < 2 → IsRouter 1 x (nodes before gate0 x)
+      routers zero l = router_before
+      routers (suc zero) l = router_gate
+      routers (suc (suc x)) l = absurd (omega (arith, l))
 
       at_before : (w : ℕ) → IsLinkedTo before w → Joins one_link 0 w
       at_before w (l, listed, up, leads) = subst (Joins one_link 0)
-          (ap (λ (k : Link). k.neighbour) (only (link 1 0) l listed) ∙ leads) (inr (Contains-head (1, 0) []))
+          (ap (λ (k : Link). k.neighbour) (only (new_link 1) l listed) ∙ leads) (inr (Contains-head (1, 0) []))
 
-      at_gate : (w : ℕ) → IsLinkedTo gate w → Joins one_link 1 w
+      at_gate : (w : ℕ) → IsLinkedTo gate0 w → Joins one_link 1 w
       at_gate w (l, listed, up, leads) = subst (Joins one_link 1)
-          (ap (λ (k : Link). k.neighbour) (only (link 0 0) l listed) ∙ leads) (inl (Contains-head (1, 0) []))
+          (ap (λ (k : Link). k.neighbour) (only (new_link 0) l listed) ∙ leads) (inl (Contains-head (1, 0) []))
 
       from_before : (w : ℕ) → Joins one_link 0 w → 1 ≡ w
       from_before w (inl h) = absurd (omega (arith, (only_link 0 w h).0))
@@ -271,24 +316,24 @@ module _ (alloc : Global) where
       from_gate w (inl h) = sym (only_link 1 w h).1
       from_gate w (inr h) = absurd (omega (arith, (only_link w 1 h).1))
 
-      up : (x w : ℕ) → x < 2 → IsLinkedTo (nodes before gate x) w ↔ Joins one_link x w
-      up zero w inside = (at_before w, λ j. (link 1 0, Contains-head (link 1 0) [], refl, from_before w j))
-      up (suc zero) w inside = (at_gate w, λ j. (link 0 0, Contains-head (link 0 0) [], refl, from_gate w j))
+      up : (x w : ℕ) → x < 2 → IsLinkedTo (nodes before gate0 x) w ↔ Joins one_link x w
+      up zero w inside = (at_before w, λ j. (new_link 1, Contains-head (new_link 1) [], refl, from_before w j))
+      up (suc zero) w inside = (at_gate w, λ j. (new_link 0, Contains-head (new_link 0) [], refl, from_gate w j))
       up (suc (suc x)) w inside = absurd (omega (arith, inside))
 
-      down : (x w : ℕ) → Points one_link x w → IsLower (nodes before gate) w x
-      down x w h = let e = only_link x w h in subst (λ (z : ℕ). IsLower (nodes before gate) w z) (sym e.0)
-          (subst (λ (z : ℕ). IsLower (nodes before gate) z 1) (sym e.1) (inr (refl, omega arith)))
+      down : (x w : ℕ) → Points one_link x w → IsLower (nodes before gate0) w x
+      down x w h = let e = only_link x w h in subst (λ (z : ℕ). IsLower (nodes before gate0) w z) (sym e.0)
+          (subst (λ (z : ℕ). IsLower (nodes before gate0) z 1) (sym e.1) (inr (refl, omega arith)))
 
-      none : (x : ℕ) (l : Link) → Contains (nodes before gate x).links.items l → 0 < l.heard → ⊥
-      none zero l listed some = omega (arith, some, ap (λ (k : Link). k.heard) (only (link 1 0) l listed))
-      none (suc zero) l listed some = omega (arith, some, ap (λ (k : Link). k.heard) (only (link 0 0) l listed))
-      none (suc (suc x)) l listed some = omega (arith, some, ap (λ (k : Link). k.heard) (only (link 0 0) l listed))
+      none : (x : ℕ) (l : Link) → Contains (nodes before gate0 x).links.items l → 0 < l.heard → ⊥
+      none zero l listed some = omega (arith, some, ap (λ (k : Link). k.heard) (only (new_link 1) l listed))
+      none (suc zero) l listed some = omega (arith, some, ap (λ (k : Link). k.heard) (only (new_link 0) l listed))
+      none (suc (suc x)) l listed some = omega (arith, some, ap (λ (k : Link). k.heard) (only (new_link 0) l listed))
 
-  -- The gateway says its height
+  -- What a step is: one router says something, or hears the last message
 
-  stays : (a : Node) → Steps [] a a
-  stays a = record {
+  idles : (a : Node) → Steps [] a a
+  idles a = record {
     me = refl;
     goes_on = λ h known. (
       h,
@@ -304,8 +349,95 @@ module _ (alloc : Global) where
     );
   }
 
-  says : IsMessageTo gate 0 hello
-  says = record {
+  says : (a b : Node) (pool : List Message) (m : Message) → IsMessageTo (nodes a b m.from) m.to m
+      → IsStep 1 (moment a b pool) (moment a b (m ∷ pool))
+  says a b pool m honest = record {
+    messages = [];
+    sent = λ k h. absurd (Contains-none k h);
+    call = same_links b b refl refl (idles b);
+    others = λ y other. refl;
+    said = λ k h. ⊎_elim
+        (λ e. inr (subst (λ (j : Message). IsMessageTo (nodes a b j.from) j.to j) e honest))
+        (λ old. inl old)
+        (Contains-cases k m pool h);
+  }
+
+  only_last : (m : Message) (pool : List Message) (k : Message) → Contains (m ∷ []) k → Contains (m ∷ pool) k
+  only_last m pool k h = ⊎_elim
+      (λ e. subst (Contains (m ∷ pool)) e (Contains-head m pool))
+      (λ none. absurd (Contains-none k none))
+      (Contains-cases k m [] h)
+
+  router_hears : (a mid c b : Node) (m : Message) (pool : List Message) → InTurn a mid c
+      → Hears a.own m a.links.items c.links.items → IsStep 0 (moment a b (m ∷ pool)) (moment c b (m ∷ pool))
+  router_hears a mid c b m pool turn hears = record {
+    messages = m ∷ [];
+    sent = only_last m pool;
+    call = hearing_is_a_call m a c hears event.same event.policy event.step;
+    others = others;
+    said = λ k h. inl h;
+  }
+    where
+      event : IsEvent (m ∷ []) a c
+      event = after_hearing m a mid c turn
+          (subst (λ (ls : Vec Link). Hears a.own m a.links.items ls.items) (ap (λ (n : Node). n.links) turn.own) hears)
+
+      others : (y : ℕ) → y ≢ 0 → nodes c b y ≡ nodes a b y
+      others zero other = absurd (other refl)
+      others (suc zero) other = refl
+      others (suc (suc y)) other = refl
+
+  -- a gateway announces nothing
+  gate_hears : (a : Node) (l k : Link) (m : Message) (pool : List Message) → Hears (own 1 0 1) m (l ∷ []) (k ∷ [])
+      → IsStep 1 (moment a (gate l) (m ∷ pool)) (moment a (gate k) (m ∷ pool))
+  gate_hears a l k m pool hears = record {
+    messages = m ∷ [];
+    sent = only_last m pool;
+    call = hearing_is_a_call m (gate l) (gate k) hears event.same event.policy event.step;
+    others = others;
+    said = λ k h. inl h;
+  }
+    where
+      acts : Acts (gate k) (own 1 0 1)
+      acts = record {
+        said = own 1 0 1;
+        announces = inr (inr (record { stays = λ may. absurd (true_false (sym may.forwards)); own = refl }));
+        settles = record { used = λ _. refl; waits = λ _. refl };
+      }
+
+      event : IsEvent (m ∷ []) (gate l) (gate k)
+      event = after_hearing m (gate l) (gate k) (gate k)
+          (record { links = refl; own = refl; announces = Announces-none (own 1 0 1); acts = acts }) hears
+
+      others : (y : ℕ) → y ≢ 1 → nodes a (gate k) y ≡ nodes a (gate l) y
+      others zero other = refl
+      others (suc zero) other = absurd (other refl)
+      others (suc (suc y)) other = refl
+
+  gate_distance : (l : Link) → IsDistance (gate l) 0
+  gate_distance l = record {
+    gateway = λ _. refl;
+    near = λ other. absurd (other refl);
+    far = λ other. absurd (other refl);
+  }
+
+  gate_says : (l : Link) (m : Message) → m.from ≡ 1 → m.to ≡ 0 → m.boot ≡ 1 → m.number ≡ 1 → m.height ≡ 0
+      → m.distance ≡ 0 → l.neighbour ≡ 0 → m.echo ≡ l.peer → m.heard ≡ l.heard → IsMessageTo (gate l) 0 m
+  gate_says l m from to boot number height distance leads echo heard = record {
+    from = from;
+    to = to;
+    boot = boot;
+    echo = rw (eq-eqb l.neighbour 0 leads) echo;
+    number = number;
+    height = height;
+    heard = rw (eq-eqb l.neighbour 0 leads) heard;
+    distance = subst (IsDistance (gate l)) (sym distance) (gate_distance l);
+  }
+
+  -- Each step
+
+  says_started : IsMessageTo before 1 started
+  says_started = record {
     from = refl;
     to = refl;
     boot = refl;
@@ -314,39 +446,26 @@ module _ (alloc : Global) where
     height = refl;
     heard = refl;
     distance = record {
-      gateway = λ _. refl;
-      near = λ other. absurd (other refl);
-      far = λ other. absurd (other refl);
+      gateway = λ g. absurd (true_false g);
+      near = λ _ k nearest. absurd (no_way k nearest);
+      far = λ _ _. refl;
     };
   }
 
-  first_step : IsStep 1 first_moment second_moment
-  first_step = record {
-    messages = [];
-    sent = λ m h. absurd (Contains-none m h);
-    call = same_links gate gate refl refl (stays gate);
-    others = λ y other. refl;
-    said = λ m h. ⊎_elim
-        (λ e. inr (subst (λ (k : Message). IsMessageTo (nodes before gate k.from) k.to k) e says))
-        (λ old. inl old)
-        (Contains-cases m hello [] h);
-  }
-
-  -- The other router hears it, and announces a height
-
+  -- the router hears the gateway's height, and announces one
   abbrev middle : Node
-  middle = record before { links = links (link 1 1) }
+  middle = router (own 0 0 1) greeted
 
   above : IsAboveAll middle 1
   above = record {
-    sink = All-cons (λ l. l.up ≡ true → (0 < l.heard) × (is_lower (own 0 0 1) l ≡ false)) (link 1 1) []
+    sink = All-cons (λ l. l.up ≡ true → (0 < l.heard) × (is_lower (own 0 0 1) l ≡ false)) greeted []
         (λ _. (omega arith, refl)) (All-nil _);
     highest = (
-      link 1 1,
+      greeted,
       record {
-        listed = Contains-head (link 1 1) [];
+        listed = Contains-head greeted [];
         good = refl;
-        best = All-cons (λ l. is_up l ≡ true → is_higher l (link 1 1) ≡ false) (link 1 1) [] (λ _. refl) (All-nil _);
+        best = All-cons (λ l. is_up l ≡ true → is_higher l greeted ≡ false) greeted [] (λ _. refl) (All-nil _);
       },
       refl,
     );
@@ -367,8 +486,8 @@ module _ (alloc : Global) where
     settles = record { used = λ _. refl; waits = λ no. absurd (no (λ e. absurd (true_false e))) };
   }
 
-  turn : InTurn before middle after
-  turn = record {
+  rises : InTurn before middle after
+  rises = record {
     links = refl;
     own = refl;
     announces = Announces-then (own 0 0 1) (record (own 0 0 1) { announced = 1; number = 2; announced_since = 2 })
@@ -377,27 +496,8 @@ module _ (alloc : Global) where
     acts = acts;
   }
 
-  event : IsEvent (hello ∷ []) before after
-  event = after_hearing hello before middle after turn hears
-
-  second_step : IsStep 0 second_moment third_moment
-  second_step = record {
-    messages = hello ∷ [];
-    sent = λ m h. h;
-    call = hearing_is_a_call hello before after hears event.same event.policy event.step;
-    others = others;
-    said = λ m h. inl h;
-  }
-    where
-      others : (y : ℕ) → y ≢ 0 → nodes after gate y ≡ nodes before gate y
-      others zero other = absurd (other refl)
-      others (suc zero) other = refl
-      others (suc (suc y)) other = refl
-
-  -- It says its height, and the gateway hears it
-
-  replies : IsMessageTo after 1 reply
-  replies = record {
+  says_reply : IsMessageTo after 1 reply
+  says_reply = record {
     from = refl;
     to = refl;
     boot = refl;
@@ -412,89 +512,58 @@ module _ (alloc : Global) where
     };
   }
 
-  third_step : IsStep 0 third_moment fourth_moment
-  third_step = record {
-    messages = [];
-    sent = λ m h. absurd (Contains-none m h);
-    call = same_links after after refl refl (stays after);
-    others = λ y other. refl;
-    said = λ m h. ⊎_elim
-        (λ e. inr (subst (λ (k : Message). IsMessageTo (nodes after gate k.from) k.to k) e replies))
-        (λ old. inl old)
-        (Contains-cases m reply (hello ∷ []) h);
-  }
+  -- it has a way, so it announces nothing more
+  no_sink : (v : ℕ) → ¬ IsAboveAll done v
+  no_sink v above = true_false (sym (All-contains
+      (λ l. l.up ≡ true → (0 < l.heard) × (is_lower (own 0 1 2) l ≡ false)) (answered ∷ []) answered above.sink
+      (Contains-head answered []) refl).1)
 
-  gate_acts : Acts gate_then (own 1 0 1)
-  gate_acts = record {
-    said = own 1 0 1;
-    announces = inr (inr (record { stays = λ may. absurd (true_false (sym may.forwards)); own = refl }));
+  keeps : Acts done (own 0 1 2)
+  keeps = record {
+    said = own 0 1 2;
+    announces = inr (inr (record {
+      stays = λ may v. (λ falls. true_false falls.wanted, λ rises. absurd (no_sink v rises));
+      own = refl;
+    }));
     settles = record { used = λ _. refl; waits = λ _. refl };
   }
 
-  gate_event : IsEvent (reply ∷ []) gate gate_then
-  gate_event = after_hearing reply gate gate_then gate_then
-      (record { links = refl; own = refl; announces = Announces-none (own 1 0 1); acts = gate_acts }) reply_hears
-
-  fourth_step : IsStep 1 fourth_moment fifth_moment
-  fourth_step = record {
-    messages = reply ∷ [];
-    sent = λ k h. subst (Contains (reply ∷ hello ∷ [])) (only_message k h) (Contains-head reply (hello ∷ []));
-    call = hearing_is_a_call reply gate gate_then reply_hears gate_event.same gate_event.policy gate_event.step;
-    others = others;
-    said = λ m h. inl h;
-  }
-    where
-      only_message : (k : Message) → Contains (reply ∷ []) k → reply ≡ k
-      only_message k h = ⊎_elim (λ e. e) (λ none. absurd (Contains-none k none)) (Contains-cases k reply [] h)
-
-      others : (y : ℕ) → y ≢ 1 → nodes after gate_then y ≡ nodes after gate y
-      others zero other = refl
-      others (suc zero) other = absurd (other refl)
-      others (suc (suc y)) other = refl
+  stays : InTurn after done done
+  stays = record { links = refl; own = refl; announces = Announces-none (own 0 1 2); acts = keeps }
 
   -- Nothing more happens
 
-  quiet : IsQuiet 2 (nodes after gate_then)
-  quiet = record { me = me; room = room; told = told; still = still }
+  quiet : IsQuiet 2 (nodes done gate2)
+  quiet = record { me = me; announced = announced; room = room; told = all_told; still = still }
     where
-      me : (x : ℕ) → x < 2 → (nodes after gate_then x).own.me ≡ x
+      me : (x : ℕ) → x < 2 → (nodes done gate2 x).own.me ≡ x
       me zero l = refl
       me (suc zero) l = refl
       me (suc (suc x)) l = absurd (omega (arith, l))
 
-      room : (x : ℕ) → x < 2 → (nodes after gate_then x).own.used + 1 < 2 ^ 64
+      announced : (x : ℕ) → x < 2 → (h : ℕ → ℕ) × IsHistory (nodes done gate2 x).own h
+      announced zero l = (λ _. 1, history 0 1 2 (omega arith))
+      announced (suc zero) l = (λ _. 0, history 1 0 1 (omega arith))
+      announced (suc (suc x)) l = absurd (omega (arith, l))
+
+      room : (x : ℕ) → x < 2 → (nodes done gate2 x).own.used + 1 < 2 ^ 64
       room zero l = omega arith
       room (suc zero) l = omega arith
       room (suc (suc x)) l = absurd (omega (arith, l))
 
-      told_after : IsTold 2 (nodes after gate_then) 0 (link 1 1)
-      told_after = record {
-        within = omega arith;
-        linked = (met, Contains-head met [], refl, refl);
-        heard = omega arith;
-        seen = refl;
-      }
+      told_router : IsTold 2 (nodes done gate2) 0 answered
+      told_router = record { within = omega arith; linked = refl; heard = omega arith; seen = refl; acked = refl }
 
-      told_gate : IsTold 2 (nodes after gate_then) 1 met
-      told_gate = record {
-        within = omega arith;
-        linked = (link 1 1, Contains-head (link 1 1) [], refl, refl);
-        heard = omega arith;
-        seen = refl;
-      }
+      told_gate : IsTold 2 (nodes done gate2) 1 told
+      told_gate = record { within = omega arith; linked = refl; heard = omega arith; seen = refl; acked = refl }
 
-      told : (x : ℕ) (l : Link) → x < 2 → Contains (nodes after gate_then x).links.items l → l.up ≡ true
-          → IsTold 2 (nodes after gate_then) x l
-      told zero l inside listed up = subst (IsTold 2 (nodes after gate_then) 0) (only (link 1 1) l listed) told_after
-      told (suc zero) l inside listed up = subst (IsTold 2 (nodes after gate_then) 1) (only met l listed) told_gate
-      told (suc (suc x)) l inside listed up = absurd (omega (arith, inside))
+      all_told : (x : ℕ) (l : Link) → x < 2 → Contains (nodes done gate2 x).links.items l → l.up ≡ true
+          → IsTold 2 (nodes done gate2) x l
+      all_told zero l inside listed up = subst (IsTold 2 (nodes done gate2) 0) (only answered l listed) told_router
+      all_told (suc zero) l inside listed up = subst (IsTold 2 (nodes done gate2) 1) (only told l listed) told_gate
+      all_told (suc (suc x)) l inside listed up = absurd (omega (arith, inside))
 
-      no_sink : (v : ℕ) → ¬ IsAboveAll after v
-      no_sink v above = true_false (sym (All-contains
-          (λ l. l.up ≡ true → (0 < l.heard) × (is_lower (own 0 1 2) l ≡ false)) (link 1 1 ∷ []) (link 1 1) above.sink
-          (Contains-head (link 1 1) []) refl).1)
-
-      still : (x : ℕ) → x < 2 → IsTrue (nodes after gate_then x).gateway ⊎ IsStill (nodes after gate_then x)
+      still : (x : ℕ) → x < 2 → IsTrue (nodes done gate2 x).gateway ⊎ IsStill (nodes done gate2 x)
       still zero l = inr (record {
         full = refl;
         may = record { forwards = refl; settled = refl; number = omega arith };
@@ -506,21 +575,73 @@ module _ (alloc : Global) where
       still (suc zero) l = inl refl
       still (suc (suc x)) l = absurd (omega (arith, l))
 
+  starts_from_one : (x : ℕ) → 0 < (nodes before gate0 x).own.boot
+  starts_from_one zero = omega arith
+  starts_from_one (suc zero) = omega arith
+  starts_from_one (suc (suc x)) = omega arith
+
+  abbrev pool1 : List Message
+  pool1 = started ∷ []
+
+  abbrev pool2 : List Message
+  pool2 = hello ∷ pool1
+
+  abbrev pool3 : List Message
+  pool3 = reply ∷ pool2
+
+  abbrev pool4 : List Message
+  pool4 = answer ∷ pool3
+
+  step1 : IsStep 1 (moment before gate0 []) (moment before gate0 pool1)
+  step1 = says before gate0 [] started says_started
+
+  step2 : IsStep 1 (moment before gate0 pool1) (moment before gate1 pool1)
+  step2 = gate_hears before (new_link 0) met started [] hears_started
+
+  step3 : IsStep 1 (moment before gate1 pool1) (moment before gate1 pool2)
+  step3 = says before gate1 pool1 hello (gate_says met hello refl refl refl refl refl refl refl refl refl)
+
+  step4 : IsStep 0 (moment before gate1 pool2) (moment after gate1 pool2)
+  step4 = router_hears before middle after gate1 hello pool1 rises hears_hello
+
+  step5 : IsStep 1 (moment after gate1 pool2) (moment after gate1 pool3)
+  step5 = says after gate1 pool2 reply says_reply
+
+  step6 : IsStep 1 (moment after gate1 pool3) (moment after gate2 pool3)
+  step6 = gate_hears after met told reply pool2 hears_reply
+
+  step7 : IsStep 1 (moment after gate2 pool3) (moment after gate2 pool4)
+  step7 = says after gate2 pool3 answer (gate_says told answer refl refl refl refl refl refl refl refl refl)
+
+  step8 : IsStep 0 (moment after gate2 pool4) (moment done gate2 pool4)
+  step8 = router_hears after done done gate2 answer pool3 stays hears_answer
+
+  abbrev last_four : List (ℕ × Configuration)
+  last_four = (1, moment after gate1 pool3) ∷ (1, moment after gate2 pool3) ∷ (1, moment after gate2 pool4)
+      ∷ (0, moment done gate2 pool4) ∷ []
+
+  last_steps : AreSteps 2 (moment after gate1 pool2) last_four
+  last_steps = (omega arith, step5, (omega arith, step6, (omega arith, step7, (omega arith, step8, tt))))
+
+  abbrev all_eight : List (ℕ × Configuration)
+  all_eight = (1, moment before gate0 pool1) ∷ (1, moment before gate1 pool1) ∷ (1, moment before gate1 pool2)
+      ∷ (0, moment after gate1 pool2) ∷ last_four
+
+  all_steps : AreSteps 2 (moment before gate0 []) all_eight
+  all_steps = (omega arith, step1, (omega arith, step2, (omega arith, step3, (omega arith, step4, last_steps))))
+
 pub some_router_announces : SomeRouterAnnounces
 some_router_announces alloc = (
   2,
   1,
   one_link,
-  first_moment alloc,
-  (1, second_moment alloc) ∷ (0, third_moment alloc) ∷ (0, fourth_moment alloc) ∷ (1, fifth_moment alloc) ∷ [],
+  moment alloc (before alloc) (gate0 alloc) [],
+  all_eight alloc,
   connected,
   network alloc,
-  (
-    omega arith,
-    first_step alloc,
-    (omega arith, second_step alloc, (omega arith, third_step alloc, (omega arith, fourth_step alloc, tt))),
-  ),
+  all_steps alloc,
   refl,
+  starts_from_one alloc,
   refl,
   quiet alloc,
 )

@@ -165,12 +165,13 @@ QuietRoutersAreSettled = (n d : ℕ) (first : List (ℕ × ℕ)) (settled : List
     → IsNetwork n d first s → AreSteps n s ps → IsQuiet n (last s ps).node → x < n
     → times s (last s ps) x ≡ slice_index settled x
 
--- these premises can be met: by two routers that have said nothing, of which one announces a height. After four steps
--- nothing more happens
+-- these premises can be met: by two routers that have said nothing, with numbers of starts greater than 0. One of them
+-- announces a height. Then each has acknowledged the other's last announcement, and nothing more happens
 abbrev pub SomeRouterAnnounces : Type 0
 SomeRouterAnnounces = (alloc : Global) → (n d : ℕ) × (first : List (ℕ × ℕ)) × (s : Configuration)
     × (ps : List (ℕ × Configuration)) × IsConnectedNet n d first × IsNetwork n d first s × AreSteps n s ps
-    × (s.pool ≡ []) × (length (announcements s s ps) ≡ 1) × IsQuiet n (last s ps).node
+    × (s.pool ≡ []) × ((x : ℕ) → 0 < (s.node x).own.boot) × (length (announcements s s ps) ≡ 1)
+    × IsQuiet n (last s ps).node
 
 -- The running code: by what each call of a node ensures, it is a call of these laws while no link goes up or down
 

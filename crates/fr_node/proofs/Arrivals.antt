@@ -1,5 +1,6 @@
 -- Where nothing more happens, each router has a way, and ways lead down.
-use Rattle.std.proofs.Common.{All, Bool, IsTrue, None, Option, Some, arith, ap, false, get_or, inl, inr, refl, subst, suc, sym, true, zero, ℕ, ⊎_elim, ◌*◌, ◌+◌, ◌<◌, ◌≡◌, ◌≤◌, ◌⊎◌, ◌∙◌, ◌||◌}
+use Rattle.std.proofs.Common.{All, Bool, IsTrue, None, Option, Some, arith, ap, false, get_or, inl, inr, refl, subst}
+use Rattle.std.proofs.Common.{suc, sym, true, zero, ℕ, ⊎_elim, ◌*◌, ◌+◌, ◌<◌, ◌≡◌, ◌≤◌, ◌⊎◌, ◌∙◌, ◌||◌}
 use Rattle.std.specs.List.{list_any}
 use Rattle.std.proofs.Math.Nat.{mul-le-mul_right}
 use Rattle.std.proofs.lemmas.Bool.{cases_Bool}
@@ -80,7 +81,8 @@ module _ (routers : ℕ) (node : ℕ → Node) (quiet : IsQuiet routers node) (x
       })
 
   pub has_way : IsStill (node x) → (w : ℕ) → IsLinkedTo (node x) w → (v : ℕ) × SendsTo (node x) v
-  has_way still w linked = ⊎_elim some (λ f. absurd (none f)) (cases_Bool (list_any (is_way (node x).own) (node x).links.items))
+  has_way still w linked = ⊎_elim some (λ f. absurd (none f))
+      (cases_Bool (list_any (is_way (node x).own) (node x).links.items))
     where
       some : list_any (is_way (node x).own) (node x).links.items ≡ true → (v : ℕ) × SendsTo (node x) v
       some t = let a = Any-from_list_any (is_way (node x).own) (node x).links.items t in

@@ -1,5 +1,6 @@
 -- One link of a list has changed.
-use Rattle.std.proofs.Common.{Bool, List, Some, ap, arith, false, get_or, length, map, refl, set, subst, sym, true, ℕ, ⊎_elim, ◌<◌, ◌==◌, ◌≡◌, ◌≢◌, ◌∙◌}
+use Rattle.std.proofs.Common.{Bool, List, Some, ap, arith, false, get_or, length, map, refl, set, subst, sym, true, ℕ}
+use Rattle.std.proofs.Common.{⊎_elim, ◌<◌, ◌==◌, ◌≡◌, ◌≢◌, ◌∙◌}
 use Rattle.std.specs.List.{Contains, position}
 use Rattle.std.proofs.Math.Seq.{map-set_same}
 use Rattle.std.proofs.lemmas.Bool.{cases_lt, lt-ltb}

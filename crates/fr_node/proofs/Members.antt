@@ -1,5 +1,5 @@
 -- Elements of a list with one more in front.
-use Rattle.std.proofs.Common.{Contains, List, [], arith, inl, inr, refl, suc, zero, ℕ, ◌∷◌, ◌≡◌, ◌⊎◌}
+use Rattle.std.proofs.Common.{Contains, List, [], arith, inl, inr, refl, suc, zero, ◌∷◌, ◌≡◌, ◌⊎◌}
 
 pub Contains-none : {X : Type 0} (x : X) → ¬ Contains [] x
 Contains-none x c = omega (arith, c.1)

@@ -31,8 +31,7 @@ new_router start height = record {
   acked = λ _. 0;
 }
 
--- the router after it has met a greater start of the message's sender, in a message for none of its own starts or for an
--- earlier one
+-- the router after it has met a greater start of the message's sender. The message is not for its own present start
 abbrev pub met : Message → Router → Router
 met m r = record r {
   peer = but r.peer m.from m.boot;
@@ -55,6 +54,19 @@ announcing v r = record r {
   height = v;
   number = r.number + 1;
   announced = but r.announced (r.number + 1) v;
+}
+
+-- what router x, in this state, says to w. Distances do not matter here
+abbrev pub said : Router → ℕ → ℕ → Message
+said r x w = record {
+  from = x;
+  to = w;
+  boot = r.boot;
+  echo = r.peer w;
+  number = r.number;
+  height = r.announced r.number;
+  heard = r.heard w;
+  distance = 0;
 }
 
 pub idle : (pool : List Message) (y : ℕ) (r : Router) → GoesOn pool y r r
@@ -149,14 +161,19 @@ routers a b c (suc (suc (suc y))) = new_router 1 0
 abbrev pub net : (a b c : Router) → List Message → Net
 net a b c pool = record { router = routers a b c; pool = pool }
 
--- a message is said
-pub says : (s : Net) (m : Message) → IsSaidBy (s.router m.from) m → IsStep s (record s { pool = m ∷ s.pool })
-says s m honest = record {
+-- router x says to w what it knows
+pub says : (s : Net) (x w : ℕ) → IsStep s (record s { pool = said (s.router x) x w ∷ s.pool })
+says s x w = record {
   routers = λ y. inl (idle s.pool y (s.router y));
-  kept = λ k h. Contains-tail k m s.pool h;
-  new = λ k h. ⊎_elim (λ e. inr (subst (λ (j : Message). IsSaidBy (s.router j.from) j) e honest)) (λ old. inl old)
-      (Contains-cases k m s.pool h);
+  kept = λ m h. Contains-tail m (said (s.router x) x w) s.pool h;
+  new = λ m h. ⊎_elim
+      (λ e. inr (subst (λ (k : Message). IsSaidBy (s.router k.from) k) e honest))
+      (λ old. inl old)
+      (Contains-cases m (said (s.router x) x w) s.pool h);
 }
+  where
+    honest : IsSaidBy (s.router x) (said (s.router x) x w)
+    honest = record { boot = refl; echo = refl; number = omega arith; height = refl; heard = refl }
 
 -- a router changes
 module _ (pool : List Message) (a b c t : Router) where
@@ -187,7 +204,7 @@ module _ (pool : List Message) (a b c t : Router) where
       each (suc (suc zero)) = h
       each (suc (suc (suc y))) = inl (idle pool (suc (suc (suc y))) (new_router 1 0))
 
--- of these three routers, what holds of each new one holds of all
+-- what holds of each new router holds of all
 of_each : (P : Router → Type 0) → ((start height : ℕ) → P (new_router start height)) → (i j k : ℕ)
     → (y : ℕ) → P (routers (new_router 1 i) (new_router 1 j) (new_router 1 k) y)
 of_each P new i j k zero = new 1 i

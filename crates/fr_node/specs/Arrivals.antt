@@ -34,8 +34,8 @@ pub record IsStill (n : Node) : Type 0 where
   pub may : MayAnnounce n
   pub keeps : Keeps n n.own
 
--- a network of so many routers, node x being router x. Each has made some announcements, and could take a greater height.
--- All messages have arrived, and each router is a gateway or still
+-- a network of so many routers, node x being router x. Each has announced heights, and a greater one than its own has
+-- 64 bits. All messages have arrived, and each router is a gateway or still
 pub record IsQuiet (routers : ℕ) (node : ℕ → Node) : Type 0 where
   pub me : (x : ℕ) → x < routers → (node x).own.me ≡ x
   pub announced : (x : ℕ) → x < routers → (h : ℕ → ℕ) × IsHistory (node x).own h

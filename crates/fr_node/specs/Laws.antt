@@ -8,8 +8,8 @@ use Rattle.fr_node.specs.Routers.{Net, IsStart, IsRun, IsUsed, last, HasNoLoop}
 abbrev pub NeverALoop : Type 0
 NeverALoop = (s : Net) (ts : List Net) → IsStart s → IsRun s ts → HasNoLoop (last s ts)
 
--- links come into use: some run ends with a used link, from router 1 to router 0. All numbers of starts are greater than
--- 0. Router 1 has restarted, and router 0 is no gateway, so its gate is open because router 1 has acknowledged its height
+-- links come into use: some run ends with a used link, from router 1 to router 0. All numbers of starts are greater
+-- than 0. Router 1 has restarted, and router 0 is no gateway, so router 1 has acknowledged its height
 abbrev pub SomeLinkIsUsed : Type 0
 SomeLinkIsUsed = (s : Net) × (ts : List Net) × IsStart s × IsRun s ts × IsUsed (last s ts) 1 0
     × ((y : ℕ) → 0 < (s.router y).boot) × ((s.router 1).boot < ((last s ts).router 1).boot)

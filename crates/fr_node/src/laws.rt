@@ -1,12 +1,17 @@
-//! The laws of networks of routers. Each clause is a law of `specs/Laws.antt`, proved. The functions do nothing.
+//! The laws of networks of routers. Each clause is a law of `specs/`, proved. The functions do nothing.
 
 ghost use Rattle.fr_node.specs.Bytes.{OneMessage};
 ghost use Rattle.fr_node.specs.Daemons.{DaemonsHaveNoLoop};
-ghost use Rattle.fr_node.specs.Laws.{NeverALoop, PacketsArrive, SomeLinkIsUsed};
 ghost use Rattle.fr_node.specs.Tables.{SomeTablesLetThrough, TablesHaveNoLoop};
+ghost use Rattle.fr_node.specs.Heights.{CallsActBeside, SameHeightIsBounded, SomeHeightComesBack};
+ghost use Rattle.fr_node.specs.Laws.{NeverALoop, PacketsArrive, SomeLinkIsUsed};
+ghost use Rattle.fr_node.specs.Lowerings.{CallsKeepLinksOrFall, LinkBoundsWithFalls, PathBoundsWithFalls};
+ghost use Rattle.fr_node.specs.Lowerings.{SomeRouterFalls};
+ghost use Rattle.fr_node.specs.Paths.{BoundIsReached, CallsKeepLinks, DownPathIsQuiet, LinkBoundsAnnouncements};
+ghost use Rattle.fr_node.specs.Paths.{PathBoundsAnnouncements, UnheardAreAnnouncements};
 
 /// At no moment do the links that routers use contain a loop, whatever happens to messages and whichever routers
-/// restart. In some run a link is used.
+/// restart. In some run a router restarts, and a link is used then.
 pub fn routers_law()
     ensures safe { NeverALoop }
     ensures possible { SomeLinkIsUsed }
@@ -23,9 +28,44 @@ pub fn tables_law()
 {}
 
 /// In a network of routers with `Rise::Full`, once all messages have arrived and no router raises its height, each
-/// router that has a link has a way. Packets come to a gateway, whichever ways they take.
+/// router that has a link has a way. Packets come to a gateway, whichever ways they take, and each router that they
+/// reach lets them in.
 pub fn ways_law()
     ensures { PacketsArrive }
+{}
+
+/// Routers with `Rise::Full` and without `lower`, joined to a gateway by a path of links that stay up. After anything
+/// that can have happened, and whatever happens to other links and routers meanwhile, each of them announces at most
+/// one height for each link of the path, and one for each announcement that a router of the path has not heard of the
+/// next one. If the path leads down, and all of it is heard, none of them announces anything. In some run two heights
+/// are due, and announced. Each call of a `Node` is a step of these laws beside each link that is up.
+pub fn paths_law()
+    ensures link { LinkBoundsAnnouncements }
+    ensures path { PathBoundsAnnouncements }
+    ensures known { UnheardAreAnnouncements }
+    ensures quiet { DownPathIsQuiet }
+    ensures possible { BoundIsReached }
+    ensures calls { CallsKeepLinks }
+{}
+
+/// The same for routers with `Rise::Full` that may also lower their heights: beyond what is due on the path, each of
+/// them announces at most two heights for each time that a router of the path lowers its height. In some run it
+/// announces as many.
+pub fn lowering_law()
+    ensures link { LinkBoundsWithFalls }
+    ensures path { PathBoundsWithFalls }
+    ensures possible { SomeRouterFalls }
+    ensures calls { CallsKeepLinksOrFall }
+{}
+
+/// A router that rises only beside neighbours of which none is known to be lower, and falls only beside one that is,
+/// announces the same height at most once, and again for each time that it goes below that height or hears an
+/// announcement below it. In some run a height comes back as often as that. Each call of a `Node` with `Rise::Full` is
+/// a step of this law.
+pub fn heights_law()
+    ensures again { SameHeightIsBounded }
+    ensures possible { SomeHeightComesBack }
+    ensures calls { CallsActBeside }
 {}
 
 /// No two messages have the same bytes. So `Message::read` returns the message that `Message::write` wrote.
