@@ -1,5 +1,5 @@
-//! The request of a line by `serde_json`, which reads every line. `specs/Requests.antt` defines which line is which
-//! request.
+//! The request of a line by `serde_json`, which reads the lines that are not read by their bytes. `specs/Requests.antt`
+//! defines which line is which request.
 
 ghost use Rattle.std.specs.Prelude.{◌≡◌, ◌≢◌, ◌∷◌, [], Ok, Err, Some, None, IfOk, IfErr};
 ghost use Rattle.std.specs.Prelude.{OnOk, map, ok_or, option_and_then, option_map};
