@@ -1,6 +1,7 @@
 //! The laws of networks of routers. Each clause is a law of `specs/`, proved. The functions do nothing.
 
 ghost use Rattle.fr_node.specs.Bytes.{OneMessage};
+ghost use Rattle.fr_node.specs.Ceilings.{JoinedPacketsArrive, SomeRouterIsJoined};
 ghost use Rattle.fr_node.specs.Daemons.{DaemonsHaveNoLoop};
 ghost use Rattle.fr_node.specs.Tables.{SomeTablesLetThrough, TablesHaveNoLoop};
 ghost use Rattle.fr_node.specs.Heights.{CallsActBeside, SameHeightIsBounded, SomeHeightComesBack};
@@ -32,6 +33,15 @@ pub fn tables_law()
 /// reach lets them in.
 pub fn ways_law()
     ensures { PacketsArrive }
+{}
+
+/// In a network of routers with `Rise::Ceiling` and `lower`, with one ceiling that is at least the number of routers,
+/// once all messages have arrived and no router changes its height, packets of each router that is joined to a gateway
+/// come to a gateway, whichever ways they take. Each router that they reach lets them in. A gateway and a router meet
+/// these premises.
+pub fn ceiling_law()
+    ensures arrive { JoinedPacketsArrive }
+    ensures possible { SomeRouterIsJoined }
 {}
 
 /// Routers with `Rise::Full` and without `lower`, joined to a gateway by a path of links that stay up. After anything

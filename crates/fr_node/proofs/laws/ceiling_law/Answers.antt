@@ -1,0 +1,9 @@
+use Rattle.fr_node.proofs.CeilingExample.{some_router_is_joined}
+use Rattle.fr_node.proofs.Ceilings.{joined_packets_arrive}
+use Rattle.fr_node.proofs.laws.ceiling_law.Goals as goal
+
+pub returns-clause-arrive : goal.returns-clause-arrive
+returns-clause-arrive c = joined_packets_arrive
+
+pub returns-clause-possible : goal.returns-clause-possible
+returns-clause-possible c = some_router_is_joined
