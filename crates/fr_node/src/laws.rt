@@ -8,6 +8,7 @@ ghost use Rattle.fr_node.specs.Heights.{CallsActBeside, SameHeightIsBounded, Som
 ghost use Rattle.fr_node.specs.Laws.{NeverALoop, PacketsArrive, SomeLinkIsUsed};
 ghost use Rattle.fr_node.specs.Lowerings.{CallsKeepLinksOrFall, LinkBoundsWithFalls, PathBoundsWithFalls};
 ghost use Rattle.fr_node.specs.Lowerings.{SomeRouterFalls};
+ghost use Rattle.fr_node.specs.Rests.{AnnouncementsEnd};
 ghost use Rattle.fr_node.specs.Paths.{BoundIsReached, CallsKeepLinks, DownPathIsQuiet, LinkBoundsAnnouncements};
 ghost use Rattle.fr_node.specs.Paths.{PathBoundsAnnouncements, UnheardAreAnnouncements};
 
@@ -42,6 +43,7 @@ pub fn ways_law()
 pub fn ceiling_law()
     ensures arrive { JoinedPacketsArrive }
     ensures possible { SomeRouterIsJoined }
+    ensures rest { AnnouncementsEnd }
 {}
 
 /// Routers with `Rise::Full` and without `lower`, joined to a gateway by a path of links that stay up. After anything

@@ -1,5 +1,6 @@
 use Rattle.fr_node.proofs.CeilingExample.{some_router_is_joined}
 use Rattle.fr_node.proofs.Ceilings.{joined_packets_arrive}
+use Rattle.fr_node.proofs.Rests.{announcements_end}
 use Rattle.fr_node.proofs.laws.ceiling_law.Goals as goal
 
 pub returns-clause-arrive : goal.returns-clause-arrive
@@ -7,3 +8,6 @@ returns-clause-arrive c = joined_packets_arrive
 
 pub returns-clause-possible : goal.returns-clause-possible
 returns-clause-possible c = some_router_is_joined
+
+pub returns-clause-rest : goal.returns-clause-rest
+returns-clause-rest c = announcements_end
