@@ -1,9 +1,9 @@
 -- How often a router hears of a neighbour what is below it at one height: no more often than it has not heard of it at
 -- first, and the neighbour announces such heights.
-use Rattle.std.proofs.Common.{Bool, Contains, List, [], add-one, ap, arith, false, inl, inr, not, refl, subst, suc, sym}
+use Rattle.std.proofs.Common.{Bool, Contains, List, [], add-one, ap, arith, inl, inr, not, refl, subst, suc, sym}
 use Rattle.std.proofs.Common.{true, zero, ℕ, ⊎_elim, ◌∷◌, ◌&&◌, ◌+◌, ◌-◌, ◌<◌, ◌==◌, ◌||◌, ◌≡◌, ◌≤◌, ◌⊎◌, ◌∙◌}
 use Rattle.std.specs.Prelude.{nat_lt}
-use Rattle.std.proofs.lemmas.Bool.{cases_Bool, cases_eq, cases_lt}
+use Rattle.std.proofs.lemmas.Bool.{cases_Bool, cases_lt}
 use Rattle.std.proofs.lemmas.Bool.Decides.{nat_tests}
 use Rattle.fr_node.specs.declared.message.Message.{Message}
 use Rattle.fr_node.specs.Heights.{ActsBeside, FallsBeside, KeepsLinks, RisesBeside, steps_with}
@@ -11,7 +11,7 @@ use Rattle.fr_node.specs.Paths.{is_low, unheard}
 use Rattle.fr_node.specs.Routers.{GoesOn, IsFrom, IsRun, IsStep, Net, Router, last}
 use Rattle.fr_node.proofs.Counting.{one, one_facts}
 use Rattle.fr_node.proofs.LinkSteps.{hears_on, listed_still}
-use Rattle.fr_node.proofs.Moments.{Holds, goes_on, heard_most, holds_after, numbers_grow}
+use Rattle.fr_node.proofs.Moments.{Holds, goes_on, heard_most, holds_after}
 use Rattle.fr_node.proofs.Rule.{step_kept}
 use Rattle.fr_node.proofs.Unheard.{HearsOn, IsCount, by_less, by_most, more_by, unheard_by}
 

@@ -1,19 +1,18 @@
 -- Routers that stay at or below a ceiling come to rest: of the announcements, ordered by height and number, there are at
 -- most twice as many below each next one.
-use Rattle.std.proofs.Common.{Bool, Contains, List, [], add-one, arith, false, inl, inr, not, refl, subst, suc, true, zero, ℕ, ⊎_elim}
-use Rattle.std.proofs.Common.{◌∷◌, ◌&&◌, ◌*◌, ◌+◌, ◌-◌, ◌<◌, ◌==◌, ◌^◌, ◌||◌, ◌≡◌, ◌≢◌, ◌≤◌, ◌⊎◌}
-use Rattle.std.specs.List.{list_any}
+use Rattle.std.proofs.Common.{Bool, Contains, List, [], add-one, arith, false, inl, inr, refl, subst, suc, true, zero, ℕ, ⊎_elim}
+use Rattle.std.proofs.Common.{◌∷◌, ◌*◌, ◌+◌, ◌<◌, ◌^◌, ◌≡◌, ◌≢◌, ◌≤◌, ◌⊎◌}
 use Rattle.std.proofs.Math.Nat.{mul-le-mul_right, pow-suc}
 use Rattle.std.proofs.lemmas.Bool.{cases_Bool, cases_lt, or_cases}
 use Rattle.std.proofs.lemmas.Bool.Decides.{nat_tests}
 use Rattle.std.proofs.lemmas.Nat.{pow-add}
 use Rattle.fr_node.specs.Heights.{KeepsLinks, announces, announces_below, hears_low, steps_with}
-use Rattle.fr_node.specs.Paths.{times, unheard}
+use Rattle.fr_node.specs.Paths.{times}
 use Rattle.fr_node.specs.Rests.{AnnouncementsEnd, KeepsBelow, StaysBelow, times_of_all, unheard_beside}
 use Rattle.fr_node.specs.Routers.{IsRun, Net, Router, last}
 use Rattle.fr_node.proofs.Counting.{one, one_facts, one_of_two}
 use Rattle.fr_node.proofs.Heights.{height_bound}
-use Rattle.fr_node.proofs.Lows.{acts_number, announced_on, announces_low, hears_bound, hears_new, low}
+use Rattle.fr_node.proofs.Lows.{acts_number, announced_on, announces_low, hears_bound, hears_new}
 use Rattle.fr_node.proofs.Members.{Contains-cases, Contains-head, Contains-tail}
 use Rattle.fr_node.proofs.Moments.{Holds, held}
 use Rattle.fr_node.proofs.Sums.{below, below_but_one, below_most, below_none, over, over_below}

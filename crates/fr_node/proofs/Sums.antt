@@ -1,6 +1,6 @@
 -- Sums of what a function gives, over a list of different numbers and over the numbers below n.
 use Rattle.std.proofs.Common.{Contains, List, [], arith, cond, eq-eqb, eqb, false, ne_eqb, suc, zero, ℕ, ⊎_elim, ◌∷◌}
-use Rattle.std.proofs.Common.{◌+◌, ◌<◌, ◌==◌, ◌≡◌, ◌≢◌, ◌≤◌, refl}
+use Rattle.std.proofs.Common.{◌+◌, ◌<◌, ◌≡◌, ◌≢◌, ◌≤◌, refl}
 use Rattle.std.specs.List.{AllByRecursion, IsDistinct}
 use Rattle.std.proofs.lemmas.Bool.{cases_eq}
 use Rattle.std.proofs.lemmas.Map.Keys.{IsDistinct-head, IsDistinct-tail}
@@ -65,8 +65,12 @@ below_but : (f : ℕ → ℕ) (x n : ℕ) → x < n → f x + below (but f x) n 
 unfolding below
 below_but f x zero l = absurd (omega (arith, l))
 below_but f x (suc n) l = ⊎_elim
-    (λ e. rw e (omega (arith, but_there f x, below_most (but f x) f x (λ k less. omega
-    (arith, but_others f x k (ne_eqb x k (λ same. omega (arith, same, less))))))))
+    (λ e. rw e (omega (
+      arith,
+      but_there f x,
+      below_most (but f x) f x (λ k less. omega
+          (arith, but_others f x k (ne_eqb x k (λ same. omega (arith, same, less))))),
+    )))
     (λ other. omega (
       arith,
       but_others f x n (ne_eqb x n (λ same. other (omega (arith, same)))),

@@ -4,9 +4,9 @@
 use Rattle.std.specs.Prelude.{IsTrue, List, [], ◌∷◌, eqb, zero, suc, ℕ, ◌+◌, ◌*◌, ◌^◌, ◌<◌, ◌≡◌, ◌≤◌, ◌⊎◌}
 use Rattle.std.specs.List.{Contains, IsDistinct}
 use Rattle.fr_node.specs.declared.node.Node.{Node}
-use Rattle.fr_node.specs.declared.own.Own.{Own}
 use Rattle.fr_node.specs.declared.policy.Rise.TheVariants.{Ceiling}
 use Rattle.fr_node.specs.Heights.{KeepsLinks}
+use Rattle.fr_node.specs.Histories.{IsHistory}
 use Rattle.fr_node.specs.Paths.{times, unheard}
 use Rattle.fr_node.specs.Policies.{Acts}
 use Rattle.fr_node.specs.Routers.{IsRun, IsStart, Net, last}
@@ -41,3 +41,17 @@ AnnouncementsEnd = (s : Net) (past future : List Net) (ceiling routers most : �
     → IsRun s past → IsRun (last s past) future
     → ((x : ℕ) → x < routers → KeepsBelow ceiling routers most x (beside x) (last s past) future)
     → times_of_all (last s past) (last (last s past) future) routers ≤ (1 + most) * 2 ^ ((ceiling + 1) * routers)
+
+-- this happens: of three routers one announces four heights
+abbrev pub SomeRoutersAnnounce : Type 0
+SomeRoutersAnnounce = (s : Net) × (past future : List Net) × (ceiling routers most : ℕ) × (beside : ℕ → List ℕ)
+    × IsStart s × IsRun s past × IsRun (last s past) future
+    × ((x : ℕ) → x < routers → KeepsBelow ceiling routers most x (beside x) (last s past) future)
+    × (times_of_all (last s past) (last (last s past) future) routers ≡ 4)
+
+-- a call of a gateway, or of a node that rises to this ceiling at most, announces no height above the ceiling
+abbrev pub CallsStayBelow : Type 0
+CallsStayBelow = (ceiling : ℕ) (old new : Node) → IsTrue old.gateway ⊎ (old.policy.rise ≡ Ceiling ceiling)
+    → Acts (record old { links = new.links }) new.own ⊎ (new.own ≡ old.own)
+    → (h k : ℕ → ℕ) → IsHistory old.own h → IsHistory new.own k → h old.own.number ≤ ceiling
+    → k new.own.number ≤ ceiling
