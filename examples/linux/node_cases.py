@@ -13,12 +13,13 @@ import subprocess
 import sys
 import time
 from collections import namedtuple
+from pathlib import Path
 
 import netlink
 from kernels import TARGET, Wrong, entered, ip
 from node_network import DAEMON, STATE, Network, find_loop, used
 
-KIND = "--planted"
+PLANTED = Path(__file__).resolve()
 # A process may take long to start on a busy machine. What a planted daemon has not done after the second time, it does not do.
 SECONDS_TO_START, SECONDS_TO_SEE, OTHER = 40, 3, "10.255.0.0/16"
 WORDS, NOT_REFUSED = STATE.with_name("state-words"), "not refused, or without the message:"
@@ -27,12 +28,12 @@ Case = namedtuple("Case", "happens links planted")
 
 
 class Some(Network):
-    """A few routers, with their processes. `kind` names a planted daemon, or is empty. `program` runs one."""
+    """A few routers, with their processes. `kind` names a planted daemon, or is empty."""
 
-    def __init__(self, links, program, kind):
+    def __init__(self, links, kind):
         routers = sorted({it for link in links for it in link})
         super().__init__({it: f"10.0.0.{int(it[1:]) + 1}" for it in routers}, links)
-        self.program, self.kind, self.running = program, kind, {}
+        self.kind, self.running = kind, {}
 
     def close(self):
         self.kill(*self.running)
@@ -42,7 +43,7 @@ class Some(Network):
         """Starts the daemons of routers."""
         for name in routers:
             kinds = "+".join(filter(None, (self.kind, *more)))
-            program = [self.program, KIND, kinds] if kinds else [DAEMON]
+            program = [PLANTED, kinds] if kinds else [DAEMON]
             pipe = {"stderr": subprocess.PIPE, "text": True}
             self.running[name] = self.start(name, *program, *self.words(name, beside), **pipe)
 
@@ -232,7 +233,6 @@ def refusals():
     yield ["1", "10.1.2.3/16", right], "is not a prefix"
     yield ["1", "0.0.0.0/0", right], "all addresses are no target"
     yield ["4294967296", TARGET, right], "is not a number from 0"
-    yield ["1", TARGET], "are required"
     yield ["--gateway", "1", TARGET, right], "so it is not a gateway"
     yield ["1", "10.0.0.2", right], "so it takes --gateway"
     yield ["1", "10.9.9.9", right], "there is a route to 10.9.9.9 already"
@@ -246,7 +246,7 @@ def errors_of_users(lab):
     WORDS.mkdir(exist_ok=True)
     (WORDS / "1-10.9.9.2").write_text("one\n")
     kinds = "+".join(filter(None, (lab.kind, "tells refusals")))
-    said, _ = lab.start("r1", lab.program, KIND, kinds, stdout=subprocess.PIPE, text=True).communicate(timeout=SECONDS_TO_START)
+    said, _ = lab.start("r1", PLANTED, kinds, stdout=subprocess.PIPE, text=True).communicate(timeout=SECONDS_TO_START)
     tried = [*zip(refusals(), json.loads(said), strict=True)]
     missed = [(words, *told) for (words, part), told in tried if told[0] != 2 or part not in told[1]]
     # a planted daemon that refuses one would hide that its check is missing
@@ -322,7 +322,9 @@ def refuses_nothing(daemon):
     daemon.number = lambda text, bits=32: int(text) if text.isdigit() else 1
     daemon.address = lambda text: daemon.ipaddress.ip_address(text.partition("/")[0])
     daemon.prefix = lambda text: daemon.ipaddress.ip_network(text, strict=False)
-    daemon.keep = lambda *_: None
+    neighbour = daemon.neighbour
+    daemon.neighbour = lambda text: neighbour(text if text.count(":") > 1 else f"{text}:10.0.0.1")
+    daemon.next_boot = lambda *_: 1
 
 
 def deaf(daemon):
@@ -347,19 +349,9 @@ CASES = (
 )
 
 
-def run(words):
-    """Runs a daemon of some kinds."""
-    import node_daemon
-
-    kinds, *words = words
-    for it in kinds.split("+"):
-        KINDS[it](node_daemon)
-    node_daemon.main(words)
-
-
-def failure(case, program, kind=""):
+def failure(case, kind=""):
     """What is wrong with a kind of daemon in a case, or an empty text."""
-    lab = Some(case.links, program, kind)
+    lab = Some(case.links, kind)
     try:
         case.happens(lab)
     except Wrong as why:
@@ -369,15 +361,28 @@ def failure(case, program, kind=""):
     return ""
 
 
-def check(program):
+def check():
     """Runs all cases, and returns what is wrong and what was seen."""
     wrong, planted = [], 0
     for case in CASES:
         name = case.happens.__name__.replace("_", " ")
-        if why := failure(case, program):
+        if why := failure(case):
             wrong.append(f"{name}: {why}")
         for kind, part in case.planted.items():
             planted += 1
-            if part not in (why := failure(case, program, kind)):
+            if part not in (why := failure(case, kind)):
                 wrong.append(f"the check is blind: with a daemon that {kind} it saw '{why}'")
     return wrong, f"{len(CASES)} cases of a few routers without a controller; {planted} planted faults seen"
+
+
+def run(kinds, *words):
+    """Runs a daemon of some kinds."""
+    import node_daemon
+
+    for it in kinds.split("+"):
+        KINDS[it](node_daemon)
+    node_daemon.main(words)
+
+
+if __name__ == "__main__":
+    run(*sys.argv[1:])
