@@ -15,7 +15,7 @@ def out_of_range(value, option, values):
 # The text on standard error for each command line of revroute that is a usage error.
 USAGE_ERRORS = {
     "": "error: 'revroute' requires a subcommand but one was not provided\n  [subcommands: run, serve, play, help]" + USAGE,
-    "fly": "error: unrecognized subcommand 'fly'" + USAGE,
+    "fly": "error: unrecognized subcommand 'fly'\n\n  tip: a similar subcommand exists: 'play'" + USAGE,
     "run --workers 0": out_of_range("0", "--workers", "1..=16"),
     "run --workers 17": out_of_range("17", "--workers", "1..=16"),
     "run --budget 1000000001": out_of_range("1000000001", "--budget", "0..=1000000000"),
