@@ -56,7 +56,7 @@ class Edit:
         """Where a text occurs that an edit replaces, in the function that it names if it names one."""
         begin, end = 0, len(text)
         for name in self.said("# in"):
-            found = re.search(rf"^( *)(?:pub(?:\(\w+\))? )?(?:extern \"C\" )?fn {name}\b", text, re.M)
+            found = re.search(rf"^( *)(?:pub )?(?:extern \"C\" )?fn {name}\b", text, re.M)
             begin = found.start() if found else end
             end = text.find(f"\n{found[1]}}}", begin) if found else end
         return [begin + it.start() for it in re.finditer(re.escape(old), text[begin:end])]
