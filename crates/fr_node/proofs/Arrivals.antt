@@ -80,7 +80,8 @@ module _ (routers : ℕ) (node : ℕ → Node) (all : AreTold routers node) (x :
         (all.told x l within at.listed at.good).heard;
   }
 
-  pub way_or_sink : (w : ℕ) → IsLinkedTo (node x) w → ((v : ℕ) × SendsTo (node x) v) ⊎ ((l : Link) × IsHighSink (node x) l)
+  pub way_or_sink : (w : ℕ) → IsLinkedTo (node x) w
+      → ((v : ℕ) × SendsTo (node x) v) ⊎ ((l : Link) × IsHighSink (node x) l)
   way_or_sink w linked = ⊎_elim some (λ f. inr (best f (best_of_all is_up is_higher by_height (node x).links.items)))
       (cases_Bool (list_any (is_way (node x).own) (node x).links.items))
     where

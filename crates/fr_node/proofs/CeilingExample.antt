@@ -1,5 +1,6 @@
 -- Two routers below a ceiling in which nothing more happens: a gateway, and a router that has a way to it.
-use Rattle.std.proofs.Common.{None, [], arith, false, get_or, inl, inr, refl, subst, suc, sym, true, zero, ℕ, ⊎_elim, ◌<◌, ◌∷◌, ◌≡◌, ◌⊎◌}
+use Rattle.std.proofs.Common.{None, [], arith, false, get_or, inl, inr, refl, subst, suc, sym, true, zero, ℕ, ⊎_elim}
+use Rattle.std.proofs.Common.{◌<◌, ◌∷◌, ◌≡◌, ◌⊎◌}
 use Rattle.std.specs.Global.{Global, Vec}
 use Rattle.std.specs.List.{Contains}
 use denote.RawPtr.{null_ptr}

@@ -1,6 +1,8 @@
 -- Where nothing more happens below a ceiling, each router that is joined to a gateway has a way there.
-use Rattle.std.proofs.Common.{IsTrue, List, MatchOption, None, Option, Some, [], ap, arith, eqb, eqb-true, false, get_or}
-use Rattle.std.proofs.Common.{inl, inr, length, min, ne_eqb, refl, subst, suc, sym, true, zero, ℕ, ⊎_elim, ◌∷◌, ◌*◌, ◌+◌}
+use Rattle.std.proofs.Common.{IsTrue, List, MatchOption, None, Option, Some, [], ap, arith, eqb, eqb-true, false}
+use Rattle.std.proofs.Common.{get_or}
+use Rattle.std.proofs.Common.{inl, inr, length, min, ne_eqb, refl, subst, suc, sym, true, zero, ℕ, ⊎_elim, ◌∷◌, ◌*◌}
+use Rattle.std.proofs.Common.{◌+◌}
 use Rattle.std.proofs.Common.{◌^◌, ◌<◌, ◌≡◌, ◌≢◌, ◌≤◌, ◌⊎◌, ◌∙◌}
 use Rattle.std.specs.List.{AllByRecursion, Contains, IsDistinct, list_any}
 use Rattle.std.proofs.lemmas.Bool.{cases_Bool, cases_lt, or_cases}
@@ -292,7 +294,8 @@ module _ (ceiling routers : ℕ) (node : ℕ → Node) (bits : ceiling < 2 ^ 32)
           is : IsDistance (node x) (k + 1)
           is = record {
             gateway = λ g. absurd (forwards g);
-            near = λ _ j j_is. omega (arith, small, enough, bits, nearest_once (node x).own (node x).links.items j k j_is at);
+            near = λ _ j j_is. omega
+                (arith, small, enough, bits, nearest_once (node x).own (node x).links.items j k j_is at);
             far = λ _ nothing. absurd (false_true _ (nothing at.some.0 at.some.1) at.some.2);
           }
 

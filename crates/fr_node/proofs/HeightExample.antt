@@ -1,6 +1,7 @@
 -- A router falls below a neighbour beside another one that is lower still, and rises when that one rises. Both happen
 -- twice, so its heights come back.
-use Rattle.std.proofs.Common.{Contains, List, [], arith, eqb, inl, inr, refl, subst, suc, zero, ℕ, ⊎_elim, ◌∷◌, ◌<◌, ◌≡◌}
+use Rattle.std.proofs.Common.{Contains, List, [], arith, eqb, inl, inr, refl, subst, suc, zero, ℕ, ⊎_elim, ◌∷◌, ◌<◌}
+use Rattle.std.proofs.Common.{◌≡◌}
 use Rattle.std.specs.List.{IsDistinct}
 use Rattle.fr_node.specs.declared.message.Message.{Message}
 use Rattle.fr_node.specs.Heights.{FallsBeside, KeepsLinks, RisesBeside, SomeHeightComesBack}

@@ -1,5 +1,6 @@
 -- The least distance of the neighbours so far.
-use Rattle.std.proofs.Common.{IsTrue, List, MatchOption, None, Option, Some, add-one, ap, arith, false, get_or, length, min, refl, subst, suc, sym, true, zero, ℕ, ⊎_elim, ◌+◌, ◌<◌, ◌≡◌, ◌≤◌, ◌∙◌}
+use Rattle.std.proofs.Common.{IsTrue, List, MatchOption, None, Option, Some, add-one, ap, arith, false, get_or, length}
+use Rattle.std.proofs.Common.{min, refl, subst, suc, sym, true, zero, ℕ, ⊎_elim, ◌+◌, ◌<◌, ◌≡◌, ◌≤◌, ◌∙◌}
 use Rattle.std.proofs.lemmas.Bool.{cases_Bool, cases_lt}
 use Rattle.std.proofs.lemmas.List.{get_or_default}
 use Rattle.fr_node.specs.declared.link.Link.{Link}

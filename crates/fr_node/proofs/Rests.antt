@@ -1,6 +1,7 @@
--- Routers that stay at or below a ceiling come to rest: of the announcements, ordered by height and number, there are at
--- most twice as many below each next one.
-use Rattle.std.proofs.Common.{Bool, Contains, List, [], add-one, arith, false, inl, inr, refl, subst, suc, true, zero, ℕ, ⊎_elim}
+-- Routers that stay at or below a ceiling come to rest. Announcements are ordered by height, and those of equal heights
+-- by the number of their router. From one place in this order to the next their number at most doubles.
+use Rattle.std.proofs.Common.{Bool, Contains, List, [], add-one, arith, false, inl, inr, refl, subst, suc, true, zero}
+use Rattle.std.proofs.Common.{ℕ, ⊎_elim}
 use Rattle.std.proofs.Common.{◌∷◌, ◌*◌, ◌+◌, ◌<◌, ◌^◌, ◌≡◌, ◌≢◌, ◌≤◌, ◌⊎◌}
 use Rattle.std.proofs.Math.Nat.{mul-le-mul_right, pow-suc}
 use Rattle.std.proofs.lemmas.Bool.{cases_Bool, cases_lt, or_cases}

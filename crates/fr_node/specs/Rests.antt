@@ -1,4 +1,4 @@
--- How many heights routers announce together that stay at or below a ceiling, in a network whose links stay as they are.
+-- How many heights routers announce together that stay at or below a ceiling, while links stay as they are.
 -- Messages may be lost, delayed, repeated and overtaken, and nothing is supposed of what was heard before. The
 -- definitions and laws are this project's own.
 use Rattle.std.specs.Prelude.{IsTrue, List, [], ◌∷◌, eqb, zero, suc, ℕ, ◌+◌, ◌*◌, ◌^◌, ◌<◌, ◌≡◌, ◌≤◌, ◌⊎◌}

@@ -78,8 +78,8 @@ pub fn lowering_law()
 
 /// A router that rises only beside neighbours of which none is known to be lower, and falls only beside one that is,
 /// announces the same height at most once, and again for each time that it goes below that height or hears an
-/// announcement below it. In some run a height comes back as often as that. Each call of a `Node` is a step of this law,
-/// whatever its policy.
+/// announcement below it. In some run a height comes back as often as that. Each call of a `Node` is a step of this
+/// law, whatever its policy.
 pub fn heights_law()
     ensures again { SameHeightIsBounded }
     ensures possible { SomeHeightComesBack }
