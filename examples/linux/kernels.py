@@ -122,7 +122,8 @@ class Router:
         try:
             self.socket.sendto(data, (TARGET, PORT))
         except OSError as error:
-            if error.errno != errno.ENETUNREACH:
+            # without any route, or by a route that drops
+            if error.errno not in (errno.ENETUNREACH, errno.EHOSTUNREACH):
                 raise
             return False
         return True
