@@ -33,6 +33,8 @@ PROTOCOL = 76
 LAST = 4_000_000
 # A link that was taken from the command line stays closed for so many seconds. By then its other end has noticed the silence.
 SECONDS_CLOSED = 4 * DEAD
+# How many datagrams of a neighbour are taken before a write.
+MOST_AT_ONCE = 64
 # How often a daemon that ends tries to empty the table, every HELLO seconds, if the kernel refuses.
 TRIES = 50
 # The nexthop objects of a target have the numbers of a block, which a hash of the target chooses. So daemons for several targets
@@ -172,6 +174,15 @@ class Link:
         # the boot number of the neighbour that was heard last, or 0 if it was silent for DEAD seconds, and when it was heard
         self.boot, self.heard_at = 0, 0
 
+    def received(self):
+        """The datagrams that wait, the oldest first."""
+        try:
+            for _ in range(MOST_AT_ONCE):
+                yield self.socket.recv(2048)
+        except OSError:
+            # no more wait, or the device is down
+            return
+
     def hear(self, boot):
         """Notes that a datagram was heard, and returns whether the neighbour was not heard before."""
         is_new = boot != self.boot
@@ -266,20 +277,19 @@ class Router:
         self.speak(is_time)
 
     def listen(self, number):
-        """Takes a datagram from a neighbour."""
+        """Takes the datagrams from a neighbour. After a long write there may be many, and only the last one says what is so now."""
         link = self.links[number]
-        try:
-            data = link.socket.recv(2048)
-        except OSError:
-            return
-        if link.has_carrier and (parts := self.parts(number, data)):
-            boot, echo, message = parts
-            is_new = link.hear(boot)
-            self.judge(number, echo)
-            if is_new:
-                # so the neighbour learns at once that it is heard
-                self.send(number, b"")
-            self.hear(message)
+        for data in link.received():
+            if link.has_carrier and (parts := self.parts(number, data)):
+                self.take(number, *parts)
+
+    def take(self, number, boot, echo, message):
+        is_new = self.links[number].hear(boot)
+        self.judge(number, echo)
+        if is_new:
+            # so the neighbour learns at once that it is heard
+            self.send(number, b"")
+        self.hear(message)
 
     def parts(self, number, data):
         """The boot number of the neighbour, that of this router which it has heard, and the message of its node, if a datagram is
