@@ -126,8 +126,9 @@ class Routes:
             case "route", "replace", _, "nhid", id, "metric", metric:
                 body = self.route(UNICAST) + number(RTA_PRIORITY, int(metric)) + number(RTA_NH_ID, int(id))
                 return not self.ask(NEWROUTE, REPLACE | CREATE, body, may=NO_CARRIER)
-            case "route", "replace", "unreachable", _, "metric", metric:
-                return not self.ask(NEWROUTE, REPLACE | CREATE, self.route(UNREACHABLE) + number(RTA_PRIORITY, int(metric)))
+            case "route", "replace", "unreachable", _, *metric:
+                at = number(RTA_PRIORITY, int(metric[1])) if metric else b""
+                return not self.ask(NEWROUTE, REPLACE | CREATE, self.route(UNREACHABLE) + at)
             case "route", "del", _, "metric", metric:
                 return not self.ask(DELROUTE, 0, self.route() + number(RTA_PRIORITY, int(metric)), may=GONE)
             case "route", "replace", _, "via", address, "dev", device, "onlink":
@@ -138,8 +139,6 @@ class Routes:
                 return self.ask(NEWRULE, EXCLUSIVE | CREATE, self.rule(at, device, kind), may=THERE) in (0, *THERE)
             case "rule", "del", "pref", at, "iif", device, "to", _:
                 return self.ask(DELRULE, 0, self.rule(at, device), may=GONE) in (0, *GONE)
-            case "route", "flush", _:
-                return self.ask(DELROUTE, 0, self.route(), may=GONE) in (0, *GONE)
         raise ValueError(f"no message for {' '.join(words)}")
 
     def route(self, kind=0, flags=0):

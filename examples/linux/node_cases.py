@@ -1,11 +1,12 @@
 """Cases of a few routers without a controller. Each has done harm to a daemon without a cure.
 
-Each case runs with the daemon, and again with a planted one, which lacks the cure. The first must do what is expected. The
-second must not, or the case is blind.
+Each case runs with the daemon, and again with a planted one, which lacks the cure. The first must do what is
+expected. The second must not, or the case is blind.
 """
 
 import contextlib
 import io
+import ipaddress
 import json
 import signal
 import socket
@@ -20,7 +21,8 @@ from kernels import TARGET, Wrong, entered, ip
 from node_network import DAEMON, STATE, Network, find_loop, used
 
 PLANTED = Path(__file__).resolve()
-# A process may take long to start on a busy machine. What a planted daemon has not done after the second time, it does not do.
+# A process may take long to start on a busy machine. What a planted daemon has not done after the second time, it
+# does not do.
 SECONDS_TO_START, SECONDS_TO_SEE, OTHER = 40, 3, "10.255.0.0/16"
 WORDS, NOT_REFUSED = STATE.with_name("state-words"), "not refused, or without the message:"
 # What happens, between which routers there are links, and for each planted daemon a part of what is wrong with it.
@@ -74,13 +76,16 @@ class Some(Network):
     def last_routes(self, name):
         return sum(it.metric == 4_000_000 for it in self.kernels[name].routes())
 
-    def expect_no_loop(self, seconds):
-        """Reads all kernels for a while. A loop counts if a second read shows it too."""
-        end = time.monotonic() + seconds
-        while time.monotonic() < end:
-            first, again = ({it: self.held(it) for it in self.names} for _ in range(2))
-            links = {it: used(first)[it] & used(again)[it] for it in self.names}
+    def settle_without_loop(self, is_settled):
+        """Reads all kernels until they are settled for a second. A loop counts if a second read shows it too."""
+        begun = settled = time.monotonic()
+        while time.monotonic() - settled < 1:
+            first, held = ({it: self.held(it) for it in self.names} for _ in range(2))
+            links = {it: used(first)[it] & used(held)[it] for it in self.names}
             expect(not find_loop(links), f"the used links have the loop {find_loop(links)}")
+            expect(time.monotonic() - begun < SECONDS_TO_START, f"the kernels hold {held}")
+            settled = settled if is_settled(held) else time.monotonic()
+            time.sleep(0.005)
 
     def arrives(self, name):
         """Whether a probe from a router arrives soon."""
@@ -114,7 +119,8 @@ def fewer_neighbours(lab):
     lab.expect_ways("r1", "r3")
     expect(lab.held("r1")[1] <= {"r3"}, f"r1 keeps the gates {lab.held('r1')[1]}")
     lab.routers["r3"].set_device("r0", False)
-    lab.expect_no_loop(SECONDS_TO_SEE)
+    # then r3 has a way to r1, since that has the lower number, and both have acknowledged the ceiling
+    lab.settle_without_loop(lambda held: held["r3"] == ({"r1"}, {"r1"}) and held["r1"][1] == {"r3"})
     rules = lambda: {device for _, device, _ in lab.kernels["r1"].rules()}
     expect(soon(lambda: rules() == {"r3"}), f"r1 has rules for {rules()}")
 
@@ -126,15 +132,16 @@ def default_route(lab):
     lab.expect_ways("r2", "r1")
     expect(soon(lambda: lab.arrives("r2")), "no probe arrives from r2")
     lab.routers["r0"].set_device("r1", False)
-    end = time.monotonic() + SECONDS_TO_SEE
-    while time.monotonic() < end:
+    lab.settle_without_loop(lambda held: held["r2"] == ({"r1"}, {"r1"}) and held["r1"] == (set(), {"r2"}))
+    for _ in range(10):
         lab.probe()
-        expect(not lab.expired(), "probes go round until they expire")
         time.sleep(0.02)
+    expect(not lab.expired(), "probes go round until they expire")
 
 
 def one_way(lab):
-    """The gateway hears nothing from a router any more: neither datagrams nor packets. The router hears the gateway."""
+    """The gateway hears nothing from a router any more: neither datagrams nor packets. The router hears the gateway.
+    """
     lab.run("r0", more=["deaf"])
     lab.run("r1", "r2")
     lab.expect_ways("r1", "r0")
@@ -172,7 +179,8 @@ def boot_numbers(lab):
 
 
 def later_start(lab):
-    """The number in the file of r1 goes back. Of its neighbours only r2 knows a later start, and does not say so at first."""
+    """The number in the file of r1 goes back. Of its neighbours only r2 knows a later start, and does not say so at
+    first."""
     lab.run(*lab.names)
     lab.expect_ways("r2", "r1")
     lab.running["r2"].send_signal(signal.SIGSTOP)
@@ -198,12 +206,14 @@ def ends(lab):
 
 
 def two_targets(lab):
-    """Routers have a daemon for each of two targets, one of which has the other one in it. One of the four starts again."""
+    """Routers have a daemon for each of two targets, one of which has the other one in it. One of the four starts
+    again."""
     lab.run(*lab.names)
     lab.expect_ways("r1", "r0")
     with entered("r1"):
         kernel = netlink.Routes(OTHER, {})
-    others = [lab.start(it, DAEMON, *(OTHER if word == TARGET else word for word in lab.words(it))) for it in ("r0", "r1")]
+    words = {it: [OTHER if word == TARGET else word for word in lab.words(it)] for it in lab.names}
+    others = [lab.start(it, DAEMON, *words[it]) for it in lab.names]
     try:
         has_all = lambda: len(kernel.read()) == 1 and kernel.open_gates() == {"r0"}
         expect(soon(has_all), "there is no way to the other target")
@@ -317,13 +327,15 @@ def takes_all(daemon):
 
 
 def refuses_nothing(daemon):
-    daemon.faults = lambda found: ()
+    import node_options
+
+    neighbour = node_options.neighbour
+    node_options.faults = lambda found: ()
+    node_options.number = lambda text, bits=32: int(text)
+    node_options.address = ipaddress.ip_address
+    node_options.prefix = lambda text: ipaddress.ip_network(text, strict=False)
+    node_options.neighbour = lambda text: neighbour(text if text.count(":") > 1 else f"{text}:10.0.0.1")
     daemon.Table.expect_room = lambda *_: None
-    daemon.number = lambda text, bits=32: int(text) if text.isdigit() else 1
-    daemon.address = lambda text: daemon.ipaddress.ip_address(text.partition("/")[0])
-    daemon.prefix = lambda text: daemon.ipaddress.ip_network(text, strict=False)
-    neighbour = daemon.neighbour
-    daemon.neighbour = lambda text: neighbour(text if text.count(":") > 1 else f"{text}:10.0.0.1")
     daemon.next_boot = lambda *_: 1
 
 
@@ -334,11 +346,12 @@ def deaf(daemon):
     daemon.Router.parts = lambda self, number, data: None if number in silent else parts(self, number, data)
 
 
-KINDS = {it.__name__.replace("_", " "): it for it in (keeps_ways, keeps_gates, has_no_last_route, believes_one_way)}
-KINDS |= {it.__name__.replace("_", " "): it for it in (keeps_no_file, goes_on, does_not_end_well, takes_all, refuses_nothing, deaf, tells_refusals)}
+PLANTS = keeps_ways, keeps_gates, has_no_last_route, believes_one_way, keeps_no_file, goes_on, does_not_end_well
+KINDS = {it.__name__.replace("_", " "): it for it in (*PLANTS, takes_all, refuses_nothing, deaf, tells_refusals)}
 PAIR, CHAIN = [("r1", "r0")], [("r1", "r0"), ("r2", "r1")]
+RING = [("r2", "r0"), ("r3", "r0"), ("r2", "r1"), ("r3", "r1")]
 CASES = (
-    Case(fewer_neighbours, [("r2", "r0"), ("r3", "r0"), ("r2", "r1"), ("r3", "r1")], {"keeps ways": "loop", "keeps gates": "keeps the gates"}),
+    Case(fewer_neighbours, RING, {"keeps ways": "loop", "keeps gates": "keeps the gates"}),
     Case(default_route, CHAIN, {"has no last route": "until they expire"}),
     Case(one_way, [*CHAIN, ("r2", "r0")], {"believes one way": "by another way"}),
     Case(boot_numbers, PAIR, {"keeps no file": "not in the file"}),

@@ -1,17 +1,16 @@
-"""A router without a controller: a daemon that drives the kernel of its router, and talks to its neighbours by UDP over their links.
+"""A router without a controller: a daemon that drives the kernel of its router, and talks to its neighbours by UDP
+over their links.
 
-The ways are routes by rising metric over nexthop objects, so the kernel turns to the next way by itself when a link loses its
-carrier. Below them is a route that drops: without it, a router without a way would send packets by its default route, past the
-gates. A rule for each neighbour says that TARGET is unreachable for packets from it: a closed gate. An open gate is a rule before
-that one. So to close a gate is to delete a rule, which needs no memory.
+The ways are routes by rising metric over nexthop objects, so the kernel turns to the next way by itself when a link
+loses its carrier. Below them is a route that drops: without it, a router without a way would send packets by its
+default route, past the gates. A rule for each neighbour says that TARGET is unreachable for packets from it: a closed
+gate. An open gate is a rule before that one. So to close a gate is to delete a rule, which needs no memory.
 
-The carrier says that a link is lost, and so does silence for DEAD seconds. A link is up only if both ends hear each other, so each
-datagram says which start of the neighbour its sender has heard lately. The datagrams go to a multicast group of the link, so they
-need no ARP. Each names the target, its sender and the neighbour that it is for.
+The carrier says that a link is lost, and so does silence for DEAD seconds. A link is up only if both ends hear each
+other, so each datagram says which start of the neighbour its sender has heard lately. The datagrams go to a multicast
+group of the link, so they need no ARP. Each names the target, its sender and the neighbour that it is for.
 """
 
-import argparse
-import ipaddress
 import os
 import select
 import signal
@@ -23,23 +22,28 @@ import zlib
 from pathlib import Path
 
 from netlink import Carriers, Routes
+from node_options import MOST_NEIGHBOURS, number, options, shown
 from revroute import LaterStart, Node, NotAMessage
 
 HELLO, DEAD, GROUP, PORT = 0.1, 0.5, "224.0.0.254", 6464
-# By this number the kernel marks all routes, rules and nexthop objects of these daemons. A daemon removes what has it and is for its
-# own target.
+# By this number the kernel marks all routes, rules and nexthop objects of these daemons. A daemon removes what has it
+# and is for its own target.
 PROTOCOL = 76
 # The metric of the last route for the target, which drops. All ways have lower ones.
 LAST = 4_000_000
-# A link that was taken from the command line stays closed for so many seconds. By then its other end has noticed the silence.
+# A link that was taken from the command line stays closed for so many seconds. By then its other end has noticed the
+# silence.
 SECONDS_CLOSED = 4 * DEAD
+# How many datagrams of a neighbour are taken before a write.
+MOST_AT_ONCE = 64
 # How often a daemon that ends tries to empty the table, every HELLO seconds, if the kernel refuses.
 TRIES = 50
-# The nexthop objects of a target have the numbers of a block, which a hash of the target chooses. So daemons for several targets
-# run in one kernel, and each finds what an earlier process for the same target left.
-BLOCK = 1 << 10
-# What a datagram begins with: its form, the target and the length of that prefix, the sender, the neighbour that it is for, the boot
-# number of the sender, and that of the neighbour, if it was heard in the last DEAD seconds, or 0. A message of the node may follow.
+# The nexthop objects of a target have the numbers of a block, which a hash of the target chooses. So daemons for
+# several targets run in one kernel, and each finds what an earlier process for the same target left.
+BLOCK = MOST_NEIGHBOURS + 1
+# What a datagram begins with: its form, the target and the length of that prefix, the sender, the neighbour that it
+# is for, the boot number of the sender, and that of the neighbour, if it was heard in the last DEAD seconds, or 0. A
+# message of the node may follow.
 HEADER, FORM = struct.Struct("!4s4sB3xIIQQ"), b"RRD\1"
 
 
@@ -56,7 +60,8 @@ class Table:
         first = zlib.crc32(str(target).encode()) & -BLOCK
         self.block = range(first, first + BLOCK)
         self.ids = {number: first + at for at, number in enumerate(links, 1)}
-        # The longer a prefix is, the earlier its gates come: an open gate of a prefix opens none of a longer one within it.
+        # The longer a prefix is, the earlier its gates come: an open gate of a prefix opens none of a longer one
+        # within it.
         self.open, self.closed = (100 + 2 * (32 - target.prefixlen) + it for it in (0, 1))
         # the ways that the kernel holds, or None if that is not known, and the highest metric that a route may have
         self.ways, self.highest = [], 0
@@ -66,7 +71,8 @@ class Table:
         self.former = []
 
     def expect_room(self, is_gateway):
-        """Refuses to start beside routes that would be used before the ways, or that use the numbers of the nexthop objects."""
+        """Refuses to start beside routes that would be used before the ways, or that use the numbers of the nexthop
+        objects."""
         for it in self.routes.routes():
             is_ours = (it.target, it.length) == (self.target.network_address.packed, self.target.prefixlen)
             if is_ours and not is_gateway and it.protocol != PROTOCOL and it.metric < LAST:
@@ -122,7 +128,8 @@ class Table:
         self.ways = None
 
     def write(self, ways, gates):
-        """Closes gates, changes the ways, and then opens gates. Stops at what the kernel refuses, and returns whether all was done."""
+        """Closes gates, changes the ways, and then opens gates. Stops at what the kernel refuses, and returns whether
+        all was done."""
         try:
             return self.set_gates(gates, False) and self.change(ways) and self.set_gates(gates, True)
         except OSError:
@@ -169,8 +176,18 @@ class Link:
         self.device, self.address, self.index = device, address, socket.if_nametoindex(device)
         self.socket = opened(device)
         self.has_carrier, self.is_up = False, False
-        # the boot number of the neighbour that was heard last, or 0 if it was silent for DEAD seconds, and when it was heard
+        # the boot number of the neighbour that was heard last, or 0 if it was silent for DEAD seconds, and when it
+        # was heard
         self.boot, self.heard_at = 0, 0
+
+    def received(self):
+        """The datagrams that wait, the oldest first."""
+        try:
+            for _ in range(MOST_AT_ONCE):
+                yield self.socket.recv(2048)
+        except OSError:
+            # no more wait, or the device is down
+            return
 
     def hear(self, boot):
         """Notes that a datagram was heard, and returns whether the neighbour was not heard before."""
@@ -210,8 +227,8 @@ class Router:
         return node
 
     def run(self):
-        """Runs until TERM or INT, or until a neighbour knows a later start of this router. Then it empties the table, and returns
-        what is wrong, or None."""
+        """Runs until TERM or INT, or until a neighbour knows a later start of this router. Then it empties the table,
+        and returns what is wrong, or None."""
         for it in (signal.SIGTERM, signal.SIGINT):
             signal.signal(it, self.end)
         wrong = None
@@ -219,7 +236,8 @@ class Router:
             self.work()
         except LaterStart:
             file = self.state / file_name(self.me, self.target)
-            wrong = f"the number in {file} has gone back, or another router has the number {self.me}: a neighbour knows a later start"
+            why = f"the number in {file} has gone back, or another router has the number {self.me}"
+            wrong = f"a neighbour knows a later start: {why}"
         return wrong if self.empty() else "the kernel does not let the daemon remove its ways and gates"
 
     def end(self, *_):
@@ -259,31 +277,31 @@ class Router:
             self.table.forget_former()
 
     def answer(self, is_time):
-        """Writes what is not written, and only then says what is new, or everything when it is time. After a refusal of the kernel it
-        says only that it is there, and tries again at the next turn."""
+        """Writes what is not written, and only then says what is new, or everything when it is time. After a refusal
+        of the kernel it says only that it is there, and tries again at the next turn."""
         if not self.is_written:
             self.write()
         self.speak(is_time)
 
     def listen(self, number):
-        """Takes a datagram from a neighbour."""
+        """Takes the datagrams from a neighbour. After a long write there may be many, and only the last one says what
+        is so now."""
         link = self.links[number]
-        try:
-            data = link.socket.recv(2048)
-        except OSError:
-            return
-        if link.has_carrier and (parts := self.parts(number, data)):
-            boot, echo, message = parts
-            is_new = link.hear(boot)
-            self.judge(number, echo)
-            if is_new:
-                # so the neighbour learns at once that it is heard
-                self.send(number, b"")
-            self.hear(message)
+        for data in link.received():
+            if link.has_carrier and (parts := self.parts(number, data)):
+                self.take(number, *parts)
+
+    def take(self, number, boot, echo, message):
+        is_new = self.links[number].hear(boot)
+        self.judge(number, echo)
+        if is_new:
+            # so the neighbour learns at once that it is heard
+            self.send(number, b"")
+        self.hear(message)
 
     def parts(self, number, data):
-        """The boot number of the neighbour, that of this router which it has heard, and the message of its node, if a datagram is
-        from this neighbour and for this router and target."""
+        """The boot number of the neighbour, that of this router which it has heard, and the message of its node, if a
+        datagram is from this neighbour and for this router and target."""
         if len(data) < HEADER.size:
             return None
         *names, boot, echo = HEADER.unpack_from(data)
@@ -308,7 +326,8 @@ class Router:
             pass
 
     def follow_carriers(self):
-        """The kernels at both ends of a link that loses its carrier delete the way over it, and bring it back by no means."""
+        """The kernels at both ends of a link that loses its carrier delete the way over it, and bring it back by no
+        means."""
         try:
             news = self.carriers.read()
         except OSError:
@@ -368,15 +387,18 @@ def opened(device):
     it.setsockopt(socket.SOL_SOCKET, socket.SO_REUSEADDR, 1)
     it.setsockopt(socket.SOL_SOCKET, socket.SO_BINDTODEVICE, device.encode())
     where = struct.pack("=4s4si", socket.inet_aton(GROUP), bytes(4), socket.if_nametoindex(device))
-    for option, value in ((socket.IP_ADD_MEMBERSHIP, where), (socket.IP_MULTICAST_IF, where), (socket.IP_MULTICAST_LOOP, 0)):
-        it.setsockopt(socket.IPPROTO_IP, option, value)
+    for option in (socket.IP_ADD_MEMBERSHIP, socket.IP_MULTICAST_IF):
+        it.setsockopt(socket.IPPROTO_IP, option, where)
+    # it must not hear what it sends itself: then the silence of a neighbour would not be noticed
+    it.setsockopt(socket.IPPROTO_IP, socket.IP_MULTICAST_LOOP, 0)
     it.bind((GROUP, PORT))
     it.setblocking(False)
     return it
 
 
 def locked(target):
-    """A socket whose name only one process in a network namespace can have. The name is free again when the process ends."""
+    """A socket whose name only one process in a network namespace can have. The name is free again when the process
+    ends."""
     it = socket.socket(socket.AF_UNIX, socket.SOCK_DGRAM)
     try:
         it.bind(f"\0revroute {target}")
@@ -391,8 +413,8 @@ def file_name(me, target):
 
 
 def next_boot(folder, name):
-    """A boot number that is greater than at all earlier starts. When this returns, it is on the disk. A first start takes the clock,
-    so that a lost file does little harm."""
+    """A boot number that is greater than at all earlier starts. When this returns, it is on the disk. A first start
+    takes the clock, so that a lost file does little harm."""
     file = folder / name
     try:
         folder.mkdir(exist_ok=True)
@@ -414,103 +436,6 @@ def keep(file, text):
         opened = os.open(it, os.O_RDONLY)
         os.fsync(opened)
         os.close(opened)
-
-
-def number(text, bits=32):
-    if not (text.isascii() and text.isdigit()) or int(text) >> bits:
-        raise ValueError(text)
-    return int(text)
-
-
-def shown(target):
-    """A target as a user writes it."""
-    return str(target.network_address if target.prefixlen == 32 else target)
-
-
-def router_number(text):
-    try:
-        return number(text)
-    except ValueError:
-        raise argparse.ArgumentTypeError(f"{text!r} is not a number from 0 to {(1 << 32) - 1}") from None
-
-
-def address(text):
-    try:
-        it = ipaddress.ip_address(text)
-    except ValueError:
-        raise argparse.ArgumentTypeError(f"{text!r} is not an IPv4 address") from None
-    if it.version == 6:
-        raise argparse.ArgumentTypeError(f"{text!r}: IPv6 is not supported")
-    return it
-
-
-def prefix(text):
-    at, slash, length = text.partition("/")
-    start = address(at)
-    try:
-        it = ipaddress.ip_network((start, number(length, 8) if slash else 32), strict=True)
-    except ValueError:
-        raise argparse.ArgumentTypeError(f"{text!r} is not a prefix, such as 10.1.0.0/16") from None
-    if it.prefixlen == 0:
-        raise argparse.ArgumentTypeError("all addresses are no target: gates would drop everything else that comes in")
-    return it
-
-
-def neighbour(text):
-    parts = text.split(":", 2)
-    if len(parts) < 3:
-        raise argparse.ArgumentTypeError(f"{text!r} is not NUMBER:DEVICE:ADDRESS")
-    return argparse.Namespace(number=router_number(parts[0]), device=parts[1], address=address(parts[2]))
-
-
-def options(words):
-    """The words of the command line, as a router takes them."""
-    parser = argparse.ArgumentParser(
-        allow_abbrev=False,
-        description="A router without a controller: keeps the routes to TARGET, an IPv4 address or prefix, in the kernel of this router. "
-        "docs/NODES.md has the rules.",
-        epilog="Status 0 after TERM or INT, 2 if it does not start, 1 if a neighbour knows a later start of this router.",
-    )
-    parser.add_argument("me", metavar="ME", type=router_number, help="the number of this router, which no other router has")
-    parser.add_argument("target", metavar="TARGET", type=prefix, help="an address or a prefix of the gateway")
-    link = "a neighbour, this router's end of the link to it, and an address of the neighbour"
-    parser.add_argument("neighbours", metavar="NUMBER:DEVICE:ADDRESS", type=neighbour, nargs="+", help=link)
-    parser.add_argument("--gateway", action="store_true", help="this router has an address of TARGET, and takes its packets")
-    state = "where to keep the boot number, on a disk (%(default)s)"
-    parser.add_argument("--state", metavar="FOLDER", type=Path, default=Path("/var/lib/revroute"), help=state)
-    found = parser.parse_args(words)
-    if wrong := [*faults(found)]:
-        parser.error(wrong[0])
-    return found
-
-
-def faults(found):
-    """What is wrong with the words of the command line on this router."""
-    own = {ipaddress.ip_address(it) for it in Routes("0.0.0.0", {}).addresses()}
-    devices, numbers, have = [name for _, name in socket.if_nameindex()], {found.me}, set()
-    if len(found.neighbours) >= BLOCK:
-        yield f"there are {BLOCK - 1} neighbours at most"
-    for it in found.neighbours:
-        if it.number in numbers:
-            yield f"each router has a number of its own: there are two with the number {it.number}"
-        if it.device not in devices:
-            yield f"there is no device {it.device!r}"
-        if it.device in have:
-            yield f"two neighbours on {it.device}: gates are by device, so each neighbour needs its own"
-        if it.address in own:
-            yield f"{it.address} is an address of this router, not of its neighbour {it.number}"
-        numbers.add(it.number)
-        have.add(it.device)
-    yield from target_faults(found, own)
-
-
-def target_faults(found, own):
-    """A gateway takes packets to the target, and no other router does."""
-    has_target = any(it in found.target for it in own)
-    if found.gateway and not has_target:
-        yield f"this router has no address of {shown(found.target)}, so it is not a gateway"
-    if has_target and not found.gateway and found.target.prefixlen == 32:
-        yield f"{shown(found.target)} is an address of this router, so it takes --gateway"
 
 
 def main(words, kind=Router):

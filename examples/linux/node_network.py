@@ -1,4 +1,5 @@
-"""Routers without a controller in the kernels of a lab: their processes, what their kernels hold, and loops in that."""
+"""Routers without a controller in the kernels of a lab: their processes, what their kernels hold, and loops in that.
+"""
 
 import graphlib
 import subprocess
@@ -61,14 +62,14 @@ class Network(Lab):
 
     def start(self, name, *words, **how):
         """Starts a Python program on a router. Without the folders of installed packages it starts sooner."""
-        die = lambda: libc.prctl(DIE_WITH_PARENT, 9)
+        how |= {"env": inside.environment(), "preexec_fn": lambda: libc.prctl(DIE_WITH_PARENT, 9)}
         with entered(name):
-            return subprocess.Popen([sys.executable, "-S", *map(str, words)], env=inside.environment(), preexec_fn=die, **how)
+            return subprocess.Popen([sys.executable, "-S", *map(str, words)], **how)
 
 
 def used(held):
-    """The routers to which each router uses a link: it has a way there, and is let in there. The gateway sends to none, so it is in no
-    loop."""
+    """The routers to which each router uses a link: it has a way there, and is let in there. The gateway sends to
+    none, so it is in no loop."""
     return {it: {way for way in ways if way in held and it in held[way][1]} for it, (ways, _) in held.items()}
 
 
