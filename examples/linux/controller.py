@@ -13,6 +13,10 @@ import revroute
 from revroute import NoHop
 
 
+# The metric of the last route of each router, which drops. The others have none, which counts as 0.
+LAST = 4_000_000
+
+
 class Controller:
     """The routes of all routers to one gateway.
 
@@ -72,11 +76,16 @@ class Controller:
         return again + self.network.pushes(self.table)
 
     def push(self, router, hop):
-        """Gives a router its hop, and returns once its kernel has it."""
+        """Gives a router its hop, and returns once its kernel has it. Without a hop the router drops packets, also beside a default
+        route: that could lead back to the router."""
+        if hop is NoHop.HERE:
+            return
+        if router not in self.table:
+            # when the kernel deletes the route to the hop, this one is left
+            self.route(router, "replace", "unreachable", self.target, "metric", str(LAST))
         if hop is NoHop.CUT_OFF:
-            # if the kernel has deleted the route already, there is nothing to flush, which is no error
-            self.route(router, "flush", self.target)
-        elif hop is not NoHop.HERE:
+            self.route(router, "replace", "unreachable", self.target)
+        else:
             self.route(router, "replace", self.target, "via", self.addresses[hop], "dev", hop, "onlink")
 
     def route(self, router, *words):

@@ -105,7 +105,7 @@ def start(what, check):
     except LeftOut as it:
         print(f"skipped: {what}, since {' '.join(str(it.why).split())}: {it.package}")
         sys.exit(0)
-    if package := find_package(sys.argv[1:]):
+    if package := find_package([it for it in sys.argv[1:] if not it.startswith("--")]):
         sys.path.insert(0, str(unpacked(package)))
     if not importlib.util.find_spec("revroute"):
         sys.exit("linux: WRONG: there is no Python package of the engine; embed/build makes it")

@@ -21,6 +21,8 @@ TARGET, PORT = "10.255.255.1", 7
 HUB = "hub"
 SECONDS_TO_SETTLE, SECONDS_TO_RUN = 5, 60
 THREAD, RUN = "/proc/thread-self", os.path.realpath("/var/run")
+# the device of a route that drops, in /proc/net/route
+DROPS = "*"
 SYSCTLS = {
     "ip_forward": 1,
     # each error counts: none may be held back
@@ -100,10 +102,10 @@ class Router:
         return int(values[names.index(name)])
 
     def routes(self):
-        """The device and the address of each next hop to the target, by rising metric."""
+        """The device and the address of each next hop to the target, by rising metric. A route that drops has none."""
         lines = [line.split() for line in self.read("route")[1:]]
         routes = [(int(metric), device, hop) for device, target, hop, _, _, _, metric, *_ in lines if target == hex_of(TARGET)]
-        return [it[1:] for it in sorted(routes)]
+        return [it[1:] for it in sorted(routes) if it[1] != DROPS]
 
     def flags(self, device):
         asked = struct.pack("16sH14x", device.encode(), 0)
@@ -122,7 +124,8 @@ class Router:
         try:
             self.socket.sendto(data, (TARGET, PORT))
         except OSError as error:
-            if error.errno != errno.ENETUNREACH:
+            # without any route, or by a route that drops
+            if error.errno not in (errno.ENETUNREACH, errno.EHOSTUNREACH):
                 raise
             return False
         return True
@@ -202,8 +205,8 @@ class Lab:
         return sum(router.count("snmp", "Icmp", "OutTimeExcds") for router in self.routers.values())
 
     def count_lost(self):
-        """How many probes have ended on the way: by their TTL, or at a router with no route."""
-        return self.expired() + sum(router.count("netstat", "IpExt", "InNoRoutes") for router in self.routers.values())
+        """How many probes have ended on the way: by their TTL, or at a router with no route, or with one that drops."""
+        return self.expired() + sum(router.count("snmp", "Icmp", "OutDestUnreachs") for router in self.routers.values())
 
     def under_way(self):
         """How many probes have neither arrived nor been lost. The counters are read only if they can have changed."""

@@ -2,46 +2,83 @@
 read or a push takes some 50 microseconds, and no process is started."""
 
 import errno
+import os
 import socket
 import struct
+from collections import namedtuple
 
 REQUEST, ACK, REPLACE, EXCLUSIVE, CREATE, DUMP = 0x1, 0x4, 0x100, 0x200, 0x400, 0x300
-NEWROUTE, DELROUTE, GETROUTE, NEWNEXTHOP, DELNEXTHOP = 24, 25, 26, 104, 105
-NEWLINK, GETLINK, NEWRULE, DELRULE, GETRULE = 16, 18, 32, 33, 34
+NEWROUTE, DELROUTE, GETROUTE, NEWNEXTHOP, DELNEXTHOP, GETNEXTHOP = 24, 25, 26, 104, 105, 106
+NEWLINK, GETLINK, GETADDRESS, NEWRULE, DELRULE, GETRULE = 16, 18, 22, 32, 33, 34
 ERROR, DONE = 2, 3
 RTA_DST, RTA_OIF, RTA_GATEWAY, RTA_PRIORITY, RTA_MULTIPATH, RTA_NH_ID = 1, 4, 5, 6, 9, 30
-NHA_ID, NHA_OIF, NHA_GATEWAY = 1, 5, 6
-FRA_DST, FRA_IIFNAME, FRA_PRIORITY, TO_TABLE, UNREACHABLE = 1, 3, 6, 1, 7
+NHA_ID, NHA_OIF, NHA_GATEWAY, IFA_LOCAL = 1, 5, 6, 2
+FRA_DST, FRA_IIFNAME, FRA_PRIORITY, FRA_PROTOCOL, TO_TABLE, UNREACHABLE = 1, 3, 6, 21, 1, 7
 RUNNING, LINK_GROUP = 0x40, 1
 DEAD, ONLINK, LINKDOWN = 0x1, 0x4, 0x10
 MAIN, UNICAST, STATIC, HOST = 254, 1, 4, 32
 NETLINK_ROUTE, SOL_NETLINK, STRICT = 0, 270, 12
+# what is asked for in a list of routes, and in one of rules
+ROUTES, RULES = (struct.pack("=8BI", socket.AF_INET, 0, 0, 0, table, 0, 0, 0, 0) for table in (MAIN, 0))
 # What is refused in pushes without harm: what is to be deleted is gone, what is to be added is there, or a way has no carrier.
 GONE, THERE, NO_CARRIER = (errno.ESRCH, errno.ENOENT), (errno.EEXIST,), (errno.ENETDOWN, errno.EINVAL)
 
 
-class Routes:
-    """Make it within the namespace. `index` has the number of each device by its name."""
+Route = namedtuple("Route", "target length metric protocol nexthop")
 
-    def __init__(self, target, index):
+
+class Routes:
+    """Make it within the namespace. The target is an address or a prefix. `index` has the number of each device by its name.
+
+    The kernel keeps a protocol number with each route, rule and nexthop object, which says whose it is. With a `protocol`, all that is
+    made has this number, and only what has it is listed as owned or deleted.
+    """
+
+    def __init__(self, target, index, protocol=0):
         self.socket = socket.socket(socket.AF_NETLINK, socket.SOCK_RAW, NETLINK_ROUTE)
         self.socket.setsockopt(socket.SOL_SOCKET, socket.SO_RCVBUF, 1 << 20)
         self.socket.setsockopt(SOL_NETLINK, STRICT, 1)
         self.socket.bind((0, 0))
-        self.target, self.index, self.number, self.ids = socket.inet_aton(target), index, 0, {}
+        address, _, length = target.partition("/")
+        self.target, self.length = socket.inet_aton(address), int(length or HOST)
+        self.index, self.protocol, self.number, self.ids = index, protocol, 0, {}
 
     def close(self):
         self.socket.close()
 
     def read(self):
         """The devices of each route that the kernel would use, by rising metric. A device without carrier is left out."""
-        body = struct.pack("=8BI", socket.AF_INET, 0, 0, 0, MAIN, 0, 0, 0, 0)
-        routes = filter(None, (self.route_in(*it) for it in self.listed(GETROUTE, body)))
+        routes = filter(None, (self.route_in(*it) for it in self.listed(GETROUTE, ROUTES)))
         return [devices for _, devices in sorted(routes) if devices]
 
     def open_gates(self):
         """The names of the devices whose packets to the target are let in by a rule."""
-        return {*filter(None, (self.gate_in(*it) for it in self.listed(GETRULE, struct.pack("=8BI", socket.AF_INET, *[0] * 8))))}
+        return {device for _, device, is_open in self.rules() if is_open}
+
+    def rules(self):
+        """The rules for packets to the target that come in by a device: the preference of each, the name of the device, and whether it
+        lets them in."""
+        return [*filter(None, (self.rule_in(*it) for it in self.listed(GETRULE, RULES)))]
+
+    def routes(self):
+        """All routes of the main table, also those to other targets."""
+        found = []
+        for said, begin, end in self.listed(GETROUTE, ROUTES):
+            parts = parts_in(said, begin + 12, end)
+            metric, nexthop = (number_in(parts, it) for it in (RTA_PRIORITY, RTA_NH_ID))
+            if said[begin + 4] == MAIN:
+                found.append(Route(parts.get(RTA_DST, bytes(4)), said[begin + 1], metric, said[begin + 5], nexthop))
+        return found
+
+    def nexthops(self):
+        """The numbers of all nexthop objects that are owned, also those for other targets."""
+        some = self.listed(GETNEXTHOP, bytes(8))
+        return [number_in(parts_in(said, begin + 8, end), NHA_ID) for said, begin, end in some if said[begin + 2] == self.protocol]
+
+    def addresses(self):
+        """The addresses of the namespace."""
+        some = self.listed(GETADDRESS, struct.pack("=4BI", socket.AF_INET, 0, 0, 0, 0))
+        return [parts_in(said, begin + 8, end).get(IFA_LOCAL) for said, begin, end in some]
 
     def listed(self, kind, body):
         """What the kernel lists: the messages, where each begins, and where it ends."""
@@ -53,21 +90,22 @@ class Routes:
                     return
                 yield said, begin, end
 
-    def gate_in(self, said, begin, end):
-        """The device of the rule in a message, or None if it opens no gate to the target."""
-        if said[begin + 7] != TO_TABLE or said[begin + 1] != HOST:
+    def rule_in(self, said, begin, end):
+        """The rule in a message, or None if it is no gate to the target."""
+        parts = parts_in(said, begin + 12, end)
+        is_for_target = said[begin + 1] == self.length and parts.get(FRA_DST) == self.target
+        is_owned = not self.protocol or parts.get(FRA_PROTOCOL) == bytes([self.protocol])
+        if not is_for_target or not is_owned or FRA_IIFNAME not in parts:
             return None
-        parts = {kind: said[at:to] for kind, at, to in attributes(said, begin + 12, end)}
-        is_gate = parts.get(FRA_DST) == self.target and FRA_IIFNAME in parts
-        return parts[FRA_IIFNAME].rstrip(b"\0").decode() if is_gate else None
+        return number_in(parts, FRA_PRIORITY), parts[FRA_IIFNAME].rstrip(b"\0").decode(), said[begin + 7] == TO_TABLE
 
     def route_in(self, said, begin, end):
         """The metric and the devices of the route in a message, or None if it is for another target."""
         length, table, flags = said[begin + 1], said[begin + 4], struct.unpack_from("=I", said, begin + 8)[0]
-        parts = {kind: said[at:to] for kind, at, to in attributes(said, begin + 12, end)}
-        if length != HOST or table != MAIN or parts.get(RTA_DST) != self.target:
+        parts = parts_in(said, begin + 12, end)
+        if length != self.length or table != MAIN or parts.get(RTA_DST) != self.target:
             return None
-        metric = struct.unpack("=I", parts[RTA_PRIORITY])[0] if RTA_PRIORITY in parts else 0
+        metric = number_in(parts, RTA_PRIORITY)
         # a route that drops packets has no hop
         hops = several(parts.get(RTA_MULTIPATH, b"")) or [(flags, *struct.unpack("=I", parts[RTA_OIF])) for it in parts if it == RTA_OIF]
         return metric, [device for flags, device in hops if not flags & (DEAD | LINKDOWN)]
@@ -81,10 +119,16 @@ class Routes:
             case "nexthop", "replace", "id", id, "via", address, "dev", device, "onlink":
                 self.ids[device] = int(id)
                 via = number(NHA_OIF, self.index[device]) + attribute(NHA_GATEWAY, socket.inet_aton(address))
-                return not self.ask(NEWNEXTHOP, REPLACE | CREATE, nexthop(int(id), ONLINK) + via, may=NO_CARRIER)
+                body = nexthop(int(id), ONLINK, self.protocol or STATIC) + via
+                return not self.ask(NEWNEXTHOP, REPLACE | CREATE, body, may=NO_CARRIER)
+            case "nexthop", "del", "id", id:
+                return self.ask(DELNEXTHOP, 0, nexthop(int(id)), may=GONE) in (0, *GONE)
             case "route", "replace", _, "nhid", id, "metric", metric:
                 body = self.route(UNICAST) + number(RTA_PRIORITY, int(metric)) + number(RTA_NH_ID, int(id))
                 return not self.ask(NEWROUTE, REPLACE | CREATE, body, may=NO_CARRIER)
+            case "route", "replace", "unreachable", _, *metric:
+                at = number(RTA_PRIORITY, int(metric[1])) if metric else b""
+                return not self.ask(NEWROUTE, REPLACE | CREATE, self.route(UNREACHABLE) + at)
             case "route", "del", _, "metric", metric:
                 return not self.ask(DELROUTE, 0, self.route() + number(RTA_PRIORITY, int(metric)), may=GONE)
             case "route", "replace", _, "via", address, "dev", device, "onlink":
@@ -95,20 +139,19 @@ class Routes:
                 return self.ask(NEWRULE, EXCLUSIVE | CREATE, self.rule(at, device, kind), may=THERE) in (0, *THERE)
             case "rule", "del", "pref", at, "iif", device, "to", _:
                 return self.ask(DELRULE, 0, self.rule(at, device), may=GONE) in (0, *GONE)
-            case "route", "flush", _:
-                return self.ask(DELROUTE, 0, self.route(), may=GONE) in (0, *GONE)
         raise ValueError(f"no message for {' '.join(words)}")
 
     def route(self, kind=0, flags=0):
         """The beginning of a message about the route to the target: a kind of 0 fits any."""
-        words = socket.AF_INET, HOST, 0, 0, MAIN, STATIC if kind else 0, 0, kind, flags
+        protocol = self.protocol or (STATIC if kind else 0)
+        words = socket.AF_INET, self.length, 0, 0, MAIN, protocol, 0, kind, flags
         return struct.pack("=8BI", *words) + attribute(RTA_DST, self.target)
 
     def rule(self, at, device, action=0):
         """A rule for packets to the target that come in by a device. An action of 0 fits any."""
-        header = struct.pack("=8BI", socket.AF_INET, HOST, 0, 0, MAIN if action == TO_TABLE else 0, 0, 0, action, 0)
+        header = struct.pack("=8BI", socket.AF_INET, self.length, 0, 0, MAIN if action == TO_TABLE else 0, 0, 0, action, 0)
         parts = attribute(FRA_DST, self.target) + attribute(FRA_IIFNAME, device.encode() + b"\0")
-        return header + parts + number(FRA_PRIORITY, int(at))
+        return header + parts + number(FRA_PRIORITY, int(at)) + attribute(FRA_PROTOCOL, bytes([self.protocol]))
 
     def ask(self, kind, flags, body, may=()):
         """Sends a message, and returns the kernel's error, which is 0 or one that may come."""
@@ -118,7 +161,7 @@ class Routes:
             _, kind, _, number, _, error = struct.unpack_from("=IHHIIi", said)
             if kind == ERROR and number == self.number:
                 if error and -error not in may:
-                    raise OSError(-error, "netlink")
+                    raise OSError(-error, os.strerror(-error))
                 return -error
 
     def send(self, kind, flags, body):
@@ -164,6 +207,11 @@ def attributes(said, at, end):
         at += size + 3 & ~3
 
 
+def parts_in(said, at, end):
+    """The attributes of a message by their kind."""
+    return {kind: said[begin:to] for kind, begin, to in attributes(said, at, end)}
+
+
 def several(hops):
     """The flags and the device of each hop of a route with several."""
     at, found = 0, []
@@ -182,6 +230,11 @@ def number(kind, value):
     return attribute(kind, struct.pack("=I", value))
 
 
-def nexthop(id, flags=0):
+def number_in(parts, kind):
+    """The number in the attribute of a kind, or 0 if there is none."""
+    return struct.unpack("=I", parts[kind])[0] if kind in parts else 0
+
+
+def nexthop(id, flags=0, protocol=0):
     family = socket.AF_INET if flags else socket.AF_UNSPEC
-    return struct.pack("=4BI", family, 0, STATIC if flags else 0, 0, flags) + number(NHA_ID, id)
+    return struct.pack("=4BI", family, 0, protocol, 0, flags) + number(NHA_ID, id)

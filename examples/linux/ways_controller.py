@@ -12,6 +12,8 @@ import subprocess
 import revroute
 
 SECONDS_TO_ANSWER = 10
+# The metric of the last route of each router with ways, which drops. All ways have lower ones.
+LAST = 4_000_000
 
 
 class WaysController:
@@ -110,7 +112,8 @@ class WaysController:
         link has no carrier, that is left out as well. Returns whether the router has answered."""
         ways = self.without_cycles(router, ways)
         self.table[router] = [*ways, *(it for it in self.table.get(router, ()) if it not in ways)]
-        lines = []
+        # without this one, a router that has lost its ways would use its default route, which could lead back to it
+        lines = [f"route replace unreachable {self.target} metric {LAST}"]
         for metric, way in enumerate(ways, 1):
             lines += [f"nexthop replace id {self.ids[way]} via {self.addresses[way]} dev {way} onlink"]
             lines += [f"route replace {self.target} nhid {self.ids[way]} metric {metric}"]
@@ -146,7 +149,7 @@ class WaysController:
         if (said := self.run(router, "-json", "route", "show", self.target)) is None or said.returncode:
             self.silent.add(router)
             return False
-        routes = sorted(json.loads(said.stdout), key=lambda it: it["metric"])
+        routes = sorted((it for it in json.loads(said.stdout) if "dev" in it), key=lambda it: it["metric"])
         self.table[router] = [*dict.fromkeys(it["dev"] for it in routes)]
         self.highest[router] = routes[-1]["metric"] if routes else 0
         self.stale.discard(router)

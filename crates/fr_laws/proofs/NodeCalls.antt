@@ -1,6 +1,6 @@
 -- What the calls of a node ensure makes them calls of the laws.
 use Rattle.std.proofs.Common.{Bool, List, None, Some, [], ap, arith, cond, eq-eqb, eqb, false, get_or, inl, inr}
-use Rattle.std.proofs.Common.{length, length-append, ne_eqb, not, refl, subst, sym, ℕ, ⊎_elim, ◌++◌, ◌+◌, ◌<◌, ◌∙◌}
+use Rattle.std.proofs.Common.{length, length-append, ne_eqb, not, refl, subst, sym, true, ℕ, ⊎_elim, ◌++◌, ◌+◌, ◌<◌, ◌∙◌}
 use Rattle.std.proofs.Common.{◌∷◌, ◌≡◌}
 use Rattle.std.proofs.Math.Seq.{get_or-append_seam}
 use Rattle.std.proofs.lemmas.Bool.{cases_eq, cases_lt, cond-false, cond-true}
@@ -15,7 +15,7 @@ use Rattle.fr_node.specs.declared.message.Message.{Message}
 use Rattle.fr_node.specs.declared.node.Node.{Node}
 use Rattle.fr_node.specs.declared.own.Own.{Own}
 use Rattle.fr_laws.specs.Announcements.{AreListedOnce, HearingIsACall, IsCall, KnowingIsACall, RepeatingIsACall}
-use Rattle.fr_laws.specs.Announcements.{SayingIsACall}
+use Rattle.fr_laws.specs.Announcements.{SayingIsACall, WritingIsACall}
 
 -- the same links are known
 alike : (ls ks : List Link) (w : ℕ) → ks ≡ ls → (link_to ks w).up ≡ (link_to ls w).up
@@ -118,22 +118,49 @@ module _ (ls : List Link) (w : ℕ) (stranger : ¬ IsKnown ls w) where
           (cases_eq w v)
 
 pub hearing_is_a_call : HearingIsACall
-hearing_is_a_call m old new hears same acts step = record {
-  same = same;
+hearing_is_a_call m old new hears event = record {
+  same = event.same;
   once = once_kept old.links.items new.links.items hears.neighbours;
   up = hearing_up old.own m old.links.items new.links.items hears;
-  step = step;
-  acts = inl acts;
+  step = event.step;
+  acts = inl event.policy;
 }
 
 pub repeating_is_a_call : RepeatingIsACall
-repeating_is_a_call w up old new repeats sets same acts step = record {
-  same = same;
+repeating_is_a_call w up old new repeats sets event = record {
+  same = event.same;
   once = once_kept old.links.items new.links.items sets.neighbours;
   up = repeating_up w up old.links.items new.links.items repeats sets;
-  step = step;
-  acts = inl acts;
+  step = event.step;
+  acts = inl event.policy;
 }
+
+-- a call after which the node knows what it knew
+pub rests : (n : Node) (written : Bool) → IsCall [] n (record n { is_written = written })
+rests n written = record {
+  same = (refl, refl);
+  once = λ once. once;
+  up = λ w. refl;
+  step = record {
+    me = refl;
+    goes_on = λ h known. (
+      h,
+      known,
+      record {
+        boot = refl;
+        number = omega arith;
+        announced = λ k l. refl;
+        start = λ w. (omega arith, inl refl);
+        height = λ w. inl (refl, refl, refl);
+        answer = λ w. inl (refl, refl);
+      },
+    );
+  };
+  acts = inr refl;
+}
+
+pub writing_is_a_call : WritingIsACall
+writing_is_a_call old new e = subst (IsCall [] old) (sym e) (rests old true)
 
 -- a call after which the node knows of itself what it knew
 only_links : (old new : Node) → new ≡ record old { links = new.links }
@@ -148,7 +175,7 @@ only_links old new rest once up step = record {
   acts = inr (ap (λ (a : Node). a.own) rest);
 }
 
-pub same_links : (old new : Node) → new ≡ record old { links = new.links } → new.links.items ≡ old.links.items
+same_links : (old new : Node) → new ≡ record old { links = new.links } → new.links.items ≡ old.links.items
     → Steps [] old new → IsCall [] old new
 same_links old new rest e step = only_links old new rest (subst AreListedOnce (sym e))
     (λ w. alike old.links.items new.links.items w e) step

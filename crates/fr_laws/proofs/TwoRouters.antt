@@ -1,7 +1,7 @@
 -- Two routers. One says that it has started, and the gateway says its height. The router hears it, announces a height
 -- above it, and says so. Once each has heard that its last announcement was heard, nothing more happens.
-use Rattle.std.proofs.Common.{All, Contains, List, None, [], ap, arith, count_by, eq-eqb, false, get_or, inl, inr}
-use Rattle.std.proofs.Common.{refl, subst, suc, sym, true, zero, ℕ, ⊎_elim, IsTrue, ◌+◌, ◌^◌, ◌⊎◌, ◌<◌, ◌∙◌, ◌∷◌, ◌≡◌}
+use Rattle.std.proofs.Common.{All, Bool, Contains, List, None, [], ap, arith, count_by, eq-eqb, false, get_or, inl, inr}
+use Rattle.std.proofs.Common.{refl, subst, suc, sym, true, zero, ℕ, ⊎_elim, IsTrue, ◌+◌, ◌%◌, ◌^◌, ◌⊎◌, ◌<◌, ◌∙◌, ◌∷◌, ◌≡◌}
 use Rattle.std.proofs.Common.{◌≢◌, ◌↔◌}
 use Rattle.std.proofs.lemmas.List.Elements.{All-contains, All-cons, All-nil}
 use Rattle.std.specs.Global.{Global, Vec}
@@ -13,12 +13,13 @@ use Rattle.fr_graph.specs.Links.{IsNet, Joins, Points, is_between}
 use Rattle.fr_node.proofs.Announcing.{true_false}
 use Rattle.fr_node.proofs.Histories.{Announces-none, Announces-raised, Announces-settled, Announces-then}
 use Rattle.fr_node.proofs.Linking.{hears_at}
-use Rattle.fr_node.proofs.Stepping.{InTurn, IsEvent, after_hearing}
+use Rattle.fr_node.proofs.Stepping.{InTurn, after_hearing}
 use Rattle.fr_node.specs.Arrivals.{IsLinkedTo, IsQuiet, IsStill, IsTold}
 use Rattle.fr_node.specs.Distances.{IsDistance, IsNearest}
+use Rattle.fr_node.specs.Events.{IsAfterEvent}
 use Rattle.fr_node.specs.Histories.{IsHistory}
 use Rattle.fr_node.specs.Links.{Hears, IsHeard, is_lower, is_way, unknown}
-use Rattle.fr_node.specs.Nodes.{IsMessageTo, Steps}
+use Rattle.fr_node.specs.Nodes.{IsMessageTo}
 use Rattle.fr_node.specs.Policies.{Acts, IsAboveAll, is_higher, is_up}
 use Rattle.fr_node.specs.declared.link.Link.{Link}
 use Rattle.fr_node.specs.declared.message.Message.{Message}
@@ -28,7 +29,7 @@ use Rattle.fr_node.specs.declared.own.Own.{Own}
 use Rattle.fr_node.specs.declared.policy.Policy.{Policy}
 use Rattle.fr_node.specs.declared.policy.Rise.TheVariants.{Full}
 use Rattle.fr_laws.proofs.HopsAlong.{falling_acyclic}
-use Rattle.fr_laws.proofs.NodeCalls.{hearing_is_a_call, same_links}
+use Rattle.fr_laws.proofs.NodeCalls.{hearing_is_a_call, rests}
 use Rattle.fr_laws.specs.Announcements.{AreListedOnce, AreSteps, Configuration, IsLower, IsNetwork, IsRouter, IsStep}
 use Rattle.fr_laws.specs.Announcements.{SomeRouterAnnounces}
 
@@ -234,30 +235,44 @@ module _ (alloc : Global) where
     small = omega arith;
   }
 
-  -- router 0, as it starts and after its announcement, and the gateway, each with this link
-  abbrev router : Own → Link → Node
-  router o l = record { own = o; gateway = false; policy = policy; links = links l }
+  -- router 0 and the gateway, each with this link, after so many events. Each starts with a table that is written
+  abbrev router : ℕ → Bool → Own → Link → Node
+  router events written o l = record {
+    own = o;
+    gateway = false;
+    policy = policy;
+    links = links l;
+    events = events;
+    is_written = written;
+  }
 
-  abbrev gate : Link → Node
-  gate l = record { own = own 1 0 1; gateway = true; policy = policy; links = links l }
+  abbrev gate : ℕ → Bool → Link → Node
+  gate events written l = record {
+    own = own 1 0 1;
+    gateway = true;
+    policy = policy;
+    links = links l;
+    events = events;
+    is_written = written;
+  }
 
   abbrev before : Node
-  before = router (own 0 0 1) (new_link 1)
+  before = router 0 true (own 0 0 1) (new_link 1)
 
   abbrev after : Node
-  after = router (own 0 1 2) greeted
+  after = router 1 false (own 0 1 2) greeted
 
   abbrev done : Node
-  done = router (own 0 1 2) answered
+  done = router 2 false (own 0 1 2) answered
 
   abbrev gate0 : Node
-  gate0 = gate (new_link 0)
+  gate0 = gate 0 true (new_link 0)
 
   abbrev gate1 : Node
-  gate1 = gate met
+  gate1 = gate 1 false met
 
   abbrev gate2 : Node
-  gate2 = gate told
+  gate2 = gate 2 false told
 
   abbrev nodes : Node → Node → ℕ → Node
   nodes a b zero = a
@@ -332,29 +347,12 @@ module _ (alloc : Global) where
 
   -- What a step is: one router says something, or hears the last message
 
-  idles : (a : Node) → Steps [] a a
-  idles a = record {
-    me = refl;
-    goes_on = λ h known. (
-      h,
-      known,
-      record {
-        boot = refl;
-        number = omega arith;
-        announced = λ n l. refl;
-        start = λ w. (omega arith, inl refl);
-        height = λ w. inl (refl, refl, refl);
-        answer = λ w. inl (refl, refl);
-      },
-    );
-  }
-
   says : (a b : Node) (pool : List Message) (m : Message) → IsMessageTo (nodes a b m.from) m.to m
       → IsStep 1 (moment a b pool) (moment a b (m ∷ pool))
   says a b pool m honest = record {
     messages = [];
     sent = λ k h. absurd (Contains-none k h);
-    call = same_links b b refl refl (idles b);
+    call = rests b b.is_written;
     others = λ y other. refl;
     said = λ k h. ⊎_elim
         (λ e. inr (subst (λ (j : Message). IsMessageTo (nodes a b j.from) j.to j) e honest))
@@ -373,12 +371,12 @@ module _ (alloc : Global) where
   router_hears a mid c b m pool turn hears = record {
     messages = m ∷ [];
     sent = only_last m pool;
-    call = hearing_is_a_call m a c hears event.same event.policy event.step;
+    call = hearing_is_a_call m a c hears event;
     others = others;
     said = λ k h. inl h;
   }
     where
-      event : IsEvent (m ∷ []) a c
+      event : IsAfterEvent (m ∷ []) a c
       event = after_hearing m a mid c turn
           (subst (λ (ls : Vec Link). Hears a.own m a.links.items ls.items) (ap (λ (n : Node). n.links) turn.own) hears)
 
@@ -388,42 +386,46 @@ module _ (alloc : Global) where
       others (suc (suc y)) other = refl
 
   -- a gateway announces nothing
-  gate_hears : (a : Node) (l k : Link) (m : Message) (pool : List Message) → Hears (own 1 0 1) m (l ∷ []) (k ∷ [])
-      → IsStep 1 (moment a (gate l) (m ∷ pool)) (moment a (gate k) (m ∷ pool))
-  gate_hears a l k m pool hears = record {
+  gate_hears : (a : Node) (e : ℕ) (b : Bool) (l k : Link) (m : Message) (pool : List Message)
+      → Hears (own 1 0 1) m (l ∷ []) (k ∷ [])
+      → IsStep 1 (moment a (gate e b l) (m ∷ pool)) (moment a (gate ((e + 1) % 2 ^ 64) false k) (m ∷ pool))
+  gate_hears a e b l k m pool hears = record {
     messages = m ∷ [];
     sent = only_last m pool;
-    call = hearing_is_a_call m (gate l) (gate k) hears event.same event.policy event.step;
+    call = hearing_is_a_call m (gate e b l) heard hears event;
     others = others;
     said = λ k h. inl h;
   }
     where
-      acts : Acts (gate k) (own 1 0 1)
+      heard : Node
+      heard = gate ((e + 1) % 2 ^ 64) false k
+
+      acts : Acts (gate e b k) (own 1 0 1)
       acts = record {
         said = own 1 0 1;
         announces = inr (inr (record { stays = λ may. absurd (true_false (sym may.forwards)); own = refl }));
         settles = record { used = λ _. refl; waits = λ _. refl };
       }
 
-      event : IsEvent (m ∷ []) (gate l) (gate k)
-      event = after_hearing m (gate l) (gate k) (gate k)
+      event : IsAfterEvent (m ∷ []) (gate e b l) heard
+      event = after_hearing m (gate e b l) (gate e b k) heard
           (record { links = refl; own = refl; announces = Announces-none (own 1 0 1); acts = acts }) hears
 
-      others : (y : ℕ) → y ≢ 1 → nodes a (gate k) y ≡ nodes a (gate l) y
+      others : (y : ℕ) → y ≢ 1 → nodes a heard y ≡ nodes a (gate e b l) y
       others zero other = refl
       others (suc zero) other = absurd (other refl)
       others (suc (suc y)) other = refl
 
-  gate_distance : (l : Link) → IsDistance (gate l) 0
-  gate_distance l = record {
+  gate_distance : (e : ℕ) (b : Bool) (l : Link) → IsDistance (gate e b l) 0
+  gate_distance e b l = record {
     gateway = λ _. refl;
     near = λ other. absurd (other refl);
     far = λ other. absurd (other refl);
   }
 
-  gate_says : (l : Link) (m : Message) → m.from ≡ 1 → m.to ≡ 0 → m.boot ≡ 1 → m.number ≡ 1 → m.height ≡ 0
-      → m.distance ≡ 0 → l.neighbour ≡ 0 → m.echo ≡ l.peer → m.heard ≡ l.heard → IsMessageTo (gate l) 0 m
-  gate_says l m from to boot number height distance leads echo heard = record {
+  gate_says : (e : ℕ) (b : Bool) (l : Link) (m : Message) → m.from ≡ 1 → m.to ≡ 0 → m.boot ≡ 1 → m.number ≡ 1 → m.height ≡ 0
+      → m.distance ≡ 0 → l.neighbour ≡ 0 → m.echo ≡ l.peer → m.heard ≡ l.heard → IsMessageTo (gate e b l) 0 m
+  gate_says e b l m from to boot number height distance leads echo heard = record {
     from = from;
     to = to;
     boot = boot;
@@ -431,7 +433,7 @@ module _ (alloc : Global) where
     number = number;
     height = height;
     heard = rw (eq-eqb l.neighbour 0 leads) heard;
-    distance = subst (IsDistance (gate l)) (sym distance) (gate_distance l);
+    distance = subst (IsDistance (gate e b l)) (sym distance) (gate_distance e b l);
   }
 
   -- Each step
@@ -454,7 +456,7 @@ module _ (alloc : Global) where
 
   -- the router hears the gateway's height, and announces one
   abbrev middle : Node
-  middle = router (own 0 0 1) greeted
+  middle = router 0 true (own 0 0 1) greeted
 
   above : IsAboveAll middle 1
   above = record {
@@ -513,22 +515,25 @@ module _ (alloc : Global) where
   }
 
   -- it has a way, so it announces nothing more
-  no_sink : (v : ℕ) → ¬ IsAboveAll done v
-  no_sink v above = true_false (sym (All-contains
+  no_sink : (e v : ℕ) → ¬ IsAboveAll (router e false (own 0 1 2) answered) v
+  no_sink e v above = true_false (sym (All-contains
       (λ l. l.up ≡ true → (0 < l.heard) × (is_lower (own 0 1 2) l ≡ false)) (answered ∷ []) answered above.sink
       (Contains-head answered []) refl).1)
 
-  keeps : Acts done (own 0 1 2)
+  abbrev at_rest : Node
+  at_rest = router 1 false (own 0 1 2) answered
+
+  keeps : Acts at_rest (own 0 1 2)
   keeps = record {
     said = own 0 1 2;
     announces = inr (inr (record {
-      stays = λ may v. (λ falls. true_false falls.wanted, λ rises. absurd (no_sink v rises));
+      stays = λ may v. (λ falls. true_false falls.wanted, λ rises. absurd (no_sink 1 v rises));
       own = refl;
     }));
     settles = record { used = λ _. refl; waits = λ _. refl };
   }
 
-  stays : InTurn after done done
+  stays : InTurn after at_rest done
   stays = record { links = refl; own = refl; announces = Announces-none (own 0 1 2); acts = keeps }
 
   -- Nothing more happens
@@ -568,7 +573,7 @@ module _ (alloc : Global) where
         full = refl;
         may = record { forwards = refl; settled = refl; number = omega arith };
         keeps = record {
-          stays = λ may v. (λ falls. true_false falls.wanted, λ rises. absurd (no_sink v rises));
+          stays = λ may v. (λ falls. true_false falls.wanted, λ rises. absurd (no_sink 2 v rises));
           own = refl;
         };
       })
@@ -596,10 +601,10 @@ module _ (alloc : Global) where
   step1 = says before gate0 [] started says_started
 
   step2 : IsStep 1 (moment before gate0 pool1) (moment before gate1 pool1)
-  step2 = gate_hears before (new_link 0) met started [] hears_started
+  step2 = gate_hears before 0 true (new_link 0) met started [] hears_started
 
   step3 : IsStep 1 (moment before gate1 pool1) (moment before gate1 pool2)
-  step3 = says before gate1 pool1 hello (gate_says met hello refl refl refl refl refl refl refl refl refl)
+  step3 = says before gate1 pool1 hello (gate_says 1 false met hello refl refl refl refl refl refl refl refl refl)
 
   step4 : IsStep 0 (moment before gate1 pool2) (moment after gate1 pool2)
   step4 = router_hears before middle after gate1 hello pool1 rises hears_hello
@@ -608,13 +613,13 @@ module _ (alloc : Global) where
   step5 = says after gate1 pool2 reply says_reply
 
   step6 : IsStep 1 (moment after gate1 pool3) (moment after gate2 pool3)
-  step6 = gate_hears after met told reply pool2 hears_reply
+  step6 = gate_hears after 1 false met told reply pool2 hears_reply
 
   step7 : IsStep 1 (moment after gate2 pool3) (moment after gate2 pool4)
-  step7 = says after gate2 pool3 answer (gate_says told answer refl refl refl refl refl refl refl refl refl)
+  step7 = says after gate2 pool3 answer (gate_says 2 false told answer refl refl refl refl refl refl refl refl refl)
 
   step8 : IsStep 0 (moment after gate2 pool4) (moment done gate2 pool4)
-  step8 = router_hears after done done gate2 answer pool3 stays hears_answer
+  step8 = router_hears after at_rest done gate2 answer pool3 stays hears_answer
 
   abbrev last_four : List (ℕ × Configuration)
   last_four = (1, moment after gate1 pool3) ∷ (1, moment after gate2 pool3) ∷ (1, moment after gate2 pool4)

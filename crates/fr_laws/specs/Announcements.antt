@@ -16,6 +16,7 @@ use Rattle.fr_core.specs.Work.{IsConnectedNet}
 use Rattle.fr_core.specs.declared.entry.Entry.{Entry}
 use Rattle.fr_core.specs.declared.entry.Reply.TheVariants.{Turned}
 use Rattle.fr_node.specs.Arrivals.{IsLinkedTo, IsQuiet}
+use Rattle.fr_node.specs.Events.{IsAfterEvent}
 use Rattle.fr_node.specs.Histories.{IsHistory}
 use Rattle.fr_node.specs.Links.{Hears, IsKnown, Says, SetsUp, link_to, place_of, unknown}
 use Rattle.fr_node.specs.Nodes.{IsMessageTo, Steps}
@@ -178,17 +179,18 @@ SomeRouterAnnounces = (alloc : Global) → (n d : ℕ) × (first : List (ℕ × 
 -- `hear` is such a call, in which the node hears one message
 abbrev pub HearingIsACall : Type 0
 HearingIsACall = (m : Message) (old new : Node) → Hears old.own m old.links.items new.links.items
-    → (new.gateway ≡ old.gateway) × (new.policy ≡ old.policy) → Acts (record old { links = new.links }) new.own
-    → Steps (m ∷ []) old new → IsCall (m ∷ []) old new
+    → IsAfterEvent (m ∷ []) old new → IsCall (m ∷ []) old new
 
 -- `link_up` is such a call for a link that is up already, and `link_down` for one that is down. Both are for a router
 -- that is not known
 abbrev pub RepeatingIsACall : Type 0
 RepeatingIsACall = (w : ℕ) (up : Bool) (old new : Node)
     → (IsKnown old.links.items w → up ≡ (link_to old.links.items w).up)
-    → SetsUp w up old.links.items new.links.items
-    → (new.gateway ≡ old.gateway) × (new.policy ≡ old.policy) → Acts (record old { links = new.links }) new.own
-    → Steps [] old new → IsCall [] old new
+    → SetsUp w up old.links.items new.links.items → IsAfterEvent [] old new → IsCall [] old new
+
+-- `written` is such a call, which changes only whether the table is written
+abbrev pub WritingIsACall : Type 0
+WritingIsACall = (old new : Node) → new ≡ record old { is_written = true } → IsCall [] old new
 
 -- `say` is such a call, whether it says a message m or nothing
 abbrev pub SayingIsACall : Type 0

@@ -5,6 +5,7 @@ ghost use Rattle.fr_laws.specs.Announcements.{AnnouncementsAreARun, HeightsFollo
 ghost use Rattle.fr_laws.specs.Announcements.{EachAnnouncesFew, AllAnnounceFew, QuietRoutersAreSettled};
 ghost use Rattle.fr_laws.specs.Announcements.{SomeRouterAnnounces};
 ghost use Rattle.fr_laws.specs.Announcements.{HearingIsACall, KnowingIsACall, RepeatingIsACall, SayingIsACall};
+ghost use Rattle.fr_laws.specs.Announcements.{WritingIsACall};
 
 /// In a network of routers with `Rise::Full` that stays as it is, the announcements are a run of full reversal,
 /// whatever messages are lost, delayed, repeated and overtaken. Suppose that each router is connected to the one
@@ -25,6 +26,7 @@ pub fn announcements_law()
 pub fn calls_law()
     ensures hear { HearingIsACall }
     ensures repeat { RepeatingIsACall }
+    ensures write { WritingIsACall }
     ensures say { SayingIsACall }
     ensures know { KnowingIsACall }
 {}

@@ -1,4 +1,5 @@
 use Rattle.fr_laws.proofs.NodeCalls.{hearing_is_a_call, knowing_is_a_call, repeating_is_a_call, saying_is_a_call}
+use Rattle.fr_laws.proofs.NodeCalls.{writing_is_a_call}
 use Rattle.fr_laws.proofs.announcements.calls_law.Goals as goal
 
 pub returns-clause-hear : goal.returns-clause-hear
@@ -6,6 +7,9 @@ returns-clause-hear c = hearing_is_a_call
 
 pub returns-clause-repeat : goal.returns-clause-repeat
 returns-clause-repeat c = repeating_is_a_call
+
+pub returns-clause-write : goal.returns-clause-write
+returns-clause-write c = writing_is_a_call
 
 pub returns-clause-say : goal.returns-clause-say
 returns-clause-say c = saying_is_a_call

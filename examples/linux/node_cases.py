@@ -1,0 +1,401 @@
+"""Cases of a few routers without a controller. Each has done harm to a daemon without a cure.
+
+Each case runs with the daemon, and again with a planted one, which lacks the cure. The first must do what is
+expected. The second must not, or the case is blind.
+"""
+
+import contextlib
+import io
+import ipaddress
+import json
+import signal
+import socket
+import subprocess
+import sys
+import time
+from collections import namedtuple
+from pathlib import Path
+
+import netlink
+from kernels import TARGET, Wrong, entered, ip
+from node_network import DAEMON, STATE, Network, find_loop, used
+
+PLANTED = Path(__file__).resolve()
+# A process may take long to start on a busy machine. What a planted daemon has not done after the second time, it
+# does not do.
+SECONDS_TO_START, SECONDS_TO_SEE, OTHER = 40, 3, "10.255.0.0/16"
+WORDS, NOT_REFUSED = STATE.with_name("state-words"), "not refused, or without the message:"
+# What happens, between which routers there are links, and for each planted daemon a part of what is wrong with it.
+Case = namedtuple("Case", "happens links planted")
+
+
+class Some(Network):
+    """A few routers, with their processes. `kind` names a planted daemon, or is empty."""
+
+    def __init__(self, links, kind):
+        routers = sorted({it for link in links for it in link})
+        super().__init__({it: f"10.0.0.{int(it[1:]) + 1}" for it in routers}, links)
+        self.kind, self.running = kind, {}
+
+    def close(self):
+        self.kill(*self.running)
+        super().close()
+
+    def run(self, *routers, beside=None, more=()):
+        """Starts the daemons of routers."""
+        for name in routers:
+            kinds = "+".join(filter(None, (self.kind, *more)))
+            program = [PLANTED, kinds] if kinds else [DAEMON]
+            pipe = {"stderr": subprocess.PIPE, "text": True}
+            self.running[name] = self.start(name, *program, *self.words(name, beside), **pipe)
+
+    def kill(self, *routers):
+        for it in [self.running.pop(it) for it in [*routers]]:
+            it.kill()
+            it.communicate()
+
+    def end(self, name, how=None):
+        """How the process of a router ends, and what it says."""
+        it = self.running[name]
+        if how:
+            it.send_signal(how)
+        try:
+            said = it.communicate(timeout=SECONDS_TO_SEE if self.kind else SECONDS_TO_START)[1]
+        except subprocess.TimeoutExpired:
+            raise Wrong("the daemon does not end") from None
+        del self.running[name]
+        return it.returncode, said
+
+    def expect_ways(self, name, *ways):
+        expect(soon(lambda: self.held(name)[0] == {*ways}), f"{name} has the ways {self.held(name)[0]} and not {ways}")
+
+    def expect_empty(self, name):
+        expect(self.held(name) == (set(), set()), f"{name} keeps {self.held(name)}")
+        expect(self.last_routes(name) == 1, f"{name} has no last route")
+
+    def last_routes(self, name):
+        return sum(it.metric == 4_000_000 for it in self.kernels[name].routes())
+
+    def settle_without_loop(self, is_settled):
+        """Reads all kernels until they are settled for a second. A loop counts if a second read shows it too."""
+        begun = settled = time.monotonic()
+        while time.monotonic() - settled < 1:
+            first, held = ({it: self.held(it) for it in self.names} for _ in range(2))
+            links = {it: used(first)[it] & used(held)[it] for it in self.names}
+            expect(not find_loop(links), f"the used links have the loop {find_loop(links)}")
+            expect(time.monotonic() - begun < SECONDS_TO_START, f"the kernels hold {held}")
+            settled = settled if is_settled(held) else time.monotonic()
+            time.sleep(0.005)
+
+    def arrives(self, name):
+        """Whether a probe from a router arrives soon."""
+        self.probe()
+        time.sleep(0.02)
+        self.receive()
+        return self.addresses[name] in self.came[self.round]
+
+
+def soon(is_so, seconds=SECONDS_TO_START):
+    """Waits until something is so, and returns whether it came to that in time."""
+    end = time.monotonic() + seconds
+    while not is_so():
+        if time.monotonic() > end:
+            return False
+        time.sleep(0.02)
+    return True
+
+
+def expect(is_so, wrong):
+    if not is_so:
+        raise Wrong(wrong)
+
+
+def fewer_neighbours(lab):
+    """A router is killed, and starts again with one of its neighbours. That one loses the gateway."""
+    lab.run(*lab.names)
+    lab.expect_ways("r1", "r2", "r3")
+    lab.kill("r1")
+    lab.run("r1", beside=["r3"])
+    lab.expect_ways("r1", "r3")
+    expect(lab.held("r1")[1] <= {"r3"}, f"r1 keeps the gates {lab.held('r1')[1]}")
+    lab.routers["r3"].set_device("r0", False)
+    # then r3 has a way to r1, since that has the lower number, and both have acknowledged the ceiling
+    lab.settle_without_loop(lambda held: held["r3"] == ({"r1"}, {"r1"}) and held["r1"][1] == {"r3"})
+    rules = lambda: {device for _, device, _ in lab.kernels["r1"].rules()}
+    expect(soon(lambda: rules() == {"r3"}), f"r1 has rules for {rules()}")
+
+
+def default_route(lab):
+    """Two routers that are cut off from the gateway, one of which has a default route over the other one."""
+    ip(f"route add default via {lab.addresses['r2']} dev r2 onlink", inside="r1")
+    lab.run(*lab.names)
+    lab.expect_ways("r2", "r1")
+    expect(soon(lambda: lab.arrives("r2")), "no probe arrives from r2")
+    lab.routers["r0"].set_device("r1", False)
+    lab.settle_without_loop(lambda held: held["r2"] == ({"r1"}, {"r1"}) and held["r1"] == (set(), {"r2"}))
+    for _ in range(10):
+        lab.probe()
+        time.sleep(0.02)
+    expect(not lab.expired(), "probes go round until they expire")
+
+
+def one_way(lab):
+    """The gateway hears nothing from a router any more: neither datagrams nor packets. The router hears the gateway.
+    """
+    lab.run("r0", more=["deaf"])
+    lab.run("r1", "r2")
+    lab.expect_ways("r1", "r0")
+    expect(soon(lambda: lab.arrives("r1")), "no probe arrives from r1")
+    lab.running["r0"].send_signal(signal.SIGUSR1)
+    # what r1 sends to the gateway over this link has the hardware address of nobody
+    ip(f"neigh replace {lab.addresses['r0']} lladdr 02:00:00:00:00:01 dev r0 nud permanent", inside="r1")
+    seconds = SECONDS_TO_SEE if lab.kind else SECONDS_TO_START
+    expect(soon(lambda: lab.arrives("r1"), seconds), "no probe arrives from r1 by another way")
+
+
+def first_boot(lab):
+    """Starts r1, and returns the number in its first datagram. By then its file has to have it."""
+    import node_daemon
+
+    with entered("r0"):
+        ear = node_daemon.opened("r1")
+    ear.setblocking(True)
+    ear.settimeout(SECONDS_TO_START)
+    lab.run("r1")
+    target, length = None, 0
+    while (target, length) != (socket.inet_aton(TARGET), 32):
+        _, target, length, *_, boot, _ = node_daemon.HEADER.unpack_from(ear.recv(2048))
+    ear.close()
+    file = STATE / f"1-{TARGET}"
+    expect(file.exists() and int(file.read_text()) == boot, "the boot number in a datagram is not in the file")
+    return boot
+
+
+def boot_numbers(lab):
+    """The number of a router grows at each start, and is in the file before the first datagram."""
+    before = first_boot(lab)
+    lab.kill("r1")
+    expect(first_boot(lab) == before + 1, "the boot number does not grow by one")
+
+
+def later_start(lab):
+    """The number in the file of r1 goes back. Of its neighbours only r2 knows a later start, and does not say so at
+    first."""
+    lab.run(*lab.names)
+    lab.expect_ways("r2", "r1")
+    lab.running["r2"].send_signal(signal.SIGSTOP)
+    lab.kill("r0", "r1")
+    (STATE / f"1-{TARGET}").write_text("5\n")
+    lab.run("r0", "r1")
+    lab.expect_ways("r1", "r0")
+    lab.running["r2"].send_signal(signal.SIGCONT)
+    status, said = lab.end("r1")
+    expect(status == 1 and "later start" in said, f"r1 ends with status {status}: {said}")
+    lab.expect_empty("r1")
+
+
+def ends(lab):
+    """TERM and INT end a daemon, which leaves nothing but the last route and closed gates."""
+    lab.run(*lab.names)
+    for how in signal.SIGTERM, signal.SIGINT:
+        lab.expect_ways("r1", "r0")
+        status, said = lab.end("r1", how)
+        expect(status == 0 and not said, f"r1 ends with status {status}: {said}")
+        lab.expect_empty("r1")
+        lab.run("r1")
+
+
+def two_targets(lab):
+    """Routers have a daemon for each of two targets, one of which has the other one in it. One of the four starts
+    again."""
+    lab.run(*lab.names)
+    lab.expect_ways("r1", "r0")
+    with entered("r1"):
+        kernel = netlink.Routes(OTHER, {})
+    words = {it: [OTHER if word == TARGET else word for word in lab.words(it)] for it in lab.names}
+    others = [lab.start(it, DAEMON, *words[it]) for it in lab.names]
+    try:
+        has_all = lambda: len(kernel.read()) == 1 and kernel.open_gates() == {"r0"}
+        expect(soon(has_all), "there is no way to the other target")
+        lab.kill("r1")
+        first_boot(lab)
+        expect(has_all(), "the way or the gate for the other target is gone")
+        lab.expect_ways("r1", "r0")
+        expect(soon(lambda: lab.arrives("r1")), "no probe arrives from r1")
+    finally:
+        for it in others:
+            it.kill()
+            it.wait()
+        kernel.close()
+
+
+def refusals():
+    """Wrong words for the daemon of r1, and a part of what it says."""
+    right = "0:r0:10.0.0.1"
+    yield ["1", TARGET, right, "2:r0:10.0.0.3"], "two neighbours on r0"
+    yield ["1", TARGET, right, "0:r2:10.0.0.3"], "two with the number 0"
+    yield ["0", TARGET, right], "two with the number 0"
+    yield ["1", TARGET, "0:eth9:10.0.0.1"], "no device 'eth9'"
+    yield ["1", TARGET, "0:r0:10.0.0.2"], "10.0.0.2 is an address of this router"
+    yield ["1", TARGET, "0:r0:fd00::1"], "IPv6 is not supported"
+    yield ["1", TARGET, "0:r0"], "is not NUMBER:DEVICE:ADDRESS"
+    yield ["1", "fd00::1", right], "IPv6 is not supported"
+    yield ["1", "10.1.2.3/16", right], "is not a prefix"
+    yield ["1", "0.0.0.0/0", right], "all addresses are no target"
+    yield ["4294967296", TARGET, right], "is not a number from 0"
+    yield ["--gateway", "1", TARGET, right], "so it is not a gateway"
+    yield ["1", "10.0.0.2", right], "so it takes --gateway"
+    yield ["1", "10.9.9.9", right], "there is a route to 10.9.9.9 already"
+    yield ["--state", "/dev/null", "1", "10.9.9.1", right], "cannot be kept in /dev/null"
+    yield ["--state", WORDS, "1", "10.9.9.2", right], "does not have a boot number"
+
+
+def errors_of_users(lab):
+    """Wrong words are refused with a message and status 2. A planted daemon has to be seen to refuse none."""
+    ip("route add 10.9.9.9 via 10.0.0.1 dev r0 onlink", inside="r1")
+    WORDS.mkdir(exist_ok=True)
+    (WORDS / "1-10.9.9.2").write_text("one\n")
+    kinds = "+".join(filter(None, (lab.kind, "tells refusals")))
+    said, _ = lab.start("r1", PLANTED, kinds, stdout=subprocess.PIPE, text=True).communicate(timeout=SECONDS_TO_START)
+    tried = [*zip(refusals(), json.loads(said), strict=True)]
+    missed = [(words, *told) for (words, part), told in tried if told[0] != 2 or part not in told[1]]
+    # a planted daemon that refuses one would hide that its check is missing
+    expect(not missed or lab.kind and len(missed) < len(tried), f"{NOT_REFUSED} {missed}")
+
+
+def tells_refusals(daemon):
+    """Prints how a daemon ends with wrong words, and what it says. It is not run."""
+    daemon.Router.run = lambda self: "it runs"
+    told = []
+    for words, _ in refusals():
+        said = io.StringIO()
+        with contextlib.redirect_stderr(said):
+            try:
+                daemon.main([*map(str, words)])
+            except SystemExit as end:
+                told.append((end.code, said.getvalue()))
+            except Exception as fault:
+                told.append((1, repr(fault)))
+    print(json.dumps(told))
+    sys.exit(0)
+
+
+def keeps_ways(daemon):
+    def remove_ways(self):
+        for it in range(len(self.links)):
+            self.do(f"route del {self.target} metric {it + 1}")
+
+    daemon.Table.remove_ways = remove_ways
+
+
+def keeps_gates(daemon):
+    rules = daemon.Routes.rules
+    daemon.Routes.rules = lambda self: [it for it in rules(self) if it[1] in self.index]
+
+
+def has_no_last_route(daemon):
+    do = daemon.Table.do
+    daemon.Table.do = lambda self, line: "replace unreachable" in line or do(self, line)
+
+
+def believes_one_way(daemon):
+    judge = daemon.Router.judge
+    daemon.Router.judge = lambda self, number, echo: judge(self, number, self.boot)
+
+
+def keeps_no_file(daemon):
+    daemon.keep = lambda file, text: None
+
+
+def goes_on(daemon):
+    daemon.NotAMessage = daemon.NotAMessage, daemon.LaterStart
+
+
+def does_not_end_well(daemon):
+    daemon.Router.empty = lambda self: True
+
+
+def takes_all(daemon):
+    made = daemon.Table.__init__
+
+    def init(self, *words):
+        made(self, *words)
+        self.block = range(1 << 32)
+
+    daemon.Table.__init__ = init
+    daemon.Table.expect_room = lambda *_: None
+
+
+def refuses_nothing(daemon):
+    import node_options
+
+    neighbour = node_options.neighbour
+    node_options.faults = lambda found: ()
+    node_options.number = lambda text, bits=32: int(text)
+    node_options.address = ipaddress.ip_address
+    node_options.prefix = lambda text: ipaddress.ip_network(text, strict=False)
+    node_options.neighbour = lambda text: neighbour(text if text.count(":") > 1 else f"{text}:10.0.0.1")
+    daemon.Table.expect_room = lambda *_: None
+    daemon.next_boot = lambda *_: 1
+
+
+def deaf(daemon):
+    """After USR1 a daemon hears nothing from router 1."""
+    parts, silent = daemon.Router.parts, set()
+    signal.signal(signal.SIGUSR1, lambda *_: silent.add(1))
+    daemon.Router.parts = lambda self, number, data: None if number in silent else parts(self, number, data)
+
+
+PLANTS = keeps_ways, keeps_gates, has_no_last_route, believes_one_way, keeps_no_file, goes_on, does_not_end_well
+KINDS = {it.__name__.replace("_", " "): it for it in (*PLANTS, takes_all, refuses_nothing, deaf, tells_refusals)}
+PAIR, CHAIN = [("r1", "r0")], [("r1", "r0"), ("r2", "r1")]
+RING = [("r2", "r0"), ("r3", "r0"), ("r2", "r1"), ("r3", "r1")]
+CASES = (
+    Case(fewer_neighbours, RING, {"keeps ways": "loop", "keeps gates": "keeps the gates"}),
+    Case(default_route, CHAIN, {"has no last route": "until they expire"}),
+    Case(one_way, [*CHAIN, ("r2", "r0")], {"believes one way": "by another way"}),
+    Case(boot_numbers, PAIR, {"keeps no file": "not in the file"}),
+    Case(later_start, CHAIN, {"goes on": "does not end"}),
+    Case(ends, PAIR, {"does not end well": "r1 keeps"}),
+    Case(two_targets, PAIR, {"takes all": "is gone"}),
+    Case(errors_of_users, CHAIN, {"refuses nothing": NOT_REFUSED}),
+)
+
+
+def failure(case, kind=""):
+    """What is wrong with a kind of daemon in a case, or an empty text."""
+    lab = Some(case.links, kind)
+    try:
+        case.happens(lab)
+    except Wrong as why:
+        return str(why)
+    finally:
+        lab.close()
+    return ""
+
+
+def check():
+    """Runs all cases, and returns what is wrong and what was seen."""
+    wrong, planted = [], 0
+    for case in CASES:
+        name = case.happens.__name__.replace("_", " ")
+        if why := failure(case):
+            wrong.append(f"{name}: {why}")
+        for kind, part in case.planted.items():
+            planted += 1
+            if part not in (why := failure(case, kind)):
+                wrong.append(f"the check is blind: with a daemon that {kind} it saw '{why}'")
+    return wrong, f"{len(CASES)} cases of a few routers without a controller; {planted} planted faults seen"
+
+
+def run(kinds, *words):
+    """Runs a daemon of some kinds."""
+    import node_daemon
+
+    for it in kinds.split("+"):
+        KINDS[it](node_daemon)
+    node_daemon.main(words)
+
+
+if __name__ == "__main__":
+    run(*sys.argv[1:])
