@@ -8,23 +8,27 @@ import contextlib
 import io
 import ipaddress
 import json
+import os
 import signal
 import socket
 import subprocess
 import sys
 import time
 from collections import namedtuple
+from concurrent.futures import ThreadPoolExecutor
 from pathlib import Path
 
+import inside
+import kernels
 import netlink
-from kernels import TARGET, Wrong, entered, ip
-from node_network import DAEMON, STATE, Network, find_loop, used
+from kernels import TARGET, Wrong, entered, ip, libc
+from node_network import DAEMON, DIE_WITH_PARENT, STATE, Network, find_loop, used
 
-PLANTED = Path(__file__).resolve()
+PLANTED, CASE = Path(__file__).resolve(), "--case"
 # A process may take long to start on a busy machine. What a planted daemon has not done after the second time, it
 # does not do.
 SECONDS_TO_START, SECONDS_TO_SEE, OTHER = 40, 3, "10.255.0.0/16"
-WORDS, NOT_REFUSED = STATE.with_name("state-words"), "not refused, or without the message:"
+WORDS, NOT_REFUSED = STATE / "words", "not refused, or without the message:"
 # What happens, between which routers there are links, and for each planted daemon a part of what is wrong with it.
 Case = namedtuple("Case", "happens links planted")
 
@@ -374,18 +378,35 @@ def failure(case, kind=""):
     return ""
 
 
+def failure_elsewhere(job):
+    """The failure of a kind of daemon in a case, which runs beside others in a network of its own."""
+    case, kind = job
+    words = ["unshare", "--net", "--mount", sys.executable, "-S", PLANTED, CASE, case.happens.__name__, kind]
+    how = {"env": inside.environment(), "preexec_fn": lambda: libc.prctl(DIE_WITH_PARENT, 9)}
+    ran = subprocess.run([*map(str, words)], stdout=subprocess.PIPE, stderr=subprocess.STDOUT, text=True, **how)
+    return ran.stdout.strip()
+
+
 def check():
     """Runs all cases, and returns what is wrong and what was seen."""
-    wrong, planted = [], 0
-    for case in CASES:
-        name = case.happens.__name__.replace("_", " ")
-        if why := failure(case):
-            wrong.append(f"{name}: {why}")
-        for kind, part in case.planted.items():
-            planted += 1
-            if part not in (why := failure(case, kind)):
-                wrong.append(f"the check is blind: with a daemon that {kind} it saw '{why}'")
-    return wrong, f"{len(CASES)} cases of a few routers without a controller; {planted} planted faults seen"
+    jobs = [(case, kind) for case in CASES for kind in ("", *case.planted)]
+    with ThreadPoolExecutor(os.cpu_count()) as pool:
+        failures = [*pool.map(failure_elsewhere, jobs)]
+    wrong = []
+    for (case, kind), why in zip(jobs, failures):
+        if not kind and why:
+            wrong.append(f"{case.happens.__name__}: {why}")
+        if kind and case.planted[kind] not in why:
+            wrong.append(f"the check is blind: with a daemon that {kind} it saw '{why}'")
+    return wrong, f"{len(CASES)} cases of a few routers without a controller; {len(jobs) - len(CASES)} planted faults seen"
+
+
+def run_case(name, kind=""):
+    """Prints what is wrong in a case. What it mounts is seen by this process only."""
+    for it in (STATE, STATE.with_name("netns")):
+        it.mkdir(exist_ok=True)
+        kernels.run("mount", "-t", "tmpfs", "tmpfs", str(it))
+    print(failure(next(it for it in CASES if it.happens.__name__ == name), kind))
 
 
 def run(kinds, *words):
@@ -398,4 +419,4 @@ def run(kinds, *words):
 
 
 if __name__ == "__main__":
-    run(*sys.argv[1:])
+    run_case(*sys.argv[2:]) if sys.argv[1] == CASE else run(*sys.argv[1:])
