@@ -28,7 +28,7 @@ PLANTED, CASE = Path(__file__).resolve(), "--case"
 # A process may take long to start on a busy machine. What a planted daemon has not done after the second time, it
 # does not do.
 SECONDS_TO_START, SECONDS_TO_SEE, OTHER = 40, 3, "10.255.0.0/16"
-WORDS, NOT_REFUSED = STATE / "words", "not refused, or without the message:"
+WORDS, BUSY, NOT_REFUSED = STATE / "words", "10.9.9.3", "not refused, or without the message:"
 # What happens, between which routers there are links, and for each planted daemon a part of what is wrong with it.
 Case = namedtuple("Case", "happens links planted")
 
@@ -252,6 +252,7 @@ def refusals():
     yield ["1", "10.9.9.9", right], "there is a route to 10.9.9.9 already"
     yield ["--state", "/dev/null", "1", "10.9.9.1", right], "cannot be kept in /dev/null"
     yield ["--state", WORDS, "1", "10.9.9.2", right], "does not have a boot number"
+    yield ["--state", WORDS, "1", BUSY, right], f"another process runs for {BUSY}"
 
 
 def errors_of_users(lab):
@@ -270,7 +271,7 @@ def errors_of_users(lab):
 def tells_refusals(daemon):
     """Prints how a daemon ends with wrong words, and what it says. It is not run."""
     daemon.Router.run = lambda self: "it runs"
-    told = []
+    other_process, told = daemon.locked(ipaddress.ip_network(BUSY)), []
     for words, _ in refusals():
         said = io.StringIO()
         with contextlib.redirect_stderr(said):
@@ -280,6 +281,8 @@ def tells_refusals(daemon):
                 told.append((end.code, said.getvalue()))
             except Exception as fault:
                 told.append((1, repr(fault)))
+    if other_process:
+        other_process.close()
     print(json.dumps(told))
     sys.exit(0)
 
@@ -341,6 +344,7 @@ def refuses_nothing(daemon):
     node_options.neighbour = lambda text: neighbour(text if text.count(":") > 1 else f"{text}:10.0.0.1")
     daemon.Table.expect_room = lambda *_: None
     daemon.next_boot = lambda *_: 1
+    daemon.locked = lambda target: None
 
 
 def deaf(daemon):
