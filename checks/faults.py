@@ -130,6 +130,32 @@ def try_edit(edit, parts, words_over, built=False):
         return is_found(check, edit.path.stem, edit.said("# says")[0], words)
 
 
+# What the programs are built from, and what the checks read.
+BUILT_FROM = ("VERSION", "crates", "crates.txt", "HANDLES", "checks", "docs", "examples")
+# Left out of a copy, because their proofs take longest.
+TESTS = ("test_networks", "test_rounds", "test_runs")
+
+
+def leave_out_tests(folder):
+    """Takes the crates TESTS out of a copy of the repository."""
+    for it in TESTS:
+        shutil.rmtree(folder / "crates" / it)
+    listed = folder / "crates.txt"
+    lines = listed.read_text(encoding="utf-8").splitlines(keepends=True)
+    listed.write_text("".join(it for it in lines if it.partition(":")[0] not in TESTS), encoding="utf-8")
+
+
+def build(folder, edit):
+    """Proves and builds the program that the line '# builds:' of an edit names, in a copy of the repository. Returns the program, or None."""
+    leave_out_tests(folder)
+    name = edit.said("# builds")[0]
+    ran = subprocess.run(["rt", "run"], cwd=folder / "crates" / name, stdin=subprocess.DEVNULL, stdout=subprocess.PIPE, stderr=subprocess.STDOUT, text=True)
+    if "logic=proved" not in ran.stdout:
+        print(f"{edit.path.name} was not built\n{ran.stdout[-3000:]}")
+        return None
+    return folder / "crates" / name / "out" / name
+
+
 def words(description):
     """The parser for a command can-fail. Its arguments are faults; without any, all are tried."""
     words = argparse.ArgumentParser(description=description, formatter_class=argparse.RawDescriptionHelpFormatter)
@@ -144,9 +170,16 @@ def end(found):
 
 def plant_between(name, parts, usage):
     """Plants the faults of a check that looks at the program revroute, over a copy of these parts of the repository. The
-    check runs checks/between of the copy, which runs the program that the words name."""
+    check runs checks/between of the copy, which runs the program that the words name. A fault with a line '# builds:' is one of the
+    program itself, which is then built."""
     known = words(usage)
     known.add_argument("--program", type=Path, default=TOP / "revroute")
     asked = known.parse_args()
     os.environ["REVROUTE"] = str(asked.program.resolve())
-    end([try_edit(it, parts, lambda folder, _: [folder / "checks" / name / "check", folder / "checks" / "between"]) for it in edits(name, asked.faults)])
+
+    def words_over(folder, edit):
+        program = build(folder, edit) if edit.said("# builds") else folder / "checks" / "between"
+        return [folder / "checks" / name / "check", program] if program else ["false"]
+
+    planted = edits(name, asked.faults)
+    end([try_edit(it, BUILT_FROM if it.said("# builds") else parts, words_over, built=bool(it.said("# builds"))) for it in planted])

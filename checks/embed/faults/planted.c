@@ -18,6 +18,7 @@ revroute_status engine_links(revroute *, revroute_link *, size_t, size_t *);
 revroute_status engine_move_dest(revroute *, uint32_t, revroute_round *, revroute_refusal *);
 revroute_status engine_nearest(revroute *, uint32_t, uint32_t *, size_t, size_t *);
 revroute_status engine_node_hear(revroute_node *, const uint8_t *, size_t);
+revroute_status engine_node_know(revroute_node *, uint32_t);
 uint32_t engine_node_lets_in(revroute_node *, uint32_t);
 revroute_status engine_node_link_down(revroute_node *, uint32_t);
 revroute_status engine_node_say(revroute_node *, uint32_t, uint8_t *, size_t, size_t *);
@@ -46,6 +47,7 @@ revroute_status engine_way_reader_ways(revroute_way_reader *, uint32_t, uint32_t
 revroute_status engine_ways(revroute *, uint32_t, uint32_t *, size_t, size_t *);
 revroute_status engine_change_with_ways(revroute *, const revroute_edit *, size_t, revroute_round *, revroute_refusal *);
 revroute_status engine_change_shrink(revroute *, uint32_t *, size_t, size_t *);
+revroute_status engine_change_grow(revroute *, uint32_t *, size_t, size_t *);
 revroute_status engine_shrink(revroute *, const size_t *, size_t, const uint32_t *, size_t, uint32_t *, size_t, size_t *);
 revroute_status engine_size(revroute *, uint32_t *, size_t *);
 revroute_status engine_take(revroute *, const uint8_t *, size_t, uint8_t *, size_t, size_t *, size_t *);
@@ -87,6 +89,8 @@ enum {
     a_grow_before_the_shrinks,
     a_change_that_keeps_the_pushes_before,
     kept_growths_for_kept_shrinks,
+    no_session_told_as_no_memory_for_shrinks,
+    no_session_told_as_no_memory_for_growths,
     a_report_of_another_round,
     a_destination_of_its_own,
     a_link_too_few,
@@ -123,6 +127,8 @@ enum {
     the_table_read_too_far,
     a_reader_replaced_and_not_closed,
     a_reader_closed_that_keeps_its_memory,
+    a_reader_before_a_network_told_as_no_memory,
+    a_second_reader_told_as_no_memory,
     a_copy_that_is_the_reader,
     a_copy_without_memory_that_closes_another,
     a_null_reader_learned_from,
@@ -158,7 +164,8 @@ enum {
     a_later_start_of_a_stranger,
     a_later_start_that_is_an_event,
     a_great_height_taken,
-    a_null_node_that_lets_in
+    a_null_node_that_lets_in,
+    a_known_neighbour_told_as_no_memory
 };
 
 /* Asks once more with enough room, as if the state had changed although the buffer was too short. */
@@ -314,7 +321,19 @@ revroute_status revroute_change_with_ways(revroute *session, const revroute_edit
 
 revroute_status revroute_change_shrink(revroute *session, uint32_t *pushes, size_t room, size_t *length) {
     if (FAULT == kept_growths_for_kept_shrinks) return revroute_change_grow(session, pushes, room, length);
+    if (FAULT == no_session_told_as_no_memory_for_shrinks && !session->at) {
+        *length = 0;
+        return REVROUTE_NO_MEMORY;
+    }
     return engine_change_shrink(session, pushes, room, length);
+}
+
+revroute_status revroute_change_grow(revroute *session, uint32_t *pushes, size_t room, size_t *length) {
+    if (FAULT == no_session_told_as_no_memory_for_growths && !session->at) {
+        *length = 0;
+        return REVROUTE_NO_MEMORY;
+    }
+    return engine_change_grow(session, pushes, room, length);
 }
 
 revroute_status revroute_links(revroute *session, revroute_link *links, size_t room, size_t *length) {
@@ -471,8 +490,16 @@ revroute_status revroute_push_order(const uint32_t *old, size_t old_count, const
 }
 
 revroute_status revroute_reader_open(revroute *session, revroute_reader *reader) {
+    static void *opened;
+    uint32_t nodes;
+    size_t links;
     if (FAULT == a_reader_replaced_and_not_closed) reader->at = NULL;
-    return engine_reader_open(session, reader);
+    if (FAULT == a_reader_before_a_network_told_as_no_memory && engine_size(session, &nodes, &links) == REVROUTE_NO_NETWORK)
+        return REVROUTE_NO_MEMORY;
+    if (FAULT == a_second_reader_told_as_no_memory && session->at && session->at == opened) return REVROUTE_NO_MEMORY;
+    revroute_status status = engine_reader_open(session, reader);
+    if (status == REVROUTE_ANSWERED) opened = session->at;
+    return status;
 }
 
 revroute_status revroute_reader_copy(revroute_reader *reader, revroute_reader *other) {
@@ -618,6 +645,17 @@ revroute_status revroute_node_link_down(revroute_node *node, uint32_t neighbour)
 revroute_status revroute_node_written(revroute_node *node, uint64_t state) {
     if (FAULT == a_state_that_is_never_outdated) return node->at ? confirm_now(node) : REVROUTE_NO_NETWORK;
     return engine_node_written(node, state);
+}
+
+revroute_status revroute_node_know(revroute_node *node, uint32_t neighbour) {
+    static void *last_node;
+    static uint64_t known;
+    if (node->at != last_node) known = 0;
+    last_node = node->at;
+    if (FAULT == a_known_neighbour_told_as_no_memory && neighbour < 64 && known >> neighbour & 1) return REVROUTE_NO_MEMORY;
+    revroute_status status = engine_node_know(node, neighbour);
+    if (status == REVROUTE_ANSWERED && neighbour < 64) known |= UINT64_C(1) << neighbour;
+    return status;
 }
 
 revroute_status revroute_node_open(revroute_node *node, uint32_t me, uint64_t boot, uint64_t height, const revroute_policy *policy) {

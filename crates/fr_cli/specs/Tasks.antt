@@ -111,8 +111,8 @@ IsFaultOf words (Version text) = IsAmong DisplayVersion (fault_of command words)
 IsFaultOf words Memory = ⊤
 
 -- how the program ends with a fault: the status 0 and the text if the words ask for it, 2 and the text if they are
--- wrong, and 1 if memory is missing
+-- wrong, and 1 and a line that says so if memory is missing
 abbrev pub IsEndOf : TaskFault → (status : ℕ) → (text : List ℕ) → Type 0
 IsEndOf (Usage text asked) status shown = (status ≡ (if asked then 0 else 2)) × (shown ≡ string_bytes text)
 IsEndOf (Version text) status shown = (status ≡ 0) × (shown ≡ string_bytes text)
-IsEndOf Memory status shown = status ≡ 1
+IsEndOf Memory status shown = (status ≡ 1) × (shown ≡ codes "revroute: no memory")

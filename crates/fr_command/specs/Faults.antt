@@ -1,5 +1,5 @@
 -- When a run, a service, a play and a conversation fail, and what was read and written by then. This project's own.
-use Rattle.std.specs.Prelude.{◌≡◌, ◌≢◌, ℕ, ◌+◌, ◌<◌, ◌⊎◌, true, false, List, [], length, Option}
+use Rattle.std.specs.Prelude.{◌≡◌, ◌≢◌, ℕ, ◌+◌, ◌<◌, ◌⊎◌, true, false, List, [], length, Option, codes}
 use Rattle.std.specs.Io.KnownBytes.{Consumes, Keeps}
 use Rattle.fr_route.specs.Blank.{is_blank}
 use Rattle.fr_route.specs.declared.form.Form.{Form}
@@ -92,6 +92,14 @@ IsFinishFault point line Write = ⊥
 IsFinishFault point line TooLong = ⊥
 IsFinishFault point line Start = MayStartAt point line
 IsFinishFault point line Memory = is_blank line ≡ false
+
+-- the line for standard error, without its newline
+abbrev pub fault_line : RunFault → List ℕ
+fault_line Read = codes "revroute: read fault"
+fault_line Write = codes "revroute: write fault"
+fault_line TooLong = codes "revroute: input too long"
+fault_line Start = codes "revroute: no thread"
+fault_line Memory = codes "revroute: no memory"
 
 -- this plan starts no thread: there is one worker, or it makes no call
 abbrev pub StartsNone : Plan → Type 0

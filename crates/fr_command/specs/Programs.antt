@@ -1,18 +1,18 @@
 -- What the program does and with which status it ends, defined by docs/LINES.md. This project's own.
-use Rattle.std.specs.Prelude.{◌≡◌, ◌≢◌, ◌⊎◌, ℕ, List, Option, IsTrue, false, if◌then◌else◌, string_bytes}
+use Rattle.std.specs.Prelude.{◌≡◌, ◌≢◌, ◌⊎◌, ℕ, List, Option, IsTrue, false, if◌then◌else◌, codes, string_bytes}
 use Rattle.std.specs.Io.KnownBytes.{Appends, Keeps}
 use Rattle.fr_route.specs.declared.form.Form.{Form}
 use Rattle.fr_route.specs.declared.form.Form.TheVariants.{Text, Json, JsonWithWays}
 use Rattle.fr_bytes.specs.Bytes.{IsBeginning, ReadsInput}
 use Rattle.fr_bytes.specs.Streams.{Traffic}
-use Rattle.fr_bytes.specs.declared.fault.RunFault.TheVariants.{Write, Memory}
+use Rattle.fr_bytes.specs.declared.fault.RunFault.TheVariants.{Write, Start, Memory}
 use Rattle.fr_cli.specs.Tasks.{IsCommandLineIn, IsFaultOf}
 use Rattle.fr_cli.specs.declared.task.CommandLine.{CommandLine}
 use Rattle.fr_cli.specs.declared.task.Task.{Task}
 use Rattle.fr_cli.specs.declared.task.Task.TheVariants.{Run, Serve, Play}
 use Rattle.fr_cli.specs.declared.task.TaskFault.{TaskFault}
 use Rattle.fr_cli.specs.declared.task.TaskFault.TheVariants.{Usage as UsageFault, Version, Memory as NoMemory}
-use Rattle.fr_command.specs.Faults.{IsRunFaultIn, IsServeFaultIn, IsDrawnPlayFault}
+use Rattle.fr_command.specs.Faults.{IsRunFaultIn, IsServeFaultIn, IsDrawnPlayFault, fault_line}
 use Rattle.fr_command.specs.Outputs.{WritesOutputIn}
 use Rattle.fr_command.specs.Plays.{WritesPlay}
 use Rattle.fr_command.specs.Services.{Serves}
@@ -88,3 +88,10 @@ abbrev pub status_of : Failure → ℕ
 status_of (Usage text) = 2
 status_of (Stopped fault) = 1
 status_of (StoppedServing fault) = 1
+
+-- the text of a failure for standard error
+abbrev pub failure_text : Failure → List ℕ
+failure_text (Usage text) = string_bytes text
+failure_text (Stopped fault) = fault_line fault
+failure_text (StoppedServing Start) = codes "revroute: no thread (serve --alone needs none)"
+failure_text (StoppedServing fault) = fault_line fault

@@ -1,13 +1,15 @@
 //! How a session's fault ends a run, and how the program ends.
 
 ghost use Rattle.std.specs.Prelude.{◌≡◌, ◌⊎◌, ◌↔◌};
+ghost use Rattle.fr_command.specs.Faults.{fault_line};
 
 use fr_bytes::RunFault;
 use fr_route::AnswerFault;
 
-/// The exit status for a fault, which is 1, and the line for standard error. No clause says what the line is. O(1).
+/// The exit status for a fault, which is 1, and the line for standard error. O(1).
 pub fn run_end(fault: &RunFault) -> (u8, &'static str)
-    ensures { result.0 ≡ 1 }
+    ensures status { result.0 ≡ 1 }
+    ensures text { result.1.now ≡ fault_line fault.now }
 {
     match fault {
         RunFault::Read => (1, "revroute: read fault"),

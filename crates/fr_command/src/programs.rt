@@ -5,7 +5,7 @@ ghost use Rattle.std.specs.Io.KnownBytes.{Appends};
 ghost use Rattle.fr_bytes.specs.Bytes.{IsBeginning};
 ghost use Rattle.fr_bytes.specs.Streams.{traffic_of};
 ghost use Rattle.fr_command.specs.Programs.{DoesTask, FailsTask, IsDone, IsFailure, IsStatus, IsUntold, PrintsAsked};
-ghost use Rattle.fr_command.specs.Programs.{form_of, status_of};
+ghost use Rattle.fr_command.specs.Programs.{failure_text, form_of, status_of};
 
 use crate::fault::run_end;
 use crate::play::play_drawn;
@@ -40,7 +40,8 @@ pub enum Failure {
 impl Failure {
     /// The exit status, which is 2 for a usage error and 1 otherwise, and the text for standard error. O(1).
     pub fn end(&self) -> (u8, &str)
-        ensures { result.0 ≡ status_of self.now }
+        ensures status { result.0 ≡ status_of self.now }
+        ensures text { result.1.now ≡ failure_text self.now }
     {
         match self {
             Failure::Usage { text } => (2, text.as_str()),

@@ -1,5 +1,6 @@
 -- What one call of a node announces.
-use Rattle.std.proofs.Common.{ap, arith, false, inl, inr, refl, subst, sym, true, ℕ, ⊎_elim, ◌+◌, ◌<◌, ◌≡◌, ◌⊎◌, ◌∙◌}
+use Rattle.std.proofs.Common.{ap, arith, false, inl, inr, refl, subst, sym, true, ℕ, ⊎_elim, ◌+◌, ◌<◌, ◌≡◌, ◌≤◌, ◌⊎◌}
+use Rattle.std.proofs.Common.{◌∙◌}
 use Rattle.std.specs.List.{Contains}
 use Rattle.std.proofs.lemmas.Bool.{cases_eq}
 use Rattle.std.proofs.lemmas.Bool.Decides.{nat_tests}
@@ -8,12 +9,22 @@ use Rattle.fr_node.specs.declared.link.Link.{Link}
 use Rattle.fr_node.specs.declared.node.Node.{Node}
 use Rattle.fr_node.specs.declared.own.Own.{Own}
 use Rattle.fr_node.specs.declared.policy.Rise.{Rise}
-use Rattle.fr_node.specs.declared.policy.Rise.TheVariants.{Full}
+use Rattle.fr_node.specs.declared.policy.Rise.TheVariants.{Ceiling, Full}
 use Rattle.fr_node.specs.Links.{is_lower, is_way}
-use Rattle.fr_node.specs.Policies.{Acts, Announcement, IsAboveAll, Lowers, Raises, Settles, is_higher, is_up, rises_to}
+use Rattle.fr_node.specs.Policies.{Acts, Announcement, IsAboveAll, IsBelowCeiling, IsSink, Lowers, Raises, Settles}
+use Rattle.fr_node.specs.Policies.{is_higher, is_up, rises_to}
 use Rattle.fr_node.specs.Routers.{IsBelow}
 
--- the node has announced a height above all that it has heard at links that are up, and none of these was lower
+-- the node has announced a greater height, and none of the neighbours at links that are up was lower
+pub record HasRisen (old new : Node) : Type 0 where
+  pub number : new.own.number ≡ old.own.number + 1
+  pub forwards : old.gateway ≡ false
+  pub greater : old.own.announced < new.own.announced
+  pub heard : (l : Link) → Contains new.links.items l → l.up ≡ true → 0 < l.heard
+  pub not_lower : (l : Link) → Contains new.links.items l → l.up ≡ true
+      → ¬ IsBelow l.seen l.neighbour old.own.announced old.own.me
+
+-- besides, the height is above all that it has heard at links that are up
 pub record HasRaised (old new : Node) : Type 0 where
   pub number : new.own.number ≡ old.own.number + 1
   pub forwards : old.gateway ≡ false
@@ -63,38 +74,59 @@ not_below own l f heard (inr even) = grind (arith, nat_tests)
 not_higher : (l x : Link) → is_higher l x ≡ false → l.seen < x.seen + 1
 not_higher l x f = grind (arith, nat_tests)
 
-raised : (old new : Node) (said : Own) → Raises (record old { links = new.links }) said
-    → Settles (record old { links = new.links; own = said }) new.own → old.policy.rise ≡ Full → HasRaised old new
-raised old new said r settles full = record {
-  number = same.0 ∙ ap (λ (o : Own). o.number) r.own;
-  forwards = r.may.forwards;
-  greater = omega (arith, r.greater, height);
-  some = (above.highest.0, above.highest.1.listed, above.highest.1.good);
-  heard = λ l listed up. (over l listed up).0;
-  not_lower = λ l listed up. subst (λ (h : ℕ). ¬ IsBelow l.seen l.neighbour h old.own.me) r.may.settled
-      (not_below old.own l (over l listed up).1 (over l listed up).0);
-  above = λ l listed up. omega (
-    arith,
-    height,
-    above.highest.2,
-    not_higher l above.highest.0
-        (All-contains (λ k. is_up k ≡ true → is_higher k above.highest.0 ≡ false) new.links.items l
-        above.highest.1.best listed up),
-  );
-}
-  where
-    same : (new.own.number ≡ said.number) × (new.own.announced ≡ said.announced)
-    same = settles_same (record old { links = new.links; own = said }) new.own settles
+sink_of : (rise : Rise) (n : Node) (v : ℕ) → rises_to rise n v → IsSink n.own n.links.items
+sink_of Full n v rises = rises.sink
+sink_of (Ceiling ceiling) n v rises = rises.sink
 
-    height : new.own.announced ≡ r.height
-    height = same.1 ∙ ap (λ (o : Own). o.announced) r.own
+-- after a raise
+module _ (old new : Node) (said : Own) (r : Raises (record old { links = new.links }) said)
+    (settles : Settles (record old { links = new.links; own = said }) new.own) where
+  same : (new.own.number ≡ said.number) × (new.own.announced ≡ said.announced)
+  same = settles_same (record old { links = new.links; own = said }) new.own settles
 
-    above : IsAboveAll (record old { links = new.links }) r.height
-    above = subst (λ (rise : Rise). rises_to rise (record old { links = new.links }) r.height) full r.rises
+  height : new.own.announced ≡ r.height
+  height = same.1 ∙ ap (λ (o : Own). o.announced) r.own
 
-    over : (l : Link) → Contains new.links.items l → l.up ≡ true → (0 < l.heard) × (is_lower old.own l ≡ false)
-    over l listed up = All-contains (λ k. k.up ≡ true → (0 < k.heard) × (is_lower old.own k ≡ false)) new.links.items l
-        above.sink listed up
+  over : (l : Link) → Contains new.links.items l → l.up ≡ true → (0 < l.heard) × (is_lower old.own l ≡ false)
+  over l listed up = All-contains (λ k. k.up ≡ true → (0 < k.heard) × (is_lower old.own k ≡ false)) new.links.items l
+      (sink_of old.policy.rise (record old { links = new.links }) r.height r.rises) listed up
+
+  risen : HasRisen old new
+  risen = record {
+    number = same.0 ∙ ap (λ (o : Own). o.number) r.own;
+    forwards = r.may.forwards;
+    greater = omega (arith, r.greater, height);
+    heard = λ l listed up. (over l listed up).0;
+    not_lower = λ l listed up. subst (λ (h : ℕ). ¬ IsBelow l.seen l.neighbour h old.own.me) r.may.settled
+        (not_below old.own l (over l listed up).1 (over l listed up).0);
+  }
+
+  raised : old.policy.rise ≡ Full → HasRaised old new
+  raised full = record {
+    number = risen.number;
+    forwards = risen.forwards;
+    greater = risen.greater;
+    some = (above.highest.0, above.highest.1.listed, above.highest.1.good);
+    heard = risen.heard;
+    not_lower = risen.not_lower;
+    above = λ l listed up. omega (
+      arith,
+      height,
+      above.highest.2,
+      not_higher l above.highest.0
+          (All-contains (λ k. is_up k ≡ true → is_higher k above.highest.0 ≡ false) new.links.items l
+          above.highest.1.best listed up),
+    );
+  }
+    where
+      above : IsAboveAll (record old { links = new.links }) r.height
+      above = subst (λ (rise : Rise). rises_to rise (record old { links = new.links }) r.height) full r.rises
+
+  no_higher : (ceiling : ℕ) → old.policy.rise ≡ Ceiling ceiling → new.own.announced ≤ ceiling
+  no_higher ceiling rise = omega (arith, height, low.highest.2)
+    where
+      low : IsBelowCeiling (record old { links = new.links }) ceiling r.height
+      low = subst (λ (kind : Rise). rises_to kind (record old { links = new.links }) r.height) rise r.rises
 
 fallen : (old new : Node) (said : Own) → Lowers (record old { links = new.links }) said
     → Settles (record old { links = new.links; own = said }) new.own → HasFallen old new
@@ -116,22 +148,46 @@ fallen old new said f settles = record {
     height : new.own.announced ≡ f.height
     height = same.1 ∙ ap (λ (o : Own). o.announced) f.own
 
--- a node that acts by its policy, which is full reversal unless it is a gateway, or keeps what it knows of itself
-module _ (old new : Node) (full : old.gateway ≡ false → old.policy.rise ≡ Full)
-    (acts : Acts (record old { links = new.links }) new.own ⊎ (new.own ≡ old.own)) where
-  pub announced : HasRaised old new ⊎ HasFallen old new ⊎ HasKept old new
-  announced = ⊎_elim (λ a. by a.said a.announces a.settles) (λ own. inr (inr (record {
+-- a node that acts by its policy, or keeps what it knows of itself
+module _ (old new : Node) (acts : Acts (record old { links = new.links }) new.own ⊎ (new.own ≡ old.own)) where
+  -- what is so after each raise, or else
+  after : (Raised : Type 0) → ((said : Own) → Raises (record old { links = new.links }) said
+      → Settles (record old { links = new.links; own = said }) new.own → Raised)
+      → Raised ⊎ HasFallen old new ⊎ HasKept old new
+  after Raised then = ⊎_elim (λ a. by a.said a.announces a.settles) (λ own. inr (inr (record {
     number = ap (λ (o : Own). o.number) own;
     announced = ap (λ (o : Own). o.announced) own;
   }))) acts
     where
       by : (said : Own) → Announcement (record old { links = new.links }) said
           → Settles (record old { links = new.links; own = said }) new.own
-          → HasRaised old new ⊎ HasFallen old new ⊎ HasKept old new
+          → Raised ⊎ HasFallen old new ⊎ HasKept old new
       by said (inl falls) settles = inr (inl (fallen old new said falls settles))
-      by said (inr (inl rises)) settles = inl (raised old new said rises settles (full rises.may.forwards))
+      by said (inr (inl rises)) settles = inl (then said rises settles)
       by said (inr (inr keeps)) settles =
           let same = settles_same (record old { links = new.links; own = said }) new.own settles in inr (inr (record {
             number = same.0 ∙ ap (λ (o : Own). o.number) keeps.own;
             announced = same.1 ∙ ap (λ (o : Own). o.announced) keeps.own;
           }))
+
+  pub acted : HasRisen old new ⊎ HasFallen old new ⊎ HasKept old new
+  acted = after (HasRisen old new) (λ said rises settles. risen old new said rises settles)
+
+  -- below a ceiling
+  pub stays_below : (ceiling : ℕ) → (old.gateway ≡ false → old.policy.rise ≡ Ceiling ceiling)
+      → old.own.announced ≤ ceiling → new.own.announced ≤ ceiling
+  stays_below ceiling rise low = ⊎_elim
+      (λ l. l)
+      (⊎_elim
+      (λ (f : HasFallen old new). omega (arith, f.lower, low))
+      (λ (k : HasKept old new). omega (arith, k.announced, low)))
+      (after (new.own.announced ≤ ceiling) (λ said (rises : Raises (record old { links = new.links }) said) settles.
+      no_higher old new said rises settles ceiling (rise rises.may.forwards)))
+
+-- if the policy is full reversal, unless it is a gateway
+pub announced : (old new : Node) → (old.gateway ≡ false → old.policy.rise ≡ Full)
+    → Acts (record old { links = new.links }) new.own ⊎ (new.own ≡ old.own)
+    → HasRaised old new ⊎ HasFallen old new ⊎ HasKept old new
+announced old new full acts = after old new acts (HasRaised old new)
+    (λ said (rises : Raises (record old { links = new.links }) said) settles.
+    raised old new said rises settles (full rises.may.forwards))

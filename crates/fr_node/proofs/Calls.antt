@@ -1,26 +1,32 @@
 -- What a call of a node announces, beside each neighbour whose link is up.
 use Rattle.std.proofs.Common.{IsTrue, arith, false, inl, inr, subst, sym, true, ℕ, ⊎_elim, ◌≡◌, ◌⊎◌, ◌∙◌, List}
+use Rattle.std.specs.List.{Contains}
 use Rattle.std.proofs.lemmas.Bool.Decides.{nat_tests}
 use Rattle.fr_node.specs.declared.link.Link.{Link}
 use Rattle.fr_node.specs.declared.node.Node.{Node}
-use Rattle.fr_node.specs.declared.policy.Rise.TheVariants.{Full}
+use Rattle.fr_node.specs.declared.policy.Rise.{Rise}
+use Rattle.fr_node.specs.declared.policy.Rise.TheVariants.{Ceiling, Full}
 use Rattle.fr_node.specs.Heights.{AreUp, CallsActBeside, FallsBeside, RisesBeside}
 use Rattle.fr_node.specs.Histories.{IsHistory}
 use Rattle.fr_node.specs.Links.{link_to}
 use Rattle.fr_node.specs.Lowerings.{CallsKeepLinksOrFall, Falls}
 use Rattle.fr_node.specs.Nodes.{router}
 use Rattle.fr_node.specs.Paths.{CallsKeepLinks, IsFull, Stays, is_low}
+use Rattle.fr_node.specs.Rests.{CallsStayBelow}
 use Rattle.fr_node.specs.Routers.{IsBelow}
-use Rattle.fr_node.proofs.Announcing.{HasFallen, HasKept, HasRaised, announced, true_false}
+use Rattle.fr_node.proofs.Announcing.{HasFallen, HasKept, HasRaised, HasRisen, acted, announced, stays_below}
+use Rattle.fr_node.proofs.Announcing.{true_false}
 use Rattle.fr_node.proofs.Linking.{up_leads, up_listed}
 
 -- if the node has announced a greater height, the neighbour at a link that is up was not lower
-not_lower : (old new : Node) (h : ℕ → ℕ) (w : ℕ) → HasRaised old new → IsHistory old.own h
-    → (link_to new.links.items w).up ≡ true
+not_lower : (old new : Node) (h : ℕ → ℕ) (w : ℕ)
+    → ((l : Link) → Contains new.links.items l → l.up ≡ true
+    → ¬ IsBelow l.seen l.neighbour old.own.announced old.own.me)
+    → IsHistory old.own h → (link_to new.links.items w).up ≡ true
     → ¬ IsBelow (link_to new.links.items w).seen w (h old.own.number) old.own.me
-not_lower old new h w r was up = subst (λ (v : ℕ). ¬ IsBelow (link_to new.links.items w).seen w v old.own.me)
+not_lower old new h w none was up = subst (λ (v : ℕ). ¬ IsBelow (link_to new.links.items w).seen w v old.own.me)
     (sym was.last) (subst (λ (v : ℕ). ¬ IsBelow (link_to new.links.items w).seen v old.own.announced old.own.me)
-    (up_leads new.links.items w up) (r.not_lower (link_to new.links.items w) (up_listed new.links.items w up) up))
+    (up_leads new.links.items w up) (none (link_to new.links.items w) (up_listed new.links.items w up) up))
 
 module _ (old new : Node) (h k : ℕ → ℕ) (was : IsHistory old.own h) (now : IsHistory new.own k) where
   module _ (w : ℕ) (boot : new.own.boot ≡ old.own.boot) where
@@ -34,7 +40,7 @@ module _ (old new : Node) (h k : ℕ → ℕ) (was : IsHistory old.own h) (now :
       rises = inr (record {
         number = r.number;
         heard = r.heard (link_to new.links.items w) (up_listed new.links.items w up) up;
-        not_lower = not_lower old new h w r was up;
+        not_lower = not_lower old new h w r.not_lower was up;
         above = omega (arith, now.last, r.above (link_to new.links.items w) (up_listed new.links.items w up) up);
       });
     }
@@ -43,11 +49,11 @@ module _ (old new : Node) (h k : ℕ → ℕ) (was : IsHistory old.own h) (now :
     fallen f = record { boot = boot; number = f.number; lower = omega (arith, f.lower, was.last, now.last) }
 
   module _ (ws : List ℕ) (are : AreUp new ws) where
-    rises_beside : HasRaised old new → RisesBeside old.own.me ws (router old h) (router new k)
+    rises_beside : HasRisen old new → RisesBeside old.own.me ws (router old h) (router new k)
     rises_beside r = record {
       number = r.number;
       greater = omega (arith, was.last, now.last, r.greater);
-      no_lower = λ w at some. not_lower old new h w r was (are.up w at);
+      no_lower = λ w at some. not_lower old new h w r.not_lower was (are.up w at);
     }
 
     falls_beside : HasFallen old new → FallsBeside old.own.me ws (router old h) (router new k)
@@ -72,8 +78,9 @@ module _ (old new : Node) (h k : ℕ → ℕ) (was : IsHistory old.own h) (now :
         low : is_low (k new.own.number) old.own.me link.neighbour (router new k) ≡ true
         low = rw now.last (rw (are.listed link f.way.1 up).1 low_there)
 
-full_forwards : (n : Node) → IsTrue n.gateway ⊎ (n.policy.rise ≡ Full) → n.gateway ≡ false → n.policy.rise ≡ Full
-full_forwards n is forwards = ⊎_elim (λ g. absurd (true_false (sym forwards ∙ g))) (λ p. p) is
+forwards : (n : Node) (rise : Rise) → IsTrue n.gateway ⊎ (n.policy.rise ≡ rise) → n.gateway ≡ false
+    → n.policy.rise ≡ rise
+forwards n rise is router = ⊎_elim (λ g. absurd (true_false (sym router ∙ g))) (λ p. p) is
 
 -- a node without `lower` never falls
 never_falls : (old new : Node) → IsFull old → HasFallen old new → ⊥
@@ -84,7 +91,7 @@ is_full n is = ⊎_elim (λ g. inl g) (λ p. inr p.0) is
 
 pub calls_keep_links : CallsKeepLinks
 calls_keep_links messages old new is step acts h was = let after = step.goes_on h was in
-    let did = announced old new (full_forwards old (is_full old is)) acts in (
+    let did = announced old new (forwards old Full (is_full old is)) acts in (
       after.0,
       after.1,
       after.2,
@@ -104,16 +111,23 @@ calls_keep_links_or_fall messages old new is step acts h was = let after = step.
   λ w up. ⊎_elim (λ r. inl (raised old new h after.0 was after.1 w after.2.boot r up)) (⊎_elim
       (λ f. inr (fallen old new h after.0 was after.1 w after.2.boot f))
       (λ k. inl (kept old new h after.0 was after.1 w after.2.boot k)))
-      (announced old new (full_forwards old is) acts),
+      (announced old new (forwards old Full is) acts),
 )
 
 pub calls_act_beside : CallsActBeside
-calls_act_beside messages old new ws is are step acts h was = let after = step.goes_on h was in (
+calls_act_beside messages old new ws are step acts h was = let after = step.goes_on h was in (
   after.0,
   after.1,
   after.2,
   ⊎_elim (λ r. inr (inl (rises_beside old new h after.0 was after.1 ws are r))) (⊎_elim
       (λ f. inr (inr (falls_beside old new h after.0 was after.1 ws are f)))
       (λ (k : HasKept old new). inl k.number))
-      (announced old new (full_forwards old is) acts),
+      (acted old new acts),
+)
+
+pub calls_stay_below : CallsStayBelow
+calls_stay_below ceiling old new is acts h k was now low = omega (
+  arith,
+  now.last,
+  stays_below old new acts ceiling (forwards old (Ceiling ceiling) is) (omega (arith, was.last, low)),
 )

@@ -1,10 +1,13 @@
 -- A router falls below a neighbour beside another one that is lower still, and rises when that one rises. Both happen
 -- twice, so its heights come back.
-use Rattle.std.proofs.Common.{Contains, List, [], arith, inl, inr, refl, subst, ℕ, ⊎_elim, ◌∷◌, ◌<◌}
+use Rattle.std.proofs.Common.{Contains, List, [], arith, eqb, inl, inr, refl, subst, suc, zero, ℕ, ⊎_elim, ◌∷◌, ◌<◌}
+use Rattle.std.proofs.Common.{◌≡◌}
+use Rattle.std.specs.List.{IsDistinct}
 use Rattle.fr_node.specs.declared.message.Message.{Message}
-use Rattle.fr_node.specs.Heights.{FallsBeside, RisesBeside, SomeHeightComesBack}
+use Rattle.fr_node.specs.Heights.{FallsBeside, KeepsLinks, RisesBeside, SomeHeightComesBack}
 use Rattle.fr_node.specs.Lowerings.{Falls, SomeRouterFalls}
 use Rattle.fr_node.specs.Paths.{Stays}
+use Rattle.fr_node.specs.Rests.{KeepsBelow, SomeRoutersAnnounce, unheard_beside}
 use Rattle.fr_node.specs.Routers.{IsBelow, IsRun, IsStep, Net, Router}
 use Rattle.fr_node.proofs.Members.{Contains-cases, Contains-head, Contains-none, Contains-tail}
 use Rattle.fr_node.proofs.Running.{announcing, first_changes, idle, meets, met, net, new_router, said, says}
@@ -267,6 +270,13 @@ rises_again = record {
   no_lower = of_both (λ w. 0 < a6.heard w → ¬ IsBelow (a6.seen w) w 4 0) (λ _. not_below 1) (λ _. not_below 2);
 }
 
+beside_both : KeepsLinks 0 both (net a2 b1 c4 pool7) later
+beside_both = (
+  refl,
+  inr (inr falls_to_four),
+  (refl, inr (inl rises_to_six), (refl, inr (inr falls_again), (refl, inr (inl rises_again), tt))),
+)
+
 pub some_height_comes_back : SomeHeightComesBack
 some_height_comes_back = (
   net a0 b0 c0 [],
@@ -278,12 +288,72 @@ some_height_comes_back = (
   starts 9 5 3,
   past,
   future,
-  (
-    refl,
-    inr (inr falls_to_four),
-    (refl, inr (inl rises_to_six), (refl, inr (inr falls_again), (refl, inr (inl rises_again), tt))),
-  ),
+  beside_both,
   refl,
   refl,
+  refl,
+)
+
+-- and all three stay below a ceiling
+
+abbrev beside_each : ℕ → List ℕ
+beside_each zero = both
+beside_each (suc x) = 0 ∷ []
+
+apart_first : IsDistinct eqb (0 ∷ both)
+unfolding IsDistinct
+apart_first = ((refl, (refl, tt)), ((refl, tt), (tt, tt)))
+
+apart_second : IsDistinct eqb (1 ∷ 0 ∷ [])
+unfolding IsDistinct
+apart_second = ((refl, tt), (tt, tt))
+
+apart_third : IsDistinct eqb (2 ∷ 0 ∷ [])
+unfolding IsDistinct
+apart_third = ((refl, tt), (tt, tt))
+
+only_zero : (w : ℕ) → Contains (0 ∷ []) w → w < 3
+only_zero w h = ⊎_elim
+    (λ e. omega (arith, e))
+    (λ none. absurd (Contains-none w none))
+    (Contains-cases w 0 [] h)
+
+keeps : (x : ℕ) → x < 3 → KeepsBelow 6 3 3 x (beside_each x) (net a2 b1 c4 pool7) later
+keeps zero within = let e : unheard_beside (net a2 b1 c4 pool7) 0 both ≡ 3 = refl in record {
+  neighbours = of_both (λ w. w < 3) (omega arith) (omega arith);
+  once = apart_first;
+  links = beside_both;
+  below = (omega arith, (omega arith, (omega arith, (omega arith, tt))));
+  unheard = omega (arith, e);
+}
+keeps (suc zero) within = let e : unheard_beside (net a2 b1 c4 pool7) 1 (0 ∷ []) ≡ 1 = refl in record {
+  neighbours = only_zero;
+  once = apart_second;
+  links = ((refl, inl refl, (refl, inl refl, (refl, inl refl, (refl, inl refl, tt)))));
+  below = (omega arith, (omega arith, (omega arith, (omega arith, tt))));
+  unheard = omega (arith, e);
+}
+keeps (suc (suc zero)) within = let e : unheard_beside (net a2 b1 c4 pool7) 2 (0 ∷ []) ≡ 1 = refl in record {
+  neighbours = only_zero;
+  once = apart_third;
+  links = ((refl, inl refl, (refl, inl refl, (refl, inl refl, (refl, inl refl, tt)))));
+  below = (omega arith, (omega arith, (omega arith, (omega arith, tt))));
+  unheard = omega (arith, e);
+}
+keeps (suc (suc (suc x))) within = absurd (omega (arith, within))
+
+pub some_routers_announce : SomeRoutersAnnounce
+some_routers_announce = (
+  net a0 b0 c0 [],
+  nets,
+  later,
+  6,
+  3,
+  3,
+  beside_each,
+  starts 9 5 3,
+  past,
+  future,
+  keeps,
   refl,
 )

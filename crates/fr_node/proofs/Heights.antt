@@ -220,9 +220,15 @@ run_bound e x ws s (t ∷ ts) holds run keeps = add
         + steps_with (announces_below e) x s (t ∷ ts) + steps_with (hears_low e x ws) x s (t ∷ ts)
     add a b = omega (arith, a, b)
 
-pub same_height_is_bounded : SameHeightIsBounded
-same_height_is_bounded s past future x e ws begins ran runs keeps = omega (
+pub height_bound : (e x : ℕ) (ws : List ℕ) (s : Net) (ts : List Net) → Holds s → IsRun s ts → KeepsLinks x ws s ts
+    → steps_with (announces e) x s ts ≤ 1 + steps_with (announces_below e) x s ts
+    + steps_with (hears_low e x ws) x s ts
+height_bound e x ws s ts holds run keeps = omega (
   arith,
-  run_bound e x ws (last s past) future (held s past begins ran) runs keeps,
-  (one_facts (may_return e x ws ((last s past).router x))).0,
+  run_bound e x ws s ts holds run keeps,
+  (one_facts (may_return e x ws (s.router x))).0,
 )
+
+pub same_height_is_bounded : SameHeightIsBounded
+same_height_is_bounded s past future x e ws begins ran runs keeps = height_bound e x ws (last s past) future
+    (held s past begins ran) runs keeps

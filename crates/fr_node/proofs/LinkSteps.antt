@@ -9,7 +9,7 @@ use Rattle.fr_node.specs.Paths.{Rises, Stays, may_rise, unheard_of}
 use Rattle.fr_node.specs.Routers.{GoesOn, IsBelow, IsFrom, IsSaidBy, IsStep, Net, Router}
 use Rattle.fr_node.proofs.Moments.{Holds, goes_on, heard_most, same_height}
 use Rattle.fr_node.proofs.Rule.{KeepsRule, step_kept}
-use Rattle.fr_node.proofs.Unheard.{HearsOn, same_or_less, unheard_less, unheard_most}
+use Rattle.fr_node.proofs.Unheard.{HearsOn, by_less, by_most, counts_all, present, same_or_less, unheard_by}
 
 -- 1 if router x, in this state, may rise by what it has heard of w, and else 0
 abbrev pub free : ℕ → ℕ → Router → ℕ
@@ -54,6 +54,15 @@ fall_counts r t f = ⊎_elim (λ y. rw y refl) (λ same. absurd (never same)) (c
     never : is_fall r t ≡ false → ⊥
     never same = grind (arith, nat_tests, f.lower)
 
+pub hears_on : (x w : ℕ) (pool : List Message) (r t : Router) → GoesOn pool x r t → HearsOn w r t
+hears_on x w pool r t goes = record {
+  peer = (goes.start w).0;
+  heard = λ same. ⊎_elim
+      (λ e. omega (arith, e.1))
+      (⊎_elim (λ e. absurd (omega (arith, e.0, same))) (λ h. omega (arith, h.4, h.6 same)))
+      (goes.height w);
+}
+
 -- `pool` has all messages of earlier starts of w, and `number` is at least the number of its announcements
 module _ (x w : ℕ) (s t : Net) (holds : Holds s) (step : IsStep s t) (itself : (t.router x).boot ≡ (s.router x).boot)
     (boot : (t.router w).boot ≡ (s.router w).boot) (pool : List Message) (number : ℕ)
@@ -69,13 +78,7 @@ module _ (x w : ℕ) (s t : Net) (holds : Holds s) (step : IsStep s t) (itself :
   goes = goes_on x s t step itself
 
   on : HearsOn w (s.router x) (t.router x)
-  on = record {
-    peer = (goes.start w).0;
-    heard = λ same. ⊎_elim
-        (λ e. omega (arith, e.1))
-        (⊎_elim (λ e. absurd (omega (arith, e.0, same))) (λ h. omega (arith, h.4, h.6 same)))
-        (goes.height w);
-  }
+  on = hears_on x w s.pool (s.router x) (t.router x) goes
 
   known : (t.router x).peer w ≤ (s.router w).boot
   known = omega (arith, rule_after.peers x w, boot)
@@ -84,8 +87,8 @@ module _ (x w : ℕ) (s t : Net) (holds : Holds s) (step : IsStep s t) (itself :
   most e = omega (arith, heard_most x w t rule_after (omega (arith, e, boot)), enough)
 
   left_most : left (t.router x) ≤ left (s.router x)
-  unfolding left
-  left_most = unheard_most (s.router w).boot number pool x w (s.router x) (t.router x) on known most
+  unfolding left unheard_by present
+  left_most = by_most (λ n. n) counts_all (s.router w).boot number pool x w (s.router x) (t.router x) on known most
 
   falls_bound : Falls (s.router x) (t.router x) → (t.router x).number + free x w (t.router x) + left (t.router x)
       ≤ (s.router x).number + free x w (s.router x) + left (s.router x) + 2 * fall (s.router x) (t.router x)
@@ -143,14 +146,14 @@ module _ (x w : ℕ) (s t : Net) (holds : Holds s) (step : IsStep s t) (itself :
     took : (m : Message) → IsFrom s.pool x w m → (t.router x).peer w ≡ m.boot → (t.router x).heard w ≡ m.number
         → (t.router x).seen w ≡ m.height
         → ((t.router x).peer w ≡ (s.router x).peer w → (s.router x).heard w ≤ m.number) → Bound
-    unfolding Bound left
+    unfolding Bound left unheard_by present
     took m f b n v up = ⊎_elim even less
         (same_or_less ((s.router x).peer w) ((t.router x).peer w) ((goes.start w).0))
       where
         news : 0 < m.number → ((t.router x).peer w ≡ (s.router x).peer w → (s.router x).heard w < m.number) → Bound
         news some new =
-            let less = unheard_less (s.router w).boot number pool x w (s.router x) (t.router x) on known most m f.from
-            f.to b n some new (λ old. listed m f.said f.from old) in
+            let less = by_less (λ n. n) counts_all (s.router w).boot number pool x w (s.router x) (t.router x) on known
+            most m f.from f.to b n some new (λ old. listed m f.said f.from old) (λ _ a l. l) in
             ⊎_elim
             (λ k. omega (arith, k, free_most x w (t.router x), less))
             (λ (r : Rises x w (s.router x) (t.router x)). omega

@@ -1,5 +1,6 @@
 -- The least distance of the neighbours so far.
-use Rattle.std.proofs.Common.{IsTrue, List, MatchOption, None, Option, Some, add-one, ap, arith, false, get_or, length, min, refl, subst, suc, sym, true, zero, ℕ, ⊎_elim, ◌+◌, ◌<◌, ◌≡◌, ◌≤◌, ◌∙◌}
+use Rattle.std.proofs.Common.{IsTrue, List, MatchOption, None, Option, Some, add-one, ap, arith, false, get_or, length}
+use Rattle.std.proofs.Common.{min, refl, subst, suc, sym, true, zero, ℕ, ⊎_elim, ◌+◌, ◌<◌, ◌≡◌, ◌≤◌, ◌∙◌}
 use Rattle.std.proofs.lemmas.Bool.{cases_Bool, cases_lt}
 use Rattle.std.proofs.lemmas.List.{get_or_default}
 use Rattle.fr_node.specs.declared.link.Link.{Link}
@@ -103,6 +104,11 @@ some_nearest own ls (suc n) = let before = some_nearest own ls n in rw (← add-
     (λ f. (before.0, same own ls n before.0 before.1 f))
     (cases_Bool (is_way own (get_or ls n unknown))))
 
+-- some number is the least distance, or there is none
+pub nearest_or_none : (own : Own) (ls : List Link) → (r : Option ℕ) × MatchOption r (HasNoWay own ls) (IsNearest own ls)
+nearest_or_none own ls = let found = some_nearest own ls (length ls) in
+    (found.0, nearest_all own ls (length ls) found.0 refl found.1)
+
 by_nearest : (n : Node) (a b : ℕ) (r : Option ℕ) → ¬ IsTrue n.gateway
     → MatchOption r (HasNoWay n.own n.links.items) (IsNearest n.own n.links.items)
     → IsDistance n a → IsDistance n b → a ≡ b
@@ -113,6 +119,5 @@ by_nearest n a b (Some d) router at x y = omega (arith, x.near router d at, y.ne
 pub distance_once : (n : Node) (a b : ℕ) → IsDistance n a → IsDistance n b → a ≡ b
 distance_once n a b x y = ⊎_elim
     (λ g. omega (arith, x.gateway g, y.gateway g))
-    (λ f. let found = some_nearest n.own n.links.items (length n.links.items) in
-    by_nearest n a b found.0 (λ g. cc) (nearest_all n.own n.links.items (length n.links.items) found.0 refl found.1) x y)
+    (λ f. let found = nearest_or_none n.own n.links.items in by_nearest n a b found.0 (λ g. cc) found.1 x y)
     (cases_Bool n.gateway)

@@ -5,11 +5,11 @@ use Rattle.fr_node.specs.declared.message.Message.{Message}
 use Rattle.fr_node.specs.Lowerings.{KeepsLinkOrFalls, KeepsPathOrFalls, LinkBoundsWithFalls, PathBoundsWithFalls}
 use Rattle.fr_node.specs.Lowerings.{falls, falls_on}
 use Rattle.fr_node.specs.Paths.{DownPathIsQuiet, IsDown, KeepsLink, KeepsPath, LinkBoundsAnnouncements}
-use Rattle.fr_node.specs.Paths.{PathBoundsAnnouncements, due, due_on, times, unheard_of, unheard_on}
+use Rattle.fr_node.specs.Paths.{PathBoundsAnnouncements, due, due_on, times, unheard, unheard_of, unheard_on}
 use Rattle.fr_node.specs.Routers.{IsRun, IsStart, Net, last}
 use Rattle.fr_node.proofs.LinkSteps.{fall, free, free_most, listed_still, no_fall, same_start, step_bound}
 use Rattle.fr_node.proofs.Moments.{Holds, heard_most, held, holds_after, numbers_grow}
-use Rattle.fr_node.proofs.Unheard.{more_unheard}
+use Rattle.fr_node.proofs.Unheard.{counts_all, more_by, present, unheard_by}
 
 neighbour_grows : (x w : ℕ) (s : Net) (ts : List Net) → IsRun s ts → KeepsLinkOrFalls x w s ts
     → (s.router w).number ≤ ((last s ts).router w).number
@@ -63,13 +63,18 @@ run_bound x w s (t ∷ ts) holds run keeps pool number listed enough =
 -- beside a link that stays up
 link_bounds : (x w : ℕ) (s : Net) (ts : List Net) → Holds s → IsRun s ts → KeepsLinkOrFalls x w s ts
     → times s (last s ts) x ≤ due s x w + times s (last s ts) w + 2 * falls x s ts
-link_bounds x w s ts holds run keeps = omega (
-  arith,
-  run_bound x w s ts holds run keeps s.pool ((last s ts).router w).number (λ m h _ _. h) (omega arith),
-  more_unheard (s.router w).boot (s.router w).number ((last s ts).router w).number s.pool x w (s.router x)
-      (neighbour_grows x w s ts run keeps) (heard_most x w s holds.rule),
-  itself_grows x w s ts run keeps,
-)
+unfolding unheard_by present
+link_bounds x w s ts holds run keeps =
+    let end = ((last s ts).router w).number in
+    let more : unheard_of (s.router w).boot end s.pool x w (s.router x) ≤ unheard s x w + times s (last s ts) w
+    = more_by (λ n. n) counts_all (s.router w).boot (s.router w).number end s.pool x w (s.router x)
+    (neighbour_grows x w s ts run keeps) (heard_most x w s holds.rule) in
+    omega (
+      arith,
+      run_bound x w s ts holds run keeps s.pool end (λ m h _ _. h) (omega arith),
+      more,
+      itself_grows x w s ts run keeps,
+    )
 
 path_bounds : (s : Net) (ts : List Net) → Holds s → IsRun s ts → (x : ℕ) (ws : List ℕ) → KeepsPathOrFalls x ws s ts
     → times s (last s ts) x ≤ due_on s x ws + 2 * falls_on x ws s ts

@@ -18,7 +18,7 @@ wider_news : (start x w : ℕ) (r t : Router) → HearsOn w r t → (m : Message
     → is_earlier_news start x w r m ≡ true
 wider_news start x w r t on m h = grind (arith, nat_tests, on.peer, on.heard)
 
-present : ℕ → ℕ → ℕ → ℕ → ℕ
+unfoldable pub present : ℕ → ℕ → ℕ → ℕ → ℕ
 present start number peer heard = cond (peer == start) (number - heard) number
 
 present_now : (start number peer heard : ℕ) → peer ≡ start → present start number peer heard ≡ number - heard
@@ -32,41 +32,55 @@ present_before start number peer heard l = rw (ne_eqb peer start (λ e. omega (a
 pub same_or_less : (a b : ℕ) → a ≤ b → (a ≡ b) ⊎ (a < b)
 same_or_less a b l = ⊎_elim (λ less. inr less) (λ most. inl (omega (arith, l, most))) (cases_lt a b)
 
-module _ (start number : ℕ) (pool : List Message) (x w : ℕ) (r t : Router) (on : HearsOn w r t)
-    (known : t.peer w ≤ start) (most : t.peer w ≡ start → t.heard w ≤ number) where
+-- c counts some of the announcements up to each number
+pub record IsCount (c : ℕ → ℕ) : Type 0 where
+  pub none : c 0 ≡ 0
+  pub grows : (a b : ℕ) → a ≤ b → c a ≤ c b
+  pub slow : (a b : ℕ) → a ≤ b → c b ≤ c a + (b - a)
+
+-- of what has not been heard those that are counted, and messages of earlier starts
+unfoldable pub unheard_by : (c : ℕ → ℕ) (start number : ℕ) (pool : List Message) (x w : ℕ) → Router → ℕ
+unfolding present
+unheard_by c start number pool x w r = count_by (is_earlier_news start x w r) pool
+    + present start (c number) (r.peer w) (c (r.heard w))
+
+module _ (c : ℕ → ℕ) (count : IsCount c) (start number : ℕ) (pool : List Message) (x w : ℕ) (r t : Router)
+    (on : HearsOn w r t) (known : t.peer w ≤ start) (most : t.peer w ≡ start → t.heard w ≤ number) where
   news_most : count_by (is_earlier_news start x w t) pool ≤ count_by (is_earlier_news start x w r) pool
   news_most = count_most (is_earlier_news start x w t) (is_earlier_news start x w r) (wider_news start x w r t on) pool
 
-  present_most : present start number (t.peer w) (t.heard w) ≤ present start number (r.peer w) (r.heard w)
+  present_most : present start (c number) (t.peer w) (c (t.heard w))
+      ≤ present start (c number) (r.peer w) (c (r.heard w))
   present_most = ⊎_elim
       (λ now. ⊎_elim
       (λ was. omega (
         arith,
-        present_now start number (t.peer w) (t.heard w) now,
-        present_now start number (r.peer w) (r.heard w) was,
-        on.heard (omega (arith, now, was)),
+        present_now start (c number) (t.peer w) (c (t.heard w)) now,
+        present_now start (c number) (r.peer w) (c (r.heard w)) was,
+        count.grows (r.heard w) (t.heard w) (on.heard (omega (arith, now, was))),
       ))
       (λ less. omega (
         arith,
-        present_now start number (t.peer w) (t.heard w) now,
-        present_before start number (r.peer w) (r.heard w) less,
+        present_now start (c number) (t.peer w) (c (t.heard w)) now,
+        present_before start (c number) (r.peer w) (c (r.heard w)) less,
       ))
       (same_or_less (r.peer w) start (omega (arith, on.peer, known))))
       (λ less. omega (
         arith,
-        present_before start number (t.peer w) (t.heard w) less,
-        present_before start number (r.peer w) (r.heard w) (omega (arith, on.peer, less)),
+        present_before start (c number) (t.peer w) (c (t.heard w)) less,
+        present_before start (c number) (r.peer w) (c (r.heard w)) (omega (arith, on.peer, less)),
       ))
       (same_or_less (t.peer w) start known)
 
-  pub unheard_most : unheard_of start number pool x w t ≤ unheard_of start number pool x w r
-  unfolding present
-  unheard_most = omega (arith, news_most, present_most)
+  pub by_most : unheard_by c start number pool x w t ≤ unheard_by c start number pool x w r
+  unfolding unheard_by
+  by_most = omega (arith, news_most, present_most)
 
-  -- if it has heard something new
+  -- if it has heard something new that counts
   module _ (m : Message) (from : m.from ≡ w) (to : m.to ≡ x) (boot : t.peer w ≡ m.boot)
       (heard : t.heard w ≡ m.number) (some : 0 < m.number)
-      (new : t.peer w ≡ r.peer w → r.heard w < m.number) (listed : m.boot < start → Contains pool m) where
+      (new : t.peer w ≡ r.peer w → r.heard w < m.number) (listed : m.boot < start → Contains pool m)
+      (counts : t.peer w ≡ start → (a : ℕ) → a < m.number → c a < c m.number) where
     is_news : m.boot < start → is_earlier_news start x w r m ≡ true
     is_news less = ⊎_elim
         (λ e. let l = new (sym e) in grind (arith, nat_tests, from, to, less, boot, e, l))
@@ -79,9 +93,9 @@ module _ (start number : ℕ) (pool : List Message) (x w : ℕ) (r t : Router) (
         not_itself : is_earlier_news start x w t m ≡ true → ⊥
         not_itself y = grind (arith, nat_tests, boot, heard)
 
-    pub unheard_less : unheard_of start number pool x w t + 1 ≤ unheard_of start number pool x w r
-    unfolding present
-    unheard_less = ⊎_elim
+    pub by_less : unheard_by c start number pool x w t + 1 ≤ unheard_by c start number pool x w r
+    unfolding unheard_by
+    by_less = ⊎_elim
         (λ now. omega (arith, news_most, less_now now))
         (λ less. omega (
           arith,
@@ -92,35 +106,42 @@ module _ (start number : ℕ) (pool : List Message) (x w : ℕ) (r t : Router) (
         ))
         (same_or_less (t.peer w) start known)
       where
-        less_now : t.peer w ≡ start
-            → present start number (t.peer w) (t.heard w) + 1 ≤ present start number (r.peer w) (r.heard w)
+        less_now : t.peer w ≡ start → present start (c number) (t.peer w) (c (t.heard w)) + 1
+            ≤ present start (c number) (r.peer w) (c (r.heard w))
         less_now now = ⊎_elim
             (λ was. omega (
               arith,
-              present_now start number (t.peer w) (t.heard w) now,
-              present_now start number (r.peer w) (r.heard w) was,
-              new (omega (arith, now, was)),
-              heard,
-              most now,
+              present_now start (c number) (t.peer w) (c (t.heard w)) now,
+              present_now start (c number) (r.peer w) (c (r.heard w)) was,
+              counts now (r.heard w) (new (omega (arith, now, was))),
+              ap c heard,
+              count.grows (t.heard w) number (most now),
             ))
             (λ less. omega (
               arith,
-              present_now start number (t.peer w) (t.heard w) now,
-              present_before start number (r.peer w) (r.heard w) less,
-              heard,
-              some,
-              most now,
+              present_now start (c number) (t.peer w) (c (t.heard w)) now,
+              present_before start (c number) (r.peer w) (c (r.heard w)) less,
+              ap c heard,
+              counts now 0 some,
+              count.grows (t.heard w) number (most now),
             ))
             (same_or_less (r.peer w) start (omega (arith, on.peer, known)))
 
 -- more announcements of the present start
-pub more_unheard : (start few many : ℕ) (pool : List Message) (x w : ℕ) (r : Router) → few ≤ many
+pub more_by : (c : ℕ → ℕ) → IsCount c → (start few many : ℕ) (pool : List Message) (x w : ℕ) (r : Router) → few ≤ many
     → (r.peer w ≡ start → r.heard w ≤ few)
-    → unheard_of start many pool x w r ≤ unheard_of start few pool x w r + (many - few)
-more_unheard start few many pool x w r more most = ⊎_elim
-    (λ e. rw (eq-eqb (r.peer w) start e) (omega (arith, more, most e)))
-    (λ other. rw (ne_eqb (r.peer w) start other) (omega (arith, more)))
+    → unheard_by c start many pool x w r ≤ unheard_of start few pool x w r + (c many - c few)
+unfolding unheard_by present
+more_by c count start few many pool x w r more most = ⊎_elim
+    (λ e. rw (eq-eqb (r.peer w) start e) (omega
+    (arith, count.slow (r.heard w) few (most e), count.grows (r.heard w) few (most e), count.grows few many more)))
+    (λ other. rw (ne_eqb (r.peer w) start other) (omega
+    (arith, count.slow 0 few (omega arith), count.none, count.grows few many more)))
     (cases_eq (r.peer w) start)
+
+-- all announcements
+pub counts_all : IsCount (λ n. n)
+counts_all = record { none = refl; grows = λ a b l. l; slow = λ a b l. omega (arith, l) }
 
 -- no message is of a start that is earlier than the present one and later than it
 no_earlier : (start x w : ℕ) (r : Router) → r.peer w ≡ start → (ms : List Message)

@@ -1,5 +1,5 @@
 -- Distances from a gateway, by what was heard. The definitions are this project's own.
-use Rattle.std.specs.Prelude.{IsTrue, List, [], false, filter, length, map, min, true, ℕ, ◌+◌, ◌*◌, ◌^◌, ◌-◌, ◌<◌, ◌≡◌, ◌≤◌}
+use Rattle.std.specs.Prelude.{IsTrue, List, [], false, filter, length, map, min, true, ℕ, ◌+◌, ◌*◌, ◌^◌, ◌<◌, ◌≡◌, ◌≤◌}
 use Rattle.std.specs.List.{slice_index_or}
 use Rattle.std.specs.List.Sorted.{IsNonDecreasingBy, IsPermutation}
 use Rattle.fr_node.specs.declared.link.Link.{Link}

@@ -1,12 +1,11 @@
 -- How often a router announces the same height beside its neighbours: only as often as it goes below that height, or
 -- hears an announcement below it. The definitions and laws are this project's own.
-use Rattle.std.specs.Prelude.{Bool, IsTrue, List, [], ◌∷◌, if◌then◌else◌, not, true, ℕ, ◌+◌, ◌<◌, ◌≡◌, ◌≤◌, ◌⊎◌, ◌==◌}
+use Rattle.std.specs.Prelude.{Bool, List, [], ◌∷◌, if◌then◌else◌, not, true, ℕ, ◌+◌, ◌<◌, ◌≡◌, ◌≤◌, ◌⊎◌, ◌==◌}
 use Rattle.std.specs.Prelude.{◌&&◌, nat_lt}
 use Rattle.std.specs.List.{Contains, list_any}
 use Rattle.fr_node.specs.declared.link.Link.{Link}
 use Rattle.fr_node.specs.declared.message.Message.{Message}
 use Rattle.fr_node.specs.declared.node.Node.{Node}
-use Rattle.fr_node.specs.declared.policy.Rise.TheVariants.{Full}
 use Rattle.fr_node.specs.Histories.{IsHistory}
 use Rattle.fr_node.specs.Links.{link_to}
 use Rattle.fr_node.specs.Nodes.{Steps, router}
@@ -77,11 +76,10 @@ pub record AreUp (n : Node) (ws : List ℕ) : Type 0 where
   pub listed : (l : Link) → Contains n.links.items l → l.up ≡ true → Contains ws l.neighbour
       × (link_to n.links.items l.neighbour ≡ l)
 
--- what a call of a node with `Rise::Full` ensures makes it such a step beside the neighbours whose links are up after
--- it
+-- what a call of a node ensures makes it such a step beside the neighbours whose links are up after it, whatever its
+-- policy
 abbrev pub CallsActBeside : Type 0
-CallsActBeside = (messages : List Message) (old new : Node) (ws : List ℕ)
-    → IsTrue old.gateway ⊎ (old.policy.rise ≡ Full) → AreUp new ws → Steps messages old new
+CallsActBeside = (messages : List Message) (old new : Node) (ws : List ℕ) → AreUp new ws → Steps messages old new
     → Acts (record old { links = new.links }) new.own ⊎ (new.own ≡ old.own)
     → (h : ℕ → ℕ) → IsHistory old.own h
     → (k : ℕ → ℕ) × IsHistory new.own k × GoesOn messages old.own.me (router old h) (router new k)

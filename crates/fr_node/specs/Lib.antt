@@ -13,3 +13,5 @@ pub mod Daemons  -- daemons that call nodes and write tables
 pub mod Paths  -- how many heights routers on a path announce, whatever else happens
 pub mod Lowerings  -- the same of routers that may lower their heights
 pub mod Heights  -- how often a router announces the same height
+pub mod Ceilings  -- where packets end below a ceiling
+pub mod Rests  -- how many heights routers below a ceiling announce together

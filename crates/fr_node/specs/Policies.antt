@@ -1,5 +1,5 @@
 -- Which height a node announces by its policy, and when it uses it. The definitions are this project's own.
-use Rattle.std.specs.Prelude.{All, Bool, List, MatchOption, Option, min, false, true, nat_lt, if◌then◌else◌, ℕ, ◌+◌, ◌^◌, ◌<◌, ◌≤◌, ◌≡◌, ◌≢◌, ◌==◌, ◌&&◌, ◌||◌, ◌⊎◌}
+use Rattle.std.specs.Prelude.{All, Bool, List, MatchOption, Option, min, false, true, nat_lt, if◌then◌else◌, ℕ, ◌+◌, ◌^◌, ◌<◌, ◌≤◌, ◌≡◌, ◌≢◌, ◌⊎◌}
 use Rattle.std.specs.List.{Contains}
 use Rattle.fr_node.specs.declared.link.Link.{Link}
 use Rattle.fr_node.specs.declared.message.TheConstants.{CUT_OFF}

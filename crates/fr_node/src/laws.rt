@@ -1,12 +1,14 @@
 //! The laws of networks of routers. Each clause is a law of `specs/`, proved. The functions do nothing.
 
 ghost use Rattle.fr_node.specs.Bytes.{OneMessage};
+ghost use Rattle.fr_node.specs.Ceilings.{JoinedPacketsArrive, SomeRouterIsJoined};
 ghost use Rattle.fr_node.specs.Daemons.{DaemonsHaveNoLoop};
 ghost use Rattle.fr_node.specs.Tables.{SomeTablesLetThrough, TablesHaveNoLoop};
 ghost use Rattle.fr_node.specs.Heights.{CallsActBeside, SameHeightIsBounded, SomeHeightComesBack};
 ghost use Rattle.fr_node.specs.Laws.{NeverALoop, PacketsArrive, SomeLinkIsUsed};
 ghost use Rattle.fr_node.specs.Lowerings.{CallsKeepLinksOrFall, LinkBoundsWithFalls, PathBoundsWithFalls};
 ghost use Rattle.fr_node.specs.Lowerings.{SomeRouterFalls};
+ghost use Rattle.fr_node.specs.Rests.{AnnouncementsEnd, CallsStayBelow, SomeRoutersAnnounce};
 ghost use Rattle.fr_node.specs.Paths.{BoundIsReached, CallsKeepLinks, DownPathIsQuiet, LinkBoundsAnnouncements};
 ghost use Rattle.fr_node.specs.Paths.{PathBoundsAnnouncements, UnheardAreAnnouncements};
 
@@ -32,6 +34,22 @@ pub fn tables_law()
 /// reach lets them in.
 pub fn ways_law()
     ensures { PacketsArrive }
+{}
+
+/// In a network of routers with `Rise::Ceiling` and `lower`, with one ceiling that is at least the number of routers,
+/// once all messages have arrived and no router changes its height, packets of each router that is joined to a gateway
+/// come to a gateway, whichever ways they take. Each router that they reach lets them in. A gateway and a router meet
+/// these premises.
+///
+/// Routers that stay at or below a ceiling come to rest, also those that are cut off: while no link goes up or down and
+/// no router restarts, they announce a bounded number of heights together, whatever happens to messages. In some run
+/// they announce four. A call of a `Node` with `Rise::Ceiling` that starts at or below the ceiling stays there.
+pub fn ceiling_law()
+    ensures arrive { JoinedPacketsArrive }
+    ensures joined { SomeRouterIsJoined }
+    ensures rest { AnnouncementsEnd }
+    ensures possible { SomeRoutersAnnounce }
+    ensures calls { CallsStayBelow }
 {}
 
 /// Routers with `Rise::Full` and without `lower`, joined to a gateway by a path of links that stay up. After anything
@@ -60,8 +78,8 @@ pub fn lowering_law()
 
 /// A router that rises only beside neighbours of which none is known to be lower, and falls only beside one that is,
 /// announces the same height at most once, and again for each time that it goes below that height or hears an
-/// announcement below it. In some run a height comes back as often as that. Each call of a `Node` with `Rise::Full` is
-/// a step of this law.
+/// announcement below it. In some run a height comes back as often as that. Each call of a `Node` is a step of this
+/// law, whatever its policy.
 pub fn heights_law()
     ensures again { SameHeightIsBounded }
     ensures possible { SomeHeightComesBack }

@@ -95,8 +95,8 @@ impl Node {
     /// Makes a neighbour known. The link to it is down, until it comes up. A neighbour that is known stays as it is. This
     /// is the only call that takes memory, and it is no event. O(d) for d known neighbours.
     ///
-    /// Fails with `Itself` if the neighbour is this router, and with `Memory` if an allocation was refused. Then nothing
-    /// has changed.
+    /// Fails with `Itself` if the neighbour is this router, and with `Memory` if an allocation was refused, which never
+    /// happens for a neighbour that is known. Then nothing has changed.
     pub fn know(&mut self, neighbour: u32) -> Result<(), NodeFault>
         ensures itself { neighbour ≡ self.old.own.me ↔ (result ≡ Err Itself) }
         ensures known { neighbour ≢ self.old.own.me → IsKnown self.old.links.items neighbour → self.new ≡ self.old }
@@ -104,6 +104,7 @@ impl Node {
             → self.new.links.items ≡ self.old.links.items ++ record unknown { neighbour = neighbour } ∷ []) }
         ensures same { self.new ≡ record self.old { links = self.new.links } }
         ensures err { IfErr result (λ f. ((f ≡ Itself) ⊎ (f ≡ Memory)) × (self.new.links.items ≡ self.old.links.items)) }
+        ensures memory { result ≡ Err Memory → ¬ IsKnown self.old.links.items neighbour }
         ensures step { Steps [] self.old self.new }
     {
         if neighbour == self.own.me {

@@ -3,6 +3,7 @@
 #![tactic(auto)]
 
 pub mod answers;
+pub mod connections;
 pub mod conversations;
 pub mod crews;
 pub mod histories;

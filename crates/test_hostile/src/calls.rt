@@ -4,9 +4,9 @@ ghost use Rattle.std.specs.Prelude.{◌≡◌, IfSome, replicate};
 
 use crate::logs::{logged, recorded};
 use crate::nodes::known;
-use crate::published::published;
+use crate::published::{early_readers, published};
 use crate::telling::{Answer, say};
-use crate::ways::{listed, measured, phased};
+use crate::ways::{cut_off, listed, measured, phased};
 use fr_core::{Entry, Machine, Target, check_run, play};
 use fr_crew::{
     Crew, OpenGate, Plan, Settled, live_walk, settle, settle_alone, settled_counts,
@@ -88,10 +88,12 @@ pub enum Call {
     Measured,
     Phased,
     Known,
+    CutOff,
+    EarlyReaders,
 }
 
 /// The calls in the order in which they are made.
-pub const CALLS: [Call; 34] = [
+pub const CALLS: [Call; 36] = [
     Call::Network,
     Call::CutNetwork,
     Call::LinkedNetwork,
@@ -126,6 +128,8 @@ pub const CALLS: [Call; 34] = [
     Call::Measured,
     Call::Phased,
     Call::Known,
+    Call::CutOff,
+    Call::EarlyReaders,
 ];
 
 /// Makes a call, and appends its result to the answer.
@@ -148,6 +152,8 @@ pub fn make<R: Threads + Wait + Sync + Alloc<A = Global> + Print + Eprint>(
         Call::Measured => measured(rt, answer),
         Call::Phased => phased(rt, answer),
         Call::Known => known(rt, answer),
+        Call::CutOff => cut_off(rt, answer),
+        Call::EarlyReaders => early_readers(rt, answer),
         _ => {
             if let Some(net) = answer.told(rt, Net::new(rt.alloc(), 4, &CHAIN)) {
                 make_on(rt, answer, net, call);

@@ -20,6 +20,10 @@ pub fn known<R: Alloc<A = Global> + Print + Eprint>(rt: &R, answer: &mut Answer)
             return;
         }
     }
+    // This one is known already.
+    if know(rt, answer, &mut node, 2).is_none() {
+        return;
+    }
     answer.put(&node.neighbours());
     node.link_up(5);
     let written = node.written(node.state());

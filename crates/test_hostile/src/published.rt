@@ -27,6 +27,20 @@ pub fn published<R: Alloc<A = Global> + Print + Eprint>(rt: &R, answer: &mut Ans
     }
 }
 
+/// Two readers of the hops and two of the ways, before there is a network.
+pub fn early_readers<R: Alloc<A = Global> + Eprint>(rt: &R, answer: &mut Answer) {
+    let alloc = rt.alloc();
+    let mut session = PublishedSession::new(alloc);
+    for _ in 0..2 {
+        if answer.told(rt, session.reader(alloc)).is_some() {
+            answer.say("reader");
+        }
+        if answer.told(rt, session.way_reader(alloc)).is_some() {
+            answer.say("way reader");
+        }
+    }
+}
+
 /// Changes the network. If that fails for want of memory, the list must be unchanged.
 fn change<R: Alloc<A = Global> + Print + Eprint>(
     rt: &R,

@@ -9,9 +9,11 @@ use std::alloc::Global;
 use std::sync::Wait;
 use std::thread::Threads;
 
-/// A settled chain is parted, and closed again from its other end. A batch moves a link, and then the destination
-/// moves. Then two nodes are joined by a link that cannot point from the first to the second, so one node has two ways.
-const LINES: [&str; 21] = [
+/// A line before there is a network is refused. A settled chain is parted, and closed again from its other end. A batch
+/// moves a link, and then the destination moves. Then two nodes are joined by a link that cannot point from the first to
+/// the second, so one node has two ways. The last lines are refused.
+const LINES: [&str; 34] = [
+    r#"["links"]"#,
     r#"["net",4,0,[[1,0],[2,1],[3,2]]]"#,
     r#"["links"]"#,
     r#"["cut",1,0]"#,
@@ -33,6 +35,18 @@ const LINES: [&str; 21] = [
     r#"["ways"]"#,
     r#"["ways",1]"#,
     r#"["nearest",0]"#,
+    r#"["walk",99]"#,
+    r#"["nearest",4]"#,
+    r#"["ways",4]"#,
+    r#"["dest",4]"#,
+    r#"["cut",0,2]"#,
+    r#"["walk",3"#,
+    r#"["walk"]"#,
+    r#"["pushes",["here",0,0,0,0]]"#,
+    r#"["phases",["here",[],[],[],[]]]"#,
+    r#"["pushes",[4]]"#,
+    r#"["net",2,0,[[1,0],[0,1]]]"#,
+    r#"["batch",[["cut",0,1],["add",2,2]]]"#,
 ];
 
 /// Writes the answers to the lines, as text, then as JSON, and then as JSON with ways.

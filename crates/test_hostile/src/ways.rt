@@ -7,6 +7,7 @@ use crate::telling::{Answer, say};
 use fr_nearest::Distances;
 use fr_net::Net;
 use fr_route::Router;
+use fr_tables::{Hop, TableFault};
 use fr_ways::{Pushes, TwoPhases, WayTable, WaysFault, known_phases, phases};
 use std::alloc::{AllocError, Global};
 
@@ -98,6 +99,37 @@ fn put_way_pushes<R: Alloc<A = Global> + Eprint>(rt: &R, answer: &mut Answer, ro
             Ok(plan) => put_plan(answer, &plan),
             Err(fault) => answer.lack(rt, fault),
         }
+    }
+}
+
+/// The route and the nearest route of a node that is cut off, and the fault of a table that is too long.
+pub fn cut_off<R: Alloc<A = Global> + Eprint>(rt: &R, answer: &mut Answer) {
+    let alloc = rt.alloc();
+    let Some(net) = answer.told(rt, Net::new(alloc, 4, &DOWN[..2])) else {
+        return;
+    };
+    let Some(mut router) = answer.told(rt, Router::open_alone(alloc, net, 0)) else {
+        return;
+    };
+    if router.net().nodes() == 4 {
+        put_walks(rt, answer, &mut router);
+        match router.pushes(alloc, &[Hop::CutOff; 5]) {
+            Ok(_) => answer.say("pushes"),
+            Err(TableFault::Memory) => answer.lack(rt, TableFault::Memory),
+            Err(fault) => answer.put(&fault),
+        }
+    }
+}
+
+/// Appends the route and the nearest route of the last of four nodes to the answer.
+fn put_walks<R: Alloc<A = Global> + Eprint>(rt: &R, answer: &mut Answer, router: &mut Router)
+    requires { 3 < router.old.nodes }
+{
+    if let Some(walked) = answer.told(rt, router.walk(rt.alloc(), 3)) {
+        answer.put(&walked);
+    }
+    if let Some(walked) = answer.told(rt, router.nearest(rt.alloc(), 3)) {
+        answer.put(&walked);
     }
 }
 

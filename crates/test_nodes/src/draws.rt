@@ -5,8 +5,9 @@
 pub struct Draws(u64);
 
 impl Draws {
+    /// Seeds that are near each other give numbers that are not.
     pub fn from(seed: u64) -> Draws {
-        Draws(seed)
+        Draws(seed.wrapping_mul(0x9e37_79b9_7f4a_7c15))
     }
 
     /// The next number, below `bound`, or 0 if that is 0.

@@ -71,6 +71,27 @@ impl Rules {
         })
     }
 
+    pub fn policy(&self) -> Policy {
+        self.policy
+    }
+
+    pub fn boot(&self) -> u64 {
+        self.boot
+    }
+
+    /// The number of the last announcement.
+    pub fn announced(&self) -> u64 {
+        self.last().number
+    }
+
+    /// The number of the last announcement that was heard of this start of a neighbour, or 0.
+    pub fn heard_of(&self, w: u32, start: u64) -> u64 {
+        match self.seen(w) {
+            Some(seen) if seen.peer == start => seen.number,
+            _ => 0,
+        }
+    }
+
     pub fn height(&self) -> u64 {
         self.used
     }
@@ -244,7 +265,9 @@ impl Rules {
     fn raise(&self) -> Option<u64> {
         match self.policy.rise {
             Rise::Full => self.above_all(),
-            Rise::Ceiling(ceiling) => self.above_all().map(|height| height.min(u64::from(ceiling))),
+            Rise::Ceiling(ceiling) => self
+                .above_all()
+                .map(|height| height.min(u64::from(ceiling))),
         }
     }
 

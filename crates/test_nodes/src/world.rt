@@ -1,9 +1,13 @@
 //! A few routers, an adversary that draws what happens, and what is found at each step.
 
 use crate::draws::Draws;
+use crate::kinds::Kind;
 use crate::rules::Rules;
 use fr_node::{Message, Node, NodeFault, Policy};
 use std::alloc::Global;
+
+/// The most routers of a world.
+pub const MOST_ROUTERS: usize = 16;
 
 /// How many messages can still be heard. A new one takes the place of a drawn one.
 const POOL: usize = 40;
@@ -40,10 +44,18 @@ impl Found {
     }
 }
 
+/// What can be seen of a router: its height and distance, and its ways and gates, a bit for each.
+#[derive(Clone, Copy, Default, PartialEq, Eq)]
+pub struct Seen {
+    height: u64,
+    distance: u32,
+    pub ways: u32,
+    pub gates: u32,
+}
+
 #[derive(Drop)]
 pub struct World {
     alloc: Global,
-    policy: Policy,
     count: u32,
     gateways: u32,
     boots: u64,
@@ -54,31 +66,43 @@ pub struct World {
 }
 
 impl World {
-    /// `routers` routers, of which the first `gateways` are gateways. All links are down.
+    /// Routers of this kind, of which the first ones are gateways. All links are down.
     pub fn new(
         alloc: Global,
-        policy: Policy,
-        routers: u32,
-        gateways: u32,
+        kind: Kind,
+        (routers, gateways): (u32, u32),
         seed: u64,
     ) -> Result<World, NodeFault> {
+        let mut draws = Draws::from(seed);
         let mut all = Vec::new(alloc);
         for x in 0..routers {
+            let policy = kind.policy(&mut draws, routers);
             let both = start(alloc, policy, (x, routers), 1, x < gateways)?;
             all.reserve(1)?;
             all.push_reserved(both);
         }
         Ok(World {
             alloc,
-            policy,
             count: routers,
             gateways,
             boots: 1,
             routers: all,
             pool: Vec::new(alloc),
-            draws: Draws::from(seed),
+            draws,
             found: Found::default(),
         })
+    }
+
+    pub fn count(&self) -> u32 {
+        self.count
+    }
+
+    pub fn is_gateway(&self, x: u32) -> bool {
+        x < self.gateways
+    }
+
+    pub fn draws(&mut self) -> &mut Draws {
+        &mut self.draws
     }
 
     pub fn found(&self) -> Found {
@@ -94,35 +118,44 @@ impl World {
             0 => self.restart(x)?,
             1..=3 => self.set_up(x, w, false)?,
             4..=40 => self.set_up(x, w, true)?,
-            41..=200 => self.say(x, w)?,
-            _ => self.hear()?,
+            41..=200 => {
+                if let Some(message) = self.say(x, w)? {
+                    self.keep(message)?;
+                }
+            }
+            _ => self.hear_any()?,
         }
+        self.look();
+        Ok(())
+    }
+
+    /// Looks for differences and loops after a step.
+    pub fn look(&mut self) {
         self.found.steps = self.found.steps.wrapping_add(1);
         self.compare();
         self.look_for_loops();
-        Ok(())
     }
 
     /// A router starts again, and has forgotten everything but its neighbours.
     fn restart(&mut self, x: u32) -> Result<(), NodeFault> {
         self.boots = self.boots.wrapping_add(1);
         self.found.restarts = self.found.restarts.wrapping_add(1);
-        let routers = self.count;
-        let anew = start(
-            self.alloc,
-            self.policy,
-            (x, routers),
-            self.boots,
-            x < self.gateways,
-        )?;
+        let is_gateway = self.is_gateway(x);
+        let size = (x, self.count);
         if let Some(both) = self.routers.get_mut(x as usize) {
-            *both = anew;
+            *both = start(
+                self.alloc,
+                both.rules.policy(),
+                size,
+                self.boots,
+                is_gateway,
+            )?;
         }
         Ok(())
     }
 
     /// A router is told that its link to a neighbour is up, or down. The neighbour may learn it later, or never.
-    fn set_up(&mut self, x: u32, w: u32, up: bool) -> Result<(), NodeFault> {
+    pub fn set_up(&mut self, x: u32, w: u32, up: bool) -> Result<(), NodeFault> {
         let Some(both) = self.routers.get_mut(x as usize) else {
             return Ok(());
         };
@@ -139,18 +172,20 @@ impl World {
         both.node.written(both.node.state())
     }
 
-    /// A router says something to a neighbour, and the message joins the pool.
-    fn say(&mut self, x: u32, w: u32) -> Result<(), NodeFault> {
+    /// What a router says to a neighbour.
+    pub fn say(&mut self, x: u32, w: u32) -> Result<Option<Message>, NodeFault> {
         let Some(both) = self.routers.get_mut(x as usize) else {
-            return Ok(());
+            return Ok(None);
         };
         let said = both.node.say(w)?;
         if said != both.rules.message(w) {
             self.found.differ = self.found.differ.wrapping_add(1);
         }
-        let Some(message) = said else {
-            return Ok(());
-        };
+        Ok(said)
+    }
+
+    /// A message joins the pool.
+    pub fn keep(&mut self, message: Message) -> Result<(), NodeFault> {
         if self.pool.len() < POOL {
             self.pool.reserve(1)?;
             self.pool.push_reserved(message);
@@ -163,17 +198,27 @@ impl World {
         Ok(())
     }
 
-    /// A drawn message of the pool is heard, as bytes. It stays in the pool.
-    fn hear(&mut self) -> Result<(), NodeFault> {
+    /// All messages of the pool are lost.
+    pub fn lose_all(&mut self) {
+        self.pool.clear();
+    }
+
+    /// A drawn message of the pool is heard. It stays in the pool.
+    pub fn hear_any(&mut self) -> Result<(), NodeFault> {
         let at = self.draws.below(POOL as u32);
-        let Some(message) = self.pool.get(at as usize).copied() else {
-            return Ok(());
-        };
+        match self.pool.get(at as usize).copied() {
+            Some(message) => self.hear(&message),
+            None => Ok(()),
+        }
+    }
+
+    /// A message is heard, as bytes.
+    pub fn hear(&mut self, message: &Message) -> Result<(), NodeFault> {
         let Some(both) = self.routers.get_mut(message.to as usize) else {
             return Ok(());
         };
         self.found.heard = self.found.heard.wrapping_add(1);
-        both.rules.hear(&message);
+        both.rules.hear(message);
         both.rules.act()?;
         let Some(read) = Message::read(&message.write()) else {
             self.found.differ = self.found.differ.wrapping_add(1);
@@ -181,6 +226,38 @@ impl World {
         };
         both.node.hear(&read)?;
         both.node.written(both.node.state())
+    }
+
+    pub fn seen(&self, x: u32) -> Seen {
+        let mut seen = Seen::default();
+        if let Some(both) = self.routers.get(x as usize) {
+            seen.height = both.node.height();
+            seen.distance = both.node.distance();
+            for w in 0..self.count {
+                seen.ways |= u32::from(both.node.sends_to(w)).wrapping_shl(w);
+                seen.gates |= u32::from(both.node.lets_in(w)).wrapping_shl(w);
+            }
+        }
+        seen
+    }
+
+    /// The number of the last announcement of a router.
+    pub fn announced(&self, x: u32) -> u64 {
+        self.routers
+            .get(x as usize)
+            .map(|both| both.rules.announced())
+            .unwrap_or(0)
+    }
+
+    /// How many announcements of its neighbour w router x has not heard, if no earlier message arrives any more.
+    pub fn unheard(&self, x: u32, w: u32) -> u64 {
+        match (self.routers.get(x as usize), self.routers.get(w as usize)) {
+            (Some(to), Some(from)) => {
+                let number = from.rules.announced();
+                number.wrapping_sub(to.rules.heard_of(w, from.rules.boot()))
+            }
+            _ => 0,
+        }
     }
 
     /// Compares what the library and the rules say of each router.
@@ -195,38 +272,41 @@ impl World {
         }
     }
 
-    fn is_used(&self, x: u32, w: u32) -> bool {
-        match (self.routers.get(x as usize), self.routers.get(w as usize)) {
-            (Some(from), Some(to)) => from.node.sends_to(w) && to.node.lets_in(x),
-            _ => false,
-        }
-    }
-
     /// Looks for a loop of used links: takes away routers that use no link to one that is left, as often as there are
     /// routers. Those that are left are on a loop, or lead to one.
     fn look_for_loops(&mut self) {
-        let routers = self.count.min(16);
-        let mut left = [true; 16];
-        for _ in 0..routers {
-            for x in 0..routers {
-                let mut leads = false;
-                for w in 0..routers {
-                    if left.get(w as usize) == Some(&true) && self.is_used(x, w) {
-                        leads = true;
-                        self.found.used = self.found.used.wrapping_add(1);
-                    }
-                }
-                if !leads && let Some(mark) = left.get_mut(x as usize) {
-                    *mark = false;
+        let used = self.used();
+        let mut left = u32::MAX;
+        for _ in 0..self.count {
+            for (x, used) in used.iter().enumerate() {
+                if used & left == 0 {
+                    left &= !1u32.wrapping_shl(x as u32);
                 }
             }
         }
-        for x in 0..routers {
-            if left.get(x as usize) == Some(&true) {
+        for used in used {
+            self.found.used = self.found.used.wrapping_add(used.count_ones());
+            if used & left != 0 {
                 self.found.loops = self.found.loops.wrapping_add(1);
                 return;
             }
         }
+    }
+
+    /// The routers to which each router uses a link, a bit for each: it sends to them, and they let it in.
+    fn used(&self) -> [u32; MOST_ROUTERS] {
+        let mut used = [0; MOST_ROUTERS];
+        for (x, row) in used.iter_mut().enumerate() {
+            let Some(from) = self.routers.get(x) else {
+                break;
+            };
+            for (w, to) in self.routers.iter().enumerate() {
+                if from.node.sends_to(w as u32) && to.node.lets_in(x as u32) {
+                    *row |= 1u32.wrapping_shl(w as u32);
+                }
+            }
+        }
+        used
     }
 }
 
@@ -249,10 +329,7 @@ fn start(
         }
     }
     let rules = Rules::start(alloc, (x, routers), boot, gateway, policy)?;
-    Ok(Both {
-        node,
-        rules,
-    })
+    Ok(Both { node, rules })
 }
 
 fn is_same(both: &Both, routers: u32) -> bool {

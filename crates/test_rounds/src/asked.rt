@@ -3,13 +3,13 @@
 use crate::answers::Answer;
 use crate::fault::Fault;
 use crate::values::{items, named, word};
-use crate::{counts, crews, gates, live_walks, logs, rounds, threads};
+use crate::{counts, crews, gates, live_walks, logs, rounds, stealing, threads};
 use serde_json::Value;
 use std::alloc::Global;
 use std::sync::Wait;
 use std::thread::Threads;
 
-/// What a case can ask for. The last twelve are about threads and gates, which are not data.
+/// What a case can ask for. The last fourteen are about threads and gates, which are not data.
 #[derive(Clone, Copy)]
 enum Asked {
     Open,
@@ -34,12 +34,14 @@ enum Asked {
     OddHeld,
     Slow,
     TriedAgain,
+    Together,
+    Shared,
     Logs,
     Plans,
 }
 
 /// The words that ask.
-const WORDS: [(&str, Asked); 24] = [
+const WORDS: [(&str, Asked); 26] = [
     ("open", Asked::Open),
     ("calls", Asked::Calls),
     ("one worker", Asked::OneWorker),
@@ -62,6 +64,8 @@ const WORDS: [(&str, Asked); 24] = [
     ("odd held", Asked::OddHeld),
     ("slow", Asked::Slow),
     ("tried again", Asked::TriedAgain),
+    ("together", Asked::Together),
+    ("shared", Asked::Shared),
     ("logs", Asked::Logs),
     ("plans", Asked::Plans),
 ];
@@ -110,6 +114,8 @@ fn put_answer<R: Threads + Wait + Sync + Alloc<A = Global>>(
         Asked::OddHeld => gates::odd_held(rt, text),
         Asked::Slow => gates::slow(rt, text),
         Asked::TriedAgain => gates::tried_again(rt, text),
+        Asked::Together => stealing::together(rt, text, case),
+        Asked::Shared => stealing::shared(rt, text),
         Asked::Logs => logs::logs(rt, text, case),
         Asked::Plans => logs::plans_followed(rt, text, case),
     }

@@ -128,6 +128,24 @@ fn counted_alone(alloc: Global, net: &Net, dest: u32, word: &str) -> Result<Turn
     Ok(settled_counts_alone(net, dest, from.as_deref(), none)?)
 }
 
+/// Whether the calls that leave a network as it is return these counts: by a crew and by this thread, beginning with the
+/// sinks and with all nodes.
+pub fn are_counted_alike<R: Threads + Wait + Sync + Alloc<A = Global>>(
+    rt: &R,
+    net: &Net,
+    dest: u32,
+    plan: &Plan,
+    counts: &[u64],
+) -> Result<bool, Fault> {
+    let mut alike = true;
+    for word in ["sinks", "all"] {
+        let by_crew = counted(rt, net, dest, word, plan, &OpenGate)?;
+        let alone = counted_alone(rt.alloc(), net, dest, word)?;
+        alike = alike && by_crew.counts() == counts && alone.counts() == counts;
+    }
+    Ok(alike)
+}
+
 fn put_counts(alloc: Global, text: &mut Answer, turns: &Turns, net: &Net) {
     text.put("counts ", &turns.counts());
     text.say(", ");

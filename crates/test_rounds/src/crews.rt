@@ -1,6 +1,7 @@
 //! Networks that crews settle, and their plans.
 
 use crate::answers::Answer;
+use crate::counts::are_counted_alike;
 use crate::fault::Fault;
 use crate::values::{items, network, number, small_number};
 use fr_crew::{Crew, CrewWork, Gate, OpenGate, Plan, Settled, settle, settle_telling};
@@ -60,17 +61,21 @@ pub fn same_plans(text: &mut Answer, asked: &[Value]) -> Result<(), Fault> {
     Ok(())
 }
 
-/// The result of the crew of a case: nodes, destination, links, workers and budget.
+/// The result of the crew of a case: nodes, destination, links, workers and budget. Then whether the calls that leave
+/// the network as it is return the same counts.
 fn settled<R: Threads + Wait + Sync + Alloc<A = Global>>(
     rt: &R,
     asked: &[Value],
-) -> Result<Settled, Fault> {
+) -> Result<(Settled, bool), Fault> {
     let [nodes, dest, links, workers, budget] = asked else {
         return Err(Fault::NoCase);
     };
     let (dest, plan) = (small_number(dest)?, named_plan(workers, budget)?);
     let net = network(rt.alloc(), nodes, links)?;
-    Ok(settle(rt, rt.alloc(), net, dest, &plan, &OpenGate)?)
+    let first = net.copied(rt.alloc())?;
+    let it = settle(rt, rt.alloc(), net, dest, &plan, &OpenGate)?;
+    let alike = are_counted_alike(rt, &first, dest, &plan, &it.counts)?;
+    Ok((it, alike))
 }
 
 /// `["settle", nodes, destination, links, workers, budget]`: who made how many turns, and the settled network.
@@ -79,10 +84,11 @@ pub fn settle_all<R: Threads + Wait + Sync + Alloc<A = Global>>(
     text: &mut Answer,
     asked: &[Value],
 ) -> Result<(), Fault> {
-    let it = settled(rt, asked)?;
+    let (it, alike) = settled(rt, asked)?;
     put_turns(text, &it);
     text.say(", ");
     put_end(rt.alloc(), text, &it);
+    text.put(", counted alike ", &alike);
     Ok(())
 }
 
@@ -93,7 +99,9 @@ pub fn settle_to_end<R: Threads + Wait + Sync + Alloc<A = Global>>(
     text: &mut Answer,
     asked: &[Value],
 ) -> Result<(), Fault> {
-    put_end(rt.alloc(), text, &settled(rt, asked)?);
+    let (it, alike) = settled(rt, asked)?;
+    put_end(rt.alloc(), text, &it);
+    text.put(", counted alike ", &alike);
     Ok(())
 }
 
@@ -161,6 +169,26 @@ pub fn wave(alloc: Global, nodes: u32) -> Result<Net, Fault> {
     Ok(Net::new(alloc, nodes, &links)?)
 }
 
+/// How often each node of the long chain turns if node 0 is the destination: as often as its number says, or as often
+/// as there are nodes if node 0 is not joined to the chain.
+pub fn chain_counts(alloc: Global, nodes: u32, first: u32) -> Result<Vec<u64>, Fault> {
+    let mut counts = Vec::new(alloc);
+    for x in 0..nodes {
+        let count = if first == 0 { x } else { nodes };
+        counts.push(if x < first { 0 } else { u64::from(count) })?;
+    }
+    Ok(counts)
+}
+
+/// How often each node of the wave turns.
+pub fn wave_counts(alloc: Global, nodes: u32) -> Result<Vec<u64>, Fault> {
+    let mut counts = Vec::new(alloc);
+    for x in 0..nodes {
+        counts.push(u64::from(x > 0))?;
+    }
+    Ok(counts)
+}
+
 /// `["long chain", nodes, first, workers, budget]`: who makes how many turns on a chain of the nodes from `first` on.
 pub fn settle_chain<R: Threads + Wait + Sync + Alloc<A = Global>>(
     rt: &R,
@@ -170,19 +198,42 @@ pub fn settle_chain<R: Threads + Wait + Sync + Alloc<A = Global>>(
     let [nodes, first, workers, budget] = asked else {
         return Err(Fault::NoCase);
     };
+    let (nodes, first) = (small_number(nodes)?, small_number(first)?);
     let plan = named_plan(workers, budget)?;
-    let net = long_chain(rt.alloc(), small_number(nodes)?, small_number(first)?)?;
-    settle_from_zero(rt, text, net, &plan, &OpenGate)
+    let alloc = rt.alloc();
+    let crew = Crew {
+        rt,
+        alloc,
+        plan: &plan,
+        gate: &OpenGate,
+    };
+    let wanted = chain_counts(alloc, nodes, first)?;
+    settle_from_zero(&crew, text, long_chain(alloc, nodes, first)?, &wanted)?;
+    let net = long_chain(alloc, nodes, first)?;
+    let alike = are_counted_alike(rt, &net, 0, &plan, &wanted)?;
+    text.put(", counted alike ", &alike);
+    Ok(())
 }
 
-/// Settles a network with destination 0, and appends how many turns all workers made, and how many the finisher made.
+/// Settles a network with destination 0. Appends how many turns all workers made, how many the finisher made, the sum
+/// of the counts, and whether they are the wanted ones.
 pub fn settle_from_zero<R: Threads + Wait + Sync + Alloc<A = Global>, G: Gate + Sync>(
-    rt: &R,
+    crew: &Crew<'_, R, G>,
     text: &mut Answer,
     net: Net,
-    plan: &Plan,
-    gate: &G,
+    wanted: &[u64],
 ) -> Result<(), Fault> {
-    put_turns(text, &settle(rt, rt.alloc(), net, 0, plan, gate)?);
+    let it = settle(crew.rt, crew.alloc, net, 0, crew.plan, crew.gate)?;
+    put_turns(text, &it);
+    text.put(", turned ", &sum(&it.counts));
+    text.put(", counts right ", &(it.counts.as_slice() == wanted));
     Ok(())
+}
+
+fn sum(counts: &[u64]) -> u64 {
+    let mut sum = 0u64;
+    for count in counts {
+        sum = sum.saturating_add(*count);
+    }
+    sum
 }

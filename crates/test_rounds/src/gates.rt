@@ -2,10 +2,12 @@
 //! and after each call, and that no answer depends on the speed of a worker.
 
 use crate::answers::Answer;
-use crate::crews::{long_chain, named_plan, plan, put_turns, settle_from_zero, wave};
+use crate::crews::{
+    chain_counts, long_chain, named_plan, plan, put_turns, settle_from_zero, wave, wave_counts,
+};
 use crate::fault::Fault;
 use crate::values::{network, number, small_number};
-use fr_crew::{Gate, Plan, Settled, settle};
+use fr_crew::{Crew, Gate, Plan, Settled, settle};
 use fr_net::Net;
 use serde_json::Value;
 use std::alloc::{AllocError, Global};
@@ -20,7 +22,7 @@ const LIMIT: u64 = 1_000_000_000;
 const SQUARE: [(u32, u32); 4] = [(0, 1), (0, 2), (1, 3), (2, 3)];
 
 /// Waits until so many calls are counted, and returns whether that happened before the limit.
-fn reaches(counted: &AtomicU64, count: u64) -> bool {
+pub fn reaches(counted: &AtomicU64, count: u64) -> bool {
     for _ in 0..LIMIT {
         if counted.load(Ordering::SeqCst) >= count {
             return true;
@@ -336,6 +338,24 @@ pub fn one_held<R: Threads + Wait + Sync + Alloc<A = Global>>(
     Ok(())
 }
 
+/// Settles the chain of 1,024 nodes, and appends who made how many turns, and whether the counts are right.
+fn settle_long_chain<R: Threads + Wait + Sync + Alloc<A = Global>, G: Gate + Sync>(
+    rt: &R,
+    text: &mut Answer,
+    plan: &Plan,
+    gate: &G,
+) -> Result<(), Fault> {
+    let alloc = rt.alloc();
+    let crew = Crew {
+        rt,
+        alloc,
+        plan,
+        gate,
+    };
+    let wanted = chain_counts(alloc, 1024, 0)?;
+    settle_from_zero(&crew, text, long_chain(alloc, 1024, 0)?, &wanted)
+}
+
 /// `["chain held", workers, worker, other, call]`: the long chain, where one worker is held until this call of the
 /// other is answered. Who made how many turns, and whether the gate was passed.
 pub fn chain_held<R: Threads + Wait + Sync + Alloc<A = Global>>(
@@ -349,7 +369,7 @@ pub fn chain_held<R: Threads + Wait + Sync + Alloc<A = Global>>(
     let plan = plan(small_number(workers)?, 1_000_000)?;
     let until = (small_number(until)?, number(call)?);
     let gate = HoldingGate::new(Held::One(small_number(held)?), until);
-    settle_from_zero(rt, text, long_chain(rt.alloc(), 1024, 0)?, &plan, &gate)?;
+    settle_long_chain(rt, text, &plan, &gate)?;
     text.put(", passed ", &gate.was_passed());
     Ok(())
 }
@@ -366,7 +386,14 @@ pub fn in_turn<R: Threads + Wait + Sync + Alloc<A = Global>>(
     };
     let plan = plan(small_number(workers)?, 1_000_000)?;
     let gate = TakingTurnsGate::new(plan.workers(), number(calls)?);
-    settle_from_zero(rt, text, wave(rt.alloc(), 1024)?, &plan, &gate)?;
+    let alloc = rt.alloc();
+    let crew = Crew {
+        rt,
+        alloc,
+        plan: &plan,
+        gate: &gate,
+    };
+    settle_from_zero(&crew, text, wave(alloc, 1024)?, &wave_counts(alloc, 1024)?)?;
     text.put(", in turn ", &gate.was_kept());
     Ok(())
 }
@@ -378,7 +405,7 @@ pub fn odd_held<R: Threads + Wait + Sync + Alloc<A = Global>>(
 ) -> Result<(), Fault> {
     let plan = plan(8, 1_000_000)?;
     let gate = HoldingGate::new(Held::Odd, (0, 10));
-    settle_from_zero(rt, text, long_chain(rt.alloc(), 1024, 0)?, &plan, &gate)
+    settle_long_chain(rt, text, &plan, &gate)
 }
 
 /// The long chain, where one of eight workers is slow.
@@ -388,7 +415,7 @@ pub fn slow<R: Threads + Wait + Sync + Alloc<A = Global>>(
 ) -> Result<(), Fault> {
     let plan = plan(8, 1_000_000)?;
     let gate = SlowGate(AtomicU64::new(0));
-    settle_from_zero(rt, text, long_chain(rt.alloc(), 1024, 0)?, &plan, &gate)
+    settle_long_chain(rt, text, &plan, &gate)
 }
 
 /// The chain of three nodes by two workers: the node that worker 1 finds held is made a candidate again, and turned,

@@ -16,6 +16,7 @@ mod log_checks;
 mod logs;
 mod merging;
 mod rounds;
+mod stealing;
 mod threads;
 mod values;
 

@@ -1,0 +1,202 @@
+-- Two routers below a ceiling in which nothing more happens: a gateway, and a router that has a way to it.
+use Rattle.std.proofs.Common.{None, [], arith, false, get_or, inl, inr, refl, subst, suc, sym, true, zero, ℕ, ⊎_elim}
+use Rattle.std.proofs.Common.{◌<◌, ◌∷◌, ◌≡◌, ◌⊎◌}
+use Rattle.std.specs.Global.{Global, Vec}
+use Rattle.std.specs.List.{Contains}
+use denote.RawPtr.{null_ptr}
+use Rattle.fr_node.specs.Arrivals.{IsTold}
+use Rattle.fr_node.specs.Distances.{IsDistance, IsNearest}
+use Rattle.fr_node.specs.Ceilings.{IsGateway, IsStillBelow, SomeRouterIsJoined}
+use Rattle.fr_node.specs.Histories.{IsHistory}
+use Rattle.fr_node.specs.Links.{unknown}
+use Rattle.fr_node.specs.Policies.{IsSink}
+use Rattle.fr_node.specs.declared.link.Link.{Link}
+use Rattle.fr_node.specs.declared.node.Node.{Node}
+use Rattle.fr_node.specs.declared.own.Own.{Own}
+use Rattle.fr_node.specs.declared.policy.Policy.{Policy}
+use Rattle.fr_node.specs.declared.policy.Rise.TheVariants.{Ceiling}
+use Rattle.fr_node.proofs.Announcing.{true_false}
+use Rattle.fr_node.proofs.Members.{Contains-cases, Contains-head, Contains-none}
+use Rattle.fr_node.proofs.Nearest.{distance_once}
+
+-- a link that is up, on which the height and the distance h were heard
+abbrev link : ℕ → ℕ → Link
+link neighbour h = record {
+  neighbour = neighbour;
+  up = true;
+  peer = 1;
+  heard = 1;
+  seen = h;
+  distance = h;
+  acked = 1;
+  said = None;
+}
+
+-- router `me` with its number as its height
+abbrev own : ℕ → Own
+own me = record {
+  me = me;
+  boot = 1;
+  used = me;
+  announced = me;
+  number = 1;
+  used_since = 1;
+  announced_since = 1;
+}
+
+abbrev policy : Policy
+policy = record { rise = Ceiling 2; lower = true; wait = false }
+
+only : (l k : Link) → Contains (l ∷ []) k → l ≡ k
+only l k h = ⊎_elim (λ e. e) (λ none. absurd (Contains-none k none)) (Contains-cases k l [] h)
+
+head : (l : Link) → Contains (l ∷ []) l
+head l = Contains-head l []
+
+-- its one announcement
+announced : (me : ℕ) → (h : ℕ → ℕ) × IsHistory (own me) h
+announced me = (
+  λ _. me,
+  record {
+    last = refl;
+    used = λ n _ _. omega arith;
+    announced = λ n _ _. omega arith;
+    order = omega arith;
+    begins = (omega arith, omega arith);
+    ends = (omega arith, omega arith);
+  },
+)
+
+is_near : IsNearest (own 1) (link 0 0 ∷ []) 0
+is_near = record { some = (0, omega arith, refl, refl); least = λ k l way. omega arith }
+
+near : (k : ℕ) → IsNearest (own 1) (link 0 0 ∷ []) k → 0 ≡ k
+near k nearest = at nearest.some.0 nearest.some.1 nearest.some.3
+  where
+    at : (j : ℕ) → j < 1 → (get_or (link 0 0 ∷ []) j unknown).distance ≡ k → 0 ≡ k
+    at zero l e = omega (arith, e)
+    at (suc j) l e = absurd (omega (arith, l))
+
+module _ (alloc : Global) where
+  abbrev links : Link → Vec Link
+  links l = record {
+    ptr = null_ptr;
+    len = 1;
+    cap = 1;
+    alloc = alloc;
+    items = l ∷ [];
+    ok = (refl, omega arith);
+    small = omega arith;
+  }
+
+  abbrev gate : Node
+  gate = record {
+    own = own 0;
+    gateway = true;
+    policy = policy;
+    links = links (link 1 1);
+    events = 0;
+    is_written = true;
+  }
+
+  abbrev router : Node
+  router = record {
+    own = own 1;
+    gateway = false;
+    policy = policy;
+    links = links (link 0 0);
+    events = 0;
+    is_written = true;
+  }
+
+  abbrev nodes : ℕ → Node
+  nodes zero = gate
+  nodes (suc x) = router
+
+  gate_distance : IsDistance gate 0
+  gate_distance = record {
+    gateway = λ _. refl;
+    near = λ forwards. absurd (forwards refl);
+    far = λ forwards. absurd (forwards refl);
+  }
+
+  router_distance : IsDistance router 1
+  router_distance = record {
+    gateway = λ g. absurd (true_false g);
+    near = λ _ k at. omega (arith, near k at);
+    far = λ _ none. absurd (true_false (sym (none 0 (omega arith))));
+  }
+
+  not_sink : IsSink (own 1) (link 0 0 ∷ []) → ⊥
+  not_sink sink = true_false (sym (sink 0 unknown (omega arith) refl).1)
+
+  still : IsStillBelow 2 router
+  still = record {
+    rise = refl;
+    lower = refl;
+    may = record { forwards = refl; settled = refl; number = omega arith };
+    keeps = record {
+      stays = λ may v. (
+        λ falls. omega (arith, falls.lower, distance_once router v 1 falls.distance router_distance),
+        λ rises. absurd (not_sink rises.sink),
+      );
+      own = refl;
+    };
+  }
+
+  me : (x : ℕ) → x < 2 → (nodes x).own.me ≡ x
+  me zero l = refl
+  me (suc zero) l = refl
+  me (suc (suc x)) l = absurd (omega (arith, l))
+
+  has_announced : (x : ℕ) → (h : ℕ → ℕ) × IsHistory (nodes x).own h
+  has_announced zero = announced 0
+  has_announced (suc x) = announced 1
+
+  told : (x : ℕ) (l : Link) → x < 2 → Contains (nodes x).links.items l → IsTold 2 nodes x l
+  told zero l inside h = subst (IsTold 2 nodes 0) (only (link 1 1) l h) (record {
+    within = omega arith;
+    linked = refl;
+    heard = omega arith;
+    seen = refl;
+    acked = refl;
+  })
+  told (suc zero) l inside h = subst (IsTold 2 nodes 1) (only (link 0 0) l h) (record {
+    within = omega arith;
+    linked = refl;
+    heard = omega arith;
+    seen = refl;
+    acked = refl;
+  })
+  told (suc (suc x)) l inside h = absurd (omega (arith, inside))
+
+  distance : (x : ℕ) (l : Link) → Contains (nodes x).links.items l → IsDistance (nodes l.neighbour) l.distance
+  distance zero l h = subst (λ (k : Link). IsDistance (nodes k.neighbour) k.distance) (only (link 1 1) l h)
+      router_distance
+  distance (suc x) l h = subst (λ (k : Link). IsDistance (nodes k.neighbour) k.distance) (only (link 0 0) l h)
+      gate_distance
+
+  stills : (x : ℕ) → IsGateway (nodes x) ⊎ IsStillBelow 2 (nodes x)
+  stills zero = inl (record { gateway = refl; height = refl })
+  stills (suc x) = inr still
+
+pub some_router_is_joined : SomeRouterIsJoined
+some_router_is_joined alloc = (
+  2,
+  2,
+  nodes alloc,
+  1,
+  0 ∷ [],
+  omega arith,
+  omega arith,
+  record {
+    me = me alloc;
+    announced = λ x _. has_announced alloc x;
+    told = λ x l inside h _. told alloc x l inside h;
+    distance = λ x l _ h _. distance alloc x l h;
+    still = λ x _. stills alloc x;
+  },
+  omega arith,
+  ((link 0 0, head (link 0 0), refl, refl), refl),
+  refl,
+)
