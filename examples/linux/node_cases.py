@@ -182,6 +182,17 @@ def boot_numbers(lab):
     expect(first_boot(lab) == before + 1, "the boot number does not grow by one")
 
 
+def same_number(lab):
+    """A router starts again without its link to the gateway, and the other router hears no announcement of it any more."""
+    lab.run(*lab.names)
+    lab.expect_ways("r2", "r1")
+    lab.kill("r1")
+    lab.routers["r1"].set_device("r0", False)
+    lab.run("r1", more=["says little"])
+    # r2 takes the old announcement of r1 for the last one, so it has a way to it; r1 knows nothing of r2
+    lab.settle_without_loop(lambda held: held["r1"] == (set(), set()) and held["r2"][0] == {"r1"})
+
+
 def later_start(lab):
     """The number in the file of r1 goes back. Of its neighbours only r2 knows a later start, and does not say so at
     first."""
@@ -310,6 +321,16 @@ def believes_one_way(daemon):
     daemon.Router.judge = lambda self, number, echo: judge(self, number, self.boot)
 
 
+def has_one_number(daemon):
+    daemon.next_boot = lambda *_: 1
+
+
+def says_little(daemon):
+    """Router 2 only hears that this router is there."""
+    send = daemon.Router.send
+    daemon.Router.send = lambda self, number, message: send(self, number, b"" if number == 2 else message)
+
+
 def keeps_no_file(daemon):
     daemon.keep = lambda file, text: None
 
@@ -354,8 +375,9 @@ def deaf(daemon):
     daemon.Router.parts = lambda self, number, data: None if number in silent else parts(self, number, data)
 
 
-PLANTS = keeps_ways, keeps_gates, has_no_last_route, believes_one_way, keeps_no_file, goes_on, does_not_end_well
-KINDS = {it.__name__.replace("_", " "): it for it in (*PLANTS, takes_all, refuses_nothing, deaf, tells_refusals)}
+PLANTS = keeps_ways, keeps_gates, has_no_last_route, believes_one_way, keeps_no_file, has_one_number, goes_on
+MORE = does_not_end_well, takes_all, refuses_nothing, deaf, says_little, tells_refusals
+KINDS = {it.__name__.replace("_", " "): it for it in (*PLANTS, *MORE)}
 PAIR, CHAIN = [("r1", "r0")], [("r1", "r0"), ("r2", "r1")]
 RING = [("r2", "r0"), ("r3", "r0"), ("r2", "r1"), ("r3", "r1")]
 CASES = (
@@ -363,6 +385,7 @@ CASES = (
     Case(default_route, CHAIN, {"has no last route": "until they expire"}),
     Case(one_way, [*CHAIN, ("r2", "r0")], {"believes one way": "by another way"}),
     Case(boot_numbers, PAIR, {"keeps no file": "not in the file"}),
+    Case(same_number, CHAIN, {"has one number": "loop"}),
     Case(later_start, CHAIN, {"goes on": "does not end"}),
     Case(ends, PAIR, {"does not end well": "r1 keeps"}),
     Case(two_targets, PAIR, {"takes all": "is gone"}),
@@ -402,7 +425,8 @@ def check():
             wrong.append(f"{case.happens.__name__}: {why}")
         if kind and case.planted[kind] not in why:
             wrong.append(f"the check is blind: with a daemon that {kind} it saw '{why}'")
-    return wrong, f"{len(CASES)} cases of a few routers without a controller; {len(jobs) - len(CASES)} planted faults seen"
+    planted = len(jobs) - len(CASES)
+    return wrong, f"{len(CASES)} cases of a few routers without a controller; {planted} planted faults seen"
 
 
 def run_case(name, kind=""):
