@@ -144,8 +144,7 @@ def default_route(lab):
 
 
 def one_way(lab):
-    """The gateway hears nothing from a router any more: neither datagrams nor packets. The router hears the gateway.
-    """
+    """The gateway hears nothing from a router any more, neither datagrams nor packets. The router still hears it."""
     lab.run("r0", more=["deaf"])
     lab.run("r1", "r2")
     lab.expect_ways("r1", "r0")
@@ -183,7 +182,7 @@ def boot_numbers(lab):
 
 
 def same_number(lab):
-    """A router starts again without its link to the gateway, and the other router hears no announcement of it any more."""
+    """A router starts again without its link to the gateway. Its other neighbour hears none of its announcements."""
     lab.run(*lab.names)
     lab.expect_ways("r2", "r1")
     lab.kill("r1")
