@@ -695,7 +695,8 @@ void revroute_way_reader_close(revroute_way_reader *reader);
  * 4. The boot number grows at each start of a router.
  * 5. Start with an empty table, without the ways and gates that an earlier process has left.
  * 6. Each router has a number of its own.
- * 7. A router without a way drops packets, also beside a default route: its table has a route that drops, below all ways.
+ * 7. A router without a way drops packets, also beside a default route: below all ways its table has a route that
+ *    drops.
  *
  *     revroute_node node = REVROUTE_NO_NODE;
  *     revroute_policy policy = {REVROUTE_FULL, 0, 1, 1};

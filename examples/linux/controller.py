@@ -76,8 +76,8 @@ class Controller:
         return again + self.network.pushes(self.table)
 
     def push(self, router, hop):
-        """Gives a router its hop, and returns once its kernel has it. Without a hop the router drops packets, also beside a default
-        route: that could lead back to the router."""
+        """Gives a router its hop, and returns once its kernel has it. Without a hop the router drops packets, also beside
+        a default route: that could lead back to the router."""
         if hop is NoHop.HERE:
             return
         if router not in self.table:

@@ -205,8 +205,9 @@ class Lab:
         return sum(router.count("snmp", "Icmp", "OutTimeExcds") for router in self.routers.values())
 
     def count_lost(self):
-        """How many probes have ended on the way: by their TTL, or at a router with no route, or with one that drops."""
-        return self.expired() + sum(router.count("snmp", "Icmp", "OutDestUnreachs") for router in self.routers.values())
+        """How many probes have ended on the way: by their TTL, or at a router without a route, or with one that drops."""
+        unreachable = (router.count("snmp", "Icmp", "OutDestUnreachs") for router in self.routers.values())
+        return self.expired() + sum(unreachable)
 
     def under_way(self):
         """How many probes have neither arrived nor been lost. The counters are read only if they can have changed."""

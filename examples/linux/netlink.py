@@ -28,10 +28,12 @@ Route = namedtuple("Route", "target length metric protocol nexthop")
 
 
 class Routes:
-    """Make it within the namespace. The target is an address or a prefix. `index` has the number of each device by its name.
+    """Make it within the namespace. The target is an address or a prefix. `index` has the number of each device by its
+    name.
 
-    The kernel keeps a protocol number with each route, rule and nexthop object, which says whose it is. With a `protocol`, all that is
-    made has this number, and only what has it is listed as owned or deleted.
+    The kernel keeps a protocol number with each route, rule and nexthop object, which says whose it is. With a `protocol`,
+    all that is made has this number. Of rules and nexthop objects only those that have it are listed, and of rules and
+    routes only those are deleted.
     """
 
     def __init__(self, target, index, protocol=0):
@@ -56,14 +58,15 @@ class Routes:
         return {device for _, device, is_open in self.rules() if is_open}
 
     def rules(self):
-        """The rules for packets to the target that come in by a device: the preference of each, the name of the device, and whether it
-        lets them in."""
+        """The rules for packets to the target that come in by a device: the preference of each, the name of the device, and
+        whether it lets them in."""
         return [*filter(None, (self.rule_in(*it) for it in self.listed(GETRULE, RULES)))]
 
-    def routes(self):
-        """All routes of the main table, also those to other targets."""
+    def routes(self, protocol=0):
+        """All routes of the main table, or those with a protocol number, also routes to other targets."""
         found = []
-        for said, begin, end in self.listed(GETROUTE, ROUTES):
+        asked = struct.pack("=8BI", socket.AF_INET, 0, 0, 0, MAIN, protocol, 0, 0, 0)
+        for said, begin, end in self.listed(GETROUTE, asked):
             parts = parts_in(said, begin + 12, end)
             metric, nexthop = (number_in(parts, it) for it in (RTA_PRIORITY, RTA_NH_ID))
             if said[begin + 4] == MAIN:
@@ -72,8 +75,8 @@ class Routes:
 
     def nexthops(self):
         """The numbers of all nexthop objects that are owned, also those for other targets."""
-        some = self.listed(GETNEXTHOP, bytes(8))
-        return [number_in(parts_in(said, begin + 8, end), NHA_ID) for said, begin, end in some if said[begin + 2] == self.protocol]
+        some = (it for it in self.listed(GETNEXTHOP, bytes(8)) if it[0][it[1] + 2] == self.protocol)
+        return [number_in(parts_in(said, begin + 8, end), NHA_ID) for said, begin, end in some]
 
     def addresses(self):
         """The addresses of the namespace."""
@@ -149,7 +152,8 @@ class Routes:
 
     def rule(self, at, device, action=0):
         """A rule for packets to the target that come in by a device. An action of 0 fits any."""
-        header = struct.pack("=8BI", socket.AF_INET, self.length, 0, 0, MAIN if action == TO_TABLE else 0, 0, 0, action, 0)
+        table = MAIN if action == TO_TABLE else 0
+        header = struct.pack("=8BI", socket.AF_INET, self.length, 0, 0, table, 0, 0, action, 0)
         parts = attribute(FRA_DST, self.target) + attribute(FRA_IIFNAME, device.encode() + b"\0")
         return header + parts + number(FRA_PRIORITY, int(at)) + attribute(FRA_PROTOCOL, bytes([self.protocol]))
 

@@ -8,23 +8,27 @@ import contextlib
 import io
 import ipaddress
 import json
+import os
 import signal
 import socket
 import subprocess
 import sys
 import time
 from collections import namedtuple
+from concurrent.futures import ThreadPoolExecutor
 from pathlib import Path
 
+import inside
+import kernels
 import netlink
-from kernels import TARGET, Wrong, entered, ip
-from node_network import DAEMON, STATE, Network, find_loop, used
+from kernels import TARGET, Wrong, entered, ip, libc
+from node_network import DAEMON, DIE_WITH_PARENT, STATE, Network, find_loop, used
 
-PLANTED = Path(__file__).resolve()
+PLANTED, CASE = Path(__file__).resolve(), "--case"
 # A process may take long to start on a busy machine. What a planted daemon has not done after the second time, it
 # does not do.
 SECONDS_TO_START, SECONDS_TO_SEE, OTHER = 40, 3, "10.255.0.0/16"
-WORDS, NOT_REFUSED = STATE.with_name("state-words"), "not refused, or without the message:"
+WORDS, BUSY, NOT_REFUSED = STATE / "words", "10.9.9.3", "not refused, or without the message:"
 # What happens, between which routers there are links, and for each planted daemon a part of what is wrong with it.
 Case = namedtuple("Case", "happens links planted")
 
@@ -140,8 +144,7 @@ def default_route(lab):
 
 
 def one_way(lab):
-    """The gateway hears nothing from a router any more: neither datagrams nor packets. The router hears the gateway.
-    """
+    """The gateway hears nothing from a router any more, neither datagrams nor packets. The router still hears it."""
     lab.run("r0", more=["deaf"])
     lab.run("r1", "r2")
     lab.expect_ways("r1", "r0")
@@ -176,6 +179,17 @@ def boot_numbers(lab):
     before = first_boot(lab)
     lab.kill("r1")
     expect(first_boot(lab) == before + 1, "the boot number does not grow by one")
+
+
+def same_number(lab):
+    """A router starts again without its link to the gateway. Its other neighbour hears none of its announcements."""
+    lab.run(*lab.names)
+    lab.expect_ways("r2", "r1")
+    lab.kill("r1")
+    lab.routers["r1"].set_device("r0", False)
+    lab.run("r1", more=["says little"])
+    # r2 takes the old announcement of r1 for the last one, so it has a way to it; r1 knows nothing of r2
+    lab.settle_without_loop(lambda held: held["r1"] == (set(), set()) and held["r2"][0] == {"r1"})
 
 
 def later_start(lab):
@@ -248,6 +262,7 @@ def refusals():
     yield ["1", "10.9.9.9", right], "there is a route to 10.9.9.9 already"
     yield ["--state", "/dev/null", "1", "10.9.9.1", right], "cannot be kept in /dev/null"
     yield ["--state", WORDS, "1", "10.9.9.2", right], "does not have a boot number"
+    yield ["--state", WORDS, "1", BUSY, right], f"another process runs for {BUSY}"
 
 
 def errors_of_users(lab):
@@ -266,7 +281,7 @@ def errors_of_users(lab):
 def tells_refusals(daemon):
     """Prints how a daemon ends with wrong words, and what it says. It is not run."""
     daemon.Router.run = lambda self: "it runs"
-    told = []
+    other_process, told = daemon.locked(ipaddress.ip_network(BUSY)), []
     for words, _ in refusals():
         said = io.StringIO()
         with contextlib.redirect_stderr(said):
@@ -276,6 +291,8 @@ def tells_refusals(daemon):
                 told.append((end.code, said.getvalue()))
             except Exception as fault:
                 told.append((1, repr(fault)))
+    if other_process:
+        other_process.close()
     print(json.dumps(told))
     sys.exit(0)
 
@@ -301,6 +318,16 @@ def has_no_last_route(daemon):
 def believes_one_way(daemon):
     judge = daemon.Router.judge
     daemon.Router.judge = lambda self, number, echo: judge(self, number, self.boot)
+
+
+def has_one_number(daemon):
+    daemon.next_boot = lambda *_: 1
+
+
+def says_little(daemon):
+    """Router 2 only hears that this router is there."""
+    send = daemon.Router.send
+    daemon.Router.send = lambda self, number, message: send(self, number, b"" if number == 2 else message)
 
 
 def keeps_no_file(daemon):
@@ -337,6 +364,7 @@ def refuses_nothing(daemon):
     node_options.neighbour = lambda text: neighbour(text if text.count(":") > 1 else f"{text}:10.0.0.1")
     daemon.Table.expect_room = lambda *_: None
     daemon.next_boot = lambda *_: 1
+    daemon.locked = lambda target: None
 
 
 def deaf(daemon):
@@ -346,8 +374,9 @@ def deaf(daemon):
     daemon.Router.parts = lambda self, number, data: None if number in silent else parts(self, number, data)
 
 
-PLANTS = keeps_ways, keeps_gates, has_no_last_route, believes_one_way, keeps_no_file, goes_on, does_not_end_well
-KINDS = {it.__name__.replace("_", " "): it for it in (*PLANTS, takes_all, refuses_nothing, deaf, tells_refusals)}
+PLANTS = keeps_ways, keeps_gates, has_no_last_route, believes_one_way, keeps_no_file, has_one_number, goes_on
+MORE = does_not_end_well, takes_all, refuses_nothing, deaf, says_little, tells_refusals
+KINDS = {it.__name__.replace("_", " "): it for it in (*PLANTS, *MORE)}
 PAIR, CHAIN = [("r1", "r0")], [("r1", "r0"), ("r2", "r1")]
 RING = [("r2", "r0"), ("r3", "r0"), ("r2", "r1"), ("r3", "r1")]
 CASES = (
@@ -355,6 +384,7 @@ CASES = (
     Case(default_route, CHAIN, {"has no last route": "until they expire"}),
     Case(one_way, [*CHAIN, ("r2", "r0")], {"believes one way": "by another way"}),
     Case(boot_numbers, PAIR, {"keeps no file": "not in the file"}),
+    Case(same_number, CHAIN, {"has one number": "loop"}),
     Case(later_start, CHAIN, {"goes on": "does not end"}),
     Case(ends, PAIR, {"does not end well": "r1 keeps"}),
     Case(two_targets, PAIR, {"takes all": "is gone"}),
@@ -374,18 +404,36 @@ def failure(case, kind=""):
     return ""
 
 
+def failure_elsewhere(job):
+    """The failure of a kind of daemon in a case, which runs beside others in a network of its own."""
+    case, kind = job
+    words = ["unshare", "--net", "--mount", sys.executable, "-S", PLANTED, CASE, case.happens.__name__, kind]
+    how = {"env": inside.environment(), "preexec_fn": lambda: libc.prctl(DIE_WITH_PARENT, 9)}
+    ran = subprocess.run([*map(str, words)], stdout=subprocess.PIPE, stderr=subprocess.STDOUT, text=True, **how)
+    return ran.stdout.strip()
+
+
 def check():
     """Runs all cases, and returns what is wrong and what was seen."""
-    wrong, planted = [], 0
-    for case in CASES:
-        name = case.happens.__name__.replace("_", " ")
-        if why := failure(case):
-            wrong.append(f"{name}: {why}")
-        for kind, part in case.planted.items():
-            planted += 1
-            if part not in (why := failure(case, kind)):
-                wrong.append(f"the check is blind: with a daemon that {kind} it saw '{why}'")
+    jobs = [(case, kind) for case in CASES for kind in ("", *case.planted)]
+    with ThreadPoolExecutor(os.cpu_count()) as pool:
+        failures = [*pool.map(failure_elsewhere, jobs)]
+    wrong = []
+    for (case, kind), why in zip(jobs, failures):
+        if not kind and why:
+            wrong.append(f"{case.happens.__name__}: {why}")
+        if kind and case.planted[kind] not in why:
+            wrong.append(f"the check is blind: with a daemon that {kind} it saw '{why}'")
+    planted = len(jobs) - len(CASES)
     return wrong, f"{len(CASES)} cases of a few routers without a controller; {planted} planted faults seen"
+
+
+def run_case(name, kind=""):
+    """Prints what is wrong in a case. What it mounts is seen by this process only."""
+    for it in (STATE, STATE.with_name("netns")):
+        it.mkdir(exist_ok=True)
+        kernels.run("mount", "-t", "tmpfs", "tmpfs", str(it))
+    print(failure(next(it for it in CASES if it.happens.__name__ == name), kind))
 
 
 def run(kinds, *words):
@@ -398,4 +446,4 @@ def run(kinds, *words):
 
 
 if __name__ == "__main__":
-    run(*sys.argv[1:])
+    run_case(*sys.argv[2:]) if sys.argv[1] == CASE else run(*sys.argv[1:])

@@ -74,12 +74,15 @@ class Table:
         """Refuses to start beside routes that would be used before the ways, or that use the numbers of the nexthop
         objects."""
         for it in self.routes.routes():
-            is_ours = (it.target, it.length) == (self.target.network_address.packed, self.target.prefixlen)
-            if is_ours and not is_gateway and it.protocol != PROTOCOL and it.metric < LAST:
+            is_used_first = it.protocol != PROTOCOL and it.metric < LAST
+            if self.is_for_target(it) and is_used_first and not is_gateway:
                 raise Refused(f"there is a route to {shown(self.target)} already, which this daemon has not made")
-            if not is_ours and it.nexthop in self.block:
+            if not self.is_for_target(it) and it.nexthop in self.block:
                 other = f"{socket.inet_ntoa(it.target)}/{it.length}"
                 raise Refused(f"the route to {other} uses nexthop {it.nexthop}, which {shown(self.target)} needs")
+
+    def is_for_target(self, route):
+        return (route.target, route.length) == (self.target.network_address.packed, self.target.prefixlen)
 
     def clear(self):
         """Empties the table of what earlier processes left. First of all, a last route drops what has no way."""
@@ -96,9 +99,8 @@ class Table:
 
     def remove_ways(self):
         """Removes all routes but the last, and all nexthop objects of the target."""
-        for it in self.routes.routes():
-            is_ours = (it.target, it.length) == (self.target.network_address.packed, self.target.prefixlen)
-            if is_ours and it.protocol == PROTOCOL and it.metric != LAST:
+        for it in self.routes.routes(PROTOCOL):
+            if self.is_for_target(it) and it.metric != LAST:
                 self.do(f"route del {self.target} metric {it.metric}")
         for it in self.routes.nexthops():
             if it in self.block:
