@@ -56,7 +56,8 @@ class Some(Network):
     def kill(self, *routers):
         for it in [self.running.pop(it) for it in [*routers]]:
             it.kill()
-            it.communicate()
+            it.wait()
+            it.stderr.close()
 
     def end(self, name, how=None):
         """How the process of a router ends, and what it says."""
@@ -69,6 +70,11 @@ class Some(Network):
             raise Wrong("the daemon does not end") from None
         del self.running[name]
         return it.returncode, said
+
+    def ended(self):
+        """What the processes said that have ended by themselves."""
+        some = [(name, it) for name, it in self.running.items() if it.poll() is not None]
+        return [f"the process of {name} has ended with status {it.returncode}: {it.communicate()[1]}" for name, it in some]
 
     def expect_ways(self, name, *ways):
         expect(soon(lambda: self.held(name)[0] == {*ways}), f"{name} has the ways {self.held(name)[0]} and not {ways}")
@@ -397,8 +403,8 @@ def failure(case, kind=""):
     lab = Some(case.links, kind)
     try:
         case.happens(lab)
-    except Wrong as why:
-        return str(why)
+    except (Wrong, TimeoutError) as why:
+        return "; ".join([str(why), *lab.ended()])
     finally:
         lab.close()
     return ""
