@@ -167,9 +167,6 @@ no_way k nearest = at nearest.some.0 nearest.some.1 nearest.some.2
     at zero l e = true_false e
     at (suc j) l e = omega (arith, l)
 
-is_near : IsNearest (own 0 1 2) (greeted ∷ []) 0
-is_near = record { some = (0, omega arith, refl, refl); least = λ k l way. omega arith }
-
 near : (k : ℕ) → IsNearest (own 0 1 2) (greeted ∷ []) k → 1 ≡ k + 1
 near k nearest = at nearest.some.0 nearest.some.1 nearest.some.3
   where
@@ -509,8 +506,8 @@ module _ (alloc : Global) where
     heard = refl;
     distance = record {
       gateway = λ g. absurd (true_false g);
-      near = λ _ k nearest less. near k nearest;
-      far = λ _ none. absurd (omega (arith, none 0 is_near));
+      near = λ _ k nearest. omega (arith, near k nearest);
+      far = λ _ none. absurd (true_false (sym (none 0 (omega arith))));
     };
   }
 

@@ -10,11 +10,6 @@ unfoldable pub over : (ℕ → ℕ) → List ℕ → ℕ
 over f [] = 0
 over f (x ∷ xs) = f x + over f xs
 
-pub over_most : (f g : ℕ → ℕ) → ((x : ℕ) → f x ≤ g x) → (xs : List ℕ) → over f xs ≤ over g xs
-unfolding over
-over_most f g each [] = omega arith
-over_most f g each (x ∷ xs) = omega (arith, each x, over_most f g each xs)
-
 unfoldable pub below : (ℕ → ℕ) → ℕ → ℕ
 below f zero = 0
 below f (suc n) = f n + below f n

@@ -21,8 +21,8 @@ abbrev pub unheard_beside : Net → ℕ → List ℕ → ℕ
 unheard_beside s x [] = 0
 unheard_beside s x (w ∷ ws) = unheard s x w + unheard_beside s x ws
 
--- router x acts beside these other routers, each of them listed once, and stays below the ceiling. At first it has not
--- heard of them as much as `most`
+-- router x acts beside these other routers, each of them listed once, and stays at or below the ceiling. At first
+-- there are at most `most` announcements of them that it has not heard
 pub record KeepsBelow (ceiling routers most x : ℕ) (ws : List ℕ) (s : Net) (ts : List Net) : Type 0 where
   pub neighbours : (w : ℕ) → Contains ws w → w < routers
   pub once : IsDistinct eqb (x ∷ ws)

@@ -3,24 +3,42 @@
 //!
 //!     steps N   draws N steps with each policy, over all links between a few routers
 //!     rest N    draws N histories with each kind of routers; then links stay and messages arrive
+//!     again N   lets routers on a line hear one old message N times
 //!
 //! The program prints what happened, in how many steps the library differed from the rules (rules.rt), and in how many
 //! routers used a loop. Of histories it also prints how many did not come to rest, after how many a router that is joined
-//! to a gateway was not served, and in how many a router announced more heights than it may.
+//! to a gateway was not served, and in how many a router announced more heights than it may. Then it looks for what three
+//! kinds of routers do not keep, and has to see that.
 #![tactic(auto)]
 
 mod draws;
 mod kinds;
+mod links;
+mod repeats;
 mod rest;
 mod rules;
 mod world;
 
 use fr_node::{NodeFault, Policy, Rise};
-use kinds::Kind;
+use kinds::{Kind, Promise};
 use rest::Rests;
 use std::alloc::Global;
 use std::io;
 use world::{Found, World};
+
+/// What routers of each kind keep, and what they do not.
+const KEPT: [(Kind, Promise); 4] = [
+    (Kind::Full, Promise::Bounded),
+    (Kind::Lowering, Promise::Served),
+    (Kind::Ceiling, Promise::AllRest),
+    (Kind::Mixed, Promise::NoLoop),
+];
+
+const NOT_KEPT: [(Kind, Promise); 3] = [
+    (Kind::Full, Promise::AllRest),
+    (Kind::Lowering, Promise::Bounded),
+    (Kind::LowCeiling, Promise::Served),
+];
 
 fn main(rt: HostRuntime) -> io::Result<()> {
     for line in rt.lines(rt.alloc()) {
@@ -33,9 +51,15 @@ fn main(rt: HostRuntime) -> io::Result<()> {
             }
         }
         if let Some(histories) = number_after(line, "rest ") {
-            for kind in [Kind::Full, Kind::Lowering, Kind::Ceiling, Kind::Mixed] {
-                tell_rests(&rt, histories, kind)?;
+            for (kind, promise) in KEPT {
+                tell_kept(&rt, histories, kind, promise)?;
             }
+            for (kind, promise) in NOT_KEPT {
+                tell_broken(&rt, histories, kind, promise)?;
+            }
+        }
+        if let Some(times) = number_after(line, "again ") {
+            tell_repeats(&rt, times)?;
         }
     }
     Ok(())
@@ -51,7 +75,7 @@ fn tell_steps<R: Alloc<A = Global> + Print>(rt: &R, steps: u32, choice: u32) -> 
         rise: if choice % 2 == 0 {
             Rise::Full
         } else {
-            Rise::Ceiling(9)
+            Rise::Ceiling(2)
         },
         lower: choice / 2 % 2 == 1,
         wait: choice / 4 % 2 == 1,
@@ -93,8 +117,13 @@ fn draw_steps(alloc: Global, policy: Policy, steps: u32) -> Result<Found, NodeFa
 }
 
 /// Prints what comes of histories of one kind.
-fn tell_rests<R: Alloc<A = Global> + Print>(rt: &R, histories: u32, kind: Kind) -> io::Result<()> {
-    match rest::draw_histories(rt.alloc(), kind, histories) {
+fn tell_kept<R: Alloc<A = Global> + Print>(
+    rt: &R,
+    histories: u32,
+    kind: Kind,
+    promise: Promise,
+) -> io::Result<()> {
+    match rest::draw_histories(rt.alloc(), kind, promise, histories) {
         Ok(rests) => {
             let Rests {
                 found,
@@ -105,9 +134,41 @@ fn tell_rests<R: Alloc<A = Global> + Print>(rt: &R, histories: u32, kind: Kind) 
             } = rests;
             let Found { differ, loops, .. } = found;
             println!(rt;
-                "  {kind:?}: {joined} routers joined; {differ} differ, {loops} loops, {restless} restless, {unserved} unserved, {above} above"
+                "  {kind:?}, {promise:?}: {joined} joined; {differ} differ, {loops} loops, {restless} restless, {unserved} unserved, {above} above"
             )
         }
+        Err(fault) => rt.println(fault),
+    }
+}
+
+/// Prints whether it is seen that routers of this kind do not keep a promise.
+fn tell_broken<R: Alloc<A = Global> + Print>(
+    rt: &R,
+    histories: u32,
+    kind: Kind,
+    promise: Promise,
+) -> io::Result<()> {
+    match rest::draw_histories(rt.alloc(), kind, promise, histories) {
+        Ok(rests) => {
+            let seen = if rests.has_broken() {
+                "seen"
+            } else {
+                "NOT SEEN"
+            };
+            println!(rt; "  {kind:?} does not keep {promise:?}: {seen}")
+        }
+        Err(fault) => rt.println(fault),
+    }
+}
+
+/// Prints what comes of one old message.
+fn tell_repeats<R: Alloc<A = Global> + Print>(rt: &R, times: u32) -> io::Result<()> {
+    match repeats::announcements(rt.alloc(), times) {
+        Ok(count) if count <= repeats::MOST => println!(rt;
+            "  {} announcements at most",
+            repeats::MOST
+        ),
+        Ok(count) => println!(rt; "  {count} announcements"),
         Err(fault) => rt.println(fault),
     }
 }

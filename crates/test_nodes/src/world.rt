@@ -293,16 +293,20 @@ impl World {
         }
     }
 
+    fn is_used(&self, x: u32, w: u32) -> bool {
+        match (self.routers.get(x as usize), self.routers.get(w as usize)) {
+            (Some(from), Some(to)) => from.node.sends_to(w) && to.node.lets_in(x),
+            _ => false,
+        }
+    }
+
     /// The routers to which each router uses a link, a bit for each: it sends to them, and they let it in.
     fn used(&self) -> [u32; MOST_ROUTERS] {
         let mut used = [0; MOST_ROUTERS];
-        for (x, row) in used.iter_mut().enumerate() {
-            let Some(from) = self.routers.get(x) else {
-                break;
-            };
-            for (w, to) in self.routers.iter().enumerate() {
-                if from.node.sends_to(w as u32) && to.node.lets_in(x as u32) {
-                    *row |= 1u32.wrapping_shl(w as u32);
+        for (x, row) in (0..self.count).zip(used.iter_mut()) {
+            for w in 0..self.count {
+                if self.is_used(x, w) {
+                    *row |= 1u32.wrapping_shl(w);
                 }
             }
         }

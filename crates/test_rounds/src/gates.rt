@@ -13,19 +13,26 @@ use serde_json::Value;
 use std::alloc::{AllocError, Global};
 use std::sync::Wait;
 use std::sync::atomic::{AtomicU64, Ordering};
-use std::thread::Threads;
+use std::thread::{Threads, yield_now};
 
 /// The longest that a gate holds a worker, in turns of a loop.
 const LIMIT: u64 = 1_000_000_000;
+
+/// After how many turns of the loop it lets other threads run.
+const LOOKS: u64 = 1000;
 
 /// Two ways from node 0 to node 3.
 const SQUARE: [(u32, u32); 4] = [(0, 1), (0, 2), (1, 3), (2, 3)];
 
 /// Waits until so many calls are counted, and returns whether that happened before the limit.
 pub fn reaches(counted: &AtomicU64, count: u64) -> bool {
-    for _ in 0..LIMIT {
+    for looks in 0..LIMIT {
         if counted.load(Ordering::SeqCst) >= count {
             return true;
+        }
+        // On a busy machine the worker that makes the next call may be waiting for this processor.
+        if looks % LOOKS == LOOKS - 1 {
+            yield_now();
         }
     }
     false

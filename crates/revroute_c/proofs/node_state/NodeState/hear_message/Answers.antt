@@ -1,0 +1,14 @@
+use Rattle.std.proofs.Common.{ap, arith, length, sym, ◌∙◌, ◌≡◌}
+use Rattle.std.proofs.lemmas.List.{length-map}
+use Rattle.fr_node.specs.declared.link.Link.{Link}
+use Rattle.revroute_c.proofs.node_state.NodeState.hear_message.Goals as goal
+
+pub invariant_of-self : goal.invariant_of-self
+invariant_of-self c =
+    let same : length c.hear.new.self.links.items ≡ length c.self.inside.node.links.items
+    = sym (length-map c.hear.new.self.links.items (λ (l : Link). l.neighbour)) ∙ ap length c.hear.ensures.neighbours
+    ∙ length-map c.self.inside.node.links.items (λ (l : Link). l.neighbour) in
+    record {
+      ways = omega (arith, same, c.self.invariant.ways);
+      gates = omega (arith, same, c.self.invariant.gates);
+    }
