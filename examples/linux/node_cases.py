@@ -190,7 +190,8 @@ def boot_numbers(lab):
 def same_number(lab):
     """A router starts again without its link to the gateway. Its other neighbour hears none of its announcements."""
     lab.run(*lab.names)
-    lab.expect_ways("r2", "r1")
+    # both routers have come down to their distances by then
+    lab.settle_without_loop(lambda held: held["r1"] == ({"r0"}, {"r0", "r2"}) and held["r2"] == ({"r1"}, {"r1"}))
     lab.kill("r1")
     lab.routers["r1"].set_device("r0", False)
     lab.run("r1", more=["says little"])
