@@ -56,9 +56,10 @@ class MemoryTest(unittest.TestCase):
             self.assertRaises(MemoryError, make)
         left.value = 1
         self.assertRaises(ValueError, revroute.Node, 1, 1, 2**64 - 1)
+        left.value = 0
         node = revroute.Node(1, 1)
-        # One allocation is for the list of ways, and one for the neighbours.
-        for number in (1, 2, 1):
+        # One allocation is for the list of ways, one for that of gates, and one for the neighbours.
+        for number in (1, 2, 2, 1):
             left.value = number
             self.assertRaises(MemoryError, node.know, 2)
         left.value = 1

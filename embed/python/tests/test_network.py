@@ -343,7 +343,6 @@ class NetworkTests(unittest.TestCase):
         for number, nodes, links in (
             (4, 0, []),
             (4, 2, [(0, 2)]),
-            (4, -1, []),
             (4, 2, [(0, -1)]),
             (5, 2, [(1, 1)]),
             (6, 2, [(0, 1), (1, 0)]),
@@ -354,6 +353,7 @@ class NetworkTests(unittest.TestCase):
             with self.assertRaises(Refused) as met:
                 Network(nodes, 0, links)
             self.assertEqual(met.exception.number, number, links)
+        self.assertRaisesRegex(ValueError, "number of nodes is -1", Network, -1, 0)
         network = Network(3, 0, [(1, 0), (2, 1)])
         for number, change in ((8, lambda: network.cut(0, 2)), (8, lambda: network.cut(9, 2)), (7, lambda: network.add(0, 2)), (4, lambda: network.move_dest(3)), (9, lambda: network.batch([("cut", 0, 1)] * 1025))):
             with self.assertRaises(Refused) as met:
