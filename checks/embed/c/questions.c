@@ -226,7 +226,7 @@ static size_t step(revroute *session, const char *asked) {
         look_at_rerouted(session, before, count, hops, after);
     } else {
         uint32_t *same = rerouted_of(session, &still);
-        if (still != told || memcmp(same, nodes, told * sizeof *nodes)) stop("a refusal changed the rerouted nodes");
+        if (still != told || (told && memcmp(same, nodes, told * sizeof *nodes))) stop("a refusal changed the rerouted nodes");
         if (after != count || (count && memcmp(hops, before, count * sizeof *hops))) stop("a refusal changed a hop");
         free(same);
     }
