@@ -25,6 +25,7 @@ revroute_status engine_node_say(revroute_node *, uint32_t, uint8_t *, size_t, si
 revroute_status engine_node_ways(revroute_node *, uint32_t *, size_t, size_t *, uint64_t *);
 revroute_status engine_node_gates(revroute_node *, uint32_t *, size_t, size_t *, uint64_t *);
 revroute_status engine_node_written(revroute_node *, uint64_t);
+void engine_node_close(revroute_node *);
 revroute_status engine_node_open(revroute_node *, uint32_t, uint64_t, uint64_t, const revroute_policy *);
 revroute_status engine_open(revroute *, uint32_t, uint32_t, const revroute_link *, size_t, revroute_round *, revroute_refusal *);
 revroute_status engine_push_order(const uint32_t *, size_t, const uint32_t *, size_t, uint32_t *, size_t, size_t *, revroute_refusal *);
@@ -165,7 +166,10 @@ enum {
     a_later_start_that_is_an_event,
     a_great_height_taken,
     a_null_node_that_lets_in,
-    a_known_neighbour_told_as_no_memory
+    a_known_neighbour_told_as_no_memory,
+    a_network_replaced_and_not_closed,
+    a_node_replaced_and_not_closed,
+    a_node_closed_that_keeps_its_memory
 };
 
 /* Asks once more with enough room, as if the state had changed although the buffer was too short. */
@@ -368,7 +372,10 @@ revroute_status revroute_size(revroute *session, uint32_t *nodes, size_t *links)
 revroute_status revroute_open(revroute *session, uint32_t nodes, uint32_t dest, const revroute_link *links, size_t count,
                        revroute_round *round, revroute_refusal *refusal) {
     if (FAULT == a_network_refused_for_its_last_fault && dest >= nodes) links += count, count = 0;
+    revroute before = *session;
+    if (FAULT == a_network_replaced_and_not_closed) session->at = NULL;
     uint32_t status = engine_open(session, nodes, dest, links, count, round, refusal);
+    if (FAULT == a_network_replaced_and_not_closed && status != REVROUTE_ANSWERED) *session = before;
     revroute_round spare;
     revroute_edit none = {0, 0, 0};
     if (FAULT == a_network_that_tells_no_node && status == REVROUTE_ANSWERED) engine_change(session, &none, 0, &spare, refusal);
@@ -659,5 +666,14 @@ revroute_status revroute_node_know(revroute_node *node, uint32_t neighbour) {
 }
 
 revroute_status revroute_node_open(revroute_node *node, uint32_t me, uint64_t boot, uint64_t height, const revroute_policy *policy) {
-    return engine_node_open(node, me, boot, FAULT == a_great_height_taken ? height & INT64_MAX : height, policy);
+    revroute_node before = *node;
+    if (FAULT == a_node_replaced_and_not_closed) node->at = NULL;
+    uint32_t status = engine_node_open(node, me, boot, FAULT == a_great_height_taken ? height & INT64_MAX : height, policy);
+    if (FAULT == a_node_replaced_and_not_closed && status != REVROUTE_ANSWERED) *node = before;
+    return status;
+}
+
+void revroute_node_close(revroute_node *node) {
+    if (FAULT == a_node_closed_that_keeps_its_memory) memset(node, 0, sizeof *node);
+    else engine_node_close(node);
 }

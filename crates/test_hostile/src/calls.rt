@@ -2,6 +2,7 @@
 
 ghost use Rattle.std.specs.Prelude.{◌≡◌, IfSome, replicate};
 
+use crate::growing::grown;
 use crate::logs::{logged, recorded};
 use crate::nodes::known;
 use crate::published::{early_readers, published};
@@ -64,7 +65,8 @@ pub enum Call {
     Machine,
     Opened,
     Settled,
-    SettledWithGrowth,
+    SettledByOne,
+    Grown,
     Routed,
     EditedNetwork,
     WalkedLive,
@@ -93,7 +95,7 @@ pub enum Call {
 }
 
 /// The calls in the order in which they are made.
-pub const CALLS: [Call; 36] = [
+pub const CALLS: [Call; 37] = [
     Call::Network,
     Call::CutNetwork,
     Call::LinkedNetwork,
@@ -104,7 +106,8 @@ pub const CALLS: [Call; 36] = [
     Call::Machine,
     Call::Opened,
     Call::Settled,
-    Call::SettledWithGrowth,
+    Call::SettledByOne,
+    Call::Grown,
     Call::Routed,
     Call::EditedNetwork,
     Call::WalkedLive,
@@ -141,7 +144,8 @@ pub fn make<R: Threads + Wait + Sync + Alloc<A = Global> + Print + Eprint>(
     match call {
         Call::Request => request(rt, answer),
         Call::RefusedLine => refused_line(rt, answer),
-        Call::SettledWithGrowth => settled_with_growth(rt, answer),
+        Call::SettledByOne => settled_by_one(rt, answer),
+        Call::Grown => grown(rt, answer),
         Call::WalkedLive => walked_live(rt, answer),
         Call::AnsweredAlone => answered_alone(rt, answer),
         Call::EscapedLine => escaped_line(rt, answer),
@@ -434,9 +438,9 @@ fn put_settled<R: Alloc<A = Global> + Eprint, E: Display + Drop>(
     }
 }
 
-/// A worker that turns a node on the right makes all nodes on the left candidates, so its deque has to grow. A
-/// candidate for which there is no memory is left to the finisher.
-fn settled_with_growth<R: Threads + Wait + Sync + Alloc<A = Global> + Eprint>(
+/// The only worker of a crew has all its candidates in a queue that has room for all nodes. So nothing is left to the
+/// finisher, whatever is refused.
+fn settled_by_one<R: Threads + Wait + Sync + Alloc<A = Global> + Eprint>(
     rt: &R,
     answer: &mut Answer,
 ) {
@@ -453,6 +457,8 @@ fn settled_with_growth<R: Threads + Wait + Sync + Alloc<A = Global> + Eprint>(
 fn put_settlement<R: Alloc<A = Global> + Eprint>(rt: &R, answer: &mut Answer, settled: &Settled) {
     answer.say("turned");
     answer.put(&settled.by_workers.saturating_add(settled.by_finisher));
+    answer.say("by the finisher");
+    answer.put(&settled.by_finisher);
     put_counts(rt, answer, &settled.counts);
     put_net(rt, answer, &settled.net);
 }
