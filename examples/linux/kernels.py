@@ -83,7 +83,7 @@ class Router:
 
     def __init__(self, name, address, ttl):
         with entered(name):
-            self.files = {it: os.open(f"{THREAD}/net/{it}", os.O_RDONLY) for it in ("route", "snmp", "netstat")}
+            self.files = {it: os.open(f"{THREAD}/net/{it}", os.O_RDONLY) for it in ("route", "snmp")}
             self.socket = socket.socket(socket.AF_INET, socket.SOCK_DGRAM)
         self.socket.bind((address, 0))
         self.socket.setsockopt(socket.IPPROTO_IP, socket.IP_TTL, ttl)
@@ -96,10 +96,14 @@ class Router:
     def read(self, name):
         return os.pread(self.files[name], 1 << 20, 0).decode().splitlines()
 
+    def counts(self, file, group):
+        """The counters of a group of the kernel's."""
+        names, values = (line.split()[1:] for line in self.read(file) if line.startswith(f"{group}: "))
+        return dict(zip(names, map(int, values)))
+
     def count(self, file, group, name):
         """A counter of the kernel's."""
-        names, values = (line.split() for line in self.read(file) if line.startswith(f"{group}: "))
-        return int(values[names.index(name)])
+        return self.counts(file, group)[name]
 
     def routes(self):
         """The device and the address of each next hop to the target, by rising metric. A route that drops has none."""
@@ -205,15 +209,19 @@ class Lab:
         return sum(router.count("snmp", "Icmp", "OutTimeExcds") for router in self.routers.values())
 
     def count_lost(self):
-        """How many probes have ended on the way: by their TTL, or at a router without a route, or with one that drops."""
-        unreachable = (router.count("snmp", "Icmp", "OutDestUnreachs") for router in self.routers.values())
-        return self.expired() + sum(unreachable)
+        """How many probes have ended on the way: routers have received them, and neither delivered nor sent them on. No
+        counter of its own has those that a route drops."""
+        counts = (router.counts("snmp", "Ip") for router in self.routers.values())
+        return sum(it["InReceives"] - it["InDelivers"] - it["ForwDatagrams"] for it in counts)
 
     def under_way(self):
         """How many probes have neither arrived nor been lost. The counters are read only if they can have changed."""
         self.receive()
         if self.sent - self.delivered - self.lost:
             self.lost = self.count_lost()
+            if not self.sent - self.delivered - self.lost:
+                # a probe that a router has received and not sent on yet seems to be lost, so this looks again
+                self.lost = self.count_lost()
         return self.sent - self.delivered - self.lost
 
     def settle(self):

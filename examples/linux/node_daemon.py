@@ -19,7 +19,6 @@ import struct
 import sys
 import time
 import zlib
-from pathlib import Path
 
 from netlink import Carriers, Routes
 from node_options import MOST_NEIGHBOURS, number, options, shown
