@@ -5,7 +5,6 @@
 #![tactic(auto)]
 
 mod calls;
-mod growing;
 mod logs;
 mod nodes;
 mod published;
