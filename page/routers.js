@@ -23,7 +23,6 @@ async function letBe(request) {
     return false;
   }
   acting.state = JSON.parse(text);
-  fault = null;
   if (acting.isOn) drawActing();
   return true;
 }
@@ -107,7 +106,6 @@ function routerDoes(name) {
 
 function chooseRouter(router) {
   viewer.picked = viewer.picked === router ? null : router;
-  fault = null;
   drawActing();
 }
 
