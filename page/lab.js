@@ -26,7 +26,9 @@ function textOf(lines, places) {
   return [...lines, ...comment].map(line => line + NL).join('');
 }
 
-let {lines, places} = readText(JSON.parse(by('given').textContent));
+// The text that the server has, as far as this page knows.
+let textThere = JSON.parse(by('given').textContent);
+let {lines, places} = readText(textThere);
 let queue = Promise.resolve(), fault = null, note = null, hasEnded = false;
 const ENDED = 'The lab has ended. Save the requests, and start it again.';
 
@@ -83,12 +85,24 @@ async function sent(task, body) {
   return reply.ok ? text : (tell(text), null);
 }
 
+async function hashOf(text) {
+  const hash = await crypto.subtle.digest('SHA-256', new TextEncoder().encode(text));
+  return [...new Uint8Array(hash)].map(byte => byte.toString(16).padStart(2, '0')).join('');
+}
+
+// Sends a text in place of the one that the server has. If another page has changed that one, this is refused.
+async function replaceThere(task, text) {
+  const answer = await sent(task + 'on=' + await hashOf(textThere), text);
+  if (answer !== null) textThere = text;
+  return answer;
+}
+
 // Has these requests answered. The first of them, which are kept, have their answers already. Returns whether they are.
 async function run(next, from, where) {
   // A story that could not be read is asked for as a whole.
   const kept = viewer.blocks.length === lines.length ? from : 0;
   const there = () => Object.fromEntries(Object.entries(where ?? places).filter(([at]) => at < next.length));
-  const text = await sent('run?from=' + kept, textOf(next, there()));
+  const text = await replaceThere('run?from=' + kept + '&', textOf(next, there()));
   if (text === null) return false;
   const isMore = kept === lines.length && next.length > kept;
   lines = next;
@@ -298,7 +312,7 @@ acts.drop = () => {
 
 function putPlaces(where) {
   places = where;
-  later(() => sent('keep', textOf(lines, places)));
+  later(() => replaceThere('keep?', textOf(lines, places)));
 }
 
 // Moves the node by the keyboard.
