@@ -15,9 +15,9 @@ const acting = {
 };
 const MOST_ROUTERS = 64;
 
-// One action. Returns whether it was done.
+// One action, on the routers that this page has started. Returns whether it was done.
 async function letBe(request) {
-  const text = await sent('routers', JSON.stringify(request));
+  const start = acting.state && acting.state.start, text = await sent('routers', JSON.stringify({start, ...request}));
   if (text === null) {
     runOn(false);
     return false;
