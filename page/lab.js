@@ -48,13 +48,13 @@ function hint() {
   const isStuck = !acting.isOn && failing.packet && failing.packet.stuck !== null;
   by('hint').className = hasEnded || fault || isStuck ? 'no' : '';
   by('hint').textContent = hasEnded ? ENDED :
-      fault                      ? fault :
-      acting.isOn                ? actingHint() :
-      note                       ? note :
-      failureHint()              ? failureHint() :
-      !viewer.blocks.length      ? 'Click empty space to add a node, take a sample, or open a file of requests.' :
-      viewer.picked === null     ? 'Click a link to cut it, two nodes to join them, empty space to add a node.' :
-                                   'Node ' + viewer.picked + ' is chosen. Click another node to join the two.';
+      fault                         ? fault :
+      acting.isOn                   ? actingHint() :
+      note                          ? note :
+      failureHint()                 ? failureHint() :
+      !viewer.blocks.length         ? 'Click empty space to add a node, take a sample, or open a file of requests.' :
+      viewer.picked === null        ? 'Click a link to cut it, two nodes to join them, empty space to add a node.' :
+                                      'Node ' + viewer.picked + ' is chosen. Click another node to join the two.';
   by('home').disabled = by('remove').disabled = viewer.picked === null;
   by('tell').disabled = !failing.links.length;
   by('undo').disabled = !lines.length && !replaced.length;

@@ -82,8 +82,8 @@ def leave(kinds):
 
 
 def go_inside():
-    """Takes this process into a network and mounts of its own, as root or as a user who is root there. The process does so
-    itself, whatever its environment says, and compares what the kernel says before and after."""
+    """Takes this process into a network and mounts of its own, as root or as a user who is root there. The process does
+    so itself, whatever its environment says, and compares what the kernel says before and after."""
     if sys.platform != "linux":
         raise LeftOut("this is not Linux")
     os.environ["PATH"] = os.environ.get("PATH", os.defpath) + ":/usr/sbin:/sbin"
