@@ -14,9 +14,11 @@ function placesIn(comment) {
   } catch { return {}; }
 }
 
+const isRequest = line => !/^[ \t\r]*(#|$)/.test(line);
+
 function readText(text) {
   const all = text.split(NL), comment = all.findLast(line => line.startsWith(PLACES));
-  return {lines: all.filter(line => !/^[ \t\r]*(#|$)/.test(line)), places: comment ? placesIn(comment) : {}};
+  return {lines: all.filter(isRequest), places: comment ? placesIn(comment) : {}};
 }
 
 function textOf(lines, places) {
@@ -24,32 +26,48 @@ function textOf(lines, places) {
   return [...lines, ...comment].map(line => line + NL).join('');
 }
 
-let {lines, places} = readText(JSON.parse(by('given').textContent));
-let queue = Promise.resolve(), fault = null, note = null;
+// The text that the server has, as far as this page knows.
+let textThere = JSON.parse(by('given').textContent);
+let {lines, places} = readText(textThere);
+let queue = Promise.resolve(), fault = null, note = null, hasEnded = false;
+const ENDED = 'The lab has ended. Save the requests, and start it again.';
 
 function tell(text) {
   fault = text;
   hint();
 }
 
+// Whether the lab answers at all.
+function noteEnd(isEnd) {
+  if (hasEnded === isEnd) return;
+  hasEnded = isEnd;
+  hint();
+}
+
 function hint() {
   const isStuck = !acting.isOn && failing.packet && failing.packet.stuck !== null;
-  by('hint').className = fault || isStuck ? 'no' : '';
-  by('hint').textContent = fault ? fault :
-      acting.isOn                ? actingHint() :
-      note                       ? note :
-      failureHint()              ? failureHint() :
-      !viewer.blocks.length      ? 'Click empty space to add a node, take a sample, or open a file of requests.' :
-      viewer.picked === null     ? 'Click a link to cut it, two nodes to join them, empty space to add a node.' :
-                                   'Node ' + viewer.picked + ' is chosen. Click another node to join the two.';
+  by('hint').className = hasEnded || fault || isStuck ? 'no' : '';
+  by('hint').textContent = hasEnded ? ENDED :
+      fault                         ? fault :
+      acting.isOn                   ? actingHint() :
+      note                          ? note :
+      failureHint()                 ? failureHint() :
+      !viewer.blocks.length         ? 'Click empty space to add a node, take a sample, or open a file of requests.' :
+      viewer.picked === null        ? 'Click a link to cut it, two nodes to join them, empty space to add a node.' :
+                                      'Node ' + viewer.picked + ' is chosen. Click another node to join the two.';
   by('home').disabled = by('remove').disabled = viewer.picked === null;
   by('tell').disabled = !failing.links.length;
   by('undo').disabled = !lines.length && !replaced.length;
   mark(by('fail'), {'aria-pressed': failing.isOn});
 }
 
+// What went wrong is said until somebody does something else. Steps that are played are no such action.
+for (const kind of ['pointerdown', 'click', 'keydown'])
+  addEventListener(kind, () => {
+    if (fault) tell(null);
+  }, true);
+
 acts.shown = () => {
-  fault = null;
   by('say').textContent = [by('say').textContent, failureText()].join(' ').trim();
   hint();
 };
@@ -62,14 +80,29 @@ async function sent(task, body) {
     return tell('The lab takes at most ' + MOST_TEXT + ' bytes of requests.'), null;
   const how = {method: 'POST', headers: {'Content-Type': 'text/plain'}, body};
   const reply = await fetch(task, how).catch(() => null), text = reply && await reply.text().catch(() => null);
-  if (text === null) return tell('The lab has ended. Save the requests, and start it again.'), null;
+  noteEnd(text === null);
+  if (text === null) return null;
   return reply.ok ? text : (tell(text), null);
 }
 
+async function hashOf(text) {
+  const hash = await crypto.subtle.digest('SHA-256', new TextEncoder().encode(text));
+  return [...new Uint8Array(hash)].map(byte => byte.toString(16).padStart(2, '0')).join('');
+}
+
+// Sends a text in place of the one that the server has. If another page has changed that one, this is refused.
+async function replaceThere(task, text) {
+  const answer = await sent(task + 'on=' + await hashOf(textThere), text);
+  if (answer !== null) textThere = text;
+  return answer;
+}
+
 // Has these requests answered. The first of them, which are kept, have their answers already. Returns whether they are.
-async function run(next, kept, where) {
+async function run(next, from, where) {
+  // A story that could not be read is asked for as a whole.
+  const kept = viewer.blocks.length === lines.length ? from : 0;
   const there = () => Object.fromEntries(Object.entries(where ?? places).filter(([at]) => at < next.length));
-  const text = await sent('run?from=' + kept, textOf(next, there()));
+  const text = await replaceThere('run?from=' + kept + '&', textOf(next, there()));
   if (text === null) return false;
   const isMore = kept === lines.length && next.length > kept;
   lines = next;
@@ -93,11 +126,23 @@ function showLast(keep) {
   show(viewer.starts.at(-1) + (own && round.drawn ? round.turned : 0), keep);
 }
 
+// One task after another. One that fails says so, and the next ones go on.
 const later = task => {
-  queue = queue.then(task);
+  queue = queue.then(task).catch(why => {
+    console.error(why);
+    tell('The page has failed here: ' + (why.message ?? why) + '. Try again, or load it again.');
+  });
 };
-const ask = (...request) => askLine(JSON.stringify(request));
-const askLine = line => later(() => run([...lines, line], lines.length));
+const ask = (...request) => later(() => run([...lines, JSON.stringify(request)], lines.length));
+
+// Sends the line that was typed. It stays in its field until it is answered, so that it can be mended.
+function askTyped() {
+  const line = by('line').value;
+  if (!isRequest(line)) return tell(line.trim() ? 'A line that begins with # is a comment, and no request.' : null);
+  later(async () => {
+    if (await run([...lines, line], lines.length) && by('line').value === line) by('line').value = '';
+  });
+}
 
 // What undo brings back where an action was more than one request: the requests before it, if they are this many now.
 const replaced = [];
@@ -267,7 +312,7 @@ acts.drop = () => {
 
 function putPlaces(where) {
   places = where;
-  later(() => sent('keep', textOf(lines, places)));
+  later(() => replaceThere('keep?', textOf(lines, places)));
 }
 
 // Moves the node by the keyboard.
@@ -431,9 +476,7 @@ const buttons = {
 for (const id in buttons) by(id).addEventListener('click', buttons[id]);
 by('ask').addEventListener('submit', event => {
   event.preventDefault();
-  const line = by('line').value;
-  if (line.trim()) askLine(line);
-  by('line').value = '';
+  askTyped();
 });
 by('line').addEventListener('keydown', event => {
   if (event.key === 'Escape') by('line').blur();
@@ -445,7 +488,7 @@ by('reading').addEventListener('close', () => {
 by('samples').addEventListener('close', () => {
   if (by('samples').returnValue in samples) takeSample(by('samples').returnValue);
 });
-setInterval(() => fetch('alive', {method: 'POST'}).catch(() => {}), 4000);
+setInterval(() => fetch('alive', {method: 'POST'}).then(reply => noteEnd(!reply.ok), () => noteEnd(true)), 1000);
 addEventListener('pagehide', () => navigator.sendBeacon('closed'));
 if (viewer.blocks.length && !location.hash) showLast(true);
 hint();

@@ -15,15 +15,14 @@ const acting = {
 };
 const MOST_ROUTERS = 64;
 
-// One action. Returns whether it was done.
+// One action, on the routers that this page has started. Returns whether it was done.
 async function letBe(request) {
-  const text = await sent('routers', JSON.stringify(request));
+  const start = acting.state && acting.state.start, text = await sent('routers', JSON.stringify({start, ...request}));
   if (text === null) {
     runOn(false);
     return false;
   }
   acting.state = JSON.parse(text);
-  fault = null;
   if (acting.isOn) drawActing();
   return true;
 }
@@ -107,7 +106,6 @@ function routerDoes(name) {
 
 function chooseRouter(router) {
   viewer.picked = viewer.picked === router ? null : router;
-  fault = null;
   drawActing();
 }
 

@@ -421,6 +421,8 @@ class Mode:
     def __init__(self, load, is_first):
         self.load, self.is_first = load, is_first
         self.node, self.routers, self.lock = None, None, threading.Lock()
+        # How often routers were started. An action names the start that it is for, since another page may start others.
+        self.starts = 0
 
     def begin(self):
         self.node = self.node or self.load()
@@ -439,7 +441,7 @@ class Mode:
                 self.start(asked)
             else:
                 self.act(asked)
-            return json.dumps(self.routers.state()).encode()
+            return json.dumps({"start": self.starts, **self.routers.state()}).encode()
 
     def start(self, asked):
         nodes, home, links = (asked.get(it) for it in ("nodes", "home", "links"))
@@ -451,6 +453,7 @@ class Mode:
             raise NotDone("This is no network.")
         self.begin()
         self.routers = Routers(self.node, nodes, home, ends, *chosen)
+        self.starts += 1
 
     def act(self, asked):
         name = asked.get("do")
@@ -458,6 +461,8 @@ class Mode:
             raise NotDone("There is no such action.")
         if not self.routers:
             raise NotDone("No routers have been started since the lab began. Go back, and begin again.")
+        if number(asked.get("start")) != self.starts:
+            raise NotDone("Another page of this lab has started other routers. Go back, or start again.")
         words = [getattr(self, f"a_{it}")(asked.get(it)) for it in ACTIONS[name]]
         self.routers.crowded.clear()
         getattr(self.routers, name)(*words)

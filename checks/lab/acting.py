@@ -275,6 +275,8 @@ class Requests:
         self.lab, self.state = lab, None
 
     def ask(self, **words):
+        if words["do"] != "start":
+            words["start"] = self.state["start"]
         status, text, _ = self.lab.asked("POST", f"/{self.lab.token}/routers", json.dumps(words).encode())
         same(f"the answer to {words}", status, 200)
         self.state = json.loads(text)
@@ -382,8 +384,10 @@ def check_refusals(lab):
         ("a choice that is none", {"lower": 1}),
     ):
         same(told, ask({**start, **words})[0], 409)
-    same("a start", ask(start)[0], 200)
-    state = json.loads(ask({"do": "write_at_once", "chosen": True})[1])
+    status, text = ask(start)
+    same("a start", status, 200)
+    begun = {"start": json.loads(text)["start"]}
+    state = json.loads(ask({"do": "write_at_once", "chosen": True, **begun})[1])
     for told, words in (
         ("no JSON", b"{"),
         ("deep JSON", b"[" * 100_000),
@@ -402,9 +406,22 @@ def check_refusals(lab):
         ("a table that is written", {"do": "write_table", "router": 1}),
         ("a loss of more than all", {"do": "step", "loss": 101}),
     ):
-        status, text = ask(words)
+        status, text = ask({**words, **begun} if isinstance(words, dict) else words)
         same(told, (status, text.decode()[-1:]), (409, "."))
-    same("the state after what was refused", json.loads(ask({"do": "write_at_once", "chosen": True})[1]), state)
+    same("the state after what was refused", json.loads(ask({"do": "write_at_once", "chosen": True, **begun})[1]), state)
+
+
+def check_starts(lab):
+    """An action is for the routers that its page has started. If another page has started others, it is refused, and those stay as they are."""
+    path, start = f"/{lab.token}/routers", {"do": "start", "lower": False, "at_once": True, **RING}
+    ask = lambda words: lab.asked("POST", path, json.dumps(words).encode())[:2]
+    first, second = (json.loads(ask(start)[1])["start"] for _ in range(2))
+    cut, let = {"do": "cut", "link": [1, 0]}, {"do": "write_at_once", "chosen": True}
+    state = ask({**let, "start": second})
+    for told, words in (("an earlier start", {"start": first}), ("a later start", {"start": second + 1}), ("no start", {}), ("true for a start", {"start": True})):
+        same(f"an action for {told}", ask({**cut, **words})[0], 409)
+    same("the routers of another page after that", ask({**let, "start": second}), state)
+    same("an action for the present start", ask({**cut, "start": second})[0], 200)
 
 
 def check_loops(routers):
@@ -733,8 +750,29 @@ def check_screens(page, pages):
     page.end()
 
 
+def check_another_page(page):
+    """Another page of the lab starts its own routers. The first page says so, changes nothing of them, and can start again."""
+    chrome = page.chrome
+    page.start(RING)
+    ask = "(words => fetch('routers', {method: 'POST', body: JSON.stringify(words)}).then(it => it.json()))"
+    chrome.value(f"queue.then(() => {ask}(network())).then(it => {{ window.other = it; }})")
+    chrome.press("e")
+    chrome.value("queue.then(() => 0)")
+    same("what is said of routers of another page", "Another page" in page.seen()["hint"], True)
+    state = chrome.value(f"{ask}({{do: 'write_at_once', chosen: true, start: window.other.start}}).then(it => JSON.stringify(it.messages) === JSON.stringify(window.other.messages))")
+    same("whether the routers of another page stay as they are", state, True)
+    same("the messages of that", [it for it in chrome.messages if "409" not in it], [])
+    chrome.messages.clear()
+    page.press("#afresh")
+    chrome.press("e")
+    chrome.value("queue.then(() => 0)")
+    same("what is said after a new start", "Another page" in page.seen()["hint"], False)
+    page.end()
+
+
 def check_page(person, pages):
     page = Page(person)
+    check_another_page(page)
     check_repair(page)
     check_messages(page)
     check_holding(page)

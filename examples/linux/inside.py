@@ -1,5 +1,6 @@
 """Starts a lab in a network and with mounts of its own, with the Python package of the engine."""
 
+import ctypes
 import importlib.util
 import os
 import shutil
@@ -15,7 +16,9 @@ HERE = Path(__file__).resolve().parent
 SECONDS_IN_ALL = 240
 # What is needed, and the Debian package that has it.
 NEEDED = {"ip": "iproute2", "unshare": "util-linux", "mount": "mount"}
-OUTSIDE, MOUNTS = "REVROUTE_LAB_OUTSIDE", "/proc/self/ns/mnt"
+# What the call unshare takes apart, by its names in sched.h.
+NEW_MOUNTS, NEW_USER, NEW_NETWORK = 0x00020000, 0x10000000, 0x40000000
+libc = ctypes.CDLL(None, use_errno=True)
 
 
 class LeftOut(Exception):
@@ -62,28 +65,41 @@ def try_out():
         raise LeftOut(error) from None
 
 
-def is_inside():
-    """Whether this is not the process that was started any more, but the one that it became."""
-    return OUTSIDE in os.environ and os.environ[OUTSIDE] != os.readlink(MOUNTS)
+def namespaces():
+    """The network and the mounts of this process, as the kernel names them."""
+    return {os.readlink(f"/proc/self/ns/{it}") for it in ("net", "mnt")}
+
+
+def leave(kinds):
+    """Takes this process into a network and mounts of its own. With NEW_USER a user becomes root there."""
+    user, group = os.geteuid(), os.getegid()
+    if libc.unshare(NEW_NETWORK | NEW_MOUNTS | kinds):
+        raise OSError(ctypes.get_errno(), os.strerror(ctypes.get_errno()))
+    if kinds & NEW_USER:
+        for name, text in (("setgroups", "deny"), ("uid_map", f"0 {user} 1"), ("gid_map", f"0 {group} 1")):
+            Path("/proc/self", name).write_text(text)
+    run("mount", "--make-rprivate", "/")
 
 
 def go_inside():
-    """Becomes this program in a network and with mounts of its own, as root or as a user who is root there."""
+    """Takes this process into a network and mounts of its own, as root or as a user who is root there. The process does
+    so itself, whatever its environment says, and compares what the kernel says before and after."""
     if sys.platform != "linux":
         raise LeftOut("this is not Linux")
     os.environ["PATH"] = os.environ.get("PATH", os.defpath) + ":/usr/sbin:/sbin"
     for needed, package in NEEDED.items():
         if not shutil.which(needed):
             raise LeftOut(f"there is no {needed}", package)
-    for user in ([], ["--user", "--map-root-user"]):
-        words = ["unshare", *user, "--net", "--mount"]
+    outside = namespaces()
+    for kinds in (0, NEW_USER):
         try:
-            run(*words, "true")
+            leave(kinds)
         except OSError as error:
             why = error
         else:
-            os.environ[OUTSIDE] = os.readlink(MOUNTS)
-            os.execvp("unshare", [*words, sys.executable, *sys.argv])
+            if outside & namespaces():
+                raise LeftOut("this process has no network and mounts of its own")
+            return
     raise LeftOut(why)
 
 
@@ -99,8 +115,7 @@ def start(what, check):
     signal.signal(signal.SIGALRM, take_too_long)
     signal.alarm(SECONDS_IN_ALL)
     try:
-        if not is_inside():
-            go_inside()
+        go_inside()
         try_out()
     except LeftOut as it:
         print(f"skipped: {what}, since {' '.join(str(it.why).split())}: {it.package}")
