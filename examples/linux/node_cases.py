@@ -1,7 +1,7 @@
 """Cases of a few routers without a controller. Each has done harm to a daemon without a cure.
 
-Each case runs with the daemon, and again with a planted one, which lacks the cure. The first must do what is
-expected. The second must not, or the case is blind.
+Each case runs with the daemon, which must do what is expected. `check` runs it also with a planted daemon, which lacks the
+cure. This one must not do it, or the case is blind.
 """
 
 import contextlib
@@ -420,9 +420,20 @@ def failure_elsewhere(job):
     return ran.stdout.strip()
 
 
+def check_daemon():
+    """Runs all cases with the daemon, and returns what is wrong and what was seen."""
+    return looked_at([(case, "") for case in CASES])
+
+
 def check():
-    """Runs all cases, and returns what is wrong and what was seen."""
+    """The same with the planted daemons too. On a busy machine one of these may be too slow to do its harm."""
     jobs = [(case, kind) for case in CASES for kind in ("", *case.planted)]
+    wrong, seen = looked_at(jobs)
+    return wrong, f"{seen}; {len(jobs) - len(CASES)} planted faults seen"
+
+
+def looked_at(jobs):
+    """Runs cases, each with a kind of daemon, and returns what is wrong and what was seen."""
     with ThreadPoolExecutor(os.cpu_count()) as pool:
         failures = [*pool.map(failure_elsewhere, jobs)]
     wrong = []
@@ -431,8 +442,7 @@ def check():
             wrong.append(f"{case.happens.__name__}: {why}")
         if kind and case.planted[kind] not in why:
             wrong.append(f"the check is blind: with a daemon that {kind} it saw '{why}'")
-    planted = len(jobs) - len(CASES)
-    return wrong, f"{len(CASES)} cases of a few routers without a controller; {planted} planted faults seen"
+    return wrong, f"{len(CASES)} cases of a few routers without a controller"
 
 
 def run_case(name, kind=""):
