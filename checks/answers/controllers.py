@@ -16,8 +16,8 @@ from phases import has_cycle
 
 TOP = Path(__file__).resolve().parents[2]
 PIPE, PAGE = TOP / "examples" / "pipe", TOP / "docs" / "PUSHING.md"
-# Seeds, the most nodes of a network, and the number of changes.
-STORIES = [(50, 4, 60), (51, 8, 80), (52, 12, 80), (53, 30, 60)]
+# Seeds, the most nodes of a network, and the number of changes. Each begins with a line that is refused, since there is no network yet.
+STORIES = [(50, 4, 60), (51, 8, 80), (52, 12, 80), (55, 30, 60)]
 PUSH = re.compile(r"(\d+): (\w+) -> (\w+)")
 LIST = re.compile(r"(\d+): (\[.*\])")
 PATIENCE = 60
