@@ -686,10 +686,10 @@ void revroute_way_reader_close(revroute_way_reader *reader);
  * restart. A link is used if the router at one end sends packets over it, and the router at the other end lets them in.
  * This needs the following of the program. docs/NODES.md says more about each.
  *
- * 1. Write, then say that it is written, then send. After an event, that is revroute_node_link_up,
- *    revroute_node_link_down or revroute_node_hear, the program writes the ways and gates to the forwarding table, and
- *    only then calls revroute_node_written. Until then revroute_node_say returns REVROUTE_UNWRITTEN. More events may come
- *    before.
+ * 1. Write, then say that it is written, then send. After an event, the program writes the ways and gates to the
+ *    forwarding table, and only then calls revroute_node_written. Until then revroute_node_say returns
+ *    REVROUTE_UNWRITTEN. More events may come before. Events are revroute_node_link_up, revroute_node_link_down,
+ *    revroute_node_act if it changes something, and revroute_node_hear if the message is taken.
  * 2. Write in this order: close the gates that are not listed any more, change the ways, then open gates.
  * 3. Drop what comes through a closed gate: packets from each neighbour that revroute_node_gates does not list.
  * 4. The boot number grows at each start of a router.
@@ -730,7 +730,7 @@ typedef struct revroute_node {
 #endif
 
 /* The length of a message in bytes. */
-#define REVROUTE_MESSAGE_LENGTH 56
+#define REVROUTE_MESSAGE_LENGTH 64
 
 /* When a node raises its height. */
 typedef enum revroute_rise {
@@ -775,8 +775,16 @@ revroute_status revroute_node_know(revroute_node *node, uint32_t neighbour);
 revroute_status revroute_node_link_up(revroute_node *node, uint32_t neighbour);
 revroute_status revroute_node_link_down(revroute_node *node, uint32_t neighbour);
 
-/* An event: a message of `count` bytes is heard. It changes what is known of its sender only if it is for this router,
- * from a known neighbour, and not from an earlier start of either. The policy may change the height. O(d).
+/* Lets the policy change the height once more. Each event takes one step of the policy, so call this after an event
+ * until it returns 0. Returns 1 if something has changed, which is an event. Returns 0 if nothing has changed, which is
+ * none, as for a null node. O(d). */
+uint32_t revroute_node_act(revroute_node *node);
+
+/* An event: a message of `count` bytes is heard. The policy may change the height. O(d).
+ *
+ * The message is taken if it is for this router, from a known neighbour, and newer than all that were taken from this
+ * neighbour: of a greater boot number, or of the same one with a greater stamp. Any other message is ignored: it is no
+ * event, and the node is unchanged. So a repeated message has no effect, nor has one that a later one has overtaken.
  *
  * These are no events, and the node is unchanged. The first that holds is returned:
  *
@@ -792,15 +800,16 @@ revroute_status revroute_node_hear(revroute_node *node, const uint8_t *bytes, si
 revroute_status revroute_node_written(revroute_node *node, uint64_t state);
 
 /* Writes the message for a neighbour to the front of a buffer of `room` bytes, and its length to *length, which is
- * always REVROUTE_MESSAGE_LENGTH. A message may be said as often as you like. Messages may be lost, so say one to each
- * neighbour again after some time.
+ * always REVROUTE_MESSAGE_LENGTH. A message may be said as often as you like. Each has a stamp of its own, so
+ * the neighbour takes it after those that were said before. Messages may be lost, so say one to each neighbour again after
+ * some time; bytes that are only sent again are ignored once they were heard.
  *
  * The first of these that holds: REVROUTE_UNWRITTEN; REVROUTE_TOO_SHORT; REVROUTE_LINK_DOWN; REVROUTE_ANSWERED. O(d). */
 revroute_status revroute_node_say(revroute_node *node, uint32_t neighbour, uint8_t *message, size_t room,
                                   size_t *length);
 
-/* Writes to *news 1 if the link to the neighbour is up and the message for it is not the last one that was said to it,
- * and 0 otherwise. REVROUTE_UNWRITTEN, and *news is unchanged, if the ways and gates are not written. O(d). */
+/* Writes to *news 1 if the link to the neighbour is up and the message for it differs from the last one that was said to
+ * it by more than its stamp, and 0 otherwise. REVROUTE_UNWRITTEN, and *news is unchanged, if the ways and gates are not written. O(d). */
 revroute_status revroute_node_has_news(revroute_node *node, uint32_t neighbour, uint32_t *news);
 
 /* Writes the neighbours to which packets may be sent, the nearest first, and equally near ones by number, to the front of

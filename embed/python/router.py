@@ -68,6 +68,8 @@ class Router:
         return bool(late)
 
     def write(self):
+        while self.node.act():
+            pass
         ways, gates, state = self.node.table()
         table = {"ways": ways, "gates": gates, "distance": self.node.distance}
         if table != self.table:

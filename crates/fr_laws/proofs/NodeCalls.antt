@@ -3,19 +3,23 @@ use Rattle.std.proofs.Common.{Bool, List, None, Some, [], ap, arith, cond, eq-eq
 use Rattle.std.proofs.Common.{length, length-append, ne_eqb, not, refl, subst, sym, true, ℕ, ⊎_elim, ◌++◌, ◌+◌, ◌<◌, ◌∙◌}
 use Rattle.std.proofs.Common.{◌∷◌, ◌≡◌}
 use Rattle.std.proofs.Math.Seq.{get_or-append_seam}
+use Rattle.std.specs.Global.{Vec}
 use Rattle.std.proofs.lemmas.Bool.{cases_eq, cases_lt, cond-false, cond-true}
 use Rattle.std.proofs.lemmas.List.{get_or_append_left, get_or_past}
 use Rattle.std.proofs.lemmas.List.Folds.{position_or_len_push}
 use Rattle.std.proofs.lemmas.List.Sums.{prefix_len-le-length}
+use Rattle.fr_node.specs.Events.{IsAfterEvent, unstamped}
 use Rattle.fr_node.specs.Links.{Hears, IsKnown, Says, SetsUp, leads_to, link_to, place_of, unknown}
 use Rattle.fr_node.specs.Nodes.{Steps}
+use Rattle.fr_node.proofs.Announcing.{true_false}
+use Rattle.fr_node.proofs.Stepping.{taken_or_not}
 use Rattle.fr_laws.proofs.ListedOnce.{once_kept}
 use Rattle.fr_node.specs.declared.link.Link.{Link}
 use Rattle.fr_node.specs.declared.message.Message.{Message}
 use Rattle.fr_node.specs.declared.node.Node.{Node}
 use Rattle.fr_node.specs.declared.own.Own.{Own}
-use Rattle.fr_laws.specs.Announcements.{AreListedOnce, HearingIsACall, IsCall, KnowingIsACall, RepeatingIsACall}
-use Rattle.fr_laws.specs.Announcements.{SayingIsACall, WritingIsACall}
+use Rattle.fr_laws.specs.Announcements.{ActingIsACall, AreListedOnce, HearingIsACall, IsCall, KnowingIsACall}
+use Rattle.fr_laws.specs.Announcements.{RepeatingIsACall, SayingIsACall, WritingIsACall}
 
 -- the same links are known
 alike : (ls ks : List Link) (w : ℕ) → ks ≡ ls → (link_to ks w).up ≡ (link_to ls w).up
@@ -30,12 +34,9 @@ hearing_up own m ls ks h w = ⊎_elim
   where
     here : (link_to ks m.from).up ≡ (link_to ls m.from).up
     here = ⊎_elim
-        (λ to. ⊎_elim
-        (λ known. (h.heard to known).up)
-        (λ past. alike ls ks m.from (h.stranger (inr (λ known. omega (arith, past, known)))))
-        (cases_lt (place_of ls m.from) (length ls)))
-        (λ away. alike ls ks m.from (h.stranger (inl away)))
-        (cases_eq m.to own.me)
+        (λ taken. (h.taken taken).up)
+        (λ none. alike ls ks m.from (h.ignored none))
+        (taken_or_not own m ls)
 
 repeating_up : (w : ℕ) (up : Bool) (ls ks : List Link) → (IsKnown ls w → up ≡ (link_to ls w).up)
     → SetsUp w up ls ks → (v : ℕ) → (link_to ks v).up ≡ (link_to ls v).up
@@ -117,8 +118,9 @@ module _ (ls : List Link) (w : ℕ) (stranger : ¬ IsKnown ls w) where
           (omega (arith, place_there v out, ap {B = ℕ} (λ (b : Bool). cond b 0 1) (ne_eqb w v other))))
           (cases_eq w v)
 
-pub hearing_is_a_call : HearingIsACall
-hearing_is_a_call m old new hears event = record {
+pub taking_is_a_call : (m : Message) (old new : Node) → Hears old.own m old.links.items new.links.items
+    → IsAfterEvent (m ∷ []) old new → IsCall (m ∷ []) old new
+taking_is_a_call m old new hears event = record {
   same = event.same;
   once = once_kept old.links.items new.links.items hears.neighbours;
   up = hearing_up old.own m old.links.items new.links.items hears;
@@ -136,8 +138,8 @@ repeating_is_a_call w up old new repeats sets event = record {
 }
 
 -- a call after which the node knows what it knew
-pub rests : (n : Node) (written : Bool) → IsCall [] n (record n { is_written = written })
-rests n written = record {
+pub rests : (messages : List Message) (n : Node) (written : Bool) → IsCall messages n (record n { is_written = written })
+rests messages n written = record {
   same = (refl, refl);
   once = λ once. once;
   up = λ w. refl;
@@ -160,10 +162,30 @@ rests n written = record {
 }
 
 pub writing_is_a_call : WritingIsACall
-writing_is_a_call old new e = subst (IsCall [] old) (sym e) (rests old true)
+writing_is_a_call old new e = subst (IsCall [] old) (sym e) (rests [] old true)
+
+-- a call that changes nothing
+unchanged : (messages : List Message) (old new : Node) → new ≡ old → IsCall messages old new
+unchanged messages old new e = subst (IsCall messages old) (sym e) (rests messages old old.is_written)
+
+pub hearing_is_a_call : HearingIsACall
+hearing_is_a_call m old new hears taken ignored = ⊎_elim
+    (λ is. taking_is_a_call m old new hears (taken is))
+    (λ none. unchanged (m ∷ []) old new (ignored none))
+    (taken_or_not old.own m old.links.items)
+
+pub acting_is_a_call : ActingIsACall
+acting_is_a_call true old new links event same = record {
+  same = (event refl).same;
+  once = subst (λ (ls : Vec Link). AreListedOnce old.links.items → AreListedOnce ls.items) (sym links) (λ once. once);
+  up = λ w. ap (λ (ls : Vec Link). (link_to ls.items w).up) links;
+  step = (event refl).step;
+  acts = inl (event refl).policy;
+}
+acting_is_a_call false old new links event same = unchanged [] old new (same true_false)
 
 -- a call after which the node knows of itself what it knew
-only_links : (old new : Node) → new ≡ record old { links = new.links }
+only_links : (old new : Node) → new ≡ record old { links = new.links; stamp = new.stamp }
     → (AreListedOnce old.links.items → AreListedOnce new.links.items)
     → ((w : ℕ) → (link_to new.links.items w).up ≡ (link_to old.links.items w).up) → Steps [] old new
     → IsCall [] old new
@@ -175,19 +197,22 @@ only_links old new rest once up step = record {
   acts = inr (ap (λ (a : Node). a.own) rest);
 }
 
-same_links : (old new : Node) → new ≡ record old { links = new.links } → new.links.items ≡ old.links.items
-    → Steps [] old new → IsCall [] old new
-same_links old new rest e step = only_links old new rest (subst AreListedOnce (sym e))
-    (λ w. alike old.links.items new.links.items w e) step
-
 pub saying_is_a_call : SayingIsACall
-saying_is_a_call w None old new says rest step = same_links old new rest says step
-saying_is_a_call w (Some m) old new says rest step = only_links old new rest
-    (once_kept old.links.items new.links.items says.neighbours)
-    (saying_up w m old.links.items new.links.items says) step
+saying_is_a_call w None old new says = unchanged [] old new says.none
+saying_is_a_call w (Some m) old new says = only_links old new
+    (says.none ∙ ap (λ (s : ℕ). record old { links = new.links; stamp = s }) (sym (ap (λ (n : Node). n.stamp) says.none)))
+    (once_kept old.links.items new.links.items says.message.said.neighbours)
+    (saying_up w (unstamped m) old.links.items new.links.items says.message.said) says.step
+
+-- the stamp stays too
+stamp_kept : (old new : Node) → new ≡ record old { links = new.links }
+    → new ≡ record old { links = new.links; stamp = new.stamp }
+stamp_kept old new rest = rest
+    ∙ ap (λ (s : ℕ). record old { links = new.links; stamp = s }) (sym (ap (λ (n : Node). n.stamp) rest))
 
 pub knowing_is_a_call : KnowingIsACall
-knowing_is_a_call w old new (inl e) rest step = same_links old new rest e step
-knowing_is_a_call w old new (inr (stranger, e)) rest step = only_links old new rest
+knowing_is_a_call w old new (inl e) rest step = only_links old new (stamp_kept old new rest)
+    (subst AreListedOnce (sym e)) (λ v. alike old.links.items new.links.items v e) step
+knowing_is_a_call w old new (inr (stranger, e)) rest step = only_links old new (stamp_kept old new rest)
     (λ once. subst AreListedOnce (sym e) (knowing_once old.links.items w stranger once))
     (λ v. alike _ new.links.items v e ∙ knowing_up old.links.items w stranger v) step

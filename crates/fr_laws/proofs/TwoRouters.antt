@@ -18,7 +18,7 @@ use Rattle.fr_node.specs.Arrivals.{IsLinkedTo, IsQuiet, IsStill, IsTold}
 use Rattle.fr_node.specs.Distances.{IsDistance, IsNearest}
 use Rattle.fr_node.specs.Events.{IsAfterEvent}
 use Rattle.fr_node.specs.Histories.{IsHistory}
-use Rattle.fr_node.specs.Links.{Hears, IsHeard, is_lower, is_way, unknown}
+use Rattle.fr_node.specs.Links.{Hears, IsHeard, IsNewer, is_lower, is_way, unknown}
 use Rattle.fr_node.specs.Nodes.{IsMessageTo}
 use Rattle.fr_node.specs.Policies.{Acts, IsAboveAll, is_higher, is_up}
 use Rattle.fr_node.specs.declared.link.Link.{Link}
@@ -29,7 +29,7 @@ use Rattle.fr_node.specs.declared.own.Own.{Own}
 use Rattle.fr_node.specs.declared.policy.Policy.{Policy}
 use Rattle.fr_node.specs.declared.policy.Rise.TheVariants.{Full}
 use Rattle.fr_laws.proofs.HopsAlong.{falling_acyclic}
-use Rattle.fr_laws.proofs.NodeCalls.{hearing_is_a_call, rests}
+use Rattle.fr_laws.proofs.NodeCalls.{rests, taking_is_a_call}
 use Rattle.fr_laws.specs.Announcements.{AreListedOnce, AreSteps, Configuration, IsLower, IsNetwork, IsRouter, IsStep}
 use Rattle.fr_laws.specs.Announcements.{SomeRouterAnnounces}
 
@@ -56,30 +56,30 @@ new_link neighbour = record (unknown) { neighbour = neighbour; up = true }
 -- heard that
 
 abbrev started : Message
-started = record { from = 0; to = 1; boot = 1; echo = 0; number = 1; height = 0; heard = 0; distance = CUT_OFF }
+started = record { from = 0; to = 1; boot = 1; echo = 0; number = 1; height = 0; heard = 0; distance = CUT_OFF; stamp = 1 }
 
 abbrev hello : Message
-hello = record { from = 1; to = 0; boot = 1; echo = 1; number = 1; height = 0; heard = 0; distance = 0 }
+hello = record { from = 1; to = 0; boot = 1; echo = 1; number = 1; height = 0; heard = 0; distance = 0; stamp = 1 }
 
 abbrev reply : Message
-reply = record { from = 0; to = 1; boot = 1; echo = 1; number = 2; height = 1; heard = 1; distance = 1 }
+reply = record { from = 0; to = 1; boot = 1; echo = 1; number = 2; height = 1; heard = 1; distance = 1; stamp = 2 }
 
 abbrev answer : Message
-answer = record { from = 1; to = 0; boot = 1; echo = 1; number = 1; height = 0; heard = 2; distance = 0 }
+answer = record { from = 1; to = 0; boot = 1; echo = 1; number = 1; height = 0; heard = 2; distance = 0; stamp = 2 }
 
 -- the gateway's link, once it has heard that 0 has started, and the reply
 abbrev met : Link
-met = record (new_link 0) { peer = 1 }
+met = record (new_link 0) { peer = 1; stamp = 1 }
 
 abbrev told : Link
-told = record met { heard = 2; seen = 1; distance = 1; acked = 1 }
+told = record met { stamp = 2; heard = 2; seen = 1; distance = 1; acked = 1 }
 
 -- the other router's link, once it has heard the gateway's height, and the answer
 abbrev greeted : Link
-greeted = record (new_link 1) { peer = 1; heard = 1; distance = 0 }
+greeted = record (new_link 1) { peer = 1; stamp = 1; heard = 1; distance = 0 }
 
 abbrev answered : Link
-answered = record greeted { acked = 2 }
+answered = record greeted { stamp = 2; acked = 2 }
 
 abbrev one_link : List (ℕ × ℕ)
 one_link = (1, 0) ∷ []
@@ -87,72 +87,72 @@ one_link = (1, 0) ∷ []
 -- What is heard
 
 -- the first link of a list of one
-hears_one : (o : Own) (m : Message) (l k : Link) → l.neighbour ≡ m.from → m.to ≡ o.me → IsHeard o m l k
-    → Hears o m (l ∷ []) (k ∷ [])
-hears_one o m l k from to heard = hears_at o m (l ∷ []) 0 l k (record {
+hears_one : (o : Own) (m : Message) (l k : Link) → l.neighbour ≡ m.from → m.to ≡ o.me → IsNewer l.peer l.stamp m
+    → IsHeard o m l k → Hears o m (l ∷ []) (k ∷ [])
+hears_one o m l k from to newer heard = hears_at o m (l ∷ []) 0 l k (record {
   place = rw (eq-eqb l.neighbour m.from from) refl;
   within = omega arith;
   here = refl;
   neighbour = from;
-}) heard to
+}) heard to newer
 
 hears_started : Hears (own 1 0 1) started (new_link 0 ∷ []) (met ∷ [])
-hears_started = hears_one (own 1 0 1) started (new_link 0) met refl refl (record {
+hears_started = hears_one (own 1 0 1) started (new_link 0) met refl refl (inl (omega arith)) (record {
   neighbour = refl;
   up = refl;
   said = refl;
-  ignored = λ l. absurd (omega (arith, l));
-  start = λ _. refl;
-  informed = λ _ e _. absurd (omega (arith, e));
+  start = refl;
+  stamp = refl;
+  informed = λ e _. absurd (omega (arith, e));
   uninformed = λ e _. absurd (omega (arith, e));
   forgotten = λ _ _. (refl, refl);
-  answered = λ _ e _ _. absurd (omega (arith, e));
+  answered = λ e _ _. absurd (omega (arith, e));
   unanswered = λ e _. absurd (omega (arith, e));
   unacked = λ _ _. refl;
 })
 
 hears_hello : Hears (own 0 0 1) hello (new_link 1 ∷ []) (greeted ∷ [])
-hears_hello = hears_one (own 0 0 1) hello (new_link 1) greeted refl refl (record {
+hears_hello = hears_one (own 0 0 1) hello (new_link 1) greeted refl refl (inl (omega arith)) (record {
   neighbour = refl;
   up = refl;
   said = refl;
-  ignored = λ l. absurd (omega (arith, l));
-  start = λ _. refl;
-  informed = λ _ _ _. (refl, refl, refl);
+  start = refl;
+  stamp = refl;
+  informed = λ _ _. (refl, refl, refl);
   uninformed = λ e _. absurd (omega (arith, e));
   forgotten = λ _ other. absurd (other refl);
-  answered = λ _ _ _ _. refl;
+  answered = λ _ _ _. refl;
   unanswered = λ e _. absurd (omega (arith, e));
   unacked = λ _ _. refl;
 })
 
 hears_reply : Hears (own 1 0 1) reply (met ∷ []) (told ∷ [])
-hears_reply = hears_one (own 1 0 1) reply met told refl refl (record {
+hears_reply = hears_one (own 1 0 1) reply met told refl refl (inr (refl, omega arith)) (record {
   neighbour = refl;
   up = refl;
   said = refl;
-  ignored = λ l. absurd (omega (arith, l));
-  start = λ _. refl;
-  informed = λ _ _ _. (refl, refl, refl);
+  start = refl;
+  stamp = refl;
+  informed = λ _ _. (refl, refl, refl);
   uninformed = λ _ why. ⊎_elim (λ other. absurd (other refl)) (λ l. absurd (omega (arith, l))) why;
   forgotten = λ l _. absurd (omega (arith, l));
-  answered = λ _ _ _ _. refl;
+  answered = λ _ _ _. refl;
   unanswered = λ _ why. ⊎_elim (λ other. absurd (other refl))
       (⊎_elim (λ l. absurd (omega (arith, l))) (λ l. absurd (omega (arith, l)))) why;
   unacked = λ l _. absurd (omega (arith, l));
 })
 
 hears_answer : Hears (own 0 1 2) answer (greeted ∷ []) (answered ∷ [])
-hears_answer = hears_one (own 0 1 2) answer greeted answered refl refl (record {
+hears_answer = hears_one (own 0 1 2) answer greeted answered refl refl (inr (refl, omega arith)) (record {
   neighbour = refl;
   up = refl;
   said = refl;
-  ignored = λ l. absurd (omega (arith, l));
-  start = λ _. refl;
-  informed = λ _ _ _. (refl, refl, refl);
+  start = refl;
+  stamp = refl;
+  informed = λ _ _. (refl, refl, refl);
   uninformed = λ _ _. (refl, refl, refl);
   forgotten = λ l _. absurd (omega (arith, l));
-  answered = λ _ _ _ _. refl;
+  answered = λ _ _ _. refl;
   unanswered = λ _ why. ⊎_elim (λ other. absurd (other refl))
       (⊎_elim (λ l. absurd (omega (arith, l))) (λ l. absurd (omega (arith, l)))) why;
   unacked = λ l _. absurd (omega (arith, l));
@@ -241,6 +241,7 @@ module _ (alloc : Global) where
     links = links l;
     events = events;
     is_written = written;
+    stamp = 0;
   }
 
   abbrev gate : ℕ → Bool → Link → Node
@@ -251,6 +252,7 @@ module _ (alloc : Global) where
     links = links l;
     events = events;
     is_written = written;
+    stamp = 0;
   }
 
   abbrev before : Node
@@ -349,7 +351,7 @@ module _ (alloc : Global) where
   says a b pool m honest = record {
     messages = [];
     sent = λ k h. absurd (Contains-none k h);
-    call = rests b b.is_written;
+    call = rests [] b b.is_written;
     others = λ y other. refl;
     said = λ k h. ⊎_elim
         (λ e. inr (subst (λ (j : Message). IsMessageTo (nodes a b j.from) j.to j) e honest))
@@ -368,7 +370,7 @@ module _ (alloc : Global) where
   router_hears a mid c b m pool turn hears = record {
     messages = m ∷ [];
     sent = only_last m pool;
-    call = hearing_is_a_call m a c hears event;
+    call = taking_is_a_call m a c hears event;
     others = others;
     said = λ k h. inl h;
   }
@@ -389,7 +391,7 @@ module _ (alloc : Global) where
   gate_hears a e b l k m pool hears = record {
     messages = m ∷ [];
     sent = only_last m pool;
-    call = hearing_is_a_call m (gate e b l) heard hears event;
+    call = taking_is_a_call m (gate e b l) heard hears event;
     others = others;
     said = λ k h. inl h;
   }

@@ -4,7 +4,7 @@
 -- it has heard, perhaps long ago. The laws are this project's own: in a network that stays as it is, the announcements
 -- are a run of full reversal nevertheless.
 use Rattle.std.specs.Prelude.{◌≡◌, ◌≢◌, ℕ, ◌-◌, ◌*◌, ◌<◌, ◌≤◌, ◌⊎◌, ◌↔◌, ◌==◌, if◌then◌else◌, IsTrue, List, [], ◌++◌}
-use Rattle.std.specs.Prelude.{◌∷◌, Bool, Contains, MatchOption, Option}
+use Rattle.std.specs.Prelude.{◌∷◌, Bool, Contains, Option}
 use Rattle.std.specs.Prelude.{false, length, replicate, slice_index, sum, true}
 use Rattle.std.specs.Global.{Global}
 use Rattle.std.specs.List.{slice_index_or}
@@ -16,9 +16,9 @@ use Rattle.fr_core.specs.Work.{IsConnectedNet}
 use Rattle.fr_core.specs.declared.entry.Entry.{Entry}
 use Rattle.fr_core.specs.declared.entry.Reply.TheVariants.{Turned}
 use Rattle.fr_node.specs.Arrivals.{IsLinkedTo, IsQuiet}
-use Rattle.fr_node.specs.Events.{IsAfterEvent}
+use Rattle.fr_node.specs.Events.{IsAfterEvent, SaysTo}
 use Rattle.fr_node.specs.Histories.{IsHistory}
-use Rattle.fr_node.specs.Links.{Hears, IsKnown, Says, SetsUp, link_to, place_of, unknown}
+use Rattle.fr_node.specs.Links.{Hears, IsKnown, IsTaken, SetsUp, link_to, place_of, unknown}
 use Rattle.fr_node.specs.Nodes.{IsMessageTo, Steps}
 use Rattle.fr_node.specs.Policies.{Acts}
 use Rattle.fr_node.specs.Routers.{IsBelow}
@@ -176,10 +176,16 @@ SomeRouterAnnounces = (alloc : Global) → (n d : ℕ) × (first : List (ℕ × 
 
 -- The running code: by what each call of a node ensures, it is a call of these laws while no link goes up or down
 
--- `hear` is such a call, in which the node hears one message
+-- `hear` is such a call, in which the node hears one message. If it does not take the message, nothing changes
 abbrev pub HearingIsACall : Type 0
 HearingIsACall = (m : Message) (old new : Node) → Hears old.own m old.links.items new.links.items
-    → IsAfterEvent (m ∷ []) old new → IsCall (m ∷ []) old new
+    → (IsTaken old.own m old.links.items → IsAfterEvent (m ∷ []) old new)
+    → (¬ IsTaken old.own m old.links.items → new ≡ old) → IsCall (m ∷ []) old new
+
+-- `act` is such a call, whether it changes something or nothing
+abbrev pub ActingIsACall : Type 0
+ActingIsACall = (changed : Bool) (old new : Node) → new.links ≡ old.links
+    → (IsTrue changed → IsAfterEvent [] old new) → (¬ IsTrue changed → new ≡ old) → IsCall [] old new
 
 -- `link_up` is such a call for a link that is up already, and `link_down` for one that is down. Both are for a router
 -- that is not known
@@ -192,11 +198,9 @@ RepeatingIsACall = (w : ℕ) (up : Bool) (old new : Node)
 abbrev pub WritingIsACall : Type 0
 WritingIsACall = (old new : Node) → new ≡ record old { is_written = true } → IsCall [] old new
 
--- `say` is such a call, whether it says a message m or nothing
+-- `say` is such a call, whether it says a message or nothing
 abbrev pub SayingIsACall : Type 0
-SayingIsACall = (w : ℕ) (said : Option Message) (old new : Node)
-    → MatchOption said (new.links.items ≡ old.links.items) (λ m. Says w m old.links.items new.links.items)
-    → new ≡ record old { links = new.links } → Steps [] old new → IsCall [] old new
+SayingIsACall = (w : ℕ) (said : Option Message) (old new : Node) → SaysTo w old new said → IsCall [] old new
 
 -- `know` is such a call, whether it makes a neighbour known or not
 abbrev pub KnowingIsACall : Type 0

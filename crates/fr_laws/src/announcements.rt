@@ -4,8 +4,8 @@
 ghost use Rattle.fr_laws.specs.Announcements.{AnnouncementsAreARun, HeightsFollowTheRun, TurnsAreAnnouncements};
 ghost use Rattle.fr_laws.specs.Announcements.{EachAnnouncesFew, AllAnnounceFew, QuietRoutersAreSettled};
 ghost use Rattle.fr_laws.specs.Announcements.{SomeRouterAnnounces};
-ghost use Rattle.fr_laws.specs.Announcements.{HearingIsACall, KnowingIsACall, RepeatingIsACall, SayingIsACall};
-ghost use Rattle.fr_laws.specs.Announcements.{WritingIsACall};
+ghost use Rattle.fr_laws.specs.Announcements.{ActingIsACall, HearingIsACall, KnowingIsACall, RepeatingIsACall};
+ghost use Rattle.fr_laws.specs.Announcements.{SayingIsACall, WritingIsACall};
 
 /// In a network of routers with `Rise::Full` that stays as it is, the announcements are a run of full reversal,
 /// whatever messages are lost, delayed, repeated and overtaken. Suppose that each router is connected to the one
@@ -25,6 +25,7 @@ pub fn announcements_law()
 /// While no link goes up or down and no router restarts, each call of a `Node` is a step of these laws.
 pub fn calls_law()
     ensures hear { HearingIsACall }
+    ensures act { ActingIsACall }
     ensures repeat { RepeatingIsACall }
     ensures write { WritingIsACall }
     ensures say { SayingIsACall }

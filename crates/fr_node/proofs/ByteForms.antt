@@ -38,11 +38,11 @@ copied_after bytes piece at n e = take-add at n bytes ∙ ap (λ (p : List ℕ).
     width : n ≡ at + n - at
     width = omega arith
 
-pub length-bytes_of : (m : Message) → length (bytes_of m) ≡ 56
+pub length-bytes_of : (m : Message) → length (bytes_of m) ≡ 64
 unfolding bytes_4 bytes_8
 length-bytes_of m = refl
 
-pub header_first : (m : Message) → take 4 (bytes_of m) ≡ bytes_4 0x46524e01
+pub header_first : (m : Message) → take 4 (bytes_of m) ≡ bytes_4 0x46524e02
 unfolding bytes_4 bytes_8
 header_first m = refl
 
@@ -73,6 +73,7 @@ one_message m k a b e =
     let number = bytes_8-once m.number k.number a.number b.number (ap (part_8 32) e) in
     let height = bytes_8-once m.height k.height a.height b.height (ap (part_8 40) e) in
     let heard = bytes_8-once m.heard k.heard a.heard b.heard (ap (part_8 48) e) in
+    let stamp = bytes_8-once m.stamp k.stamp a.stamp b.stamp (ap (part_8 56) e) in
     λ i. record {
       from = from i;
       to = to i;
@@ -82,4 +83,5 @@ one_message m k a b e =
       height = height i;
       heard = heard i;
       distance = distance i;
+      stamp = stamp i;
     }

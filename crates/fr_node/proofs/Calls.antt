@@ -1,21 +1,23 @@
 -- What a call of a node announces, beside each neighbour whose link is up.
 use Rattle.std.proofs.Common.{IsTrue, arith, false, inl, inr, subst, sym, true, ℕ, ⊎_elim, ◌≡◌, ◌⊎◌, ◌∙◌, List}
 use Rattle.std.specs.List.{Contains}
+use Rattle.std.proofs.lemmas.Bool.{cases_Bool}
 use Rattle.std.proofs.lemmas.Bool.Decides.{nat_tests}
 use Rattle.fr_node.specs.declared.link.Link.{Link}
 use Rattle.fr_node.specs.declared.node.Node.{Node}
 use Rattle.fr_node.specs.declared.policy.Rise.{Rise}
 use Rattle.fr_node.specs.declared.policy.Rise.TheVariants.{Ceiling, Full}
-use Rattle.fr_node.specs.Heights.{AreUp, CallsActBeside, FallsBeside, RisesBeside}
+use Rattle.fr_node.specs.Heights.{AreUp, CallsActBeside, FallsBeside, RisesBeside, knows_low}
 use Rattle.fr_node.specs.Histories.{IsHistory}
 use Rattle.fr_node.specs.Links.{link_to}
 use Rattle.fr_node.specs.Lowerings.{CallsKeepLinksOrFall, Falls}
 use Rattle.fr_node.specs.Nodes.{router}
-use Rattle.fr_node.specs.Paths.{CallsKeepLinks, IsFull, Stays, is_low}
+use Rattle.fr_node.specs.Paths.{CallsKeepLinks, IsFull, Stays, is_below}
 use Rattle.fr_node.specs.Rests.{CallsStayBelow}
-use Rattle.fr_node.specs.Routers.{IsBelow}
+use Rattle.fr_node.specs.Routers.{IsBelow, Router}
 use Rattle.fr_node.proofs.Announcing.{HasFallen, HasKept, HasRaised, HasRisen, acted, announced, stays_below}
 use Rattle.fr_node.proofs.Announcing.{true_false}
+use Rattle.fr_node.proofs.Heights.{is_below_only}
 use Rattle.fr_node.proofs.Linking.{up_leads, up_listed}
 
 -- if the node has announced a greater height, the neighbour at a link that is up was not lower
@@ -27,6 +29,15 @@ not_lower : (old new : Node) (h : ℕ → ℕ) (w : ℕ)
 not_lower old new h w none was up = subst (λ (v : ℕ). ¬ IsBelow (link_to new.links.items w).seen w v old.own.me)
     (sym was.last) (subst (λ (v : ℕ). ¬ IsBelow (link_to new.links.items w).seen v old.own.announced old.own.me)
     (up_leads new.links.items w up) (none (link_to new.links.items w) (up_listed new.links.items w up) up))
+
+none_low : (x e w : ℕ) (r : Router) → ¬ IsBelow (r.seen w) w e x → knows_low (is_below x) e w r ≡ false
+none_low x e w r none = ⊎_elim
+    (λ y. absurd (none (is_below_only x e w (r.seen w) (below y))))
+    (λ f. f)
+    (cases_Bool (knows_low (is_below x) e w r))
+  where
+    below : knows_low (is_below x) e w r ≡ true → is_below x e w (r.seen w) ≡ true
+    below y = grind (arith, nat_tests, y)
 
 module _ (old new : Node) (h k : ℕ → ℕ) (was : IsHistory old.own h) (now : IsHistory new.own k) where
   module _ (w : ℕ) (boot : new.own.boot ≡ old.own.boot) where
@@ -49,18 +60,19 @@ module _ (old new : Node) (h k : ℕ → ℕ) (was : IsHistory old.own h) (now :
     fallen f = record { boot = boot; number = f.number; lower = omega (arith, f.lower, was.last, now.last) }
 
   module _ (ws : List ℕ) (are : AreUp new ws) where
-    rises_beside : HasRisen old new → RisesBeside old.own.me ws (router old h) (router new k)
+    rises_beside : HasRisen old new → RisesBeside (is_below old.own.me) ws (router old h) (router new k)
     rises_beside r = record {
       number = r.number;
       greater = omega (arith, was.last, now.last, r.greater);
-      no_lower = λ w at some. not_lower old new h w r.not_lower was (are.up w at);
+      none_low = λ w at. none_low old.own.me (h old.own.number) w (router new k)
+          (not_lower old new h w r.not_lower was (are.up w at));
     }
 
-    falls_beside : HasFallen old new → FallsBeside old.own.me ws (router old h) (router new k)
+    falls_beside : HasFallen old new → FallsBeside (is_below old.own.me) ws (router old h) (router new k)
     falls_beside f = record {
       number = f.number;
       lower = omega (arith, f.lower, was.last, now.last);
-      stays = (link.neighbour, (are.listed link f.way.1 up).0, low);
+      one_low = (link.neighbour, (are.listed link f.way.1 up).0, low);
     }
       where
         link : Link
@@ -69,13 +81,13 @@ module _ (old new : Node) (h k : ℕ → ℕ) (was : IsHistory old.own h) (now :
         up : link.up ≡ true
         up = let way = f.way.2 in grind (arith, nat_tests, way)
 
-        low_there : is_low new.own.announced old.own.me link.neighbour (record (router new k) {
+        low_there : knows_low (is_below old.own.me) new.own.announced link.neighbour (record (router new k) {
           heard = λ _. link.heard;
           seen = λ _. link.seen;
         }) ≡ true
         low_there = let way = f.way.2 in grind (arith, nat_tests, way)
 
-        low : is_low (k new.own.number) old.own.me link.neighbour (router new k) ≡ true
+        low : knows_low (is_below old.own.me) (k new.own.number) link.neighbour (router new k) ≡ true
         low = rw now.last (rw (are.listed link f.way.1 up).1 low_there)
 
 forwards : (n : Node) (rise : Rise) → IsTrue n.gateway ⊎ (n.policy.rise ≡ rise) → n.gateway ≡ false

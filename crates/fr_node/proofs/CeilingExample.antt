@@ -25,6 +25,7 @@ link neighbour h = record {
   neighbour = neighbour;
   up = true;
   peer = 1;
+  stamp = 1;
   heard = 1;
   seen = h;
   distance = h;
@@ -97,6 +98,7 @@ module _ (alloc : Global) where
     links = links (link 1 1);
     events = 0;
     is_written = true;
+    stamp = 1;
   }
 
   abbrev router : Node
@@ -107,6 +109,7 @@ module _ (alloc : Global) where
     links = links (link 0 0);
     events = 0;
     is_written = true;
+    stamp = 1;
   }
 
   abbrev nodes : ℕ → Node

@@ -59,11 +59,11 @@ past_same ls w i past = subst (λ l. KnowsSame unknown l)
     (after (i - length ls))
   where
     after : (k : ℕ) → KnowsSame unknown (get_or (record unknown { neighbour = w } ∷ []) k unknown)
-    after zero = record { peer = refl; heard = refl; seen = refl; acked = refl }
-    after (suc k) = record { peer = refl; heard = refl; seen = refl; acked = refl }
+    after zero = record { peer = refl; stamp = refl; heard = refl; seen = refl; acked = refl }
+    after (suc k) = record { peer = refl; stamp = refl; heard = refl; seen = refl; acked = refl }
 
 -- what is known of each router stays when one more is known
-known_same : (ls : List Link) (w v : ℕ)
+pub known_same : (ls : List Link) (w v : ℕ)
     → KnowsSame (link_to ls v) (link_to (ls ++ record unknown { neighbour = w } ∷ []) v)
 known_same ls w v = ⊎_elim
     (λ l. same (link_to ls v) (link_to (ls ++ x ∷ []) v) (ap (λ (i : ℕ). get_or (ls ++ x ∷ []) i unknown)
@@ -94,7 +94,8 @@ abbrev router_by : Node → (h peer heard seen acked : ℕ → ℕ) → Router
 router_by n h peer heard seen acked = record (router n h) { peer = peer; heard = heard; seen = seen; acked = acked }
 
 -- the router of a node with other links by which it knows the same
-router_same : (n k : Node) (h : ℕ → ℕ) → k ≡ record n { links = k.links; is_written = k.is_written }
+router_same : (n k : Node) (h : ℕ → ℕ)
+    → k ≡ record n { links = k.links; is_written = k.is_written; stamp = k.stamp }
     → ((w : ℕ) → KnowsSame (link_to n.links.items w) (link_to k.links.items w)) → router k h ≡ router n h
 router_same n k h e knows = ap (λ (m : Node). router m h) e
     ∙ ap (λ f. router_by n h f (router k h).heard (router k h).seen (router k h).acked) (fun_ext (λ w. (knows w).peer))

@@ -1,14 +1,15 @@
 -- A router falls below a neighbour beside another one that is lower still, and rises when that one rises. Both happen
 -- twice, so its heights come back.
-use Rattle.std.proofs.Common.{Contains, List, [], arith, eqb, inl, inr, refl, subst, suc, zero, ℕ, ⊎_elim, ◌∷◌, ◌<◌}
+use Rattle.std.proofs.Common.{Contains, List, [], arith, eqb, false, inl, inr, refl, subst, suc, zero, ℕ, ⊎_elim, ◌∷◌, ◌<◌}
 use Rattle.std.proofs.Common.{◌≡◌}
 use Rattle.std.specs.List.{IsDistinct}
 use Rattle.fr_node.specs.declared.message.Message.{Message}
-use Rattle.fr_node.specs.Heights.{FallsBeside, KeepsLinks, RisesBeside, SomeHeightComesBack}
+use Rattle.fr_node.specs.Heights.{FallsBeside, KeepsLinks, RisesBeside, SomeHeightComesBack, knows_low}
 use Rattle.fr_node.specs.Lowerings.{Falls, SomeRouterFalls}
-use Rattle.fr_node.specs.Paths.{Stays}
+use Rattle.fr_node.specs.Paths.{Stays, is_below}
 use Rattle.fr_node.specs.Rests.{KeepsBelow, SomeRoutersAnnounce, unheard_beside}
 use Rattle.fr_node.specs.Routers.{IsBelow, IsRun, IsStep, Net, Router}
+use Rattle.fr_node.proofs.Heights.{is_below_only}
 use Rattle.fr_node.proofs.Members.{Contains-cases, Contains-head, Contains-none, Contains-tail}
 use Rattle.fr_node.proofs.Running.{announcing, first_changes, idle, meets, met, net, new_router, said, says}
 use Rattle.fr_node.proofs.Running.{second_changes, starts, taken, takes, then_announces, third_changes}
@@ -250,27 +251,27 @@ of_both P one two w h = ⊎_elim (λ e. subst P e one) (λ more. ⊎_elim
 two_there : Contains both 2
 two_there = Contains-tail 2 1 (2 ∷ []) (Contains-head 2 [])
 
-falls_to_four : FallsBeside 0 both a2 a3
-falls_to_four = record { number = refl; lower = omega arith; stays = (2, two_there, refl) }
+falls_to_four : FallsBeside (is_below 0) both a2 a3
+falls_to_four = record { number = refl; lower = omega arith; one_low = (2, two_there, refl) }
 
-rises_to_six : RisesBeside 0 both a3 a4
+rises_to_six : RisesBeside (is_below 0) both a3 a4
 rises_to_six = record {
   number = refl;
   greater = omega arith;
-  no_lower = of_both (λ w. 0 < a4.heard w → ¬ IsBelow (a4.seen w) w 4 0) (λ _. not_below 1) (λ _. not_below 2);
+  none_low = of_both (λ w. knows_low (is_below 0) 4 w a4 ≡ false) refl refl;
 }
 
-falls_again : FallsBeside 0 both a4 a5
-falls_again = record { number = refl; lower = omega arith; stays = (2, two_there, refl) }
+falls_again : FallsBeside (is_below 0) both a4 a5
+falls_again = record { number = refl; lower = omega arith; one_low = (2, two_there, refl) }
 
-rises_again : RisesBeside 0 both a5 a6
+rises_again : RisesBeside (is_below 0) both a5 a6
 rises_again = record {
   number = refl;
   greater = omega arith;
-  no_lower = of_both (λ w. 0 < a6.heard w → ¬ IsBelow (a6.seen w) w 4 0) (λ _. not_below 1) (λ _. not_below 2);
+  none_low = of_both (λ w. knows_low (is_below 0) 4 w a6 ≡ false) refl refl;
 }
 
-beside_both : KeepsLinks 0 both (net a2 b1 c4 pool7) later
+beside_both : KeepsLinks (is_below 0) 0 both (net a2 b1 c4 pool7) later
 beside_both = (
   refl,
   inr (inr falls_to_four),
@@ -318,8 +319,9 @@ only_zero w h = ⊎_elim
     (λ none. absurd (Contains-none w none))
     (Contains-cases w 0 [] h)
 
-keeps : (x : ℕ) → x < 3 → KeepsBelow 6 3 3 x (beside_each x) (net a2 b1 c4 pool7) later
+keeps : (x : ℕ) → x < 3 → KeepsBelow 6 3 3 x (is_below x) (beside_each x) (net a2 b1 c4 pool7) later
 keeps zero within = let e : unheard_beside (net a2 b1 c4 pool7) 0 both ≡ 3 = refl in record {
+  down = is_below_only 0;
   neighbours = of_both (λ w. w < 3) (omega arith) (omega arith);
   once = apart_first;
   links = beside_both;
@@ -327,6 +329,7 @@ keeps zero within = let e : unheard_beside (net a2 b1 c4 pool7) 0 both ≡ 3 = r
   unheard = omega (arith, e);
 }
 keeps (suc zero) within = let e : unheard_beside (net a2 b1 c4 pool7) 1 (0 ∷ []) ≡ 1 = refl in record {
+  down = is_below_only 1;
   neighbours = only_zero;
   once = apart_second;
   links = ((refl, inl refl, (refl, inl refl, (refl, inl refl, (refl, inl refl, tt)))));
@@ -334,6 +337,7 @@ keeps (suc zero) within = let e : unheard_beside (net a2 b1 c4 pool7) 1 (0 ∷ [
   unheard = omega (arith, e);
 }
 keeps (suc (suc zero)) within = let e : unheard_beside (net a2 b1 c4 pool7) 2 (0 ∷ []) ≡ 1 = refl in record {
+  down = is_below_only 2;
   neighbours = only_zero;
   once = apart_third;
   links = ((refl, inl refl, (refl, inl refl, (refl, inl refl, (refl, inl refl, tt)))));

@@ -1,6 +1,6 @@
 -- One link of a list has changed.
 use Rattle.std.proofs.Common.{Bool, List, Some, ap, arith, false, get_or, length, map, refl, set, subst, sym, true, ℕ}
-use Rattle.std.proofs.Common.{⊎_elim, ◌<◌, ◌==◌, ◌≡◌, ◌≢◌, ◌∙◌}
+use Rattle.std.proofs.Common.{⊎_elim, ◌<◌, ◌↔◌, ◌==◌, ◌≡◌, ◌≢◌, ◌∙◌}
 use Rattle.std.specs.List.{Contains, position}
 use Rattle.std.proofs.Math.Seq.{map-set_same}
 use Rattle.std.proofs.lemmas.Bool.{cases_lt, lt-ltb}
@@ -13,7 +13,8 @@ use Rattle.std.proofs.lemmas.Option.{cond_some, get_or_from_slice_get, slice_get
 use Rattle.fr_node.specs.declared.link.Link.{Link}
 use Rattle.fr_node.specs.declared.message.Message.{Message}
 use Rattle.fr_node.specs.declared.own.Own.{Own}
-use Rattle.fr_node.specs.Links.{Hears, IsHeard, IsKnown, Says, SetsUp, leads_to, link_to, place_of, unknown}
+use Rattle.fr_node.specs.Links.{Hears, IsHeard, IsKnown, IsNewer, IsTaken, Says, SetsUp, leads_to, link_to}
+use Rattle.fr_node.specs.Links.{place_of, unknown}
 
 -- the link x to w is listed at index i
 pub record IsAt (ls : List Link) (w i : ℕ) (x : Link) : Type 0 where
@@ -95,14 +96,26 @@ neighbours-set ls w i x k at same = map-set_same (λ (l : Link). l.neighbour) ls
 pub found_at : (ls : List Link) (w i : ℕ) (x : Link) → IsAt ls w i x → link_to ls w ≡ x
 found_at ls w i x at = ap (λ (n : ℕ). get_or ls n unknown) at.place ∙ at.here
 
+-- a message from the neighbour at this place is taken if it is newer
+pub taken_at : (own : Own) (m : Message) (ls : List Link) (i : ℕ) (x : Link) → IsAt ls m.from i x → m.to ≡ own.me
+    → IsNewer x.peer x.stamp m ↔ IsTaken own m ls
+taken_at own m ls i x at to = (
+  λ newer. record {
+    to = to;
+    from = omega (arith, at.place, at.within);
+    newer = subst (λ (l : Link). IsNewer l.peer l.stamp m) (sym (found_at ls m.from i x at)) newer;
+  },
+  λ taken. subst (λ (l : Link). IsNewer l.peer l.stamp m) (found_at ls m.from i x at) taken.newer,
+)
+
 pub hears_at : (own : Own) (m : Message) (ls : List Link) (i : ℕ) (x k : Link) → IsAt ls m.from i x → IsHeard own m x k
-    → m.to ≡ own.me → Hears own m ls (set ls i k)
-hears_at own m ls i x k at h to = record {
+    → m.to ≡ own.me → IsNewer x.peer x.stamp m → Hears own m ls (set ls i k)
+hears_at own m ls i x k at h to newer = record {
   neighbours = neighbours-set ls m.from i x k at h.neighbour;
   others = link_to-set_other ls m.from i x k at h.neighbour;
-  heard = λ _ _. subst (λ (l : Link). IsHeard own m l (link_to (set ls i k) m.from)) (sym (found_at ls m.from i x at))
+  taken = λ _. subst (λ (l : Link). IsHeard own m l (link_to (set ls i k) m.from)) (sym (found_at ls m.from i x at))
       (subst (IsHeard own m x) (sym (link_to-set ls m.from i x k at h.neighbour)) h);
-  stranger = λ s. absurd (⊎_elim (λ a. a to) (λ b. b (omega (arith, at.place, at.within))) s);
+  ignored = λ no. absurd (no ((taken_at own m ls i x at to).0 newer));
 }
 
 pub sets_up_at : (w : ℕ) (up : Bool) (ls : List Link) (i : ℕ) (x : Link) → IsAt ls w i x

@@ -1,19 +1,20 @@
 -- Routers that stay at or below a ceiling come to rest. Announcements are ordered by height, and those of equal heights
 -- by the number of their router. From one place in this order to the next their number at most doubles.
-use Rattle.std.proofs.Common.{Bool, Contains, List, [], add-one, arith, false, inl, inr, refl, subst, suc, true, zero}
+use Rattle.std.proofs.Common.{Bool, Contains, List, [], add-one, arith, false, inl, inr, not, refl, subst, suc, true, zero}
 use Rattle.std.proofs.Common.{ℕ, ⊎_elim}
-use Rattle.std.proofs.Common.{◌∷◌, ◌*◌, ◌+◌, ◌<◌, ◌^◌, ◌≡◌, ◌≢◌, ◌≤◌, ◌⊎◌}
+use Rattle.std.proofs.Common.{◌∷◌, ◌&&◌, ◌*◌, ◌+◌, ◌<◌, ◌==◌, ◌^◌, ◌≡◌, ◌≢◌, ◌≤◌, ◌⊎◌}
 use Rattle.std.proofs.Math.Nat.{mul-le-mul_right, pow-suc}
 use Rattle.std.proofs.lemmas.Bool.{cases_Bool, cases_lt, or_cases}
 use Rattle.std.proofs.lemmas.Bool.Decides.{nat_tests}
 use Rattle.std.proofs.lemmas.Nat.{pow-add}
-use Rattle.fr_node.specs.Heights.{KeepsLinks, announces, announces_below, hears_low, steps_with}
+use Rattle.fr_node.specs.Heights.{announces, announces_below, hears_low, knows_low, steps_with}
 use Rattle.fr_node.specs.Paths.{times}
-use Rattle.fr_node.specs.Rests.{AnnouncementsEnd, KeepsBelow, StaysBelow, times_of_all, unheard_beside}
+use Rattle.fr_node.specs.Rests.{AnnouncementsEnd, KeepsBelow, LeadsDown, StaysBelow, TestsLeadDown, is_within}
+use Rattle.fr_node.specs.Rests.{times_of_all, unheard_beside}
 use Rattle.fr_node.specs.Routers.{IsRun, Net, Router, last}
 use Rattle.fr_node.proofs.Counting.{one, one_facts, one_of_two}
-use Rattle.fr_node.proofs.Heights.{height_bound}
-use Rattle.fr_node.proofs.Lows.{acts_number, announced_on, announces_low, hears_bound, hears_new}
+use Rattle.fr_node.proofs.Heights.{height_bound, is_below_only, is_below_test}
+use Rattle.fr_node.proofs.Lows.{GoesSlowly, announced_on, announces_low, goes_slowly, hears_bound, hears_new}
 use Rattle.fr_node.proofs.Members.{Contains-cases, Contains-head, Contains-tail}
 use Rattle.fr_node.proofs.Moments.{Holds, held}
 use Rattle.fr_node.proofs.Sums.{below, below_but_one, below_most, below_none, over, over_below}
@@ -50,6 +51,12 @@ steps_most p q each x s ts = omega (
   steps_none (λ _ _. false) (λ _ _. refl) x s ts,
 )
 
+costs_lead_down : (x : ℕ) (cost : ℕ → ℕ) → ((w : ℕ) → 1 ≤ cost w) → LeadsDown x (is_within cost)
+costs_lead_down x cost least e w h y = let costs = least w in inl (grind (arith, nat_tests, y, costs))
+
+pub tests_lead_down : TestsLeadDown
+tests_lead_down = (is_below_only, costs_lead_down)
+
 -- Announcements by rank: by height, and of equal heights by the number of their router
 
 none_lower : (w : ℕ) (r t : Router) → announces_low 0 0 w r t ≡ false
@@ -79,23 +86,36 @@ lower_next e n w within r t y = ⊎_elim
 below_itself : (e x : ℕ) (r t : Router) → announces_below e r t ≡ true → announces_low e x x r t ≡ true
 below_itself e x r t y = grind (arith, nat_tests, y)
 
--- a router hears what one of its neighbours has announced
-hears_each : (e x : ℕ) (ws : List ℕ) (s : Net) (ts : List Net)
-    → steps_with (hears_low e x ws) x s ts ≤ over (λ w. steps_with (hears_new e x w) x s ts) ws
-unfolding over
-hears_each e x [] s ts = omega (arith, steps_none (hears_low e x []) (λ _ _. refl) x s ts)
-hears_each e x (w ∷ ws) s ts = omega (
-  arith,
-  steps_two (hears_low e x (w ∷ ws)) (hears_new e x w) (hears_low e x ws) first_or_rest x s ts,
-  hears_each e x ws s ts,
-)
-  where
-    first_or_rest : (r t : Router) → hears_low e x (w ∷ ws) r t ≡ true
-        → (hears_new e x w r t ≡ true) ⊎ (hears_low e x ws r t ≡ true)
-    first_or_rest r t y = or_cases (hears_new e x w r t) (hears_low e x ws r t) y
+-- a router hears what one of its neighbours has announced, and what is low enough for height e is below it
+module _ (e x : ℕ) (low : (e w h : ℕ) → Bool) (down : LeadsDown x low) where
+  abbrev hears_one : ℕ → Router → Router → Bool
+  hears_one w r t = not (t.peer w == r.peer w && t.heard w == r.heard w) && knows_low low e w t
 
-module _ (ceiling routers most : ℕ) (beside : ℕ → List ℕ) (s : Net) (ts : List Net) (holds : Holds s)
-    (run : IsRun s ts) (keeps : (x : ℕ) → x < routers → KeepsBelow ceiling routers most x (beside x) s ts) where
+  hears_below : (w : ℕ) (r t : Router) → hears_one w r t ≡ true → hears_new e x w r t ≡ true
+  hears_below w r t y = let below = λ (l : low e w (t.seen w) ≡ true). is_below_test x e w (t.seen w)
+      (down e w (t.seen w) l) in
+      grind (arith, nat_tests, y, below)
+
+  hears_each : (ws : List ℕ) (s : Net) (ts : List Net)
+      → steps_with (hears_low low e ws) x s ts ≤ over (λ w. steps_with (hears_new e x w) x s ts) ws
+  unfolding over
+  hears_each [] s ts = omega (arith, steps_none (hears_low low e []) (λ _ _. refl) x s ts)
+  hears_each (w ∷ ws) s ts = omega (
+    arith,
+    steps_two (hears_low low e (w ∷ ws)) (hears_new e x w) (hears_low low e ws) first_or_rest x s ts,
+    hears_each ws s ts,
+  )
+    where
+      first_or_rest : (r t : Router) → hears_low low e (w ∷ ws) r t ≡ true
+          → (hears_new e x w r t ≡ true) ⊎ (hears_low low e ws r t ≡ true)
+      first_or_rest r t y = ⊎_elim
+          (λ first. inl (hears_below w r t first))
+          (λ rest. inr rest)
+          (or_cases (hears_one w r t) (hears_low low e ws r t) y)
+
+module _ (ceiling routers most : ℕ) (low : (x e w h : ℕ) → Bool) (beside : ℕ → List ℕ) (s : Net) (ts : List Net)
+    (holds : Holds s) (run : IsRun s ts)
+    (keeps : (x : ℕ) → x < routers → KeepsBelow ceiling routers most x (low x) (beside x) s ts) where
   -- the announcements of w below router x at height e
   of_one : (e x w : ℕ) → ℕ
   of_one e x w = steps_with (announces_low e x w) w s ts
@@ -103,15 +123,17 @@ module _ (ceiling routers most : ℕ) (beside : ℕ → List ℕ) (s : Net) (ts 
   lower : (e x : ℕ) → ℕ
   lower e x = below (of_one e x) routers
 
-  heard_beside : (e x : ℕ) (xs : List ℕ) → KeepsLinks x xs s ts → (ws : List ℕ)
-      → ((w : ℕ) → Contains ws w → w < routers)
+  slow : (x : ℕ) → x < routers → GoesSlowly x s ts
+  slow x within = goes_slowly (low x) x (beside x) s ts (keeps x within).links
+
+  heard_beside : (e x : ℕ) → x < routers → (ws : List ℕ) → ((w : ℕ) → Contains ws w → w < routers)
       → over (λ w. steps_with (hears_new e x w) x s ts) ws ≤ unheard_beside s x ws + over (of_one e x) ws
   unfolding over of_one
-  heard_beside e x xs links [] within = omega arith
-  heard_beside e x xs links (w ∷ ws) within = omega (
+  heard_beside e x itself [] within = omega arith
+  heard_beside e x itself (w ∷ ws) within = omega (
     arith,
-    hears_bound e x w xs (beside w) s ts holds run links (keeps w (within w (Contains-head w ws))).links,
-    heard_beside e x xs links ws (λ v h. within v (Contains-tail v w ws h)),
+    hears_bound e x w s ts holds run (slow x itself) (slow w (within w (Contains-head w ws))),
+    heard_beside e x itself ws (λ v h. within v (Contains-tail v w ws h)),
   )
 
   -- a router announces a height at most once more than there is news and announcements below it
@@ -119,10 +141,10 @@ module _ (ceiling routers most : ℕ) (beside : ℕ → List ℕ) (s : Net) (ts 
   unfolding over of_one lower
   height_again e x within = omega (
     arith,
-    height_bound e x (beside x) s ts holds run k.links,
+    height_bound (low x) e x (beside x) s ts holds run k.links,
     steps_most (announces_below e) (announces_low e x x) (below_itself e x) x s ts,
-    hears_each e x (beside x) s ts,
-    heard_beside e x (beside x) k.links (beside x) k.neighbours,
+    hears_each e x (low x) k.down (beside x) s ts,
+    heard_beside e x within (beside x) k.neighbours,
     k.unheard,
     over_below (x ∷ beside x) (of_one e x) routers k.once (λ w h. ⊎_elim
         (λ e. omega (arith, e, within))
@@ -130,7 +152,7 @@ module _ (ceiling routers most : ℕ) (beside : ℕ → List ℕ) (s : Net) (ts 
         (Contains-cases w x (beside x) h)),
   )
     where
-      k : KeepsBelow ceiling routers most x (beside x) s ts
+      k : KeepsBelow ceiling routers most x (low x) (beside x) s ts
       k = keeps x within
 
   next_router : (e x : ℕ) → x < routers → lower e (x + 1) + (1 + most) ≤ (lower e x + (1 + most)) * 2
@@ -188,14 +210,14 @@ module _ (ceiling routers most : ℕ) (beside : ℕ → List ℕ) (s : Net) (ts 
           assoc : (a b c : ℕ) → a * b * c ≡ a * (b * c)
           assoc a b c = grind arith
 
-  all_below : (x : ℕ) (ws : List ℕ) (r : Net) (rs : List Net) → IsRun r rs → KeepsLinks x ws r rs
+  all_below : (x : ℕ) (r : Net) (rs : List Net) → IsRun r rs → GoesSlowly x r rs
       → StaysBelow ceiling x rs → times r (last r rs) x ≤ steps_with (announces_low (ceiling + 1) 0 x) x r rs
   unfolding one
-  all_below x ws r [] ran links stays = omega arith
-  all_below x ws r (t ∷ rs) ran links stays = omega (
+  all_below x r [] ran slowly stays = omega arith
+  all_below x r (t ∷ rs) ran slowly stays = omega (
     arith,
-    (announced_on x ws t rs ran.1 links.2).0,
-    all_below x ws t rs ran.1 links.2 stays.1,
+    (announced_on x t rs ran.1 slowly.2).0,
+    all_below x t rs ran.1 slowly.2 stays.1,
     step,
   )
     where
@@ -208,7 +230,7 @@ module _ (ceiling routers most : ℕ) (beside : ℕ → List ℕ) (s : Net) (ts 
             n,
             (one_facts (announces_low (ceiling + 1) 0 x (r.router x) (t.router x))).2 (announced n),
           ))
-          (acts_number x ws (r.router x) (t.router x) links.1)
+          slowly.1
         where
           announced : (t.router x).number ≡ (r.router x).number + 1
               → announces_low (ceiling + 1) 0 x (r.router x) (t.router x) ≡ true
@@ -217,9 +239,9 @@ module _ (ceiling routers most : ℕ) (beside : ℕ → List ℕ) (s : Net) (ts 
   together : (n : ℕ) → n ≤ routers → times_of_all s (last s ts) n ≤ below (of_one (ceiling + 1) 0) n
   unfolding below of_one
   together zero within = omega arith
-  together (suc n) within = let k = keeps n (omega (arith, within)) in omega (
+  together (suc n) within = omega (
     arith,
-    all_below n (beside n) s ts run k.links k.below,
+    all_below n s ts run (slow n (omega (arith, within))) (keeps n (omega (arith, within))).below,
     together n (omega (arith, within)),
   )
 
@@ -228,5 +250,5 @@ module _ (ceiling routers most : ℕ) (beside : ℕ → List ℕ) (s : Net) (ts 
   rest = omega (arith, together routers (omega arith), below_height (ceiling + 1))
 
 pub announcements_end : AnnouncementsEnd
-announcements_end s past future ceiling routers most beside begins ran runs keeps = rest ceiling routers most beside
-    (last s past) future (held s past begins ran) runs keeps
+announcements_end s past future ceiling routers most low beside begins ran runs keeps = rest ceiling routers most low
+    beside (last s past) future (held s past begins ran) runs keeps

@@ -56,7 +56,7 @@ announcing v r = record r {
   announced = but r.announced (r.number + 1) v;
 }
 
--- what router x, in this state, says to w. Distances do not matter here
+-- what router x, in this state, says to w. Distances and stamps do not matter here
 abbrev pub said : Router → ℕ → ℕ → Message
 said r x w = record {
   from = x;
@@ -67,6 +67,7 @@ said r x w = record {
   height = r.announced r.number;
   heard = r.heard w;
   distance = 0;
+  stamp = 1;
 }
 
 pub idle : (pool : List Message) (y : ℕ) (r : Router) → GoesOn pool y r r

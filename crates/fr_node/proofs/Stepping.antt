@@ -7,17 +7,29 @@ use Rattle.fr_node.specs.declared.link.Link.{Link}
 use Rattle.fr_node.specs.declared.message.Message.{Message}
 use Rattle.fr_node.specs.declared.node.Node.{Node}
 use Rattle.fr_node.specs.declared.own.Own.{Own}
-use Rattle.fr_node.specs.Events.{IsAfterEvent}
+use Rattle.fr_node.specs.Events.{IsAfterEvent, unstamped}
 use Rattle.fr_node.specs.Histories.{Announces, IsHistory}
-use Rattle.fr_node.specs.Links.{Hears, IsHeard, Says, SetsUp, is_way, link_to, place_of}
-use Rattle.fr_node.specs.Nodes.{Steps, lets_in, router, sends_to}
+use Rattle.fr_node.specs.Links.{Hears, IsHeard, IsNewer, IsTaken, Says, SetsUp, is_way, link_to, place_of}
+use Rattle.fr_node.specs.Nodes.{IsMessageTo, Steps, lets_in, router, sends_to}
 use Rattle.fr_node.specs.Policies.{Acts}
 use Rattle.fr_node.specs.Routers.{IsBelow, IsFrom, IsOpen, IsWay}
 use Rattle.fr_node.proofs.Histories.{Announces-none}
 use Rattle.fr_node.proofs.Linking.{IsAt, found_at, up_leads}
 
-same_or_not : (a b : ℕ) → (a ≡ b) ⊎ (a ≢ b)
+pub same_or_not : (a b : ℕ) → (a ≡ b) ⊎ (a ≢ b)
 same_or_not a b = grind arith
+
+newer_or_not : (boot stamp : ℕ) (m : Message) → IsNewer boot stamp m ⊎ ¬ IsNewer boot stamp m
+newer_or_not boot stamp m = ⊎_elim
+    (λ less. inl (inl less))
+    (λ most. ⊎_elim
+    (λ even. ⊎_elim
+    (λ later. inl (inr (even, later)))
+    (λ old. inr (λ n. ⊎_elim (λ a. omega (arith, a, most)) (λ b. omega (arith, b.1, old)) n))
+    (cases_lt stamp m.stamp))
+    (λ other. inr (λ n. ⊎_elim (λ a. omega (arith, a, most)) (λ b. other b.0) n))
+    (same_or_not boot m.boot))
+    (cases_lt boot m.boot)
 
 -- router y, of this start, keeps what it knows of w, or takes it from messages of the pool
 record Takes (pool : List Message) (y boot w : ℕ) (l k : Link) : Type 0 where
@@ -30,9 +42,23 @@ record Takes (pool : List Message) (y boot w : ℕ) (l k : Link) : Type 0 where
       ⊎ (k.acked ≡ 0)
       ⊎ ((m : Message) × IsFrom pool y w m × (m.echo ≡ boot) × (k.peer ≡ m.boot) × (k.acked ≡ m.heard))
 
+-- whether a message is taken
+pub taken_or_not : (own : Own) (m : Message) (ls : List Link) → IsTaken own m ls ⊎ ¬ IsTaken own m ls
+taken_or_not own m ls = ⊎_elim
+    (λ to. ⊎_elim
+    (λ known. ⊎_elim
+    (λ newer. inl (record { to = to; from = known; newer = newer }))
+    (λ none. inr (λ t. none t.newer))
+    (newer_or_not (link_to ls m.from).peer (link_to ls m.from).stamp m))
+    (λ past. inr (λ t. omega (arith, past, t.from)))
+    (cases_lt (place_of ls m.from) (length ls)))
+    (λ away. inr (λ t. away t.to))
+    (same_or_not m.to own.me)
+
 -- the same is known
 pub record KnowsSame (l k : Link) : Type 0 where
   pub peer : k.peer ≡ l.peer
+  pub stamp : k.stamp ≡ l.stamp
   pub heard : k.heard ≡ l.heard
   pub seen : k.seen ≡ l.seen
   pub acked : k.acked ≡ l.acked
@@ -47,12 +73,13 @@ takes_none pool y boot w l k s = record {
 pub same : (l k : Link) → k ≡ l → KnowsSame l k
 same l k e = record {
   peer = ap (λ (j : Link). j.peer) e;
+  stamp = ap (λ (j : Link). j.stamp) e;
   heard = ap (λ (j : Link). j.heard) e;
   seen = ap (λ (j : Link). j.seen) e;
   acked = ap (λ (j : Link). j.acked) e;
 }
 
--- the two halves of hearing a message m that is not of an earlier start
+-- the two halves of taking a message m, which is of no earlier start
 Height : Own → Message → Link → Link → Type 0
 Height own m l k = ((k.peer ≡ l.peer) × (k.heard ≡ l.heard) × (k.seen ≡ l.seen))
     ⊎ ((l.peer < k.peer) × (k.heard ≡ 0))
@@ -71,20 +98,20 @@ unfolding Height
 height_heard own m l k h from now = ⊎_elim
     (λ echo. ⊎_elim
     (λ even. ⊎_elim
-    (λ later. let e = h.uninformed even (inr later) in inl (omega (arith, h.start now, even), e.0, e.1))
+    (λ later. let e = h.uninformed even (inr later) in inl (omega (arith, h.start, even), e.0, e.1))
     (λ good. took echo (λ _. good))
     (cases_lt m.number l.heard))
     (λ less. took echo (λ e. absurd (omega (arith, e, less))))
     (eq-or-lt_of_le now))
     (λ other. ⊎_elim
-    (λ even. let e = h.uninformed even (inl other) in inl (omega (arith, h.start now, even), e.0, e.1))
-    (λ less. inr (inl (omega (arith, less, h.start now), (h.forgotten less other).0)))
+    (λ even. let e = h.uninformed even (inl other) in inl (omega (arith, h.start, even), e.0, e.1))
+    (λ less. inr (inl (omega (arith, less, h.start), (h.forgotten less other).0)))
     (eq-or-lt_of_le now))
     (same_or_not m.echo own.boot)
   where
     took : m.echo ≡ own.boot → (l.peer ≡ m.boot → l.heard ≤ m.number) → Height own m l k
-    took echo good = let e = h.informed now echo good in
-        inr (inr (m, from, echo, h.start now, e.0, e.1, λ s. good (omega (arith, s, h.start now))))
+    took echo good = let e = h.informed echo good in
+        inr (inr (m, from, echo, h.start, e.0, e.1, λ s. good (omega (arith, s, h.start))))
 
 answer_heard : (own : Own) (m : Message) (l k : Link) → IsHeard own m l k → IsFrom (m ∷ []) own.me m.from m
     → l.peer ≤ m.boot
@@ -96,7 +123,7 @@ answer_heard own m l k h from now = ⊎_elim
     (λ few. ⊎_elim
     (λ even. ⊎_elim
     (λ more. given echo few (λ _. more))
-    (λ old. inl (omega (arith, h.start now, even), h.unanswered even (inr (inr old))))
+    (λ old. inl (omega (arith, h.start, even), h.unanswered even (inr (inr old))))
     (cases_lt l.acked m.heard))
     (λ less. given echo few (λ e. absurd (omega (arith, e, less))))
     (eq-or-lt_of_le now))
@@ -105,28 +132,29 @@ answer_heard own m l k h from now = ⊎_elim
     (same_or_not m.echo own.boot)
   where
     given : m.echo ≡ own.boot → m.heard ≤ own.number → (l.peer ≡ m.boot → l.acked < m.heard) → Answer own m l k
-    given echo few more = inr (inr (m, from, echo, h.start now, h.answered now echo few more))
+    given echo few more = inr (inr (m, from, echo, h.start, h.answered echo few more))
 
     kept : (m.echo ≢ own.boot) ⊎ (own.number < m.heard) → Answer own m l k
     kept why = ⊎_elim
-        (λ even. inl (omega (arith, h.start now, even), h.unanswered even (⊎_elim (λ a. inl a) (λ b. inr (inl b)) why)))
+        (λ even. inl (omega (arith, h.start, even), h.unanswered even (⊎_elim (λ a. inl a) (λ b. inr (inl b)) why)))
         (λ less. inr (inl (h.unacked less why)))
         (eq-or-lt_of_le now)
 
-takes_heard : (own : Own) (m : Message) (l k : Link) → IsHeard own m l k → m.to ≡ own.me
+takes_heard : (own : Own) (m : Message) (l k : Link) → IsHeard own m l k → m.to ≡ own.me → l.peer ≤ m.boot
     → Takes (m ∷ []) own.me own.boot m.from l k
 unfolding Height Answer
-takes_heard own m l k h to = ⊎_elim
-    (λ old. takes_none (m ∷ []) own.me own.boot m.from l k (same l k (h.ignored old)))
-    (λ now. record {
-      start = (omega (arith, now, h.start now), inr (m, from, h.start now));
-      height = height_heard own m l k h from now;
-      answer = answer_heard own m l k h from now;
-    })
-    (cases_lt m.boot l.peer)
+takes_heard own m l k h to now = record {
+  start = (omega (arith, now, h.start), inr (m, from, h.start));
+  height = height_heard own m l k h from now;
+  answer = answer_heard own m l k h from now;
+}
   where
     from : IsFrom (m ∷ []) own.me m.from m
     from = record { said = (0, omega arith, refl); from = refl; to = to }
+
+no_less : (boot stamp : ℕ) (m : Message) → IsNewer boot stamp m → boot ≤ m.boot
+no_less boot stamp m (inl less) = omega (arith, less)
+no_less boot stamp m (inr even) = omega (arith, even.0)
 
 takes_hears : (own : Own) (m : Message) (ls ks : List Link) → Hears own m ls ks
     → (w : ℕ) → Takes (m ∷ []) own.me own.boot w (link_to ls w) (link_to ks w)
@@ -136,37 +164,39 @@ takes_hears own m ls ks h w = ⊎_elim
     (same (link_to ls w) (link_to ks w) (h.others w other)))
     (same_or_not w m.from)
   where
-    unchanged : ks ≡ ls → Takes (m ∷ []) own.me own.boot m.from (link_to ls m.from) (link_to ks m.from)
-    unchanged e = takes_none (m ∷ []) own.me own.boot m.from (link_to ls m.from) (link_to ks m.from)
-        (same (link_to ls m.from) (link_to ks m.from) (ap (λ (js : List Link). link_to js m.from) e))
-
     from_it : Takes (m ∷ []) own.me own.boot m.from (link_to ls m.from) (link_to ks m.from)
     from_it = ⊎_elim
-        (λ to. ⊎_elim
-        (λ known. takes_heard own m (link_to ls m.from) (link_to ks m.from) (h.heard to known) to)
-        (λ past. unchanged (h.stranger (inr (λ known. omega (arith, past, known)))))
-        (cases_lt (place_of ls m.from) (length ls)))
-        (λ away. unchanged (h.stranger (inl away)))
-        (same_or_not m.to own.me)
+        (λ t. takes_heard own m (link_to ls m.from) (link_to ks m.from) (h.taken t) t.to
+        (no_less (link_to ls m.from).peer (link_to ls m.from).stamp m t.newer))
+        (λ none. takes_none (m ∷ []) own.me own.boot m.from (link_to ls m.from) (link_to ks m.from)
+        (same (link_to ls m.from) (link_to ks m.from)
+        (ap (λ (js : List Link). link_to js m.from) (h.ignored none))))
+        (taken_or_not own m ls)
 
-takes_up : (pool : List Message) (y boot w : ℕ) (up : Bool) (ls ks : List Link) → SetsUp w up ls ks
-    → (v : ℕ) → Takes pool y boot v (link_to ls v) (link_to ks v)
-takes_up pool y boot w up ls ks s v = takes_none pool y boot v (link_to ls v) (link_to ks v) (⊎_elim
+pub set_same : (w : ℕ) (up : Bool) (ls ks : List Link) → SetsUp w up ls ks → (v : ℕ)
+    → KnowsSame (link_to ls v) (link_to ks v)
+set_same w up ls ks s v = ⊎_elim
     (λ here. ⊎_elim
     (λ known. known_up (subst (λ u. link_to ks u ≡ record (link_to ls u) { up = up }) (sym here) (s.itself known)))
     (λ past. same (link_to ls v) (link_to ks v)
     (ap (λ (js : List Link). link_to js v) (s.stranger (λ known. omega (arith, past, known)))))
     (cases_lt (place_of ls w) (length ls)))
     (λ other. same (link_to ls v) (link_to ks v) (s.others v other))
-    (same_or_not v w))
+    (same_or_not v w)
   where
     known_up : link_to ks v ≡ record (link_to ls v) { up = up } → KnowsSame (link_to ls v) (link_to ks v)
     known_up e = record {
       peer = ap (λ (l : Link). l.peer) e;
+      stamp = ap (λ (l : Link). l.stamp) e;
       heard = ap (λ (l : Link). l.heard) e;
       seen = ap (λ (l : Link). l.seen) e;
       acked = ap (λ (l : Link). l.acked) e;
     }
+
+takes_up : (pool : List Message) (y boot w : ℕ) (up : Bool) (ls ks : List Link) → SetsUp w up ls ks
+    → (v : ℕ) → Takes pool y boot v (link_to ls v) (link_to ks v)
+takes_up pool y boot w up ls ks s v = takes_none pool y boot v (link_to ls v) (link_to ks v)
+    (set_same w up ls ks s v)
 
 steps : (pool : List Message) (old new : Node) → Announces old.own new.own
     → ((w : ℕ) → Takes pool old.own.me old.own.boot w (link_to old.links.items w) (link_to new.links.items w))
@@ -223,6 +253,45 @@ pub after_setting : (w : ℕ) (up : Bool) (old mid new : Node) → InTurn old mi
 after_setting w up old mid new turn sets = in_turn [] old mid new turn
     (takes_up [] old.own.me old.own.boot w up old.links.items mid.links.items sets)
 
+-- the policy has acted once more
+pub after_acting : (old mid new : Node) → mid ≡ record old { own = mid.own }
+    → new ≡ record mid { events = (mid.events + 1) % 2 ^ 64; is_written = false } → Announces old.own mid.own
+    → Acts old mid.own → IsAfterEvent [] old new
+after_acting old mid new acted counted announces acts = in_turn [] old old new
+    (record {
+      links = refl;
+      own = counted
+          ∙ ap (λ (n : Node). record n { events = (n.events + 1) % 2 ^ 64; is_written = false }) acted
+          ∙ ap (λ (o : Own). record old { own = o; events = (old.events + 1) % 2 ^ 64; is_written = false }) (sym own);
+      announces = subst (Announces old.own) (sym own) announces;
+      acts = subst (Acts old) (sym own) acts;
+    })
+    (λ w. takes_none [] old.own.me old.own.boot w (link_to old.links.items w) (link_to old.links.items w)
+    (same (link_to old.links.items w) (link_to old.links.items w) refl))
+  where
+    own : new.own ≡ mid.own
+    own = ap (λ (n : Node). n.own) counted
+
+-- what is said does not depend on the stamp
+pub with_stamp : (n : Node) (w stamp : ℕ) (m : Message) → IsMessageTo n w m
+    → IsMessageTo n w (record m { stamp = stamp })
+with_stamp n w stamp m is = record {
+  from = is.from;
+  to = is.to;
+  boot = is.boot;
+  echo = is.echo;
+  number = is.number;
+  height = is.height;
+  heard = is.heard;
+  distance = is.distance;
+}
+
+pub unstamped_same : (m : Message) → m.stamp ≡ 0 → unstamped m ≡ m
+unstamped_same m none = ap (λ (s : ℕ). record m { stamp = s }) (sym none)
+
+pub says_unstamped : (w : ℕ) (m : Message) (ls ks : List Link) → m.stamp ≡ 0 → Says w m ls ks → Says w (unstamped m) ls ks
+says_unstamped w m ls ks none says = subst (λ (k : Message). Says w k ls ks) (sym (unstamped_same m none)) says
+
 pub said_same : (w : ℕ) (m : Message) (ls ks : List Link) → Says w m ls ks → (v : ℕ)
     → KnowsSame (link_to ls v) (link_to ks v)
 said_same w m ls ks says v = ⊎_elim
@@ -233,6 +302,7 @@ said_same w m ls ks says v = ⊎_elim
     told : link_to ks v ≡ record (link_to ls v) { said = Some m } → KnowsSame (link_to ls v) (link_to ks v)
     told e = record {
       peer = ap (λ (l : Link). l.peer) e;
+      stamp = ap (λ (l : Link). l.stamp) e;
       heard = ap (λ (l : Link). l.heard) e;
       seen = ap (λ (l : Link). l.seen) e;
       acked = ap (λ (l : Link). l.acked) e;

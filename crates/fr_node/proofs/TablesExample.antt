@@ -9,7 +9,7 @@ use Rattle.fr_node.specs.Tables.{SomeTablesLetThrough}
 use Rattle.fr_node.proofs.Members.{Contains-cases, Contains-head, Contains-tail}
 use Rattle.fr_node.proofs.Running.{meets, met, new_router, taken, takes}
 
--- what router x, in this state, says to w. Distances do not matter here
+-- what router x, in this state, says to w. Distances and stamps do not matter here
 abbrev said : Router → ℕ → ℕ → Message
 said r x w = record {
   from = x;
@@ -20,6 +20,7 @@ said r x w = record {
   height = r.announced r.number;
   heard = r.heard w;
   distance = 0;
+  stamp = 1;
 }
 
 -- the states of router 0 and of router 1, and what they say

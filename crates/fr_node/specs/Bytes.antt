@@ -12,10 +12,11 @@ bytes_8 n = to_be_bytes w64 n
 
 -- the header, which names this form and its version, and then who says it to whom, and the distance
 abbrev pub head_of : Message → List ℕ
-head_of m = bytes_4 0x46524e01 ++ bytes_4 m.from ++ bytes_4 m.to ++ bytes_4 m.distance
+head_of m = bytes_4 0x46524e02 ++ bytes_4 m.from ++ bytes_4 m.to ++ bytes_4 m.distance
 
 abbrev pub bytes_of : Message → List ℕ
 bytes_of m = head_of m ++ bytes_8 m.boot ++ bytes_8 m.echo ++ bytes_8 m.number ++ bytes_8 m.height ++ bytes_8 m.heard
+    ++ bytes_8 m.stamp
 
 -- the numbers of the message have 4 or 8 bytes
 pub record HasWidths (m : Message) : Type 0 where
@@ -27,6 +28,7 @@ pub record HasWidths (m : Message) : Type 0 where
   pub height : m.height < 2 ^ 64
   pub heard : m.heard < 2 ^ 64
   pub distance : m.distance < 2 ^ 32
+  pub stamp : m.stamp < 2 ^ 64
 
 -- no two messages have the same bytes
 abbrev pub OneMessage : Type 0

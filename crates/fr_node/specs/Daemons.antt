@@ -15,7 +15,7 @@ pub record IsFresh (n : Node) : Type 0 where
   pub links : n.links.items ≡ []
   pub announced : (h : ℕ → ℕ) × IsHistory n.own h
 
--- an event: `link_up` or `link_down`, or `hear` of a message that was sent
+-- an event: `link_up` or `link_down`, an `act` that changes something, or `hear` of a message that was sent
 pub record HasEvent (pool : List Message) (d e : Forwarder Node) : Type 0 where
   pub messages : List Message
   pub sent : (m : Message) → Contains messages m → Contains pool m
@@ -35,10 +35,14 @@ KeepsLinks n k = (k.links.items ≡ n.links.items)
     ⊎ ((w : ℕ) × (m : Message) × Says w m n.links.items k.links.items)
     ⊎ ((w : ℕ) × (k.links.items ≡ n.links.items ++ record unknown { neighbour = w } ∷ []))
 
--- `say`, `know` or `written`: they change no ways and no gates
+-- `say`, `know` or `written`, or a call that changes nothing: they change no ways and no gates
 pub record IsCalled (d e : Forwarder Node) : Type 0 where
   pub links : KeepsLinks d.state e.state
-  pub node : e.state ≡ record d.state { links = e.state.links; is_written = e.state.is_written }
+  pub node : e.state ≡ record d.state {
+    links = e.state.links;
+    is_written = e.state.is_written;
+    stamp = e.state.stamp;
+  }
   pub table : e ≡ record d { state = e.state; since = e.state ∷ d.since }
 
 -- what the daemon of router y may do at one step. It writes by what `sends_to` and `lets_in` say

@@ -1,6 +1,6 @@
 -- What a node is at its start, after an event, and when it says a message. The definitions are this project's own.
-use Rattle.std.specs.Prelude.{Bool, IfSome, IsTrue, IsSome, List, MatchOption, Option, Some, [], false, filter, map, true, ℕ}
-use Rattle.std.specs.Prelude.{◌%◌, ◌&&◌, ◌+◌, ◌<◌, ◌^◌, ◌||◌, ◌↔◌, ◌≡◌, ◌≢◌}
+use Rattle.std.specs.Prelude.{Bool, IfSome, IsTrue, IsSome, List, MatchOption, Option, Some, [], false, filter, map, min, true, ℕ}
+use Rattle.std.specs.Prelude.{◌%◌, ◌&&◌, ◌+◌, ◌-◌, ◌<◌, ◌^◌, ◌||◌, ◌↔◌, ◌≡◌, ◌≢◌}
 use Rattle.fr_node.specs.declared.link.Link.{Link}
 use Rattle.fr_node.specs.declared.message.Message.{Message}
 use Rattle.fr_node.specs.declared.node.Node.{Node}
@@ -33,24 +33,30 @@ pub record KnowsLaterStart (n : Node) (m : Message) : Type 0 where
   pub from : IsKnown n.links.items m.from
   pub later : n.own.boot < m.echo
 
--- the message m has been said to w. It is what the node says, and true whatever it had announced
+-- the message without its stamp
+abbrev pub unstamped : Message → Message
+unstamped m = record m { stamp = 0 }
+
+-- the message m has been said to w. It is what the node says, with the next stamp, and true whatever it had announced
 pub record SaysMessage (w : ℕ) (old new : Node) (m : Message) : Type 0 where
   pub content : IsMessageTo old w m
-  pub said : Says w m old.links.items new.links.items
+  pub stamp : m.stamp ≡ min (old.stamp + 1) (2 ^ 64 - 1)
+  pub said : Says w (unstamped m) old.links.items new.links.items
   pub safe : (h : ℕ → ℕ) → IsHistory old.own h → IsSaidBy (router old h) m
 
 -- a message has been said to w, if the link to it is up. Nothing else changes
 pub record SaysTo (w : ℕ) (old new : Node) (said : Option Message) : Type 0 where
   pub up : IsSome said ↔ IsTrue (link_to old.links.items w).up
   pub message : IfSome said (SaysMessage w old new)
-  pub none : MatchOption said (new ≡ old) (λ _. new ≡ record old { links = new.links })
+  pub none : MatchOption said (new ≡ old) (λ m. new ≡ record old { links = new.links; stamp = m.stamp })
   pub step : Steps [] old new
 
--- whether the message for w is not the last one that was said to it. If the link is down, there is no news
+-- whether the message for w differs from the last one that was said to it, by more than its stamp. If the link is down,
+-- there is no news
 pub record IsNews (w : ℕ) (n : Node) (news : Bool) : Type 0 where
   pub down : ¬ IsTrue (link_to n.links.items w).up → ¬ IsTrue news
   pub up : IsTrue (link_to n.links.items w).up
-      → (m : Message) × IsMessageTo n w m × (IsTrue news ↔ ((link_to n.links.items w).said ≢ Some m))
+      → (m : Message) × IsMessageTo n w m × (IsTrue news ↔ ((link_to n.links.items w).said ≢ Some (unstamped m)))
 
 -- packets that come over the link are let in: it is up, and the node is a gateway, or the neighbour has acknowledged
 -- enough

@@ -1,7 +1,8 @@
 -- How often a router announces the same height beside its neighbours: only as often as it goes below that height, or
--- hears an announcement below it. The definitions and laws are this project's own.
+-- hears an announcement that is low enough for it. Any test may say whether height h of a neighbour w is low enough for
+-- height e of the router. The definitions and laws are this project's own.
 use Rattle.std.specs.Prelude.{Bool, List, [], ◌∷◌, if◌then◌else◌, not, true, ℕ, ◌+◌, ◌<◌, ◌≡◌, ◌≤◌, ◌⊎◌, ◌==◌}
-use Rattle.std.specs.Prelude.{◌&&◌, nat_lt}
+use Rattle.std.specs.Prelude.{◌&&◌, false, nat_lt}
 use Rattle.std.specs.List.{Contains, list_any}
 use Rattle.fr_node.specs.declared.link.Link.{Link}
 use Rattle.fr_node.specs.declared.message.Message.{Message}
@@ -9,31 +10,35 @@ use Rattle.fr_node.specs.declared.node.Node.{Node}
 use Rattle.fr_node.specs.Histories.{IsHistory}
 use Rattle.fr_node.specs.Links.{link_to}
 use Rattle.fr_node.specs.Nodes.{Steps, router}
-use Rattle.fr_node.specs.Paths.{is_low}
+use Rattle.fr_node.specs.Paths.{is_below}
 use Rattle.fr_node.specs.Policies.{Acts}
-use Rattle.fr_node.specs.Routers.{GoesOn, IsBelow, IsRun, IsStart, Net, Router, last}
+use Rattle.fr_node.specs.Routers.{GoesOn, IsRun, IsStart, Net, Router, last}
 
--- router x has announced a greater height, and none of these neighbours was known to be lower
-pub record RisesBeside (x : ℕ) (ws : List ℕ) (r t : Router) : Type 0 where
+-- by what a router, in this state, has heard of w, the height of w is low enough for height e
+abbrev pub knows_low : ((e w h : ℕ) → Bool) → (e w : ℕ) → Router → Bool
+knows_low low e w r = nat_lt 0 (r.heard w) && low e w (r.seen w)
+
+-- the router has announced a greater height, and none of these neighbours was known to be low enough for its last one
+pub record RisesBeside (low : (e w h : ℕ) → Bool) (ws : List ℕ) (r t : Router) : Type 0 where
   pub number : t.number ≡ r.number + 1
   pub greater : r.announced r.number < t.announced t.number
-  pub no_lower : (w : ℕ) → Contains ws w → 0 < t.heard w → ¬ IsBelow (t.seen w) w (r.announced r.number) x
+  pub none_low : (w : ℕ) → Contains ws w → knows_low low (r.announced r.number) w t ≡ false
 
--- router x has announced a lower height, and one of these neighbours is known to be lower still
-pub record FallsBeside (x : ℕ) (ws : List ℕ) (r t : Router) : Type 0 where
+-- the router has announced a lower height, and one of these neighbours is known to be low enough for it
+pub record FallsBeside (low : (e w h : ℕ) → Bool) (ws : List ℕ) (r t : Router) : Type 0 where
   pub number : t.number ≡ r.number + 1
   pub lower : t.announced t.number < r.announced r.number
-  pub stays : (w : ℕ) × Contains ws w × (is_low (t.announced t.number) x w t ≡ true)
+  pub one_low : (w : ℕ) × Contains ws w × (knows_low low (t.announced t.number) w t ≡ true)
 
--- router x has announced nothing, or such a height
-abbrev pub ActsBeside : ℕ → List ℕ → Router → Router → Type 0
-ActsBeside x ws r t = (t.number ≡ r.number) ⊎ RisesBeside x ws r t ⊎ FallsBeside x ws r t
+-- the router has announced nothing, or such a height
+abbrev pub ActsBeside : ((e w h : ℕ) → Bool) → List ℕ → Router → Router → Type 0
+ActsBeside low ws r t = (t.number ≡ r.number) ⊎ RisesBeside low ws r t ⊎ FallsBeside low ws r t
 
 -- in these networks, which follow one another, router x does not restart, and acts so
-abbrev pub KeepsLinks : ℕ → List ℕ → Net → List Net → Type 0
-KeepsLinks x ws s [] = Unit {0}
-KeepsLinks x ws s (t ∷ ts) = ((t.router x).boot ≡ (s.router x).boot) × ActsBeside x ws (s.router x) (t.router x)
-    × KeepsLinks x ws t ts
+abbrev pub KeepsLinks : ((e w h : ℕ) → Bool) → ℕ → List ℕ → Net → List Net → Type 0
+KeepsLinks low x ws s [] = Unit {0}
+KeepsLinks low x ws s (t ∷ ts) = ((t.router x).boot ≡ (s.router x).boot)
+    × ActsBeside low ws (s.router x) (t.router x) × KeepsLinks low x ws t ts
 
 -- the router has announced height e, or one below it
 abbrev pub announces : ℕ → Router → Router → Bool
@@ -42,33 +47,33 @@ announces e r t = not (t.number == r.number) && t.announced t.number == e
 abbrev pub announces_below : ℕ → Router → Router → Bool
 announces_below e r t = not (t.number == r.number) && nat_lt (t.announced t.number) e
 
--- router x has heard a new announcement of one of these neighbours, by which it is below x at height e
-abbrev pub hears_low : (e x : ℕ) → List ℕ → Router → Router → Bool
-hears_low e x ws r t = list_any
-    (λ w. not (t.peer w == r.peer w && t.heard w == r.heard w) && is_low e x w t) ws
+-- the router has heard a new announcement of one of these neighbours, which is low enough for height e
+abbrev pub hears_low : ((e w h : ℕ) → Bool) → ℕ → List ℕ → Router → Router → Bool
+hears_low low e ws r t = list_any
+    (λ w. not (t.peer w == r.peer w && t.heard w == r.heard w) && knows_low low e w t) ws
 
 -- in how many steps this is so of router x
 abbrev pub steps_with : (Router → Router → Bool) → ℕ → Net → List Net → ℕ
 steps_with p x s [] = 0
 steps_with p x s (t ∷ ts) = (if p (s.router x) (t.router x) then 1 else 0) + steps_with p x t ts
 
--- a router announces the same height at most once, and again for each time that it announces a lower one, or hears a
--- new announcement below that height
+-- by any test, a router announces the same height at most once, and again for each time that it announces a lower one,
+-- or hears a new announcement that is low enough for that height
 abbrev pub SameHeightIsBounded : Type 0
-SameHeightIsBounded = (s : Net) (past future : List Net) (x e : ℕ) (ws : List ℕ) → IsStart s → IsRun s past
-    → IsRun (last s past) future → KeepsLinks x ws (last s past) future
+SameHeightIsBounded = (s : Net) (past future : List Net) (x e : ℕ) (low : (e w h : ℕ) → Bool) (ws : List ℕ)
+    → IsStart s → IsRun s past → IsRun (last s past) future → KeepsLinks low x ws (last s past) future
     → steps_with (announces e) x (last s past) future
     ≤ 1 + steps_with (announces_below e) x (last s past) future
-    + steps_with (hears_low e x ws) x (last s past) future
+    + steps_with (hears_low low e ws) x (last s past) future
 
 -- this happens: a router announces a height twice, since it hears one announcement below it between. It announces no
 -- lower one, so the bound is reached
 abbrev pub SomeHeightComesBack : Type 0
 SomeHeightComesBack = (s : Net) × (past future : List Net) × (x e : ℕ) × (ws : List ℕ) × IsStart s × IsRun s past
-    × IsRun (last s past) future × KeepsLinks x ws (last s past) future
+    × IsRun (last s past) future × KeepsLinks (is_below x) x ws (last s past) future
     × (steps_with (announces e) x (last s past) future ≡ 2)
     × (steps_with (announces_below e) x (last s past) future ≡ 0)
-    × (steps_with (hears_low e x ws) x (last s past) future ≡ 1)
+    × (steps_with (hears_low (is_below x) e ws) x (last s past) future ≡ 1)
 
 -- the links of the node that are up lead to these neighbours, each listed once
 pub record AreUp (n : Node) (ws : List ℕ) : Type 0 where
@@ -76,11 +81,11 @@ pub record AreUp (n : Node) (ws : List ℕ) : Type 0 where
   pub listed : (l : Link) → Contains n.links.items l → l.up ≡ true → Contains ws l.neighbour
       × (link_to n.links.items l.neighbour ≡ l)
 
--- what a call of a node ensures makes it such a step beside the neighbours whose links are up after it, whatever its
--- policy
+-- what a call of a node ensures makes it such a step, by the test whether a neighbour is below it, beside the
+-- neighbours whose links are up after it, whatever its policy
 abbrev pub CallsActBeside : Type 0
 CallsActBeside = (messages : List Message) (old new : Node) (ws : List ℕ) → AreUp new ws → Steps messages old new
     → Acts (record old { links = new.links }) new.own ⊎ (new.own ≡ old.own)
     → (h : ℕ → ℕ) → IsHistory old.own h
     → (k : ℕ → ℕ) × IsHistory new.own k × GoesOn messages old.own.me (router old h) (router new k)
-    × ActsBeside old.own.me ws (router old h) (router new k)
+    × ActsBeside (is_below old.own.me) ws (router old h) (router new k)

@@ -14,4 +14,5 @@ pub mod Paths  -- how many heights routers on a path announce, whatever else hap
 pub mod Lowerings  -- the same of routers that may lower their heights
 pub mod Heights  -- how often a router announces the same height
 pub mod Ceilings  -- where packets end below a ceiling
+pub mod Repeats  -- messages that are heard again
 pub mod Rests  -- how many heights routers below a ceiling announce together

@@ -8,7 +8,17 @@ use Rattle.fr_node.specs.declared.own.Own.{Own}
 
 -- what is known of a router that is no neighbour: nothing
 abbrev pub unknown : Link
-unknown = record { neighbour = 0; up = false; peer = 0; heard = 0; seen = 0; distance = CUT_OFF; acked = 0; said = None }
+unknown = record {
+  neighbour = 0;
+  up = false;
+  peer = 0;
+  stamp = 0;
+  heard = 0;
+  seen = 0;
+  distance = CUT_OFF;
+  acked = 0;
+  said = None;
+}
 
 abbrev pub leads_to : ℕ → Link → Bool
 leads_to w l = l.neighbour == w
@@ -36,33 +46,44 @@ is_way own l = l.up && is_lower own l
 abbrev pub has_answered : Own → Link → Bool
 has_answered own l = nat_le own.used_since l.acked
 
--- router `own` has heard the message m, and the link l has become k. A message of an earlier start of the neighbour is
--- ignored. A greater start is taken, and what was known is forgotten. If the message is for the present start of the
--- router, then its announcement is taken unless a later one was heard, and its acknowledgement if it is greater
+-- the message is of a greater start than this one, or of this start with a greater stamp
+abbrev pub IsNewer : (boot stamp : ℕ) → Message → Type 0
+IsNewer boot stamp m = (boot < m.boot) ⊎ ((boot ≡ m.boot) × (stamp < m.stamp))
+
+-- router `own` with these links takes the message m: it is for this router and from a known neighbour, and newer than
+-- all that were taken of this neighbour
+pub record IsTaken (own : Own) (m : Message) (ls : List Link) : Type 0 where
+  pub to : m.to ≡ own.me
+  pub from : IsKnown ls m.from
+  pub newer : IsNewer (link_to ls m.from).peer (link_to ls m.from).stamp m
+
+-- router `own` has taken the message m, and the link l has become k. Its start and its stamp are noted. If the start is
+-- greater, then what was known is forgotten. If the message is for the present start of the router, then its
+-- announcement is taken unless a later one was heard, and its acknowledgement if it is greater
 pub record IsHeard (own : Own) (m : Message) (l k : Link) : Type 0 where
   pub neighbour : k.neighbour ≡ l.neighbour
   pub up : k.up ≡ l.up
   pub said : k.said ≡ l.said
-  pub ignored : m.boot < l.peer → k ≡ l
-  pub start : l.peer ≤ m.boot → k.peer ≡ m.boot
-  pub informed : l.peer ≤ m.boot → m.echo ≡ own.boot → (l.peer ≡ m.boot → l.heard ≤ m.number)
+  pub start : k.peer ≡ m.boot
+  pub stamp : k.stamp ≡ m.stamp
+  pub informed : m.echo ≡ own.boot → (l.peer ≡ m.boot → l.heard ≤ m.number)
       → (k.heard ≡ m.number) × (k.seen ≡ m.height) × (k.distance ≡ m.distance)
   pub uninformed : l.peer ≡ m.boot → (m.echo ≢ own.boot) ⊎ (m.number < l.heard)
       → (k.heard ≡ l.heard) × (k.seen ≡ l.seen) × (k.distance ≡ l.distance)
   pub forgotten : l.peer < m.boot → m.echo ≢ own.boot → (k.heard ≡ 0) × (k.distance ≡ CUT_OFF)
-  pub answered : l.peer ≤ m.boot → m.echo ≡ own.boot → m.heard ≤ own.number → (l.peer ≡ m.boot → l.acked < m.heard)
+  pub answered : m.echo ≡ own.boot → m.heard ≤ own.number → (l.peer ≡ m.boot → l.acked < m.heard)
       → k.acked ≡ m.heard
   pub unanswered : l.peer ≡ m.boot → (m.echo ≢ own.boot) ⊎ (own.number < m.heard) ⊎ (m.heard ≤ l.acked)
       → k.acked ≡ l.acked
   pub unacked : l.peer < m.boot → (m.echo ≢ own.boot) ⊎ (own.number < m.heard) → k.acked ≡ 0
 
--- router `own` has heard the message m, and its links ls have become ks. Only a message for this router from a
--- neighbour changes a link, and only the one to this neighbour
+-- router `own` has heard the message m, and its links ls have become ks. Only a message that it takes changes a link,
+-- and only the one to the sender
 pub record Hears (own : Own) (m : Message) (ls ks : List Link) : Type 0 where
   pub neighbours : map (λ l. l.neighbour) ks ≡ map (λ l. l.neighbour) ls
   pub others : (w : ℕ) → w ≢ m.from → link_to ks w ≡ link_to ls w
-  pub heard : m.to ≡ own.me → IsKnown ls m.from → IsHeard own m (link_to ls m.from) (link_to ks m.from)
-  pub stranger : (m.to ≢ own.me) ⊎ (¬ IsKnown ls m.from) → ks ≡ ls
+  pub taken : IsTaken own m ls → IsHeard own m (link_to ls m.from) (link_to ks m.from)
+  pub ignored : ¬ IsTaken own m ls → ks ≡ ls
 
 -- the link to w is up now, or down, if w is known. All else that is known stays
 pub record SetsUp (w : ℕ) (up : Bool) (ls ks : List Link) : Type 0 where
@@ -71,7 +92,7 @@ pub record SetsUp (w : ℕ) (up : Bool) (ls ks : List Link) : Type 0 where
   pub itself : IsKnown ls w → link_to ks w ≡ record (link_to ls w) { up = up }
   pub stranger : ¬ IsKnown ls w → ks ≡ ls
 
--- the message m has been said to w. All else that is known stays
+-- the message m has been said to w, and is kept. All else that is known stays
 pub record Says (w : ℕ) (m : Message) (ls ks : List Link) : Type 0 where
   pub neighbours : map (λ l. l.neighbour) ks ≡ map (λ l. l.neighbour) ls
   pub others : (v : ℕ) → v ≢ w → link_to ks v ≡ link_to ls v

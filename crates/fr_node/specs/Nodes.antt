@@ -36,7 +36,7 @@ lets_in n w = (link_to n.links.items w).up && (n.gateway || has_answered n.own (
 abbrev pub sends_to : Node → ℕ → Bool
 sends_to n w = not n.gateway && is_way n.own (link_to n.links.items w)
 
--- what the node says to w
+-- what the node says to w, apart from the stamp
 pub record IsMessageTo (n : Node) (w : ℕ) (m : Message) : Type 0 where
   pub from : m.from ≡ n.own.me
   pub to : m.to ≡ w

@@ -13,9 +13,13 @@ use Rattle.fr_node.specs.Nodes.{Steps, router}
 use Rattle.fr_node.specs.Policies.{Acts}
 use Rattle.fr_node.specs.Routers.{GoesOn, IsBelow, IsRun, IsStart, Net, Router, last}
 
+-- height h of router w is below router x at height e
+abbrev pub is_below : (x e w h : ℕ) → Bool
+is_below x e w h = nat_lt h e || (h == e && nat_lt w x)
+
 -- by what router x, in this state, has heard of w, w is below x at height e
 abbrev pub is_low : (e x w : ℕ) → Router → Bool
-is_low e x w r = nat_lt 0 (r.heard w) && (nat_lt (r.seen w) e || (r.seen w == e && nat_lt w x))
+is_low e x w r = nat_lt 0 (r.heard w) && is_below x e w (r.seen w)
 
 -- router x, in this state, has heard w, by which w is not lower. So x may announce a height before it hears more of w
 abbrev pub may_rise : (x w : ℕ) → Router → Bool

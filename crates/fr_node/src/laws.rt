@@ -8,7 +8,8 @@ ghost use Rattle.fr_node.specs.Heights.{CallsActBeside, SameHeightIsBounded, Som
 ghost use Rattle.fr_node.specs.Laws.{NeverALoop, PacketsArrive, SomeLinkIsUsed};
 ghost use Rattle.fr_node.specs.Lowerings.{CallsKeepLinksOrFall, LinkBoundsWithFalls, PathBoundsWithFalls};
 ghost use Rattle.fr_node.specs.Lowerings.{SomeRouterFalls};
-ghost use Rattle.fr_node.specs.Rests.{AnnouncementsEnd, CallsStayBelow, SomeRoutersAnnounce};
+ghost use Rattle.fr_node.specs.Repeats.{RepeatsAreIgnored};
+ghost use Rattle.fr_node.specs.Rests.{AnnouncementsEnd, CallsStayBelow, SomeRoutersAnnounce, TestsLeadDown};
 ghost use Rattle.fr_node.specs.Paths.{BoundIsReached, CallsKeepLinks, DownPathIsQuiet, LinkBoundsAnnouncements};
 ghost use Rattle.fr_node.specs.Paths.{PathBoundsAnnouncements, UnheardAreAnnouncements};
 
@@ -42,12 +43,16 @@ pub fn ways_law()
 /// these premises.
 ///
 /// Routers that stay at or below a ceiling come to rest, also those that are cut off: while no link goes up or down and
-/// no router restarts, they announce a bounded number of heights together, whatever happens to messages. In some run
-/// they announce four. A call of a `Node` with `Rise::Ceiling` that starts at or below the ceiling stays there.
+/// no router restarts, they announce a bounded number of heights together, whatever happens to messages. Each of them
+/// acts as in `heights_law`, and may do so by a test of its own, if only heights below its own are low enough. Such
+/// tests are whether a neighbour is lower, and whether its height and the cost of the link to it are together at most
+/// the height. In some run routers announce four heights. A call of a `Node` with `Rise::Ceiling` that starts at or
+/// below the ceiling stays there.
 pub fn ceiling_law()
     ensures arrive { JoinedPacketsArrive }
     ensures joined { SomeRouterIsJoined }
     ensures rest { AnnouncementsEnd }
+    ensures tests { TestsLeadDown }
     ensures possible { SomeRoutersAnnounce }
     ensures calls { CallsStayBelow }
 {}
@@ -76,17 +81,21 @@ pub fn lowering_law()
     ensures calls { CallsKeepLinksOrFall }
 {}
 
-/// A router that rises only beside neighbours of which none is known to be lower, and falls only beside one that is,
-/// announces the same height at most once, and again for each time that it goes below that height or hears an
-/// announcement below it. In some run a height comes back as often as that. Each call of a `Node` is a step of this
-/// law, whatever its policy.
+/// A router that rises only if no neighbour is known to be low enough for its height, and falls to a height only if one
+/// is known to be low enough for that, announces the same height at most once, and again for each time that it goes
+/// below that height or hears an announcement that is low enough for it. Any test may say what is low enough. In some
+/// run a height comes back as often as the law allows. Each call of a `Node` is a step of this law, whatever its
+/// policy, by the test whether a neighbour is lower.
 pub fn heights_law()
     ensures again { SameHeightIsBounded }
     ensures possible { SomeHeightComesBack }
     ensures calls { CallsActBeside }
 {}
 
-/// No two messages have the same bytes. So `Message::read` returns the message that `Message::write` wrote.
+/// No two messages have the same bytes. So `Message::read` returns the message that `Message::write` wrote. Once a node
+/// has heard a message that is for it and from a known neighbour, it never takes this message again, nor one that the
+/// neighbour said before it. By the contract of `hear` such a message changes nothing at all.
 pub fn messages_law()
     ensures once { OneMessage }
+    ensures repeats { RepeatsAreIgnored }
 {}

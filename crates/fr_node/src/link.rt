@@ -2,7 +2,7 @@
 
 ghost use Rattle.std.specs.Prelude.{◌≡◌, ◌≢◌, ◌<◌, ◌≤◌, ◌⊎◌, ◌↔◌, IsTrue, false};
 ghost use Rattle.fr_node.specs.Distances.{way_of};
-ghost use Rattle.fr_node.specs.Links.{IsHeard, has_answered, is_lower, is_way};
+ghost use Rattle.fr_node.specs.Links.{IsHeard, IsNewer, has_answered, is_lower, is_way};
 
 use crate::message::{CUT_OFF, Message};
 use crate::own::Own;
@@ -15,6 +15,8 @@ pub(crate) struct Link {
     pub(crate) up: bool,
     /// The greatest start of the neighbour that is known. 0: none.
     pub(crate) peer: u64,
+    /// The greatest stamp of a message that was taken of that start. 0: none.
+    pub(crate) stamp: u64,
     /// The greatest number that was heard of that start. 0: none.
     pub(crate) heard: u64,
     /// The height that came with it.
@@ -23,7 +25,7 @@ pub(crate) struct Link {
     pub(crate) distance: u32,
     /// The number of the router's announcements that the neighbour has acknowledged. 0: none.
     pub(crate) acked: u64,
-    /// The last message that was said to the neighbour.
+    /// The last message that was said to the neighbour, without its stamp.
     pub(crate) said: Option<Message>,
 }
 
@@ -34,6 +36,7 @@ impl Link {
           neighbour = neighbour;
           up = false;
           peer = 0;
+          stamp = 0;
           heard = 0;
           seen = 0;
           distance = CUT_OFF;
@@ -45,6 +48,7 @@ impl Link {
             neighbour,
             up: false,
             peer: 0,
+            stamp: 0,
             heard: 0,
             seen: 0,
             distance: CUT_OFF,
@@ -53,15 +57,19 @@ impl Link {
         }
     }
 
-    /// After a message from this neighbour. What it says of an earlier start, of its own or of the router's, is
-    /// ignored.
+    /// Whether a message from this neighbour is newer than all that were taken.
+    pub(crate) fn takes(&self, message: &Message) -> bool
+        ensures { IsTrue result ↔ IsNewer self.now.peer self.now.stamp message.now }
+    {
+        message.boot > self.peer || message.boot == self.peer && message.stamp > self.stamp
+    }
+
+    /// After a newer message from this neighbour. What it says to an earlier start of the router is ignored.
     pub(crate) fn after_message(self, message: &Message, own: &Own) -> Link
+        requires { IsNewer self.peer self.stamp message.now }
         ensures { IsHeard own.now message.now self result }
     {
-        if message.boot < self.peer {
-            return self;
-        }
-        let known = self.for_start(message.boot);
+        let known = self.for_start_of(message);
         if message.echo == own.boot {
             known
                 .with_acknowledgement(message, own)
@@ -71,17 +79,25 @@ impl Link {
         }
     }
 
-    /// With what is known of this start of the neighbour: nothing, if it is greater.
-    fn for_start(self, boot: u64) -> Link
-        ensures same { boot ≡ self.peer → result ≡ self }
-        ensures other { boot ≢ self.peer
-            → result ≡ record self { peer = boot; heard = 0; seen = 0; distance = CUT_OFF; acked = 0 } }
+    /// With the message's stamp, and with what is known of its start: nothing, if it is greater.
+    fn for_start_of(self, message: &Message) -> Link
+        ensures same { message.now.boot ≡ self.peer → result ≡ record self { stamp = message.now.stamp } }
+        ensures other { message.now.boot ≢ self.peer → result ≡ record self {
+          peer = message.now.boot;
+          stamp = message.now.stamp;
+          heard = 0;
+          seen = 0;
+          distance = CUT_OFF;
+          acked = 0;
+        } }
     {
-        if boot == self.peer {
-            return self;
+        let stamp = message.stamp;
+        if message.boot == self.peer {
+            return Link { stamp, ..self };
         }
         Link {
-            peer: boot,
+            peer: message.boot,
+            stamp,
             heard: 0,
             seen: 0,
             distance: CUT_OFF,
@@ -147,7 +163,7 @@ impl Link {
         self.acked >= own.used_since
     }
 
-    /// Whether this was the last message that was said to the neighbour.
+    /// Whether this message without a stamp was the last one that was said to the neighbour.
     pub(crate) fn was_last_said(&self, message: &Message) -> bool
         ensures { IsTrue result ↔ (self.now.said ≡ Some message.now) }
     {

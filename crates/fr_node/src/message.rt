@@ -7,7 +7,7 @@ ghost use Rattle.fr_node.specs.Bytes.{bytes_4, bytes_8, bytes_of, head_of};
 pub const CUT_OFF: u32 = u32::MAX;
 
 /// How many bytes a message has.
-pub const MESSAGE_LENGTH: usize = 56;
+pub const MESSAGE_LENGTH: usize = 64;
 
 /// What a router says to a neighbour. It may be lost, delayed, repeated and overtaken.
 #[derive(Clone, Copy, Debug, PartialEq, Eq)]
@@ -29,14 +29,16 @@ pub struct Message {
     /// How many links a packet crosses from the router to a gateway, by what it has heard.
     /// [`CUT_OFF`](crate::CUT_OFF) if it has no way.
     pub distance: u32,
+    /// How many messages the router has said at this start, to all neighbours, with this one.
+    pub stamp: u64,
 }
 
 /// The first four bytes of each message: the letters `FRN`, and the version of the form.
-const HEADER: u32 = 0x4652_4e01;
+const HEADER: u32 = 0x4652_4e02;
 
 impl Message {
     /// The message as bytes: the header, `from`, `to` and `distance` in 4 bytes each; then `boot`, `echo`, `number`,
-    /// `height` and `heard` in 8 bytes each. The highest byte of each comes first. O(1).
+    /// `height`, `heard` and `stamp` in 8 bytes each. The highest byte of each comes first. O(1).
     pub fn write(&self) -> [u8; MESSAGE_LENGTH]
         ensures { result ≡ bytes_of self.now }
     {
@@ -68,6 +70,7 @@ impl Message {
         write_u64(bytes, 32, self.number);
         write_u64(bytes, 40, self.height);
         write_u64(bytes, 48, self.heard);
+        write_u64(bytes, 56, self.stamp);
     }
 
     /// Reads a message. Returns `None` if the bytes are not a message, because of their number or their header. O(1).
@@ -86,6 +89,7 @@ impl Message {
             number: read_u64(bytes, 32),
             height: read_u64(bytes, 40),
             heard: read_u64(bytes, 48),
+            stamp: read_u64(bytes, 56),
         })
     }
 }

@@ -5,7 +5,7 @@ ghost use Rattle.std.specs.Prelude.{IsTrue, IfErr, IfOk, IsSome, IfSome, IfNone,
 ghost use Rattle.std.specs.List.{list_all, list_any, position};
 ghost use Rattle.fr_node.specs.Histories.{Announces};
 ghost use Rattle.fr_node.specs.declared.fault.NodeFault.TheVariants.{Itself, LaterStart, Memory, Outdated, TooHigh, Unwritten};
-ghost use Rattle.fr_node.specs.Links.{Hears, IsKnown, SetsUp, has_answered, is_lower, is_way, leads_to, link_to, unknown};
+ghost use Rattle.fr_node.specs.Links.{Hears, IsKnown, IsTaken, SetsUp, has_answered, is_lower, is_way, leads_to, link_to, unknown};
 ghost use Rattle.fr_node.specs.Distances.{AreWays, HasNoWay, IsDistance, IsNearest, ways_of};
 ghost use Rattle.fr_node.specs.Policies.{Acts, Announcement, FallsTo, IsAboveAll, IsBelowCeiling, IsBestOrNone, MaySettle, RisesTo, better_of, is_higher, is_up};
 ghost use Rattle.fr_node.specs.Nodes.{IsMessageTo, Steps, lets_in, sends_to};
@@ -27,9 +27,10 @@ pub const START_HEIGHTS: u64 = 1 << 63;
 
 /// One router, for one destination.
 ///
-/// After an event (`link_up`, `link_down`, `hear`) it says nothing until the caller has said that the ways and gates are
-/// written to its table. A table that was written before the last event cannot be confirmed: each event gives the ways
-/// and gates another number, their [`state`](Node::state).
+/// After an event it says nothing until the caller has said that the ways and gates are written to its table. `link_up`
+/// and `link_down` are events, `hear` of a message that is taken, and `act` if it changes something. A table that was
+/// written before the last event cannot be confirmed: each event gives the ways and gates another number, their
+/// [`state`](Node::state).
 #[derive(Drop)]
 pub struct Node {
     own: Own,
@@ -40,6 +41,8 @@ pub struct Node {
     events: u64,
     /// Whether the ways and gates after the last event are written.
     is_written: bool,
+    /// The stamp of the last message that was said. 0: none.
+    stamp: u64,
 }
 
 impl Node {
@@ -69,6 +72,7 @@ impl Node {
             links: Vec::new(alloc),
             events: 0,
             is_written: true,
+            stamp: 0,
         })
     }
 
@@ -89,6 +93,7 @@ impl Node {
             links: Vec::new(alloc),
             events: 0,
             is_written: true,
+            stamp: 0,
         }
     }
 
@@ -124,7 +129,7 @@ impl Node {
         ensures after { IsAfterEvent [] self.old self.new }
     {
         self.set_link_up(neighbour, true);
-        self.act();
+        self.finish_event();
     }
 
     /// Call this when the link to a neighbour goes down. The neighbour is no longer a way, and its gate closes. The node
@@ -134,12 +139,34 @@ impl Node {
         ensures after { IsAfterEvent [] self.old self.new }
     {
         self.set_link_up(neighbour, false);
-        self.act();
+        self.finish_event();
     }
 
-    /// Hears a message. It changes what is known of its sender, if it is for this router and from a known neighbour, and
-    /// not from an earlier start of either. Then the height may change by the policy, and the ways and gates have to be
-    /// written. It takes no memory. O(d).
+    /// Lets the policy change the height once more. Returns whether it has changed what this router knows of itself. Then
+    /// the ways and gates have to be written, as after each event. If not, nothing has changed, and this was no event: the
+    /// policy rests until the next one. Each event takes one step of the policy, so call this after it until it returns
+    /// `false`. It does not allocate. O(d) for d known neighbours.
+    pub fn act(&mut self) -> bool
+        ensures policy { Acts self.old self.new.own }
+        ensures links { self.new.links ≡ self.old.links }
+        ensures changed { IsTrue result ↔ (self.new.own ≢ self.old.own) }
+        ensures after { IsTrue result → IsAfterEvent [] self.old self.new }
+        ensures kept { ¬ IsTrue result → self.new ≡ self.old }
+    {
+        let before = self.own;
+        self.apply_policy();
+        if self.own == before {
+            return false;
+        }
+        self.count_event();
+        true
+    }
+
+    /// Hears a message, and takes it if it is for this router, from a known neighbour, and newer than all that were taken
+    /// from it: of a greater start, or of the same start with a greater stamp. Then the router knows more of the sender,
+    /// unless the message is for an earlier start of this router. The height may change by the policy, and the ways and
+    /// gates have to be written. A message that is not taken changes nothing, and is no event: a repeated one, for example,
+    /// or one that was overtaken. It takes no memory. O(d).
     ///
     /// Fails with `LaterStart` if the message is for this router and from a known neighbour, and this neighbour knows a
     /// start of this router with a greater number. Then the number of this start was not greater than all before it, or
@@ -147,7 +174,9 @@ impl Node {
     /// such neighbours.
     pub fn hear(&mut self, message: &Message) -> Result<(), NodeFault>
         ensures heard { OnOk result (Hears self.old.own message.now self.old.links.items self.new.links.items) }
-        ensures after { OnOk result (IsAfterEvent (message.now ∷ []) self.old self.new) }
+        ensures after { OnOk result (IsTaken self.old.own message.now self.old.links.items
+            → IsAfterEvent (message.now ∷ []) self.old self.new) }
+        ensures ignored { ¬ IsTaken self.old.own message.now self.old.links.items → self.new ≡ self.old }
         ensures kept { OnErr result (self.new ≡ self.old) }
         ensures neighbours { map (λ l. l.neighbour) self.new.links.items ≡ map (λ l. l.neighbour) self.old.links.items }
         ensures fault { MatchResult result (λ _. ¬ KnowsLaterStart self.old message.now)
@@ -156,8 +185,9 @@ impl Node {
         if self.is_outdated_by(message) {
             return Err(NodeFault::LaterStart);
         }
-        self.take_message(message);
-        self.act();
+        if self.take_message(message) {
+            self.finish_event();
+        }
         Ok(())
     }
 
@@ -194,7 +224,8 @@ impl Node {
     }
 
     /// The message for a neighbour now. `None` if the neighbour is not known, or the link to it is down. It may be said as
-    /// often as the caller likes. O(d).
+    /// often as the caller likes, and has another stamp each time: the neighbour takes it after all that were said before,
+    /// and ignores it once it has taken a later one. O(d).
     ///
     /// Fails with `Unwritten` if the ways and gates after the last event are not written. Then nothing has changed.
     pub fn say(&mut self, neighbour: u32) -> Result<Option<Message>, NodeFault>
@@ -221,11 +252,15 @@ impl Node {
         }
         let message = self.message_at(i);
         self.links[i].said = Some(message);
-        Some(message)
+        self.stamp = self.stamp.saturating_add(1);
+        Some(Message {
+            stamp: self.stamp,
+            ..message
+        })
     }
 
-    /// Whether there is news for a neighbour: its link is up, and the message for it is not the last one that was said.
-    /// O(d).
+    /// Whether there is news for a neighbour: its link is up, and the message for it differs from the last one that was
+    /// said, by more than its stamp. O(d).
     ///
     /// Fails with `Unwritten` if the ways and gates after the last event are not written.
     pub fn has_news(&self, neighbour: u32) -> Result<bool, NodeFault>
@@ -239,7 +274,7 @@ impl Node {
         Ok(self.has_other_message(neighbour))
     }
 
-    /// Whether the message for a neighbour at a link that is up is not the last one that was said.
+    /// Whether the message for a neighbour at a link that is up differs from the last one that was said.
     fn has_other_message(&self, neighbour: u32) -> bool
         ensures { IsNews neighbour self.now result }
     {
@@ -364,7 +399,8 @@ impl Node {
     /// The message for the neighbour at an index.
     fn message_at(&self, i: usize) -> Message
         requires { i < vec_len self.now.links }
-        ensures { (w : ℕ) → position (leads_to w) self.now.links.items ≡ Some i → IsMessageTo self.now w result }
+        ensures content { (w : ℕ) → position (leads_to w) self.now.links.items ≡ Some i → IsMessageTo self.now w result }
+        ensures stamp { result.stamp ≡ 0 }
     {
         let link = &self.links[i];
         Message {
@@ -376,6 +412,7 @@ impl Node {
             height: self.own.announced,
             heard: link.heard,
             distance: self.distance(),
+            stamp: 0,
         }
     }
 
@@ -388,16 +425,25 @@ impl Node {
         }
     }
 
-    fn take_message(&mut self, message: &Message)
+    /// Takes a message if it is to be taken, and returns whether it is.
+    fn take_message(&mut self, message: &Message) -> bool
         ensures same { self.new ≡ record self.old { links = self.new.links } }
         ensures heard { Hears self.old.own message.now self.old.links.items self.new.links.items }
+        ensures taken { IsTrue result ↔ IsTaken self.old.own message.now self.old.links.items }
+        ensures kept { ¬ IsTrue result → self.new ≡ self.old }
     {
         if message.to != self.own.me {
-            return;
+            return false;
         }
-        if let Some(i) = self.index_of(message.from) {
-            self.links[i] = self.links[i].after_message(message, &self.own);
+        let Some(i) = self.index_of(message.from) else {
+            return false;
+        };
+        let link = self.links[i];
+        if !link.takes(message) {
+            return false;
         }
+        self.links[i] = link.after_message(message, &self.own);
+        true
     }
 
     /// Whether the sender of a message knows a later start of this router.
@@ -410,7 +456,7 @@ impl Node {
     }
 
     /// Changes the height by the policy. Then the ways and gates have to be written.
-    fn act(&mut self)
+    fn finish_event(&mut self)
         ensures same { self.new ≡ record self.old {
           own = self.new.own;
           events = (self.old.events + 1) % 2 ^ 64;
@@ -420,6 +466,13 @@ impl Node {
         ensures policy { Acts self.old self.new.own }
     {
         self.apply_policy();
+        self.count_event();
+    }
+
+    /// After this the ways and gates have to be written.
+    fn count_event(&mut self)
+        ensures { self.new ≡ record self.old { events = (self.old.events + 1) % 2 ^ 64; is_written = false } }
+    {
         self.events = self.events.wrapping_add(1);
         self.is_written = false;
     }

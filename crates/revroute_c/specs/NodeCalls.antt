@@ -12,8 +12,9 @@ use Rattle.fr_node.specs.Bytes.{bytes_of}
 use Rattle.fr_node.specs.Distances.{AreWays, IsDistance}
 use Rattle.fr_node.specs.Events.{IsAfterEvent, IsNews, IsStarted, KnowsLaterStart, SaysMessage, gates_of}
 use Rattle.fr_node.specs.Histories.{IsHistory}
-use Rattle.fr_node.specs.Links.{Hears, IsKnown, SetsUp, link_to, unknown}
+use Rattle.fr_node.specs.Links.{Hears, IsKnown, IsTaken, SetsUp, link_to, unknown}
 use Rattle.fr_node.specs.Nodes.{Steps, router}
+use Rattle.fr_node.specs.Policies.{Acts}
 use Rattle.fr_node.specs.Routers.{IsOpen, IsWay}
 use Rattle.revroute_c.specs.declared.nodes.NodePolicy.{NodePolicy}
 use Rattle.revroute_c.specs.Machines.{HeldNode}
@@ -87,10 +88,21 @@ pub record TurnsLink (neighbour : ℕ) (up : Bool) (status : ℕ) (k j : Node) :
   pub after : IsAfterEvent [] k j
   pub statuses : status ≡ REVROUTE_ANSWERED
 
--- the message m is heard, or its sender knows a later start of the router, and nothing changes
+-- the policy acts once more. 1: that has changed something, and is an event. 0: nothing has changed
+pub record ActsAgain (flag : ℕ) (k j : Node) : Type 0 where
+  pub policy : Acts k j.own
+  pub links : j.links ≡ k.links
+  pub changed : (flag ≡ 1) ↔ (j.own ≢ k.own)
+  pub after : flag ≡ 1 → IsAfterEvent [] k j
+  pub kept : flag ≡ 0 → j ≡ k
+  pub flags : (flag ≡ 0) ⊎ (flag ≡ 1)
+
+-- the message m is heard, or its sender knows a later start of the router, and nothing changes. A message that is not
+-- taken changes nothing either
 pub record HearsMessage (m : Message) (status : ℕ) (k j : Node) : Type 0 where
-  pub heard : status ≡ REVROUTE_ANSWERED → Hears k.own m k.links.items j.links.items × IsAfterEvent (m ∷ []) k j
-      × ¬ KnowsLaterStart k m
+  pub heard : status ≡ REVROUTE_ANSWERED → Hears k.own m k.links.items j.links.items × ¬ KnowsLaterStart k m
+  pub after : status ≡ REVROUTE_ANSWERED → IsTaken k.own m k.links.items → IsAfterEvent (m ∷ []) k j
+  pub ignored : ¬ IsTaken k.own m k.links.items → j ≡ k
   pub later : status ≡ REVROUTE_LATER_START → KnowsLaterStart k m × (j ≡ k)
   pub statuses : (status ≡ REVROUTE_ANSWERED) ⊎ (status ≡ REVROUTE_LATER_START)
 
@@ -105,14 +117,15 @@ pub record ConfirmsWritten (state status : ℕ) (k j : Node) : Type 0 where
   pub outdated : status ≡ REVROUTE_OUTDATED → (state ≢ k.events) × (j ≡ k)
   pub statuses : (status ≡ REVROUTE_ANSWERED) ⊎ (status ≡ REVROUTE_OUTDATED)
 
--- the message is said, and its bytes are at the front of the place
+-- the message is said, and its bytes are at the front of the place. Its stamp is the last one
 abbrev pub IsSaid : ℕ → Node → Node → Outcome ℕ → Type 0
 IsSaid neighbour k j o = (m : Message) × SaysMessage neighbour k j m × IsWritten (bytes_of m) o.before o.after
+    × (j.stamp ≡ m.stamp)
 
 -- a message for the neighbour, or the status says why there is none
 pub record SaysBytesTo (neighbour : ℕ) (o : Outcome ℕ) (k j : Node) : Type 0 where
   pub said : o.status ≡ REVROUTE_ANSWERED → IsSaid neighbour k j o × IsTrue (link_to k.links.items neighbour).up
-  pub same : KeepsAllButLinks k j
+  pub same : j ≡ record k { links = j.links; stamp = j.stamp }
   pub step : Steps [] k j
   -- before the ways and gates are written, nothing is said
   pub unwritten : (o.status ≡ REVROUTE_UNWRITTEN) ↔ (k.is_written ≡ false)

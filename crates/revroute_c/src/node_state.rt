@@ -3,8 +3,8 @@
 ghost use Rattle.std.specs.Prelude.{◌≡◌, ◌<◌, ◌≤◌, ◌⊎◌, [], IsTrue, Some, length, true, vec_capacity, vec_len, ⊤};
 ghost use Rattle.fr_node.specs.Events.{gates_of};
 ghost use Rattle.fr_node.specs.Nodes.{lets_in, sends_to};
-ghost use Rattle.revroute_c.specs.NodeCalls.{AreGatesOf, AreNeighbours, AreWaysOf, ConfirmsWritten, HearsBytes, InNode, HearsMessage};
-ghost use Rattle.revroute_c.specs.NodeCalls.{IsSafeGate, IsSafeWay, IsStateOf, KnowsNeighbour, OfNode, SaysBytesTo};
+ghost use Rattle.revroute_c.specs.NodeCalls.{ActsAgain, AreGatesOf, AreNeighbours, AreWaysOf, ConfirmsWritten, HearsBytes};
+ghost use Rattle.revroute_c.specs.NodeCalls.{HearsMessage, InNode, IsSafeGate, IsSafeWay, IsStateOf, KnowsNeighbour, OfNode, SaysBytesTo};
 ghost use Rattle.revroute_c.specs.NodeCalls.{TellsNews, TellsNodeDistance, TurnsLink, neighbours_of, number_of_flag};
 ghost use Rattle.revroute_c.specs.Replies.{outcome, GivesList, IsWritten};
 
@@ -79,6 +79,13 @@ impl NodeState {
             self.node.link_down(neighbour);
         }
         ANSWERED
+    }
+
+    /// Lets the policy act once more. Returns whether that has changed something, as a number.
+    pub(crate) fn act(&mut self) -> u32
+        ensures { InNode (ActsAgain result) ⊥ self.old self.new }
+    {
+        number(self.node.act())
     }
 
     /// Hears the message with these bytes.

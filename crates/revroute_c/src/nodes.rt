@@ -3,9 +3,9 @@
 ghost use Rattle.std.specs.Prelude.{◌≡◌, ◌≢◌, ◌↔◌, ◌⊎◌, None, false, true, ⊤};
 ghost use denote.RawPtr.{null_ptr};
 ghost use Rattle.fr_node.specs.Nodes.{lets_in, sends_to};
-ghost use Rattle.revroute_c.specs.NodeCalls.{AreGatesOf, AreWaysOf, ConfirmsWritten, HearsBytes, InNode, IsNoStart};
-ghost use Rattle.revroute_c.specs.NodeCalls.{IsOpened, IsOpenedGateway, IsSafeGate, IsSafeWay, IsStateOf, KnowsNeighbour};
-ghost use Rattle.revroute_c.specs.NodeCalls.{OfNode, SaysBytesTo, TellsNews, TellsNodeDistance, TurnsLink};
+ghost use Rattle.revroute_c.specs.NodeCalls.{ActsAgain, AreGatesOf, AreWaysOf, ConfirmsWritten, HearsBytes, InNode};
+ghost use Rattle.revroute_c.specs.NodeCalls.{IsNoStart, IsOpened, IsOpenedGateway, IsSafeGate, IsSafeWay, IsStateOf};
+ghost use Rattle.revroute_c.specs.NodeCalls.{KnowsNeighbour, OfNode, SaysBytesTo, TellsNews, TellsNodeDistance, TurnsLink};
 ghost use Rattle.revroute_c.specs.NodeCalls.{number_of_flag, policy_of};
 ghost use Rattle.revroute_c.specs.NodeLending.{IsSameNode};
 ghost use Rattle.revroute_c.specs.Replies.{outcome, GivesList};
@@ -162,8 +162,24 @@ pub extern "C" fn revroute_node_link_down(handle: &mut NodeHandle, neighbour: u3
     }
 }
 
-/// Hears the message with these bytes. Then ways and gates have to be written, as after [`revroute_node_link_up`].
-/// Returns `ANSWERED`, or:
+/// Lets the policy change the height once more, as [`Node::act`] does. Returns 1 if that has changed something: then ways
+/// and gates have to be written, as after [`revroute_node_link_up`]. Returns 0 if nothing has changed, which is no event,
+/// and for a null handle. Each event takes one step of the policy, so call this until it returns 0. It takes no memory.
+/// O(d).
+#[unsafe(no_mangle)]
+pub extern "C" fn revroute_node_act(handle: &mut NodeHandle) -> u32
+    ensures acts { InNode (ActsAgain result) (result ≡ 0) handle.old.machine handle.new.machine }
+    ensures same_handle { handle.new.at ≡ handle.old.at }
+{
+    match handle.node_state_mut() {
+        Some(machine) => machine.act(),
+        None => 0,
+    }
+}
+
+/// Hears the message with these bytes. If the message is taken, then ways and gates have to be written, as after
+/// [`revroute_node_link_up`]. If not, because it is repeated, for example, then the node is unchanged. Returns
+/// `ANSWERED`, or:
 ///
 /// - `NO_MESSAGE`: the bytes are not a message, because of their number or their header.
 /// - `LATER_START`: the message is for this router and from a known neighbour, and this neighbour knows a start of this
@@ -207,7 +223,7 @@ pub extern "C" fn revroute_node_written(handle: &mut NodeHandle, state: u64) -> 
 /// be said as often as the caller likes. Returns `ANSWERED`, or:
 ///
 /// - `UNWRITTEN`: ways and gates are not written yet. This is tested first.
-/// - `TOO_SHORT`: the place has less than 56 bytes. `size` is 56.
+/// - `TOO_SHORT`: the place has less than 64 bytes. `size` is 64.
 /// - `LINK_DOWN`: the neighbour is not known, or the link to it is down.
 /// - `NO_NETWORK`: the handle is null.
 ///
@@ -231,8 +247,8 @@ pub extern "C" fn revroute_node_say(
     }
 }
 
-/// Writes to `news` whether there is news for a neighbour: 1 if its link is up and the message for it is not the last
-/// one that was said, and 0 otherwise. Returns `ANSWERED`, or:
+/// Writes to `news` whether there is news for a neighbour: 1 if its link is up and the message for it differs from the last
+/// one that was said by more than its stamp, and 0 otherwise. Returns `ANSWERED`, or:
 ///
 /// - `UNWRITTEN`: ways and gates are not written yet.
 /// - `NO_NETWORK`: the handle is null.

@@ -2,6 +2,7 @@
 
 ghost use Rattle.std.specs.Prelude.{◌≡◌, IfSome, replicate};
 
+use crate::growing::grown;
 use crate::logs::{logged, recorded};
 use crate::nodes::known;
 use crate::published::{early_readers, published};
@@ -65,6 +66,7 @@ pub enum Call {
     Opened,
     Settled,
     SettledByOne,
+    Grown,
     Routed,
     EditedNetwork,
     WalkedLive,
@@ -93,7 +95,7 @@ pub enum Call {
 }
 
 /// The calls in the order in which they are made.
-pub const CALLS: [Call; 36] = [
+pub const CALLS: [Call; 37] = [
     Call::Network,
     Call::CutNetwork,
     Call::LinkedNetwork,
@@ -105,6 +107,7 @@ pub const CALLS: [Call; 36] = [
     Call::Opened,
     Call::Settled,
     Call::SettledByOne,
+    Call::Grown,
     Call::Routed,
     Call::EditedNetwork,
     Call::WalkedLive,
@@ -142,6 +145,7 @@ pub fn make<R: Threads + Wait + Sync + Alloc<A = Global> + Print + Eprint>(
         Call::Request => request(rt, answer),
         Call::RefusedLine => refused_line(rt, answer),
         Call::SettledByOne => settled_by_one(rt, answer),
+        Call::Grown => grown(rt, answer),
         Call::WalkedLive => walked_live(rt, answer),
         Call::AnsweredAlone => answered_alone(rt, answer),
         Call::EscapedLine => escaped_line(rt, answer),

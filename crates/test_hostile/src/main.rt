@@ -5,6 +5,7 @@
 #![tactic(auto)]
 
 mod calls;
+mod growing;
 mod logs;
 mod nodes;
 mod published;

@@ -3,7 +3,7 @@
 //!
 //!     steps N   draws N steps with each policy, over all links between a few routers
 //!     rest N    draws N histories with each kind of routers; then links stay and messages arrive
-//!     again N   lets routers on a line hear one old message N times
+//!     again N   lets routers on a line hear one old message N times, also with later stamps
 //!
 //! The program prints what happened, in how many steps the library differed from the rules (rules.rt), and in how many
 //! routers used a loop. Of histories it also prints how many did not come to rest, after how many a router that is joined
@@ -85,13 +85,14 @@ fn tell_steps<R: Alloc<A = Global> + Print>(rt: &R, steps: u32, choice: u32) -> 
             let Found {
                 steps,
                 heard,
+                events,
                 restarts,
                 used,
                 differ,
                 loops,
             } = found;
             println!(rt;
-                "  {policy:?}: {steps} steps, {heard} heard, {restarts} restarts, {used} used; {differ} differ, {loops} loops"
+                "  {policy:?}: {steps} steps, {heard} heard, {events} events, {restarts} restarts, {used} used; {differ} differ, {loops} loops"
             )
         }
         Err(fault) => rt.println(fault),
@@ -163,12 +164,16 @@ fn tell_broken<R: Alloc<A = Global> + Print>(
 
 /// Prints what comes of one old message.
 fn tell_repeats<R: Alloc<A = Global> + Print>(rt: &R, times: u32) -> io::Result<()> {
-    match repeats::announcements(rt.alloc(), times) {
-        Ok(count) if count <= repeats::MOST => println!(rt;
-            "  {} announcements at most",
-            repeats::MOST
-        ),
-        Ok(count) => println!(rt; "  {count} announcements"),
-        Err(fault) => rt.println(fault),
+    for kind in repeats::KINDS {
+        let old = repeats::changes(rt.alloc(), kind, times, false);
+        let late = repeats::changes(rt.alloc(), kind, times, true);
+        match (old, late) {
+            (Ok(old), Ok(late)) => {
+                let seen = if late == times { "seen" } else { "NOT SEEN" };
+                println!(rt; "  {kind:?}: {old} changes; with later stamps: {seen}")?;
+            }
+            (Err(fault), _) | (_, Err(fault)) => rt.println(fault)?,
+        }
     }
+    Ok(())
 }

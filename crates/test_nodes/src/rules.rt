@@ -10,6 +10,7 @@ struct Seen {
     neighbour: u32,
     up: bool,
     peer: u64,
+    stamp: u64,
     number: u64,
     height: u64,
     distance: u32,
@@ -32,6 +33,8 @@ pub struct Rules {
     used: u64,
     said: Vec<Said>,
     seen: Vec<Seen>,
+    /// How many messages it has said.
+    stamp: u64,
 }
 
 impl Rules {
@@ -54,6 +57,7 @@ impl Rules {
                 neighbour,
                 up: false,
                 peer: 0,
+                stamp: 0,
                 number: 0,
                 height: 0,
                 distance: CUT_OFF,
@@ -68,6 +72,7 @@ impl Rules {
             used,
             said,
             seen,
+            stamp: 0,
         })
     }
 
@@ -102,17 +107,19 @@ impl Rules {
         }
     }
 
-    pub fn hear(&mut self, m: &Message) {
+    /// Hears a message, and returns whether it counts: it is for this router, and the last one of its sender.
+    pub fn hear(&mut self, m: &Message) -> bool {
         let last = self.last().number;
         if m.to != self.me {
-            return;
+            return false;
         }
         let Some(seen) = self.seen.get_mut(m.from as usize) else {
-            return;
+            return false;
         };
-        if m.boot < seen.peer {
-            return;
+        if m.boot < seen.peer || m.boot == seen.peer && m.stamp <= seen.stamp {
+            return false;
         }
+        seen.stamp = m.stamp;
         if m.boot > seen.peer {
             seen.peer = m.boot;
             seen.number = 0;
@@ -121,7 +128,7 @@ impl Rules {
             seen.distance = CUT_OFF;
         }
         if m.echo != self.boot {
-            return;
+            return true;
         }
         if m.heard <= last {
             seen.acked = seen.acked.max(m.heard);
@@ -131,6 +138,7 @@ impl Rules {
             seen.height = m.height;
             seen.distance = m.distance;
         }
+        true
     }
 
     fn last(&self) -> Said {
@@ -188,12 +196,13 @@ impl Rules {
         least.saturating_add(1)
     }
 
-    pub fn message(&self, w: u32) -> Option<Message> {
+    pub fn say(&mut self, w: u32) -> Option<Message> {
         let seen = self.seen(w)?;
         if !seen.up {
             return None;
         }
         let last = self.last();
+        self.stamp = self.stamp.wrapping_add(1);
         Some(Message {
             from: self.me,
             to: w,
@@ -203,15 +212,17 @@ impl Rules {
             height: last.height,
             heard: seen.number,
             distance: self.distance(),
+            stamp: self.stamp,
         })
     }
 
-    /// Announces a height by the policy, and uses it if it may.
-    pub fn act(&mut self) -> Result<(), AllocError> {
+    /// Announces a height by the policy, and uses it if it may. Returns whether it has done one of the two.
+    pub fn act(&mut self) -> Result<bool, AllocError> {
         if self.gateway {
-            return Ok(());
+            return Ok(false);
         }
         let last = self.last();
+        let before = (last.number, self.used);
         if last.height == self.used {
             let number = last.number.saturating_add(1);
             if let Some(height) = self.lower() {
@@ -229,7 +240,7 @@ impl Rules {
             self.said.clear();
             self.said.push(last)?;
         }
-        Ok(())
+        Ok((last.number, self.used) != before)
     }
 
     fn may_use(&self, height: u64) -> bool {

@@ -9,6 +9,9 @@ use std::alloc::Global;
 /// The most routers of a world.
 pub const MOST_ROUTERS: usize = 16;
 
+/// After an event the policy rests once it has acted again so often.
+const MOST_ACTS: u32 = 3;
+
 /// How many messages can still be heard. A new one takes the place of a drawn one.
 const POOL: usize = 40;
 
@@ -19,11 +22,29 @@ struct Both {
     rules: Rules,
 }
 
+impl Both {
+    /// Lets the policy go on. Returns whether it rests soon, and whether library and rules agree on each step.
+    fn rests(&mut self) -> Result<bool, NodeFault> {
+        for _ in 0..=MOST_ACTS {
+            let state = self.node.state();
+            let acts = self.node.act();
+            if acts != self.rules.act()? || (self.node.state() != state) != acts {
+                return Ok(false);
+            }
+            if !acts {
+                return Ok(true);
+            }
+        }
+        Ok(false)
+    }
+}
+
 /// What was found so far.
 #[derive(Clone, Copy, Default)]
 pub struct Found {
     pub steps: u32,
     pub heard: u32,
+    pub events: u32,
     pub restarts: u32,
     pub used: u32,
     pub differ: u32,
@@ -36,6 +57,7 @@ impl Found {
         Found {
             steps: self.steps.wrapping_add(other.steps),
             heard: self.heard.wrapping_add(other.heard),
+            events: self.events.wrapping_add(other.events),
             restarts: self.restarts.wrapping_add(other.restarts),
             used: self.used.wrapping_add(other.used),
             differ: self.differ.wrapping_add(other.differ),
@@ -169,6 +191,19 @@ impl World {
         } else {
             both.node.link_down(w);
         }
+        self.end_event(x)
+    }
+
+    /// After an event of a router. Each other time its policy goes on until it rests. Then its table is written.
+    fn end_event(&mut self, x: u32) -> Result<(), NodeFault> {
+        self.found.events = self.found.events.wrapping_add(1);
+        let goes_on = self.found.events % 2 == 0;
+        let Some(both) = self.routers.get_mut(x as usize) else {
+            return Ok(());
+        };
+        if goes_on && !both.rests()? {
+            self.found.differ = self.found.differ.wrapping_add(1);
+        }
         both.node.written(both.node.state())
     }
 
@@ -178,7 +213,7 @@ impl World {
             return Ok(None);
         };
         let said = both.node.say(w)?;
-        if said != both.rules.message(w) {
+        if said != both.rules.say(w) {
             self.found.differ = self.found.differ.wrapping_add(1);
         }
         Ok(said)
@@ -218,14 +253,21 @@ impl World {
             return Ok(());
         };
         self.found.heard = self.found.heard.wrapping_add(1);
-        both.rules.hear(message);
-        both.rules.act()?;
+        let is_event = both.rules.hear(message);
         let Some(read) = Message::read(&message.write()) else {
             self.found.differ = self.found.differ.wrapping_add(1);
             return Ok(());
         };
+        let before = both.node.state();
         both.node.hear(&read)?;
-        both.node.written(both.node.state())
+        if both.node.is_written() == is_event || (both.node.state() != before) != is_event {
+            self.found.differ = self.found.differ.wrapping_add(1);
+        }
+        if is_event {
+            both.rules.act()?;
+            return self.end_event(message.to);
+        }
+        Ok(())
     }
 
     pub fn seen(&self, x: u32) -> Seen {

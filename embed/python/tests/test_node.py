@@ -5,6 +5,7 @@ import doctest
 import os
 import pickle
 import signal
+import struct
 import threading
 import unittest
 import warnings
@@ -182,8 +183,77 @@ class NodeTest(unittest.TestCase):
         self.assertEqual(node.table(), before)
         self.assertIsNone(node.say(2))
         for boot in (0, 4, 5):
-            node.hear(that_knows(greeting, boot))
+            node.hear(that_knows(neighbour.say(1), boot))
         self.assertEqual(node.table().state, before.state + 3)
+
+    def test_what_is_not_newer_changes_nothing(self):
+        node, neighbour = Node(1, 1), Node(2, 1)
+        for it, other in ((node, 2), (neighbour, 1)):
+            it.know(other)
+            it.link_up(other)
+            write(it)
+        early, late = neighbour.say(1), neighbour.say(1)
+        self.assertEqual((early[:-8], early < late), (late[:-8], True))
+        self.assertFalse(neighbour.has_news(1))
+        node.hear(late)
+        state = node.table().state
+        write(node)
+        for old in (late, early, late):
+            node.hear(old)
+            self.assertEqual(node.table().state, state)
+            self.assertIsNotNone(node.say(2))
+        node.hear(neighbour.say(1))
+        self.assertRaises(Unwritten, node.say, 2)
+
+    def test_one_old_message_does_not_come_back(self):
+        """A gateway 0 and routers 1, 2 and 3 on a line. Router 1 says to router 2 that it knows no distance, before it hears
+        of the gateway. Once all is quiet, this message is heard again and again."""
+
+        def hear(at, data):
+            before = node[at].height, node[at].distance, node[at].table()[:2]
+            node[at].hear(data)
+            write(node[at])
+            return (node[at].height, node[at].distance, node[at].table()[:2]) != before
+
+        def exchange(rounds, links):
+            pairs = [it for a, b in links for it in ((a, b), (b, a))]
+            return sum(hear(b, node[a].say(b)) for _ in range(rounds) for a, b in pairs)
+
+        line = [(0, 1), (1, 2), (2, 3)]
+        for words in ({}, {"ceiling": 4}):
+            node = [Node.gateway(0, 1), *(Node(me, 1, me, **words, wait=False) for me in (1, 2, 3))]
+            for pair in line:
+                for a, b in (pair, pair[::-1]):
+                    node[a].know(b)
+                    node[a].link_up(b)
+                    write(node[a])
+            exchange(3, line[1:])
+            old = node[1].say(2)
+            exchange(30, line)
+            self.assertEqual(exchange(6, line), 0)
+            self.assertEqual([it.distance for it in node], [0, 1, 2, 3])
+            for _ in range(1000):
+                self.assertFalse(hear(2, old))
+            self.assertEqual(exchange(6, line), 0)
+
+    def test_the_policy_goes_on_until_it_rests(self):
+        """A router rises above two neighbours, of heights 3 and 9. Then it comes down to its distance, which is 4."""
+        node, form = Node(1, 1, 2, wait=False), struct.Struct(">4s3I6Q")
+        for other in (2, 3):
+            node.know(other)
+            node.link_up(other)
+        for other, height in ((2, 3), (3, 9)):
+            node.hear(form.pack(b"FRN\2", other, 1, height, 1, 1, 1, height, 1, 1))
+        self.assertEqual((node.height, node.distance, node.table().state), (10, 4, 4))
+        write(node)
+        self.assertTrue(node.act())
+        self.assertRaises(Unwritten, node.say, 2)
+        self.assertEqual((node.height, node.distance, node.table().state), (4, 4, 5))
+        write(node)
+        self.assertFalse(node.act())
+        self.assertEqual((node.height, node.table().state), (4, 5))
+        self.assertIsNotNone(node.say(2))
+        self.assertFalse(Node.gateway(0, 1).act())
 
     def test_what_is_no_message_changes_nothing(self):
         node = Node(1, 1)
@@ -191,13 +261,17 @@ class NodeTest(unittest.TestCase):
         node.link_up(2)
         write(node)
         message = node.say(2)
-        self.assertEqual((len(message), message[:4]), (MESSAGE_LENGTH, b"FRN\1"))
-        for noise in (b"", message[1:], message + b"\0", bytes(MESSAGE_LENGTH), b"FRN\2" + message[4:]):
+        self.assertEqual((len(message), message[:4]), (MESSAGE_LENGTH, b"FRN\2"))
+        for noise in (b"", message[1:], message + b"\0", bytes(MESSAGE_LENGTH), b"FRN\1" + message[4:]):
             self.assertRaises(NotAMessage, node.hear, noise)
-            self.assertEqual(node.say(2), message)
+            self.assertEqual(node.say(2)[:-8], message[:-8])
         for other in (None, 7, "message"):
             self.assertRaises(TypeError, node.hear, other)
-        node.hear(bytearray(message))
+        neighbour = Node(2, 1)
+        neighbour.know(1)
+        neighbour.link_up(1)
+        write(neighbour)
+        node.hear(bytearray(neighbour.say(1)))
         self.assertRaises(Unwritten, node.say, 2)
 
     def test_words(self):
@@ -225,7 +299,7 @@ class NodeTest(unittest.TestCase):
         node.close()
         self.assertEqual(repr(node), "<revroute.Node, closed>")
         questions = (node.ways, node.gates, node.table, lambda: node.height, lambda: node.say(1), lambda: node.lets_in(1))
-        for call in (*questions, lambda: node.written(0), lambda: node.hear(b"")):
+        for call in (*questions, node.act, lambda: node.written(0), lambda: node.hear(b"")):
             self.assertRaises(ValueError, call)
 
     def test_a_child_has_nodes_of_its_own(self):

@@ -8,7 +8,7 @@ use std::error::Error;
 use std::fmt;
 
 /// The length of a message in bytes.
-pub const MESSAGE_LENGTH: usize = 56;
+pub const MESSAGE_LENGTH: usize = 64;
 
 /// How many neighbours there is room for in the first call that lists some.
 const FEW: usize = 16;
@@ -305,8 +305,17 @@ impl Node {
         assert_eq!(status, sys::ANSWERED, "a node is not null");
     }
 
-    /// An event: a message is heard. It changes what is known of its sender only if it is for this router, from a known
-    /// neighbour, and not from an earlier start of either. `O(d)`, and needs no memory.
+    /// Lets the policy change the height once more. Returns whether something has changed, which is an event; if not, it
+    /// is none. Each event takes one step of the policy, so call this after an event until it returns `false`. `O(d)`, and
+    /// needs no memory.
+    pub fn act(&mut self) -> bool {
+        // SAFETY: the handle is the library's own, and no other call has it.
+        unsafe { sys::revroute_node_act(self.handle.get()) != 0 }
+    }
+
+    /// An event: a message is heard. It is taken if it is for this router, from a known neighbour, and newer than all that
+    /// were taken from this neighbour: of a greater boot number, or of the same one with a greater stamp. Any other message
+    /// is ignored, and is no event: a repeated one, for example. `O(d)`, and needs no memory.
     ///
     /// # Errors
     ///
@@ -381,8 +390,8 @@ impl Node {
     }
 
     /// The message for a neighbour. `None` if the neighbour is not known, or the link to it is down. It may be said as
-    /// often as you like. Messages may be lost, so say one to each neighbour again after some time. `O(d)`, and needs no
-    /// memory.
+    /// often as you like, and has another stamp each time. Messages may be lost, so say one to each neighbour again after
+    /// some time. `O(d)`, and needs no memory.
     ///
     /// # Errors
     ///
@@ -403,8 +412,8 @@ impl Node {
         }
     }
 
-    /// Whether there is news for a neighbour: the link to it is up, and the message for it is not the last one that was
-    /// said. `O(d)`, and needs no memory.
+    /// Whether there is news for a neighbour: the link to it is up, and the message for it differs from the last one that
+    /// was said by more than its stamp. `O(d)`, and needs no memory.
     ///
     /// # Errors
     ///

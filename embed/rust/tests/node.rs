@@ -198,7 +198,7 @@ fn what_is_no_message_changes_nothing() -> Result<(), Box<dyn Error>> {
     assert_eq!(node.hear(&[1]), Err(HearFault::NotAMessage));
     node.written(table)?;
     let message = node.say(2)?.expect("the link is up");
-    assert_eq!(message[..4], [0x46, 0x52, 0x4e, 1]);
+    assert_eq!(message[..4], [0x46, 0x52, 0x4e, 2]);
     assert_eq!(node.hear(&message[1..]), Err(HearFault::NotAMessage));
     Ok(())
 }
@@ -221,6 +221,33 @@ fn a_boot_number_that_did_not_grow_is_noticed() -> Result<(), Box<dyn Error>> {
     for boot in [0, 4, 5] {
         assert_eq!(node.hear(&with_number(greeting, 24, boot)), Ok(()));
     }
+    Ok(())
+}
+
+#[test]
+fn what_is_not_newer_is_no_event() -> Result<(), Box<dyn Error>> {
+    let (mut node, mut neighbour) = (Node::new(1, 1, 0, POLICY)?, Node::new(2, 1, 0, POLICY)?);
+    for (it, other) in [(&mut node, 2), (&mut neighbour, 1)] {
+        it.know(other)?;
+        it.link_up(other);
+        while it.act() {}
+        write(it)?;
+    }
+    let early = neighbour.say(1)?.expect("the link is up");
+    let late = neighbour.say(1)?.expect("the link is up");
+    assert_eq!(early[..MESSAGE_LENGTH - 8], late[..MESSAGE_LENGTH - 8]);
+    assert_eq!(neighbour.has_news(1), Ok(false));
+    node.hear(&late)?;
+    assert_eq!(node.has_news(2), Err(Unwritten));
+    while node.act() {}
+    write(&mut node)?;
+    for old in [late, early, late] {
+        node.hear(&old)?;
+        assert!(!node.act());
+        assert!(node.say(2)?.is_some());
+    }
+    node.hear(&neighbour.say(1)?.expect("the link is up"))?;
+    assert_eq!(node.say(2), Err(Unwritten));
     Ok(())
 }
 

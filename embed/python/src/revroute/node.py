@@ -12,7 +12,7 @@ from typing import Any, NamedTuple, NoReturn, Optional
 from . import _calls
 from ._calls import questions
 
-MESSAGE_LENGTH = 56
+MESSAGE_LENGTH = 64
 _MOST = {4: 0xFFFFFFFF, 8: 0xFFFFFFFFFFFFFFFF}
 # How many neighbours there is room for in the first try.
 _FEW = 16
@@ -64,7 +64,7 @@ class Node:
     """The state machine of one router, for one destination, in a network without a controller. Each router runs its
     own, and they exchange messages.
 
-    Events are `link_up`, `link_down` and `hear`. After an event, write the ways and gates of `table` to the forwarding
+    Events are `link_up`, `link_down`, `hear` of a message that is taken, and `act` if it changes something. After an event, write the ways and gates of `table` to the forwarding
     table, and then call `written`. Only then `say` has messages. So at no moment do the links that routers use contain a
     loop, whatever happens to messages and whichever routers restart. docs/NODES.md has all rules for this. Among them:
     each router drops packets from neighbours that it does not let in, and `boot` is greater at each start.
@@ -163,9 +163,15 @@ class Node:
         """An event: the link to a neighbour goes down. What was heard on it is kept."""
         self._call(questions.revroute_node_link_down, _number(neighbour))
 
+    def act(self) -> bool:
+        """Lets the policy change the height once more. Returns whether something has changed, which is an event; if not, it
+        is none. Each event takes one step of the policy, so call this after an event until it returns False."""
+        return bool(self._call(questions.revroute_node_act))
+
     def hear(self, message: bytes) -> None:
-        """An event: a message is heard. It changes what is known of its sender only if it is for this router, from a
-        known neighbour, and not from an earlier start of either.
+        """An event: a message is heard. It is taken if it is for this router, from a known neighbour, and newer than all
+        that were taken from this neighbour: of a greater boot number, or of the same one with a greater stamp. Any other
+        message is ignored, and is no event: a repeated one, for example.
 
         Raises, for the first reason that holds, and then it was no event and nothing has changed:
 
@@ -211,8 +217,8 @@ class Node:
             raise Outdated("an event came after the ways and gates were handed out")
 
     def say(self, neighbour: int) -> Optional[bytes]:
-        """The message for a neighbour, or None if the link to it is down. It may be said as often as you like.
-        Messages may be lost, so say one to each neighbour again after some time.
+        """The message for a neighbour, or None if the link to it is down. It may be said as often as you like,
+        and has another stamp each time. Messages may be lost, so say one to each neighbour again after some time.
 
         Raises Unwritten if the ways and gates are not written.
         """
@@ -223,7 +229,8 @@ class Node:
         return message.raw if status == _calls.ANSWERED else None
 
     def has_news(self, neighbour: int) -> bool:
-        """Whether the link to a neighbour is up and the message for it is not the last one that was said to it.
+        """Whether the link to a neighbour is up and the message for it differs from the last one that was said to it by
+        more than its stamp.
 
         Raises Unwritten if the ways and gates are not written.
         """

@@ -1,9 +1,12 @@
-use Rattle.fr_laws.proofs.NodeCalls.{hearing_is_a_call, knowing_is_a_call, repeating_is_a_call, saying_is_a_call}
-use Rattle.fr_laws.proofs.NodeCalls.{writing_is_a_call}
+use Rattle.fr_laws.proofs.NodeCalls.{acting_is_a_call, hearing_is_a_call, knowing_is_a_call, repeating_is_a_call}
+use Rattle.fr_laws.proofs.NodeCalls.{saying_is_a_call, writing_is_a_call}
 use Rattle.fr_laws.proofs.announcements.calls_law.Goals as goal
 
 pub returns-clause-hear : goal.returns-clause-hear
 returns-clause-hear c = hearing_is_a_call
+
+pub returns-clause-act : goal.returns-clause-act
+returns-clause-act c = acting_is_a_call
 
 pub returns-clause-repeat : goal.returns-clause-repeat
 returns-clause-repeat c = repeating_is_a_call

@@ -25,4 +25,5 @@ returns c =
     let seven = c.read_u64-3.ensures ∙ ap (λ (p : List ℕ). p ++ bytes_8 c.read_u64-3.result) six in
     let eight = c.read_u64-4.ensures ∙ ap (λ (p : List ℕ). p ++ bytes_8 c.read_u64-4.result) seven in
     let nine = c.read_u64-5.ensures ∙ ap (λ (p : List ℕ). p ++ bytes_8 c.read_u64-5.result) eight in
-    sym nine ∙ take_all 56 c.args.bytes.now (omega (arith, c.if-bytes-ne-MESSAGE_LENGTH.false))
+    let ten = c.read_u64-6.ensures ∙ ap (λ (p : List ℕ). p ++ bytes_8 c.read_u64-6.result) nine in
+    sym ten ∙ take_all 64 c.args.bytes.now (omega (arith, c.if-bytes-ne-MESSAGE_LENGTH.false))

@@ -11,7 +11,8 @@ returns c =
     let three = c.write_u64-3.ensures ∙ ap (λ (p : List ℕ). p ++ bytes_8 m.number) two in
     let four = c.write_u64-4.ensures ∙ ap (λ (p : List ℕ). p ++ bytes_8 m.height) three in
     let five = c.write_u64-5.ensures ∙ ap (λ (p : List ℕ). p ++ bytes_8 m.heard) four in
-    sym (take_all 56 c.write_u64-5.new.bytes (omega (
+    let six = c.write_u64-6.ensures ∙ ap (λ (p : List ℕ). p ++ bytes_8 m.stamp) five in
+    sym (take_all 64 c.write_u64-6.new.bytes (omega (
       arith,
       c.requires.length,
       c.write_u64.auto.bytes,
@@ -19,4 +20,5 @@ returns c =
       c.write_u64-3.auto.bytes,
       c.write_u64-4.auto.bytes,
       c.write_u64-5.auto.bytes,
-    ))) ∙ five
+      c.write_u64-6.auto.bytes,
+    ))) ∙ six

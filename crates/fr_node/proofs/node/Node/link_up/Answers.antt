@@ -7,13 +7,13 @@ use Rattle.fr_node.proofs.node.Node.link_up.Goals as goal
 pub returns : goal.returns
 returns c =
     let old = c.args.self.now in
-    let turn : InTurn old c.set_link_up.new.self c.act.new.self = record {
+    let turn : InTurn old c.set_link_up.new.self c.finish_event.new.self = record {
       links = c.set_link_up.ensures.same;
-      own = c.act.ensures.same;
-      announces = c.act.ensures.own;
-      acts = c.act.ensures.policy;
+      own = c.finish_event.ensures.same;
+      announces = c.finish_event.ensures.own;
+      acts = c.finish_event.ensures.policy;
     } in record {
-      set = subst (λ (n : Node). SetsUp c.args.neighbour true old.links.items n.links.items) (sym c.act.ensures.same)
+      set = subst (λ (n : Node). SetsUp c.args.neighbour true old.links.items n.links.items) (sym c.finish_event.ensures.same)
           c.set_link_up.ensures.set;
       after = after_setting c.args.neighbour true _ _ _ turn c.set_link_up.ensures.set;
     }

@@ -1,7 +1,7 @@
 use Rattle.std.proofs.Common.{ap, refl, rules, sym, ◌∙◌}
 use Rattle.fr_node.specs.declared.link.Link.{Link}
 use Rattle.fr_node.proofs.Linking.{found_at, is_at, says_at}
-use Rattle.fr_node.proofs.Stepping.{steps_said}
+use Rattle.fr_node.proofs.Stepping.{says_unstamped, steps_said, with_stamp}
 use Rattle.fr_node.proofs.node.Node.say_written.Goals as goal
 
 pub returns : goal.returns
@@ -13,8 +13,10 @@ returns c =
         λ _. refl,
       );
       message = record {
-        content = c.message_at-message.ensures _ (sym c.in-Some.ensures);
-        said = says;
+        content = with_stamp c.args.self.now c.args.neighbour _ c.message_at-message.result
+            (c.message_at-message.ensures.content _ (sym c.in-Some.ensures));
+        stamp = c.saturating_add-self.ensures;
+        said = says_unstamped _ _ _ _ c.message_at-message.ensures.stamp says;
         safe = search rules;
       };
       none = refl;

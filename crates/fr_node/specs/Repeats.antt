@@ -1,0 +1,30 @@
+-- Messages that are heard again, or after later ones. The definitions and the law are this project's own.
+use Rattle.std.specs.Prelude.{Bool, List, [], ◌∷◌, ℕ, ◌<◌, ◌≡◌, ◌≤◌, ◌⊎◌}
+use Rattle.fr_node.specs.declared.message.Message.{Message}
+use Rattle.fr_node.specs.declared.node.Node.{Node}
+use Rattle.fr_node.specs.Daemons.{KeepsLinks}
+use Rattle.fr_node.specs.Links.{Hears, IsKnown, IsTaken, SetsUp}
+
+-- node n has become k by a call: `hear`, `link_up` or `link_down`, or one that keeps what was heard of neighbours
+pub record IsCall (n k : Node) : Type 0 where
+  pub me : k.own.me ≡ n.own.me
+  pub links : KeepsLinks n k
+      ⊎ ((m : Message) × Hears n.own m n.links.items k.links.items)
+      ⊎ ((w : ℕ) × (up : Bool) × SetsUp w up n.links.items k.links.items)
+
+-- the nodes in the list follow one another, by calls
+abbrev pub AreCalls : Node → List Node → Type 0
+AreCalls n [] = Unit {0}
+AreCalls n (k ∷ ks) = IsCall n k × AreCalls k ks
+
+abbrev pub last_node : Node → List Node → Node
+last_node n [] = n
+last_node n (k ∷ ks) = last_node k ks
+
+-- a node has heard the message m, which was for it and from a known neighbour. Whatever is called then, it never takes
+-- m again, and no message of this neighbour that is older: of an earlier start, or of this start with no greater stamp
+abbrev pub RepeatsAreIgnored : Type 0
+RepeatsAreIgnored = (m again : Message) (old new : Node) (between : List Node) → m.to ≡ old.own.me
+    → IsKnown old.links.items m.from → Hears old.own m old.links.items new.links.items → AreCalls new between
+    → again.from ≡ m.from → (again.boot < m.boot) ⊎ ((again.boot ≡ m.boot) × (again.stamp ≤ m.stamp))
+    → ¬ IsTaken (last_node new between).own again (last_node new between).links.items
