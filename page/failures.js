@@ -17,7 +17,9 @@ const {
   lookAs,
   keepInSight,
   moveNode,
+  fixedPlaces,
   keepPlaces,
+  textOf,
   placesOf
 } = viewer;
 
@@ -48,7 +50,7 @@ function readWays(answer) { return answer.startsWith('ways ') ? answer.split(' '
 // Asks the engine for the ways of the network as the last request leaves it. Returns whether they are known.
 async function askWays() {
   if (failing.lines === lines) return true;
-  const answer = await sent('ways', textOf(lines, {})), ways = answer && readWays(answer);
+  const answer = await sent('ways', textOf(lines, {}, {})), ways = answer && readWays(answer);
   if (!ways) return false;
   Object.assign(failing, {ways, lines});
   return true;
@@ -94,15 +96,10 @@ function forgetFailures(kept, isMore) {
 async function failLink(link) {
   if (!await askWays()) return;
   const at = failedAt(link);
+  remember(stateNow());
   failing.packet = null;
   failing.links = at < 0 ? [...failing.links, link] : failing.links.filter((_, other) => other !== at);
   chooseLines('ways');
-}
-
-function mendLast() {
-  failing.links = failing.links.slice(0, -1);
-  failing.packet = null;
-  show(viewer.now);
 }
 
 acts.fail = (tail, head) => {
@@ -136,7 +133,7 @@ async function sendFrom(node) {
 
 function sendPacket() {
   const node = nodeMeant();
-  if (node === null) return tell('Choose a node first. A packet is sent from it.');
+  if (node === null) return noNode('A packet is sent from it.');
   if (isEarlier()) return;
   play(false);
   later(() => sendFrom(node));

@@ -1,34 +1,11 @@
 // The lab: each action is a request. The proved program answers all requests so far. Then the round is played.
 'use strict';
-const MOST_BYTES = 1 << 20, MOST_TEXT = MOST_BYTES.toLocaleString('en'), MOST_TIME = 20000, MOST_DRAWN = 256;
-
-// A text has requests, one a line. Blank lines and comments are none. One comment may say where nodes are: for the
-// place of a request from which on a network is laid out, the places of its nodes.
-const PLACES = '# places ';
-
-function placesIn(comment) {
-  const isPlace = at => Array.isArray(at) && at.length === 2 && at.every(Number.isFinite);
-  try {
-    const all = Object.entries(JSON.parse(comment.slice(PLACES.length)));
-    return Object.fromEntries(all.filter(([, nodes]) => Array.isArray(nodes) && nodes.every(isPlace)));
-  } catch { return {}; }
-}
-
-const isRequest = line => !/^[ \t\r]*(#|$)/.test(line);
-
-function readText(text) {
-  const all = text.split(NL), comment = all.findLast(line => line.startsWith(PLACES));
-  return {lines: all.filter(isRequest), places: comment ? placesIn(comment) : {}};
-}
-
-function textOf(lines, places) {
-  const comment = Object.keys(places).length ? [PLACES + JSON.stringify(places)] : [];
-  return [...lines, ...comment].map(line => line + NL).join('');
-}
+const MOST_BYTES = 1 << 20, MOST_BYTES_OF_A_PAGE = 1 << 26, MOST_TEXT = MOST_BYTES.toLocaleString('en'),
+      MOST_TIME = 20000, MOST_DRAWN = 256;
 
 // The text that the server has, as far as this page knows.
-let textThere = JSON.parse(by('given').textContent);
-let {lines, places} = readText(textThere);
+let textThere = viewer.givenText;
+let {lines, places, names} = viewer.given;
 let queue = Promise.resolve(), fault = null, note = null, hasEnded = false;
 const ENDED = 'The lab has ended. Save the requests, and start it again.';
 
@@ -52,12 +29,15 @@ function hint() {
       acting.isOn                   ? actingHint() :
       note                          ? note :
       failureHint()                 ? failureHint() :
-      !viewer.blocks.length         ? 'Click empty space to add a node, take a sample, or open a file of requests.' :
-      viewer.picked === null        ? 'Click a link to cut it, two nodes to join them, empty space to add a node.' :
-                                      'Node ' + viewer.picked + ' is chosen. Click another node to join the two.';
-  by('home').disabled = by('remove').disabled = viewer.picked === null;
+      !viewer.blocks.length ?
+                      'Click empty space to add a node, take a sample, or open a file of requests.' :
+      viewer.picked === null ?
+                      'Click a link to cut it, two nodes to join them, empty space to add a node.' :
+                      viewer.nodeName(viewer.picked, viewer.shown) + ' is chosen. Click another node to join the two.';
+  for (const id of ['home', 'remove', 'rename']) by(id).disabled = viewer.picked === null;
   by('tell').disabled = !failing.links.length;
-  by('undo').disabled = !lines.length && !replaced.length;
+  by('undo').disabled = !past.length && !lines.length;
+  by('redo').disabled = !future.length;
   mark(by('fail'), {'aria-pressed': failing.isOn});
 }
 
@@ -97,16 +77,19 @@ async function replaceThere(task, text) {
   return answer;
 }
 
-// Has these requests answered. The first of them, which are kept, have their answers already. Returns whether they are.
-async function run(next, from, where) {
+// Has these requests answered. The first of them, which are kept, have their answers already. `where` may have other
+// places and names of nodes. Returns whether they are answered.
+async function run(next, from, where = {}) {
   // A story that could not be read is asked for as a whole.
   const kept = viewer.blocks.length === lines.length ? from : 0;
-  const there = () => Object.fromEntries(Object.entries(where ?? places).filter(([at]) => at < next.length));
-  const text = await replaceThere('run?from=' + kept + '&', textOf(next, there()));
+  const upTo = said => Object.fromEntries(Object.entries(said).filter(([at]) => at < next.length));
+  const placed = upTo(where.places ?? places), named = upTo(where.names ?? names);
+  const text = await replaceThere('run?from=' + kept + '&', textOf(next, placed, named));
   if (text === null) return false;
   const isMore = kept === lines.length && next.length > kept;
   lines = next;
-  places = there();
+  places = placed;
+  names = named;
   viewer.picked = note = null;
   play(false);
   load(kept, text);
@@ -126,48 +109,56 @@ function showLast(keep) {
   show(viewer.starts.at(-1) + (own && round.drawn ? round.turned : 0), keep);
 }
 
+// An action that can be undone.
+async function act(next, from, where) {
+  const was = stateNow();
+  if (!await run(next, from, where)) return false;
+  remember(was);
+  hint();
+  return true;
+}
+
+// What had the keyboard may be gone after a task, as a link that was cut or a button that cannot be pressed again. Then
+// the node beside it has it, or else the network.
+async function keepingFocus(task) {
+  const was = document.activeElement, link = was.closest('#net .link'),
+        node = nodeInFocus() ?? (link ? Number(link.dataset.tail) : viewer.picked);
+  await task();
+  const now = document.activeElement,
+        isThere = was.isConnected && was.checkVisibility({visibilityProperty: true, checkVisibilityCSS: true});
+  if (was === document.body || now !== was && now !== document.body || isThere && !was.disabled) return;
+  const last = viewer.shown && !by('net').hasAttribute('hidden') ? viewer.shown.nodes - 1 : -1;
+  if (was.matches('#undo, #redo') && !by(was.id === 'undo' ? 'redo' : 'undo').disabled)
+    by(was.id === 'undo' ? 'redo' : 'undo').focus();
+  else if (last < 0) by('sample').focus();
+  else focusOn(Math.min(last, node ?? viewer.shown.round.home));
+}
+
 // One task after another. One that fails says so, and the next ones go on.
 const later = task => {
-  queue = queue.then(task).catch(why => {
+  queue = queue.then(() => keepingFocus(task)).catch(why => {
     console.error(why);
     tell('The page has failed here: ' + (why.message ?? why) + '. Try again, or load it again.');
   });
 };
-const ask = (...request) => later(() => run([...lines, JSON.stringify(request)], lines.length));
+const ask = (...request) => later(() => act([...lines, JSON.stringify(request)], lines.length));
 
 // Sends the line that was typed. It stays in its field until it is answered, so that it can be mended.
 function askTyped() {
   const line = by('line').value;
-  if (!isRequest(line)) return tell(line.trim() ? 'A line that begins with # is a comment, and no request.' : null);
+  if (!viewer.isRequest(line))
+    return tell(line.trim() ? 'A line that begins with # is a comment, and no request.' : null);
   later(async () => {
-    if (await run([...lines, line], lines.length) && by('line').value === line) by('line').value = '';
+    if (await act([...lines, line], lines.length) && by('line').value === line) by('line').value = '';
   });
 }
 
-// What undo brings back where an action was more than one request: the requests before it, if they are this many now.
-const replaced = [];
-async function runAll(next, kept, where) {
-  const was = {lines, places, count: next.length};
-  if (await run(next, kept, where)) replaced.push(was);
+// A text that was opened replaces the requests.
+async function replace(text) {
+  const opened = opening(text);
+  if (!opened || !await act(opened.lines, 0, opened)) return;
+  note = opened.note ?? null;
   hint();
-}
-
-async function takeBack() {
-  if (failing.links.length) return mendLast();
-  const was = replaced.at(-1);
-  if (was && was.count === lines.length) {
-    if (await run(was.lines, 0, was.places)) replaced.pop();
-    return hint();
-  }
-  if (!lines.length) return tell('There is nothing to undo.');
-  return run(lines.slice(0, -1), Math.max(0, lines.length - 2));
-}
-
-const undo = () => later(takeBack);
-
-function replace(text) {
-  const next = readText(text);
-  later(() => runAll(next.lines, 0, next.places));
 }
 
 // A click counts on the network as it is now: from an earlier line it goes to the last.
@@ -212,9 +203,18 @@ acts.node = node => {
 // The node that an action is about: the chosen one, or the one that the keyboard is at.
 const nodeMeant = () => viewer.picked ?? nodeInFocus();
 
+// Says that no node is meant, and why none can be chosen if that is so.
+function noNode(what) {
+  const round = viewer.blocks.at(-1)?.round;
+  tell(round && !round.drawn ? tooLarge(round) + ' Type requests instead.' : 'Choose a node first. ' + what);
+}
+
+const tooLarge = ({nodes}) =>
+    'This network has ' + nodes.toLocaleString('en') + ' nodes, and the lab draws at most ' + MOST_DRAWN + '.';
+
 function makeHome() {
   const node = nodeMeant();
-  if (node === null) return tell('Choose a node first. It becomes the destination.');
+  if (node === null) return noNode('It becomes the destination.');
   if (!isEarlier()) ask('dest', node);
 }
 
@@ -225,9 +225,10 @@ function lastRound() {
 }
 
 // A network with other nodes is a new one, with the links as they are now. The nodes stay where they are on the screen.
-async function remake({nodes, home, links, spots}, focus) {
-  const was = {...camera}, line = JSON.stringify(['net', nodes, home, links]);
-  if (!await run([...lines, line], lines.length, {...places, [lines.length]: spots.map(rounded)})) return;
+async function remake({nodes, home, links, spots, called}, focus) {
+  const was = viewer.lookNow(viewer.shown), line = JSON.stringify(['net', nodes, home, links]), at = lines.length;
+  const where = {places: {...places, [at]: spots.map(rounded)}, names: withNames(at, called)};
+  if (!await act([...lines, line], at, where)) return;
   if (viewer.shown) lookAs(was, viewer.shown);
   focusOn(focus);
 }
@@ -236,20 +237,20 @@ const rounded = at => at.map(side => Math.round(10 * side) / 10);
 
 function addNode(at) {
   const round = lastRound();
-  if (!round && viewer.blocks.length && viewer.blocks.at(-1).round)
-    return tell('The lab draws at most ' + MOST_DRAWN + ' nodes.');
+  if (!round && viewer.blocks.at(-1)?.round) return tell(tooLarge(viewer.blocks.at(-1).round));
   if (!round) return addFirst(at);
   const {nodes, home, links, view} = round;
   if (nodes === MOST_DRAWN) return tell('The lab draws at most ' + MOST_DRAWN + ' nodes.');
-  return remake({nodes: nodes + 1, home, links, spots: [...view.place, at ?? freePlace(view)]}, nodes);
+  const spot = (at ?? freePlace(view)).map((side, of) => side + view.corner[of]);
+  return remake({nodes: nodes + 1, home, links, spots: [...fixedPlaces(view), spot], called: acts.names(view)}, nodes);
 }
 
 // The first node is where the click was, or else in the middle. It leaves room for others.
 async function addFirst(at) {
   const sides = room(), scale = Math.min(2, Math.min(...sides) / 250), corner = [camera.x, camera.y];
   const [x, y] = sides.map((most, side) => at ? at[side] * camera.scale + corner[side] : most / 2);
-  const where = {...places, [lines.length]: [[0, 0]]};
-  if (await run([...lines, '["net",1,0,[]]'], lines.length, where)) lookAs({x, y, scale}, viewer.shown);
+  const where = {places: {...places, [lines.length]: [[0, 0]]}};
+  if (await act([...lines, '["net",1,0,[]]'], lines.length, where)) lookAs({x, y, scale, corner: [0, 0]}, viewer.shown);
 }
 
 // Where a node is far from all others, of a few places in sight.
@@ -269,8 +270,11 @@ async function removeNode(node) {
   if (node === home) return tell('The destination cannot be removed. First make another node the destination.');
   const number = other => other > node ? other - 1 : other;
   const left = links.filter(link => !link.includes(node)).map(link => link.map(number));
-  const spots = view.place.filter((_, other) => other !== node);
-  await remake({nodes: nodes - 1, home: number(home), links: left, spots}, number(home));
+  const spots = fixedPlaces(view).filter((_, other) => other !== node);
+  const called = Object.fromEntries(Object.entries(acts.names(view))
+                                        .filter(([it]) => Number(it) !== node)
+                                        .map(([it, name]) => [number(Number(it)), name]));
+  await remake({nodes: nodes - 1, home: number(home), links: left, spots, called}, number(home));
   if (node < nodes - 1)
     note = 'Nodes ' + (node + 1) + ' to ' + (nodes - 1) + ' are now ' + node + ' to ' + (nodes - 2) + '.';
   hint();
@@ -278,7 +282,7 @@ async function removeNode(node) {
 
 function remove() {
   const node = nodeMeant();
-  if (node === null) return tell('Choose a node first. It is removed.');
+  if (node === null) return noNode('It is removed.');
   if (!isEarlier()) later(() => removeNode(node));
 }
 
@@ -303,35 +307,44 @@ pane.addEventListener('click', event => {
 acts.again = () => viewer.starts[Math.max(0, viewer.blocks.findLastIndex(block => stepsIn(block) > 1))];
 
 // Where nodes are is kept for the request from which on the network is laid out so.
-acts.places = view => places[view.first] && places[view.first].length === view.nodes ? places[view.first] : null;
+acts.places = view => viewer.placesIn(places, view);
+acts.names = view => viewer.namesIn(names, view);
 acts.drag = (node, way) => moveNode(viewer.shown, node, way);
-acts.drop = () => {
-  keepPlaces(viewer.shown);
-  putPlaces({...places, [viewer.shown.first]: viewer.shown.place.map(rounded)});
-};
+acts.drop = () => dropNode(null);
 
-function putPlaces(where) {
-  places = where;
-  later(() => replaceThere('keep?', textOf(lines, places)));
+// The nodes stay where they are now. `kind` is that of the action for undo.
+function dropNode(kind) {
+  const was = stateNow();
+  keepPlaces(viewer.shown);
+  placeNodes({...places, [viewer.shown.first]: viewer.shown.plain.map(rounded)}, was, kind);
 }
+
+function placeNodes(where, was, kind) {
+  places = where;
+  remember(was, kind);
+  later(keepText);
+}
+
+const keepText = () => replaceThere('keep?', textOf(lines, places, names));
 
 // Moves the node by the keyboard.
 function nudge(way) {
   const node = nodeMeant();
-  if (node === null || !viewer.shown) return tell('Choose a node first. It is moved.');
+  if (node === null || !viewer.shown) return noNode('It is moved.');
   moveNode(viewer.shown, node, way.map(side => side / camera.scale));
-  acts.drop();
+  dropNode('nudge ' + node);
   keepInSight(viewer.shown, node);
 }
 
 function anew() {
   const view = viewer.shown;
   if (!view) return;
+  const was = stateNow();
   Object.assign(view, {plain: placesOf(view), isGiven: false, pane: null});
   show(viewer.now);
   fit();
   const {[view.first]: _, ...others} = places;
-  putPlaces(others);
+  placeNodes(others, was, null);
 }
 
 function focusNode(on) {
@@ -393,24 +406,18 @@ const samples = {
 function takeSample(name) {
   later(() => {
     const more = samples[name](), next = [...lines, ...more];
-    return more.length === 1 ? run(next, lines.length) : runAll(next, lines.length, places);
+    return act(next, lines.length);
   });
-}
-
-function save() {
-  const file = document.createElement('a');
-  file.href = URL.createObjectURL(new Blob([textOf(lines, places)], {type: 'text/plain'}));
-  file.download = 'requests.jsonl';
-  file.click();
-  setTimeout(() => URL.revokeObjectURL(file.href), 10000);
 }
 
 async function readFile() {
   const [file] = by('file').files;
   if (!file) return;
   const decode = bytes => new TextDecoder('utf-8', {fatal: true, ignoreBOM: true}).decode(bytes);
-  const text = file.size <= MOST_BYTES && await file.arrayBuffer().then(decode).catch(() => null);
-  if (typeof text === 'string') by('text').value = text;
+  // A page that was saved is large. Its text with requests is not.
+  const isPage = /\.html?$/i.test(file.name) && file.size <= MOST_BYTES_OF_A_PAGE;
+  const text = (isPage || file.size <= MOST_BYTES) && await file.arrayBuffer().then(decode).catch(() => null);
+  if (typeof text === 'string') by('text').value = isPage ? textInPage(text) ?? text.slice(0, MOST_BYTES) : text;
   else {
     by('reading').close('cancel');
     tell(text === null ? 'The file is not UTF-8, or cannot be read.' : 'The file has over ' + MOST_TEXT + ' bytes.');
@@ -433,8 +440,15 @@ const openSamples = () => openDialog(by('samples'));
 document.querySelector('aside').prepend(by('lab'));
 by('legend').append(...by('lablegend').children);
 by('lablegend').remove();
-by('letters').parentNode.before(...by('labkeys').childNodes);
-by('labkeys').remove();
+// Each part of the lab moves to its place in the page.
+const moveTo = (box, id) => {
+  const from = by(id).parentNode;
+  box.append(by(id));
+  by(id).hidden = false;
+  if (from.matches('table')) from.remove();
+};
+moveTo(by('below'), 'labproof');
+moveTo(by('keytable'), 'labkeys');
 Object.assign(keys, {
   n: () => focusNode(1),
   p: () => focusNode(-1),
@@ -446,15 +460,20 @@ Object.assign(keys, {
   g: sendPacket,
   i: () => add(),
   x: remove,
+  e: openName,
   Delete: remove,
   u: undo,
+  y: redo,
   a: anew,
   m: openSamples,
   o: openText,
-  s: save,
+  s: openSaving,
   '/': () => by('line').focus()
 });
 Object.assign(controlled, {
+  z: undo,
+  y: redo,
+  Z: redo,
   ArrowRight: () => nudge([20, 0]),
   ArrowLeft: () => nudge([-20, 0]),
   ArrowDown: () => nudge([0, 20]),
@@ -462,16 +481,18 @@ Object.assign(controlled, {
 });
 const buttons = {
   undo,
+  redo,
   home: makeHome,
   fail: switchFailing,
   tell: tellEngine,
   packet: sendPacket,
   add: () => add(),
   remove,
+  rename: openName,
   anew,
   sample: openSamples,
   open: openText,
-  save
+  save: openSaving
 };
 for (const id in buttons) by(id).addEventListener('click', buttons[id]);
 by('ask').addEventListener('submit', event => {
@@ -483,11 +504,15 @@ by('line').addEventListener('keydown', event => {
 });
 by('file').addEventListener('change', readFile);
 by('reading').addEventListener('close', () => {
-  if (by('reading').returnValue === 'read') replace(by('text').value);
+  if (by('reading').returnValue === 'read') later(() => replace(by('text').value));
+});
+by('saving').addEventListener('close', () => {
+  if (by('saving').returnValue in saved) saved[by('saving').returnValue]();
 });
 by('samples').addEventListener('close', () => {
   if (by('samples').returnValue in samples) takeSample(by('samples').returnValue);
 });
+listenToNames();
 setInterval(() => fetch('alive', {method: 'POST'}).then(reply => noteEnd(!reply.ok), () => noteEnd(true)), 1000);
 addEventListener('pagehide', () => navigator.sendBeacon('closed'));
 if (viewer.blocks.length && !location.hash) showLast(true);

@@ -13,7 +13,7 @@ const acting = {
   kept: null,
   timer: null
 };
-const MOST_ROUTERS = 64;
+const MOST_ROUTERS = 64, MOST_ROUTER_LINKS = 256;
 
 // One action, on the routers that this page has started. Returns whether it was done.
 async function letBe(request) {
@@ -36,9 +36,13 @@ const network = () => {
 };
 
 async function beginActing() {
-  const round = lastRound();
-  if (!round) return tell('Draw a network first. Its nodes become routers.');
-  if (round.nodes > MOST_ROUTERS) return tell('At most ' + MOST_ROUTERS + ' routers can act by themselves.');
+  const last = viewer.blocks.at(-1)?.round;
+  if (!last) return tell('Draw a network first. Its nodes become routers.');
+  const {nodes, drawn} = last, most = ' by themselves, and this network has ';
+  if (nodes > MOST_ROUTERS) return tell('At most ' + MOST_ROUTERS + ' routers can act' + most + nodes + ' nodes.');
+  if (drawn && last.links.length > MOST_ROUTER_LINKS)
+    return tell(
+        'At most ' + MOST_ROUTER_LINKS + ' links can be between routers that act' + most + last.links.length + '.');
   play(false);
   viewer.picked = note = null;
   showLast();
@@ -60,7 +64,7 @@ function enterActing() {
     shown: drawActing
   });
   for (const key of Object.keys(keys))
-    if (!/^[-+=0fnp]$/.test(key)) delete keys[key];
+    if (!/^[-+=0fnp?]$/.test(key)) delete keys[key];
   Object.assign(keys, keysOfActing);
   document.body.classList.add('acting');
   show(viewer.now, true);
@@ -152,7 +156,7 @@ const keysOfActing = {
   Escape: () => {
     if (viewer.picked !== null) chooseRouter(viewer.picked);
   },
-  j: leaveActing
+  j: () => later(leaveActing)
 };
 
 // Where things are drawn.
@@ -189,25 +193,42 @@ function arrowAlong({from, middle, to}) {
   };
 }
 
-// With more boxes than this, each is where it comes, since it takes long to look for a place.
-const MOST_APART = 300;
+// With more boxes than this, each is where it comes, since it takes long to look for a place. In a network of more
+// links than this, boxes may cover arrows.
+const MOST_APART = 300, MOST_CLEAR = 48;
 // A box has this size, which depends on its text.
 const boxOf = text => [Math.max(22, 9 + 5.5 * String(text).length), 15];
 
-// A place beside a link for a box: the first one from its sender on at which it covers no router and no other box.
-// Where there is none, it is farther out.
-function placeFor(view, curve, side, text, taken) {
-  const [wide, high] = boxOf(text), first = Math.max(26, Math.min(38, curve.long / 2 - 8)), spots = [];
-  for (let out = 0; out < 3; out++)
+// Places beside a link for a box: from its sender on, and then farther out.
+function spotsBeside(curve, side, [wide, high], most, step) {
+  const first = Math.max(26, Math.min(38, curve.long / 2 - 8)), spots = [];
+  for (let out = 0; out < most; out += step)
     for (let far = first; far <= Math.max(first, curve.long - first); far += 6) {
       const {at, way: [x, y]} = pointOn(curve, Math.min(0.9, far / curve.long));
       const own = Math.abs(y) * wide / 2 + Math.abs(x) * high / 2, beside = side * (4 + own + out * (2 * own + 3));
       spots.push([at[0] - beside * y, at[1] + beside * x]);
     }
+  return spots;
+}
+
+// The place beside a link for a box: the first one at which it covers no router, no other box and no arrow. Where there
+// is none, an arrow may be below it, but a dashed one only if there is no place on either side of the link.
+function placeFor(view, curve, side, text, {taken, arrows}) {
+  const size = boxOf(text), [wide, high] = size,
+        spots = spotsBeside(curve, side, size, ...(arrows.length ? [6, 0.5] : [3, 1]));
   const isFar = (at, other, across, down) => Math.abs(at[0] - other[0]) >= across || Math.abs(at[1] - other[1]) >= down;
   const isFree = at => taken.every(it => isFar(at, it.at, (wide + it.wide) / 2 + 2, high + 2)) &&
       view.place.every(node => isFar(at, node, wide / 2 + 17, high / 2 + 17));
-  const at = taken.length < MOST_APART && spots.find(isFree) || spots[0];
+  const hides = at => arrows.filter(point => !isFar(at, point.at, wide / 2 + 4, high / 2 + 4));
+  // A dashed arrow weighs more than any others.
+  const costOf = at => hides(at).reduce((sum, {isShut}) => sum + (isShut ? 1000 : 1), 0);
+  const cheapest = spots =>
+      spots.filter(isFree).map(at => ({at, cost: costOf(at)})).reduce((a, b) => b.cost < a.cost ? b : a, {
+        cost: Infinity
+      });
+  let best = taken.length < MOST_APART ? cheapest(spots) : {};
+  if (best.cost >= 1000) best = cheapest([side, -side].flatMap(it => spotsBeside(curve, it, size, 16, 0.5)));
+  const at = best.at ?? spots[0];
   taken.push({at, wide});
   return at;
 }
@@ -268,26 +289,38 @@ function drawBroken(view, [tail, head, isUp]) {
 }
 
 // Where both ends send to the other one, the two arrows are beside one another.
+const besideOther = (router, way) => acting.state.routers[way].ways.includes(router) ? 16 : 0;
+
 function drawSend(view, router, way) {
-  const isBoth = acting.state.routers[way].ways.includes(router), kinds = [isUsed(router, way) ? '' : ' shut'];
+  const kinds = [isUsed(router, way) ? '' : ' shut'];
   if (loopLinks().has(router + '>' + way)) kinds.push(' loop');
-  const {line, tip} = arrowAlong(curveAlong(view, router, way, isBoth ? 16 : 0));
+  const {line, tip} = arrowAlong(curveAlong(view, router, way, besideOther(router, way)));
   const g = make(acting.links, 'g', {class: 'send' + kinds.join(''), 'data-tail': router, 'data-head': way});
   make(g, 'path', {d: line});
   make(g, 'path', {class: 'tip', d: tip});
 }
 
+// Points of all arrows, so near to one another that no box comes between two of them.
+function pointsOfArrows(view) {
+  const {links, routers} = acting.state;
+  if (links.length > MOST_CLEAR) return [];
+  return routers.flatMap(({ways}, router) => ways.flatMap(way => {
+    const curve = curveAlong(view, router, way, besideOther(router, way)), count = Math.ceil(curve.long / 7);
+    return upTo(count + 1, at => ({at: pointOn(curve, at / count).at, isShut: !isUsed(router, way)}));
+  }));
+}
+
 // The last message on a link is the nearest to its sender. Those that go the other way are on the other side.
 function drawMail(view) {
-  const {messages, notices} = acting.state, taken = [];
+  const {messages, notices} = acting.state, there = {taken: [], arrows: pointsOfArrows(view)};
   for (const [tail, head] of notices) {
     const words = {'data-kind': 'notice', 'data-tail': tail, 'data-head': head, 'aria-label': noticeText([tail, head])};
-    drawThing('mail notice', placeFor(view, curveAlong(view, tail, head, 0), -1, '!', taken), '!', words);
+    drawThing('mail notice', placeFor(view, curveAlong(view, tail, head, 0), -1, '!', there), '!', words);
   }
   const drawn = [...messages].reverse().map(it => {
     const [number, tail, head, text, isHeld] = it;
     const words = {'data-kind': 'message', 'data-message': number, 'data-tail': tail, 'data-head': head};
-    const at = placeFor(view, curveAlong(view, tail, head, 0), 1, text, taken);
+    const at = placeFor(view, curveAlong(view, tail, head, 0), 1, text, there);
     return [isHeld ? 'mail held' : 'mail', at, text, {...words, 'aria-label': messageText(it)}];
   });
   for (const words of drawn.reverse()) drawThing(...words);
@@ -334,7 +367,8 @@ function routerText(router) {
   const isHome = router === acting.state.home;
   const sends = isHome ? '' : ways.length ? ' It sends to ' + manyText(ways) + '.' : ' It has no way.';
   const lets = gates.length ? ' It lets in ' + manyText(gates) + '.' : ' It lets nobody in.';
-  return 'Router ' + router + (isHome ? ', the gateway' : '') + ': height ' + height +
+  const name = acts.names(acting.view)[router];
+  return 'Router ' + router + (name ? ' (' + name + ')' : '') + (isHome ? ', the gateway' : '') + ': height ' + height +
       (isHome || distance === null ? '' : ', distance ' + distance) + ', start ' + boot + '.' + sends + lets +
       (written ? '' : ' Its table is not written yet.');
 }
@@ -347,12 +381,33 @@ function loopText() {
   return 'No loop among the ' + used + ' used ' + (used === 1 ? 'link.' : 'links.');
 }
 
+// The routers that no links lead from to the gateway. Without a ceiling those that still have a neighbour rise for
+// ever.
+function cutOff() {
+  const {routers, links, home} = acting.state, up = links.filter(([, , isUp]) => isUp), reached = new Set([home]);
+  for (const at of reached)
+    for (const [a, b] of up)
+      if (a === at || b === at) reached.add(a === at ? b : a);
+  const gone = [...routers.keys()].filter(router => !reached.has(router));
+  return {gone, rising: gone.filter(router => up.some(([a, b]) => a === router || b === router))};
+}
+
+function cutOffText() {
+  const {gone, rising} = cutOff();
+  if (!gone.length) return '';
+  const rise = !rising.length     ? '' :
+      rising.length < gone.length ? ' ' + manyText(rising) + ' rise again and again, until a link joins them.' :
+                                    ' They rise again and again, until a link joins them.';
+  return 'Cut off from the gateway: ' + manyText(gone) + '.' + rise;
+}
+
 function tellActing() {
   const {said, loop, routers, home, links} = acting.state, router = viewer.picked;
   by('title').textContent = routers.length + ' routers, ' + links.length + ' links, gateway ' + home;
   by('say').textContent = said;
   by('loops').textContent = loopText();
   mark(by('loops'), {class: loop.length ? 'no' : null, role: loop.length ? 'alert' : null});
+  by('cutoff').textContent = cutOffText();
   by('chosen').textContent = router === null ? 'Choose a router to see its ways and gates.' : routerText(router);
   by('written').disabled = router === null || routers[router].written;
   by('again').disabled = router === null || !routers[router].written;
@@ -439,13 +494,13 @@ function listenToLayer(layer) {
 function listenToActing() {
   by('legend').append(...by('actslegend').children);
   by('actslegend').remove();
-  by('letters').parentNode.before(...by('actskeys').childNodes);
-  by('actskeys').remove();
+  moveTo(by('below'), 'actsproof');
+  moveTo(by('keytable'), 'actskeys');
   document.querySelector('aside').append(by('acting'));
   by('bar').after(by('acts'));
   const clicks = {
     routers: () => later(beginActing),
-    engine: leaveActing,
+    engine: () => later(leaveActing),
     afresh: () => later(() => letBe(network())),
     written: () => routerDoes('write_table'),
     again: () => routerDoes('say_again'),

@@ -23,8 +23,9 @@ MOST_ON_A_LINK = 4
 # A router starts this high. So the gateway is below it, whatever their numbers are.
 BEGIN = 64
 # A message of a node (docs/NODES.md, "The form of messages"): who sends it and to whom, its distance, its boot number
-# and the receiver's that it knows, the number and the height of its announcement, and the number that it has heard.
-FORM = struct.Struct(">4s3I5Q")
+# and the receiver's that it knows, the number and the height of its announcement, the number that it has heard, and its
+# stamp.
+FORM = struct.Struct(">4s3I6Q")
 
 
 class NotDone(Exception):
@@ -96,11 +97,14 @@ class Router:
             self.node.link_down(neighbour)
 
     def hear(self, neighbour, data):
-        """An event: a message arrives. So the link to its sender is up."""
+        """A message arrives. So the link to its sender is up. It is an event, unless this message or a later one has
+        arrived before: then the node ignores it."""
         if neighbour not in self.up:
             self.notice(neighbour, True)
-        self.is_written = False
+        before = self.node.table().state
         self.node.hear(data)
+        if self.node.table().state != before:
+            self.is_written = False
 
     def write(self):
         """Closes gates, changes the ways, and then opens gates. Only then the node may say something."""
@@ -117,7 +121,7 @@ class Message:
 
     def __init__(self, number, data):
         self.number, self.data, self.is_held = number, data, False
-        _, self.tail, self.head, _, _, self.echo, _, self.height, _ = FORM.unpack(data)
+        _, self.tail, self.head, _, _, self.echo, _, self.height, _, _ = FORM.unpack(data)
 
     def text(self, boot):
         """What the message is to its receiver: a height. It counts only if the sender knows the receiver's present
@@ -135,7 +139,7 @@ class Routers:
         self.near = [sorted(other for it in self.links if x in it for other in it - {x}) for x in range(nodes)]
         self.under_way, self.sent, self.said = {}, 0, ""
         # For each router and neighbour the message that was sent last; and those that have to say it again, because it
-        # was lost or an older one has arrived after it.
+        # was lost.
         self.last, self.again = {}, set()
         # In the present action: each router and neighbour with too many messages between them.
         self.crowded = set()
@@ -243,8 +247,8 @@ class Routers:
 
     def arrive(self, message, is_kept):
         it = self.under_way[message.number] if is_kept else self.under_way.pop(message.number)
-        is_last = self.last[it.tail, it.head] == it.number
-        (self.again.discard if is_last else self.again.add)((it.tail, it.head))
+        if self.last[it.tail, it.head] == it.number:
+            self.again.discard((it.tail, it.head))
         router, text = self.routers[it.head], self.text_of(it)
         told = self.changed(it.head, lambda: (router.hear(it.tail, it.data), self.settle(it.head)))
         what = {
@@ -356,7 +360,7 @@ class Routers:
         if missing:
             routers = sorted({x for x, _ in missing})
             who = f"Routers {listed(routers)} say" if routers[1:] else f"Router {routers[0]} says"
-            self.said = f"Messages were lost or late, so timers run out. {who} it again."
+            self.said = f"Messages were lost, so timers run out. {who} it again."
 
     # What the page shows.
 

@@ -1,6 +1,6 @@
 """The viewer of a page, joined from its parts: what is written before the story of a page, and what is written after it."""
 
-MODULES = ("page.js", "story.js", "steps.js", "ways.js", "layout.js", "drawing.js", "camera.js", "texts.js", "list.js", "controls.js")
+MODULES = ("page.js", "given.js", "story.js", "steps.js", "ways.js", "layout.js", "drawing.js", "camera.js", "texts.js", "list.js", "controls.js")
 
 
 def script(folder):

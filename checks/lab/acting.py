@@ -120,7 +120,7 @@ class Rules:
             same(f"{told}: a way without a link", frozenset((x, w)) in self.links, True)
             same(f"{told}: a gateway that sends", x == self.home, False)
 
-    def after(self, told, router, gone=(), written=True, drops=True):
+    def after(self, told, router, gone=(), written=True, may_be_old=False):
         """The view after an action. The messages that go are those, and those of links that have too many. New ones come from the router. `router` is None
         if no router may change."""
         before, after = self.last, self.view(told)
@@ -138,7 +138,9 @@ class Rules:
         if not written:
             same(f"{told}: arrows before the table is written", after.sends, before.sends)
             same(f"{told}: messages before the table is written", [it for it in after.messages if it not in before.messages], [])
-            same(f"{told}: whose table is not written", after.unwritten, before.unwritten | {router})
+            # A message is ignored if it or a later one has arrived before.
+            if not may_be_old or (after.unwritten, after.heights) != (before.unwritten, before.heights):
+                same(f"{told}: whose table is not written", after.unwritten, before.unwritten | {router})
         self.last = after
         self.check_moment(told)
         return before, after
@@ -153,7 +155,7 @@ class Rules:
 
     def delivered(self, told, message, is_kept=False):
         tail, router, _ = self.last.messages[message]
-        before, after = self.after(told, router, () if is_kept else (message,), self.at_once)
+        before, after = self.after(told, router, () if is_kept else (message,), self.at_once, may_be_old=True)
         self.heights(told, before, after, router, tail)
         if is_kept and len(before.between(tail, router)) < MOST_ON_A_LINK:
             same(f"{told}: whether the copied message is still there", message in after.messages, True)
@@ -729,6 +731,49 @@ CUT = """(() => {
 })()"""
 
 
+# The arrows of ways whose gates are closed that lie below a box of a message, each with how many of its points do.
+HIDDEN_WAYS = """(() => {
+  const boxes = [...document.querySelectorAll('#net .mail rect:not(.hit)')].map(it => it.getBoundingClientRect()), out = [];
+  for (const it of document.querySelectorAll('#net .send.shut')) {
+    const line = it.querySelector('path'), to = line.getScreenCTM(), long = line.getTotalLength(), points = Array.from({length: 60}, (_, at) => line.getPointAtLength(at / 59 * long).matrixTransform(to));
+    const below = points.filter(at => boxes.some(box => at.x > box.left && at.x < box.right && at.y > box.top && at.y < box.bottom)).length;
+    if (below) out.push([it.dataset.tail, it.dataset.head, below]);
+  }
+  return [document.querySelectorAll('#net .send.shut').length, out];
+})()"""
+
+
+def check_boxes(page):
+    """In small networks the boxes of messages hide no way whose gate is still closed."""
+    count = 0
+    for network in (RING, {"nodes": 3, "home": 0, "links": [[1, 0], [2, 1], [2, 0]]}, MESH):
+        page.start(network)
+        for step in range(14):
+            shut, hidden = page.chrome.value(f"queue.then(() => {HIDDEN_WAYS})")
+            same(f"ways below boxes, {network['nodes']} routers, step {step}", hidden, [])
+            count += shut
+            page.chrome.press("e" if step % 2 else "ArrowRight")
+            if step == 8:
+                page.link(frozenset(network["links"][0]), True)
+        page.end()
+    same("whether ways with closed gates were seen", count > 20 or count, True)
+
+
+def check_cut_off(page):
+    """What has no path to the gateway is said, and that routers of such a part rise again and again."""
+    said = "queue.then(() => document.getElementById('cutoff').textContent)"
+    page.start(RING)
+    same("what is said where all are connected", page.chrome.value(said), "")
+    for link in ((1, 0), (3, 0)):
+        page.link(frozenset(link), True)
+    same("what is said of a part that is cut off", page.chrome.value(said), "Cut off from the gateway: 1, 2 and 3. They rise again and again, until a link joins them.")
+    page.link(frozenset((2, 1)), True)
+    same("what is said of a router alone", page.chrome.value(said), "Cut off from the gateway: 1, 2 and 3. 2 and 3 rise again and again, until a link joins them.")
+    page.link(frozenset((3, 0)), False)
+    same("what is said once they are joined", page.chrome.value(said), "Cut off from the gateway: 1.")
+    page.end()
+
+
 def check_screens(page, pages):
     """On each screen nothing is cut off, and in both modes of colour all can be read."""
     page.start(MESH)
@@ -779,5 +824,7 @@ def check_page(person, pages):
     check_tables(page)
     check_keys(page)
     check_loud(page)
+    check_cut_off(page)
+    check_boxes(page)
     check_sessions(page, 50)
     check_screens(page, pages)

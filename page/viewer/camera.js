@@ -54,17 +54,25 @@ function moveNode(view, node, [across, down]) {
   show(now, true);
 }
 
+// The places of the nodes whatever else is drawn: those in the drawing begin at its corner.
+const fixedPlaces = view => view.place.map(at => at.map((side, of) => side + view.corner[of]));
+
+// What the pane shows, with the corner of the drawing and the size of the pane then.
+const lookNow = view => ({...camera, corner: view.corner, pane: view.pane});
+
 // After nodes were moved: the curves of all links go round them, and what is drawn stays where it is on the screen.
 function keepPlaces(view) {
-  const was = {...camera};
-  Object.assign(view, {plain: view.place, isGiven: true});
+  const was = lookNow(view);
+  Object.assign(view, {plain: fixedPlaces(view), isGiven: true});
   arrange(view);
   lookAs(was, view);
   show(now, true);
 }
 
-function lookAs({x, y, scale, isFitted}, view) {
-  look({x: x + view.corner[0] * scale, y: y + view.corner[1] * scale, scale, isFitted});
+// Shows a drawing as it was looked at, also if it begins at another corner now.
+function lookAs({x, y, scale, isFitted, corner}, view) {
+  const [across, down] = view.corner.map((side, of) => (side - corner[of]) * scale);
+  look({x: x + across, y: y + down, scale, isFitted});
 }
 
 // A drag moves the drawing, two fingers and the wheel size it. A drag of a node moves the node, in the lab. After a

@@ -122,8 +122,12 @@ const keys = {
   '=': () => zoom(1.25),
   '-': () => zoom(0.8),
   0: fit,
-  f: fit
+  f: fit,
+  '?': openKeys
 };
+
+// The keys are a table in a dialog, which Escape closes.
+function openKeys() { by('keybox').showModal(); }
 
 const shifted = {
   ArrowRight: () => move(-60, 0),
@@ -135,8 +139,8 @@ const shifted = {
 // Keys with Ctrl, which only the lab has.
 const controlled = {};
 
-// What a click on a node, on a link or beside them does, who says where nodes are, where a page that was played to its
-// end begins again, and what has failed without the engine's knowing. The lab has its own.
+// What a click on a node, on a link or beside them does, who says where nodes are and what they are called, where a
+// page that was played to its end begins again, and what has failed without the engine's knowing. The lab has its own.
 const acts = {
   node: pick,
   link: () => {},
@@ -144,7 +148,8 @@ const acts = {
   empty: () => {},
   drag: null,
   drop: () => {},
-  places: () => null,
+  places: view => placesIn(given.places, view),
+  names: view => namesIn(given.names, view),
   shown: () => {},
   again: () => 0,
   hasFailed: () => false,
@@ -156,8 +161,10 @@ const acts = {
 
 // What a key does: nothing where it is typed or scrolls a text, or where it is a letter and these are turned off.
 function actionOf({key, target, shiftKey, ctrlKey, metaKey, altKey}) {
-  if (metaKey || altKey || target.closest('dialog, select, textarea, input:not([type=range])')) return null;
-  if (ctrlKey) return controlled[key];
+  if (altKey || target.closest('dialog, select, textarea, input:not([type=range])')) return null;
+  // On a Mac the key Cmd goes with letters, as Ctrl does elsewhere.
+  if (ctrlKey || metaKey && isLetter(key)) return controlled[shiftKey && isLetter(key) ? key.toUpperCase() : key];
+  if (metaKey) return null;
   if (scrolling.has(key) && isScrolled(target) || isLetter(key) && !hasLetters()) return null;
   if (key === ' ' && target.matches('button, summary')) return null;
   const g = key === 'Enter' && target.closest('.node, .link');
@@ -252,7 +259,8 @@ function start() {
     play: () => play(timer === null),
     larger: () => zoom(1.25),
     smaller: () => zoom(0.8),
-    whole: fit
+    whole: fit,
+    keysopen: openKeys
   };
   for (const id in clicks) by(id).addEventListener('click', clicks[id]);
   by('slide').addEventListener('input', () => go(Number(by('slide').value)));
@@ -283,7 +291,7 @@ function begin() {
   load(0, by('story').textContent);
   if (blocks.length || isLab) return start();
   showNothing();
-  for (const id of ['bar', 'about', 'zoom']) by(id).setAttribute('hidden', '');
+  for (const id of ['bar', 'about', 'zoom', 'keysopen']) by(id).setAttribute('hidden', '');
 }
 
 // What the lab uses of the viewer.
@@ -310,8 +318,19 @@ const offered = {
   lookAs,
   keepInSight,
   moveNode,
+  fixedPlaces,
+  lookNow,
   keepPlaces,
   placesOf,
+  arrange,
+  givenText,
+  given,
+  isRequest,
+  readText,
+  textOf,
+  placesIn,
+  namesIn,
+  nodeName,
   waysIn,
   walkOf,
   chooseLines,

@@ -21,7 +21,7 @@ function build(view) {
     make(g, 'circle', {r: 22, class: 'ring'});
     make(g, 'circle', {r: 18, class: 'face'});
     make(g, 'text', {y: 0}).textContent = node;
-    return {g, count: make(g, 'text', {y: 12, class: 'count'})};
+    return {g, count: make(g, 'text', {y: 12, class: 'count'}), name: make(g, 'text', {y: 35, class: 'name'})};
   });
   const given = acts.places(view);
   view.isGiven = given !== null;
@@ -169,9 +169,12 @@ function drawNodes(view, round, {state, ways}, way, news) {
       ['stuck', acts.isStuck(node)]
     ];
     if (spot.count.textContent !== String(count)) spot.count.textContent = count;
-    const label = 'node ' + node + (isHome ? ', the destination' : '') + ', turned ' + timesText(count) +
-        (node === state.sink ? ', turns next' : '') + (node === state.node ? ', gets its next hop now' : '') +
-        (isCut ? ', cut off' : '') + (hop && !isSaid ? ', ' + (ways ? waysText(ways[node]) : hopText(hop)) : '') +
+    const name = acts.names(view)[node] ?? '';
+    if (spot.name.textContent !== shortName(name)) spot.name.textContent = shortName(name);
+    const label = 'node ' + node + (name && ' (' + name + ')') + (isHome ? ', the destination' : '') + ', turned ' +
+        timesText(count) + (node === state.sink ? ', turns next' : '') +
+        (node === state.node ? ', gets its next hop now' : '') + (isCut ? ', cut off' : '') +
+        (hop && !isSaid ? ', ' + (ways ? waysText(ways[node]) : hopText(hop)) : '') +
         (acts.isStuck(node) ? ', a packet is stuck here' : '');
     mark(spot.g, {
       class: 'node' + kinds.filter(kind => kind[1]).map(kind => ' ' + kind[0]).join(''),

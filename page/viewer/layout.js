@@ -139,13 +139,34 @@ function placesOf(view) {
   return place;
 }
 
+// The rows of a drawing that lies on its side, cut into so many strips: one below the other, each beginning where the
+// last one ends.
+function folded(lying, strips) {
+  const columns = [...new Set(lying.map(([x]) => x))].sort((a, b) => a - b),
+        at = new Map(columns.map((x, i) => [x, i]));
+  const gap = columns.length > 1 ? columns[1] - columns[0] : 0, long = Math.ceil(columns.length / strips);
+  const down = Math.max(...lying.map(([, y]) => y)) + 1.5 * gap;
+  return lying.map(([x, y]) => {
+    const strip = Math.floor(at.get(x) / long), part = at.get(x) % long;
+    return [(strip % 2 ? long - 1 - part : part) * gap, strip * down + y];
+  });
+}
+
 // The places in a pane of this size: stretched, so that the drawing fills it. Where the nodes get much larger by that,
-// the drawing lies on its side, with the destination on the left.
+// the drawing lies on its side, with the destination on the left. One that is long and thin is folded, so that its
+// nodes can still be read.
+const MOST_STRIPS = 24, READABLE = 0.6;
 function stretched(plain, width, height) {
   const most = (places, side) => Math.max(...places.map(at => at[side])), rim = 64;
   const sizeOf = places => Math.min(MOST_SCALE, width / (most(places, 0) + rim), height / (most(places, 1) + rim));
   const tall = most(plain, 1), lying = plain.map(([x, y]) => [tall - y, x]);
-  const places = sizeOf(lying) > 1.3 * sizeOf(plain) ? lying : plain, scale = sizeOf(places);
+  let places = sizeOf(lying) > 1.3 * sizeOf(plain) ? lying : plain;
+  if (sizeOf(places) < READABLE) {
+    const folds = Array.from({length: MOST_STRIPS - 1}, (_, strips) => folded(lying, strips + 2));
+    const best = folds.reduce((one, other) => sizeOf(other) > sizeOf(one) ? other : one);
+    if (sizeOf(best) > 1.3 * sizeOf(places)) places = best;
+  }
+  const scale = sizeOf(places);
   const factor = (pane, side) => Math.max(1, Math.min(8, (pane / scale - rim) / (most(places, side) || 1)));
   const [across, down] = [factor(width, 0), factor(height, 1)];
   return places.map(([x, y]) => [x * across, y * down]);
@@ -153,7 +174,10 @@ function stretched(plain, width, height) {
 
 // Makes room for the curves: moves all to the right of them and below them, and takes the size.
 function makeRoom(view) {
-  const points = view.place.map(at => [at, 32]);
+  const points = view.place.map(at => [at, 32]), named = acts.names(view);
+  // A name is below its node.
+  for (const node of view.place.keys())
+    if (named[node]) points.push([[view.place[node][0], view.place[node][1] + 12], 32]);
   for (const {a, b, bend} of view.shapes.values()) {
     const from = view.place[a], to = view.place[b], long = Math.hypot(to[0] - from[0], to[1] - from[1]) || 1;
     const [across, down] = [to[0] - from[0], to[1] - from[1]].map(side => side / long * bend / 2);

@@ -1,7 +1,8 @@
 // What all parts of the viewer use.
 
 const by = id => document.getElementById(id), SVG = 'http://www.w3.org/2000/svg', NL = String.fromCharCode(10),
-      BLANK = String.fromCharCode(160), ARROW = BLANK + String.fromCharCode(8594) + BLANK;
+      BLANK = String.fromCharCode(160), ARROW = BLANK + String.fromCharCode(8594) + BLANK,
+      ELLIPSIS = String.fromCharCode(8230);
 const isLab = document.querySelector('meta[name=lab]') !== null;
 
 function make(parent, name, attributes) {

@@ -6,6 +6,15 @@ const timesText = count => count + (count === 1 ? ' time' : ' times');
 const hopName = hop => hop === 'here' ? 'destination' : hop === 'cut' ? 'none' : hop;
 const changeText = (node, old, next) => node + BLANK + '(' + hopName(old) + ARROW + hopName(next) + ')';
 
+// A node by its number and its name, and as much of a name as the drawing has.
+const MOST_DRAWN_NAME = 18;
+const shortName = name => name.length > MOST_DRAWN_NAME ? name.slice(0, MOST_DRAWN_NAME - 1) + ELLIPSIS : name;
+
+function nodeName(node, view) {
+  const name = view ? acts.names(view)[node] : null;
+  return 'Node ' + node + (name ? ' (' + name + ')' : '');
+}
+
 // A turn, the end of the turns, or a push, in words; and what is pushed next.
 function roundText(round, turn, state) {
   const {turned, total} = round,
@@ -133,7 +142,7 @@ function routeText({hops}, route, ways) {
 
 function tellNode(round, state, ways) {
   const known = state && picked !== null && picked < round.nodes;
-  by('picked').textContent = known ? 'Node ' + picked + (picked === round.home ? ', the destination' : '') +
+  by('picked').textContent = known ? nodeName(picked, round.view) + (picked === round.home ? ', the destination' : '') +
           ': turned ' + timesText(state.counts[picked]) + ' in this round' + tellWays(round, state) :
       isLab ? '' :
               'Choose a node to see its route and its count over time.';

@@ -1,5 +1,5 @@
 -- The input determines its picture.
-use Rattle.std.proofs.Common.{◌≡◌, ◌∙◌, ℕ, ◌-◌, ◌≤◌, ◌⊎◌, List, [], ◌∷◌, ◌++◌, Option, None, Some, length, map, ap, arith, inl, inr, refl, subst, sym}
+use Rattle.std.proofs.Common.{◌≡◌, ◌∙◌, ℕ, ◌-◌, ◌≤◌, ◌⊎◌, List, [], ◌∷◌, ◌++◌, Option, None, Some, length, map, sum, ap, arith, inl, inr, refl, subst, sym}
 use Rattle.std.specs.List.{range_with_len}
 use Rattle.std.proofs.lemmas.Bool.{cases_lt}
 use Rattle.fr_core.specs.History.{Moment}
@@ -12,15 +12,17 @@ use Rattle.fr_bytes.specs.Lines.{lines_of}
 use Rattle.revdot.specs.Drawings.{IsDrawing, IsPictureOf}
 use Rattle.revdot.specs.Graphs.{graph_text}
 use Rattle.revdot.specs.Settled.{IsGraphOf, IsWaysGraphOf, settled_node, settled_link, way_link}
-use Rattle.revdot.specs.Strips.{IsNext, IsStripOf, AreAllTurns, AreTurns, after_turn, after_turns, beginning, most_turns, turns_text}
+use Rattle.revdot.specs.Strips.{IsNext, IsStripOf, AreAllTurns, AreTurns, after_turn, after_turns, beginning, last_label, most_turns, turns_text}
+use Rattle.revdot.specs.declared.graphs.Label.{Label}
+use Rattle.revdot.specs.declared.graphs.Label.TheVariants.{Plain}
 use Rattle.revdot.specs.declared.drawing.Picture.{Picture}
 use Rattle.revdot.specs.declared.drawing.Picture.TheVariants.{Network, Ways, Turns}
 
-graph_unique : (s : State) (a b : List ℕ) → IsGraphOf s a → IsGraphOf s b → a ≡ b
-graph_unique s a b p q =
+graph_unique : (said : Label) (s : State) (a b : List ℕ) → IsGraphOf said s a → IsGraphOf said s b → a ≡ b
+graph_unique said s a b p q =
     let hops : p.hops ≡ q.hops = hops_unique s s.nodes p.hops q.hops p.are_hops q.are_hops in
     p.text
-    ∙ (ap (λ (hs : List Hop). graph_text None s.dest (map (settled_node s.counts hs) (range_with_len 0 s.nodes)) (map (settled_link hs) s.links)) hops
+    ∙ (ap (λ (hs : List Hop). graph_text said s.dest (map (settled_node s.counts hs) (range_with_len 0 s.nodes)) (map (settled_link hs) s.links)) hops
     ∙ sym q.text)
 
 ways_graph_unique : (s : State) (a b : List ℕ) → IsWaysGraphOf s a → IsWaysGraphOf s b → a ≡ b
@@ -28,7 +30,7 @@ ways_graph_unique s a b p q =
     let hops : p.hops ≡ q.hops = hops_unique s s.nodes p.hops q.hops p.are_hops q.are_hops in
     let table : p.table ≡ q.table = ways_below_unique s s.nodes p.table q.table p.are_ways q.are_ways in
     let text = λ (hs : List Hop) (ws : List (List ℕ)).
-    graph_text None s.dest (map (settled_node s.counts hs) (range_with_len 0 s.nodes)) (map (way_link hs ws) s.links) in
+    graph_text Plain s.dest (map (settled_node s.counts hs) (range_with_len 0 s.nodes)) (map (way_link hs ws) s.links) in
     let texts : text p.hops p.table ≡ text q.hops q.table = λ i. text (hops i) (table i) in
     p.text ∙ (texts ∙ sym q.text)
 
@@ -82,14 +84,14 @@ all_turns_unique most n d m xs ys p q = turns_unique n d most m xs ys p.turns q.
 strip_unique : (s : State) (a b : List ℕ) → IsStripOf s a → IsStripOf s b → a ≡ b
 strip_unique s a b p q =
     let turns : p.turns ≡ q.turns = all_turns_unique most_turns s.nodes s.dest (beginning s) p.turns q.turns p.are_all q.are_all in
-    let last : p.last ≡ q.last = graph_unique s p.last q.last p.settled q.settled in
+    let last : p.last ≡ q.last = graph_unique (last_label (sum s.counts - most_turns)) s p.last q.last p.settled q.settled in
     let texts : turns_text s (beginning s) 1 p.turns ++ p.last ≡ turns_text s (beginning s) 1 q.turns ++ q.last =
     (λ i. turns_text s (beginning s) 1 (turns i) ++ last i) in
     p.text ∙ (texts ∙ sym q.text)
 
 picture_unique : (picture : Picture) (last : Option State) (a b : List ℕ) → IsPictureOf picture last a → IsPictureOf picture last b → a ≡ b
 picture_unique picture None a b p q = p ∙ sym q
-picture_unique Network (Some s) a b p q = graph_unique s a b p q
+picture_unique Network (Some s) a b p q = graph_unique Plain s a b p q
 picture_unique Ways (Some s) a b p q = ways_graph_unique s a b p q
 picture_unique Turns (Some s) a b p q = strip_unique s a b p q
 

@@ -5,6 +5,7 @@ use Rattle.fr_route.specs.Answers.{AreAnswers}
 use Rattle.fr_bytes.specs.Lines.{lines_of}
 use Rattle.revdot.specs.Settled.{IsGraphOf, IsWaysGraphOf}
 use Rattle.revdot.specs.Strips.{IsStripOf}
+use Rattle.revdot.specs.declared.graphs.Label.TheVariants.{Plain}
 use Rattle.revdot.specs.declared.drawing.Picture.{Picture}
 use Rattle.revdot.specs.declared.drawing.Picture.TheVariants.{Network, Ways, Turns}
 
@@ -15,7 +16,7 @@ IsLeftBy bytes last = (answers : List ℕ) × AreAnswers None (lines_of bytes) a
 -- the picture of a state, and nothing without a network
 abbrev pub IsPictureOf : Picture → Option State → List ℕ → Type 0
 IsPictureOf picture None out = out ≡ []
-IsPictureOf Network (Some s) out = IsGraphOf s out
+IsPictureOf Network (Some s) out = IsGraphOf Plain s out
 IsPictureOf Ways (Some s) out = IsWaysGraphOf s out
 IsPictureOf Turns (Some s) out = IsStripOf s out
 

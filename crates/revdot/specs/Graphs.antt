@@ -1,5 +1,5 @@
 -- Graphs in the DOT language of Graphviz, line by line. The styles are this project's own.
-use Rattle.std.specs.Prelude.{ℕ, List, [], ◌++◌, Bool, true, false, Option, Some, None, codes, decimal}
+use Rattle.std.specs.Prelude.{ℕ, List, [], ◌++◌, Bool, true, false, codes, decimal}
 use Rattle.std.specs.List.{flat_map}
 use Rattle.revdot.specs.declared.graphs.NodeStyle.{NodeStyle}
 use Rattle.revdot.specs.declared.graphs.NodeStyle.TheVariants as node
@@ -7,17 +7,19 @@ use Rattle.revdot.specs.declared.graphs.LinkStyle.{LinkStyle}
 use Rattle.revdot.specs.declared.graphs.LinkStyle.TheVariants as link
 use Rattle.revdot.specs.declared.graphs.DrawnNode.{DrawnNode}
 use Rattle.revdot.specs.declared.graphs.DrawnLink.{DrawnLink}
-use Rattle.revdot.specs.declared.graphs.Title.{Title}
+use Rattle.revdot.specs.declared.graphs.Label.{Label}
+use Rattle.revdot.specs.declared.graphs.Label.TheVariants as label
 
 -- the attributes of all nodes and links
 unfoldable pub opening : List ℕ
 opening = codes "digraph network {\n    graph [ nodesep = 0.4 ranksep = 0.4 fontname = Helvetica ]\n    node [ shape = circle fixedsize = true width = 0.55 fontname = Helvetica style = filled fillcolor = white ]\n    edge [ color = gray50 arrowsize = 0.8 ]\n"
 
--- the line below the graph of a turn
-abbrev pub title_text : Option Title → List ℕ
-title_text (Some t) = codes "    label = <turn "
+-- the line below a graph
+abbrev pub title_text : Label → List ℕ
+title_text label.Plain = []
+title_text (label.Turn t) = codes "    label = <turn "
     ++ (decimal t.turn ++ (codes ": node " ++ (decimal t.node ++ codes ">\n")))
-title_text None = []
+title_text (label.LeftOut turns) = codes "    label = <turns without a graph: " ++ (decimal turns ++ codes ">\n")
 
 -- the attributes of one node
 abbrev pub node_style_text : NodeStyle → List ℕ
@@ -68,7 +70,7 @@ link_line m =
     ++ (codes " [" ++ (back_text m.back ++ (link_style_text m.style ++ codes " ]\n"))))))
 
 -- a graph with this destination, these nodes and these links
-abbrev pub graph_text : Option Title → ℕ → List DrawnNode → List DrawnLink → List ℕ
-graph_text title d nodes links =
-    opening ++ (title_text title
+abbrev pub graph_text : Label → ℕ → List DrawnNode → List DrawnLink → List ℕ
+graph_text said d nodes links =
+    opening ++ (title_text said
     ++ (flat_map node_line nodes ++ (lowest_line d ++ (flat_map link_line links ++ codes "}\n"))))

@@ -1,6 +1,6 @@
 -- The turns of the last round, with a graph for each. This project's own.
-use Rattle.std.specs.Prelude.{◌≡◌, ℕ, ◌+◌, ◌<◌, ◌≤◌, ◌==◌, ◌⊎◌, if◌then◌else◌, not, List}
-use Rattle.std.specs.Prelude.{[], ◌∷◌, ◌++◌, Some, length, map, replicate, slice_index}
+use Rattle.std.specs.Prelude.{◌≡◌, ℕ, ◌+◌, ◌-◌, ◌<◌, ◌≤◌, ◌==◌, ◌⊎◌, if◌then◌else◌, not, List}
+use Rattle.std.specs.Prelude.{[], ◌∷◌, ◌++◌, length, map, replicate, slice_index, sum}
 use Rattle.std.specs.List.{range_with_len, zip}
 use Rattle.fr_graph.specs.Links.{HaveSameLinks, IsNet}
 use Rattle.fr_core.specs.History.{Moment, after_reply, count_at}
@@ -9,6 +9,8 @@ use Rattle.fr_core.specs.declared.entry.Reply.TheVariants.{Turned}
 use Rattle.fr_route.specs.States.{IsRound, State}
 use Rattle.revdot.specs.Graphs.{graph_text}
 use Rattle.revdot.specs.Settled.{IsGraphOf}
+use Rattle.revdot.specs.declared.graphs.Label.{Label}
+use Rattle.revdot.specs.declared.graphs.Label.TheVariants as label
 use Rattle.revdot.specs.declared.graphs.NodeStyle.{NodeStyle}
 use Rattle.revdot.specs.declared.graphs.NodeStyle.TheVariants as node
 use Rattle.revdot.specs.declared.graphs.LinkStyle.TheVariants as link
@@ -73,7 +75,7 @@ turn_link x p = record {
 -- the graph of turn k, in which x turns
 abbrev pub turn_text : State → Moment → ℕ → ℕ → List ℕ
 turn_text s m k x =
-    graph_text (Some (record { turn = k; node = x })) s.dest
+    graph_text (label.Turn (record { turn = k; node = x })) s.dest
     (map (turn_node s.dest m.counts x) (range_with_len 0 s.nodes)) (map (turn_link x) (zip s.links m.links))
 
 -- a graph for each of these turns, numbered from k
@@ -86,11 +88,15 @@ abbrev pub BeginsTheRound : State → Type 0
 BeginsTheRound s = (first : List (ℕ × ℕ)) → IsNet s.nodes first → s.dest < s.nodes → IsRound s.nodes s.dest first s
     → HaveSameLinks (beginning s).links first
 
+-- the text below the last graph, where so many turns have no graph
+abbrev pub last_label : ℕ → Label
+last_label turns = if turns == 0 then label.Plain else label.LeftOut turns
+
 -- the graphs of the turns of the last round, and then the graph of the state
 pub record IsStripOf (s : State) (out : List ℕ) : Type 0 where
   pub begins : BeginsTheRound s
   pub turns : List ℕ
   pub are_all : AreAllTurns most_turns s.nodes s.dest (beginning s) turns
   pub last : List ℕ
-  pub settled : IsGraphOf s last
+  pub settled : IsGraphOf (last_label (sum s.counts - most_turns)) s last
   pub text : out ≡ turns_text s (beginning s) 1 turns ++ last

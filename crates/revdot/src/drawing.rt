@@ -6,6 +6,7 @@ ghost use Rattle.revdot.specs.Drawings.{IsDrawing, IsPictureOf};
 ghost use Rattle.revdot.specs.Written.{WritesText, IsTextFault};
 
 use crate::answered_session::session_after;
+use crate::graphs::Label;
 use crate::settled::{push_settled, push_settled_ways};
 use crate::strips::push_strip;
 use fr_bytes::{RunFault, read_input, write_out};
@@ -61,7 +62,7 @@ fn picture_of(alloc: Global, session: &Session, picture: Picture) -> Result<Stri
         return Ok(text);
     };
     match picture {
-        Picture::Network => push_settled(&mut text, alloc, router)?,
+        Picture::Network => push_settled(&mut text, alloc, router, Label::Plain)?,
         Picture::Ways => push_settled_ways(&mut text, alloc, router)?,
         Picture::Turns => push_strip(&mut text, alloc, router)?,
     }

@@ -66,7 +66,18 @@ pub struct DrawnLink {
     pub back: bool,
 }
 
-/// The text below a graph of a turn.
+/// The text below a graph.
+#[derive(Clone, Copy)]
+pub enum Label {
+    /// No text.
+    Plain,
+    /// A turn and the node that makes it.
+    Turn(Title),
+    /// How many turns have no graph.
+    LeftOut(u64),
+}
+
+/// What the text below the graph of a turn says.
 #[derive(Clone, Copy)]
 pub struct Title {
     /// The number of the turn, counted from 1.
@@ -78,15 +89,15 @@ pub struct Title {
 /// Appends a graph.
 pub fn push_graph(
     text: &mut String,
-    title: Option<Title>,
+    label: Label,
     dest: u32,
     nodes: &[DrawnNode],
     links: &[DrawnLink],
 ) -> Result<(), AllocError>
-    ensures { OnOk result (string_bytes text.new ≡ string_bytes text.old ++ graph_text title dest nodes.now links.now) }
+    ensures { OnOk result (string_bytes text.new ≡ string_bytes text.old ++ graph_text label dest nodes.now links.now) }
 {
     text.push_str(opening_text())?;
-    push_title(text, title)?;
+    push_title(text, label)?;
     push_nodes(text, nodes)?;
     push_lowest(text, dest)?;
     push_links(text, links)?;
@@ -104,12 +115,15 @@ fn opening_text() -> &'static str
 "
 }
 
-fn push_title(text: &mut String, title: Option<Title>) -> Result<(), AllocError>
-    ensures { OnOk result (string_bytes text.new ≡ string_bytes text.old ++ title_text title) }
+fn push_title(text: &mut String, label: Label) -> Result<(), AllocError>
+    ensures { OnOk result (string_bytes text.new ≡ string_bytes text.old ++ title_text label) }
 {
-    match title {
-        Some(Title { turn, node }) => writeln!(text, "    label = <turn {turn}: node {node}>"),
-        None => Ok(()),
+    match label {
+        Label::Plain => Ok(()),
+        Label::Turn(Title { turn, node }) => {
+            writeln!(text, "    label = <turn {turn}: node {node}>")
+        }
+        Label::LeftOut(turns) => writeln!(text, "    label = <turns without a graph: {turns}>"),
     }
 }
 

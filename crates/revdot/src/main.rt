@@ -31,7 +31,7 @@ use viewer::{FIRST_PART, LAST_PART};
 const HELP: &str = "\
 Draws the network that the lines of standard input leave, as a graph in Graphviz's language.
 
-usage: revdot [--ways | --turns] < LINES | dot -Tsvg > PICTURE
+usage: revdot [--ways | --turns] < LINES | dot -Tsvg > PICTURE       (from left to right: dot -Grankdir=LR -Tsvg)
        revdot --page < LINES > PAGE
 
   --ways         the network with bold arrows to the nearest ways, and hollow heads at the next hops

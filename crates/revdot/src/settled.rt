@@ -5,20 +5,25 @@ ghost use Rattle.std.specs.List.{range_with_len};
 ghost use Rattle.revdot.specs.Settled.{node_style, link_style, settled_node, settled_link, IsGraphOf};
 ghost use Rattle.revdot.specs.Settled.{is_first as is_first_of, way_link, way_style, IsWaysGraphOf};
 
-use crate::graphs::{DrawnLink, DrawnNode, LinkStyle, NodeStyle, push_graph};
+use crate::graphs::{DrawnLink, DrawnNode, Label, LinkStyle, NodeStyle, push_graph};
 use fr_route::{Hop, Router};
 use fr_ways::WayTable;
 use std::alloc::{AllocError, Global};
 
-/// Appends the graph of a settled network.
-pub fn push_settled(text: &mut String, alloc: Global, router: &Router) -> Result<(), AllocError>
-    ensures { OnOk result ((graph : List ℕ) × IsGraphOf router.now graph
+/// Appends the graph of a settled network, with this text below it.
+pub fn push_settled(
+    text: &mut String,
+    alloc: Global,
+    router: &Router,
+    label: Label,
+) -> Result<(), AllocError>
+    ensures { OnOk result ((graph : List ℕ) × IsGraphOf label router.now graph
         × (string_bytes text.new ≡ string_bytes text.old ++ graph)) }
 {
     let hops = router.hops();
     let nodes = settled_nodes(alloc, router, hops)?;
     let links = settled_links(alloc, router, hops)?;
-    push_graph(text, None, router.dest(), &nodes, &links)
+    push_graph(text, label, router.dest(), &nodes, &links)
 }
 
 /// Appends the graph of a settled network that shows which way of each node is the first.
@@ -34,7 +39,7 @@ pub fn push_settled_ways(
     let table = router.all_ways(alloc)?;
     let nodes = settled_nodes(alloc, router, hops)?;
     let links = way_links(alloc, router, hops, &table)?;
-    push_graph(text, None, router.dest(), &nodes, &links)
+    push_graph(text, Label::Plain, router.dest(), &nodes, &links)
 }
 
 /// The nodes, in order.

@@ -3,10 +3,10 @@
 ghost use Rattle.std.specs.Prelude.{◌≡◌, ◌++◌, ◌<◌, ◌≤◌, ℕ, List, length, map, IfOk, OnOk, string_bytes};
 ghost use Rattle.std.specs.List.{range_with_len, zip};
 ghost use Rattle.revdot.specs.Replays.{IsReplay, moment_of};
-ghost use Rattle.revdot.specs.Strips.{IsStripOf, AreAllTurns, most_turns, beginning, turn_style};
+ghost use Rattle.revdot.specs.Strips.{IsStripOf, AreAllTurns, most_turns, beginning, last_label, turn_style};
 ghost use Rattle.revdot.specs.Strips.{turn_node as turn_node_of, turn_link, turn_text, turns_text};
 
-use crate::graphs::{DrawnLink, DrawnNode, LinkStyle, NodeStyle, Title, push_graph};
+use crate::graphs::{DrawnLink, DrawnNode, Label, LinkStyle, NodeStyle, Title, push_graph};
 use crate::settled::push_settled;
 use crate::turns::Replay;
 use fr_route::Router;
@@ -15,13 +15,27 @@ use std::alloc::{AllocError, Global};
 /// The greatest number of turns that are drawn.
 const MAX_TURNS: u32 = 1_000;
 
-/// Appends a graph for each turn of the last round, and then one of the settled network.
+/// Appends a graph for each turn of the last round, and then one of the settled network. The text below that says how
+/// many turns are left out.
 pub fn push_strip(text: &mut String, alloc: Global, router: &Router) -> Result<(), AllocError>
     ensures { OnOk result ((strip : List ℕ) × IsStripOf router.now strip
         × (string_bytes text.new ≡ string_bytes text.old ++ strip)) }
 {
     push_turns(text, alloc, router)?;
-    push_settled(text, alloc, router)
+    let turned = router.report().turned;
+    let label = label_at_end(turned.saturating_sub(MAX_TURNS as u64));
+    push_settled(text, alloc, router, label)
+}
+
+/// The text below the last graph, where so many turns have no graph.
+fn label_at_end(turns: u64) -> Label
+    ensures { result ≡ last_label turns }
+{
+    if turns == 0 {
+        Label::Plain
+    } else {
+        Label::LeftOut(turns)
+    }
 }
 
 /// Appends a graph for each turn of the last round.
@@ -67,7 +81,7 @@ fn push_turn(
         x,
     )?;
     let links = turn_links(alloc, &replay.settled, &replay.links, x)?;
-    push_graph(text, Some(title), router.dest(), &nodes, &links)
+    push_graph(text, Label::Turn(title), router.dest(), &nodes, &links)
 }
 
 /// The nodes at the turn of `x`.

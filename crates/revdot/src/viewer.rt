@@ -40,7 +40,6 @@ white-space:nowrap;cursor:pointer}
 #about{border-top:1px solid var(--edge);padding:.6rem .9rem;overflow:auto;flex:0 1 auto}
 #about p{margin:0 0 .4rem;overflow-wrap:anywhere}
 #about p:empty{margin:0}
-#below label{display:block}
 #request,#answer{max-height:7rem;overflow:auto;font-family:ui-monospace,monospace;font-size:.9em}
 #chart{width:100%;aspect-ratio:4;max-height:6rem;display:block}
 #ring{display:block;margin:auto;max-width:100%}
@@ -61,8 +60,22 @@ flex-wrap:wrap;background:var(--panel)}
 footer{grid-area:foot;border-top:1px solid var(--edge);padding:.3rem 1rem;color:var(--soft);font-size:.87rem;
 position:relative}
 summary{cursor:pointer;width:max-content}
+#keysopen{position:absolute;right:1rem;top:.15rem;padding:.05rem .6rem;font-size:.95em;background:none}
+#below p{margin:0 0 .2rem}
+dialog{width:min(40rem,92vw);max-height:calc(100dvh - 2rem);border:1px solid var(--edge);border-radius:10px;
+background:var(--panel);color:inherit;padding:1rem}
+dialog::backdrop{background:#0007}
+dialog p{margin:0 0 .6rem}
+dialog menu{margin:.7rem 0 0;padding:0;display:flex;gap:.5rem;flex-wrap:wrap;justify-content:flex-end}
+#keybox table{border-collapse:collapse;width:100%}
+#keybox th,#keybox td{text-align:left;vertical-align:top;padding:.15rem .6rem .15rem 0;font-weight:400}
+#keybox tr+tr>*{border-top:1px solid var(--edge)}
+#keybox tbody th[colspan]{font-weight:600;padding-top:.6rem}
+#keybox tr>th:first-child:not([colspan]){white-space:nowrap}
+kbd{font:.9em ui-monospace,monospace;border:1px solid var(--edge);border-radius:4px;padding:0 .3em;background:var(--face)}
 #legend{list-style:none;margin:.2rem 0 .3rem;padding:0;display:flex;flex-wrap:wrap;gap:.1rem 1.1rem;color:var(--ink)}
 #legend li{display:flex;align-items:center;gap:.35rem}
+#legend svg{flex:none}
 #legend .node{cursor:auto}
 :focus-visible{outline:2px solid var(--hop);outline-offset:2px}
 [hidden]{display:none!important}
@@ -89,8 +102,10 @@ summary{cursor:pointer;width:max-content}
 .node .face{fill:var(--panel);stroke:var(--ink);stroke-width:1.5}
 .node text{text-anchor:middle;fill:var(--ink);font:600 13px system-ui,sans-serif}
 .node .count{font:400 11px system-ui,sans-serif}
+.node .name{font:400 12px system-ui,sans-serif;paint-order:stroke;stroke:var(--back);stroke-width:3px;stroke-linejoin:round;pointer-events:none}
 .small .count{display:none}
 .small .node text{font-size:17px;transform:translateY(6px)}
+.small .node .name{font-size:15px}
 .node .ring{fill:none;stroke:none}
 .node.home .ring{stroke:var(--ink);stroke-width:1.5}
 .node.out .face{stroke:var(--grey)}
@@ -104,15 +119,15 @@ summary{cursor:pointer;width:max-content}
 #chart path{fill:none;stroke:var(--hop);stroke-width:1.5}
 #chart line{stroke:var(--turn);stroke-width:1}
 #chart text{fill:var(--soft);font:10px system-ui,sans-serif}
-@media (max-height:800px),(max-width:760px){#below{position:absolute;left:0;right:0;bottom:100%;max-height:70vh;overflow:auto;
-padding:.6rem 1rem;background:var(--panel);border-top:1px solid var(--edge);z-index:1}}
+@media (max-height:800px),(max-width:760px){#below{position:absolute;left:0;width:22rem;bottom:100%;max-height:70vh;overflow:auto;
+padding:.6rem 1rem;background:var(--panel);border:solid var(--edge);border-width:1px 1px 0 0;z-index:1}}
 @media (max-height:500px),(max-width:1100px){#bar label span{display:none}}
 @media (max-width:1100px){#say{min-height:4rem}}
 @media (max-height:500px),(max-width:760px) and (orientation:portrait){aside{overflow:auto}#about{flex:none;overflow:visible}}
-@media (max-height:500px){html{font-size:13px}#say{min-height:2.8rem}body{grid-template-columns:17rem minmax(0,1fr)}header{padding:.1rem .8rem}
+@media (max-height:500px){html{font-size:13px}#below{width:17rem}#say{min-height:2.8rem}body{grid-template-columns:17rem minmax(0,1fr)}header{padding:.1rem .8rem}
 h1{max-width:11rem}#bar{padding:.2rem .8rem}#zoom{top:.3rem;right:.3rem}button,select{padding:.15rem .45rem}
 footer{padding:.15rem .8rem}}
-@media (max-width:760px) and (orientation:portrait){html{font-size:14px}
+@media (max-width:760px) and (orientation:portrait){html{font-size:14px}#below{width:auto;right:0;border-width:1px 0 0;max-height:36vh}
 body{grid-template:'head' auto 'net' minmax(0,1fr) 'bar' auto 'side' 36vh 'foot' auto/minmax(0,1fr)}
 header{display:block;padding:.4rem .8rem}h1{white-space:nowrap;overflow:hidden;text-overflow:ellipsis}
 #say{align-content:start}aside{border:0;border-top:1px solid var(--edge)}#list{min-height:3.4rem}#request,#answer{max-height:2.9em}
@@ -144,8 +159,8 @@ header{display:block;padding:.4rem .8rem}h1{white-space:nowrap;overflow:hidden;t
 <label><span>Bold </span><select id='lines' aria-label='Bold lines' title='What bold lines lead to'>
 <option value='hops' selected>next hops</option><option value='ways'>first ways</option></select></label>
 </div>
-<footer><details id='fold'><summary>Legend, keys, and what is proved</summary>
-<div id='below' tabindex='0' role='group' aria-label='Legend, keys, and what is proved'>
+<footer><details id='fold'><summary>Legend, and what is proved</summary>
+<div id='below' tabindex='0' role='group' aria-label='Legend, and what is proved'>
 <ul id='legend' aria-label='What is drawn'>
 <li><svg width='26' height='26' aria-hidden='true'><g class='node home' transform='translate(13 13)'><circle r='12' class='ring'/><circle r='9.5' class='face'/></g></svg>the destination</li>
 <li><svg width='38' height='26' aria-hidden='true'><g class='link hop'><path d='M2 13H28'/><path class='tip' d='M36 13L27 8.4V17.6Z'/></g></svg>to the next hop</li>
@@ -166,13 +181,28 @@ header{display:block;padding:.4rem .8rem}h1{white-space:nowrap;overflow:hidden;t
 <li><svg width='38' height='26' aria-hidden='true'><g class='link closed asked'><path d='M2 13H28'/><path class='tip' d='M36 13L27 8.4V17.6Z'/></g></svg>its link that was asked for</li>
 <li>below a number, if the drawing is large enough: how often the node has turned</li>
 </ul>
-<b>Proved:</b> the data of this page: each request, answer, link, turn, count, next hop, push and way.
-<b>Not proved:</b> the drawing. A script in this page makes it, and is tested in a browser.
-<b>Keys:</b> left and right, a step; up and down, a line; space, play; n and p, a node;
-w, next hops or ways; r, pushes by rising number;
-+ and -, the size; 0 or f, fit; Shift and an arrow, move the drawing.
-<label><input id='letters' type='checkbox' checked>Keys that are letters, digits or signs; without them, Tab goes to each node</label>
-</div></details></footer>
+<p id='proof'><b>Proved:</b> the data of this page: each request, answer, link, turn, count, next hop, push and way.
+<b>Not proved:</b> the drawing. A script in this page makes it, and is tested in a browser.</p>
+</div></details><button id='keysopen' title='Keys (?)'>Keys</button></footer>
+<dialog id='keybox' aria-label='Keys'>
+<p><label><input id='letters' type='checkbox' checked> Keys that are letters, digits or signs. Without them, Tab goes to each node.</label></p>
+<table id='keytable'>
+<tbody><tr><th colspan='2' scope='rowgroup'>Steps</th></tr>
+<tr class='steps'><th scope='row'><kbd>&#8592;</kbd> <kbd>&#8594;</kbd></th><td>one step back, one step on</td></tr>
+<tr class='steps'><th scope='row'><kbd>&#8593;</kbd> <kbd>&#8595;</kbd></th><td>the line before, the next line</td></tr>
+<tr class='steps'><th scope='row'><kbd>Home</kbd> <kbd>End</kbd></th><td>the first step, the last step</td></tr>
+<tr class='steps'><th scope='row'><kbd>Space</kbd></th><td>play, pause</td></tr>
+<tr class='steps'><th scope='row'><kbd>w</kbd></th><td>next hops, or ways</td></tr>
+<tr class='steps'><th scope='row'><kbd>r</kbd></th><td>pushes by rising number, or in push order</td></tr>
+<tr><th scope='row'><kbd>n</kbd> <kbd>p</kbd></th><td>the next node, the node before</td></tr>
+<tr><th scope='row'><kbd>Esc</kbd></th><td>no node is chosen</td></tr></tbody>
+<tbody><tr><th colspan='2' scope='rowgroup'>The drawing</th></tr>
+<tr><th scope='row'><kbd>+</kbd> <kbd>-</kbd></th><td>larger, smaller</td></tr>
+<tr><th scope='row'><kbd>0</kbd> <kbd>f</kbd></th><td>fit it into the page</td></tr>
+<tr><th scope='row'><kbd>Shift</kbd> and an arrow</th><td>move it</td></tr>
+<tr><th scope='row'><kbd>?</kbd></th><td>this table</td></tr></tbody>
+</table>
+<form method='dialog'><menu><button>Close</button></menu></form></dialog>
 <script type='text/plain' id='story'>
 ";
 
@@ -185,7 +215,8 @@ const viewer = (() => {
 // What all parts of the viewer use.
 
 const by = id => document.getElementById(id), SVG = 'http://www.w3.org/2000/svg', NL = String.fromCharCode(10),
-      BLANK = String.fromCharCode(160), ARROW = BLANK + String.fromCharCode(8594) + BLANK;
+      BLANK = String.fromCharCode(160), ARROW = BLANK + String.fromCharCode(8594) + BLANK,
+      ELLIPSIS = String.fromCharCode(8230);
 const isLab = document.querySelector('meta[name=lab]') !== null;
 
 function make(parent, name, attributes) {
@@ -204,6 +235,47 @@ function mark(element, attributes) {
     } else if (element.getAttribute(key) !== String(value)) element.setAttribute(key, value);
   }
 }
+// What a page knows beside its story, where the lab has put that there: the text with requests, one a line. Blank lines
+// and comments are none. Comments may say where nodes are and what they are called: for the place of a request from
+// which on a network is laid out, the places of its nodes, and the names of those that have one.
+
+const PLACES = '# places ', NAMES = '# names ';
+
+const isRequest = line => !/^[ \\t\\r]*(#|$)/.test(line);
+const isPlace = at => Array.isArray(at) && at.length === 2 && at.every(Number.isFinite);
+const arePlaces = nodes => Array.isArray(nodes) && nodes.every(isPlace);
+const areNames = nodes => nodes !== null && typeof nodes === 'object' && !Array.isArray(nodes) &&
+    Object.entries(nodes).every(([node, name]) => /^[0-9]{1,4}$/.test(node) && typeof name === 'string');
+
+// What the last comment of a kind says, where it is what it must be.
+function commentIn(lines, kind, isGood) {
+  const comment = lines.findLast(line => line.startsWith(kind));
+  if (!comment) return {};
+  try {
+    return Object.fromEntries(Object.entries(JSON.parse(comment.slice(kind.length))).filter(([, it]) => isGood(it)));
+  } catch { return {}; }
+}
+
+function readText(text) {
+  const all = text.split(NL);
+  return {
+    lines: all.filter(isRequest),
+    places: commentIn(all, PLACES, arePlaces),
+    names: commentIn(all, NAMES, areNames)
+  };
+}
+
+function textOf(lines, places, names) {
+  const comment = (kind, said) => Object.keys(said).length ? [kind + JSON.stringify(said)] : [];
+  return [...lines, ...comment(PLACES, places), ...comment(NAMES, names)].map(line => line + NL).join('');
+}
+
+const givenText = by('given') ? JSON.parse(by('given').textContent) : '', given = readText(givenText);
+
+// The places and the names of the nodes of a drawing, if they are known.
+const placesIn = (places, view) =>
+    places[view.first] && places[view.first].length === view.nodes ? places[view.first] : null;
+const namesIn = (names, view) => names[view.first] ?? {};
 // The story of a page, read: its lines, their requests and answers, and what each round changed.
 
 // What is wrong with a line that is refused, by the number of the refusal. The engine names the nodes.
@@ -651,13 +723,34 @@ function placesOf(view) {
   return place;
 }
 
+// The rows of a drawing that lies on its side, cut into so many strips: one below the other, each beginning where the
+// last one ends.
+function folded(lying, strips) {
+  const columns = [...new Set(lying.map(([x]) => x))].sort((a, b) => a - b),
+        at = new Map(columns.map((x, i) => [x, i]));
+  const gap = columns.length > 1 ? columns[1] - columns[0] : 0, long = Math.ceil(columns.length / strips);
+  const down = Math.max(...lying.map(([, y]) => y)) + 1.5 * gap;
+  return lying.map(([x, y]) => {
+    const strip = Math.floor(at.get(x) / long), part = at.get(x) % long;
+    return [(strip % 2 ? long - 1 - part : part) * gap, strip * down + y];
+  });
+}
+
 // The places in a pane of this size: stretched, so that the drawing fills it. Where the nodes get much larger by that,
-// the drawing lies on its side, with the destination on the left.
+// the drawing lies on its side, with the destination on the left. One that is long and thin is folded, so that its
+// nodes can still be read.
+const MOST_STRIPS = 24, READABLE = 0.6;
 function stretched(plain, width, height) {
   const most = (places, side) => Math.max(...places.map(at => at[side])), rim = 64;
   const sizeOf = places => Math.min(MOST_SCALE, width / (most(places, 0) + rim), height / (most(places, 1) + rim));
   const tall = most(plain, 1), lying = plain.map(([x, y]) => [tall - y, x]);
-  const places = sizeOf(lying) > 1.3 * sizeOf(plain) ? lying : plain, scale = sizeOf(places);
+  let places = sizeOf(lying) > 1.3 * sizeOf(plain) ? lying : plain;
+  if (sizeOf(places) < READABLE) {
+    const folds = Array.from({length: MOST_STRIPS - 1}, (_, strips) => folded(lying, strips + 2));
+    const best = folds.reduce((one, other) => sizeOf(other) > sizeOf(one) ? other : one);
+    if (sizeOf(best) > 1.3 * sizeOf(places)) places = best;
+  }
+  const scale = sizeOf(places);
   const factor = (pane, side) => Math.max(1, Math.min(8, (pane / scale - rim) / (most(places, side) || 1)));
   const [across, down] = [factor(width, 0), factor(height, 1)];
   return places.map(([x, y]) => [x * across, y * down]);
@@ -665,7 +758,10 @@ function stretched(plain, width, height) {
 
 // Makes room for the curves: moves all to the right of them and below them, and takes the size.
 function makeRoom(view) {
-  const points = view.place.map(at => [at, 32]);
+  const points = view.place.map(at => [at, 32]), named = acts.names(view);
+  // A name is below its node.
+  for (const node of view.place.keys())
+    if (named[node]) points.push([[view.place[node][0], view.place[node][1] + 12], 32]);
   for (const {a, b, bend} of view.shapes.values()) {
     const from = view.place[a], to = view.place[b], long = Math.hypot(to[0] - from[0], to[1] - from[1]) || 1;
     const [across, down] = [to[0] - from[0], to[1] - from[1]].map(side => side / long * bend / 2);
@@ -740,7 +836,7 @@ function build(view) {
     make(g, 'circle', {r: 22, class: 'ring'});
     make(g, 'circle', {r: 18, class: 'face'});
     make(g, 'text', {y: 0}).textContent = node;
-    return {g, count: make(g, 'text', {y: 12, class: 'count'})};
+    return {g, count: make(g, 'text', {y: 12, class: 'count'}), name: make(g, 'text', {y: 35, class: 'name'})};
   });
   const given = acts.places(view);
   view.isGiven = given !== null;
@@ -888,9 +984,12 @@ function drawNodes(view, round, {state, ways}, way, news) {
       ['stuck', acts.isStuck(node)]
     ];
     if (spot.count.textContent !== String(count)) spot.count.textContent = count;
-    const label = 'node ' + node + (isHome ? ', the destination' : '') + ', turned ' + timesText(count) +
-        (node === state.sink ? ', turns next' : '') + (node === state.node ? ', gets its next hop now' : '') +
-        (isCut ? ', cut off' : '') + (hop && !isSaid ? ', ' + (ways ? waysText(ways[node]) : hopText(hop)) : '') +
+    const name = acts.names(view)[node] ?? '';
+    if (spot.name.textContent !== shortName(name)) spot.name.textContent = shortName(name);
+    const label = 'node ' + node + (name && ' (' + name + ')') + (isHome ? ', the destination' : '') + ', turned ' +
+        timesText(count) + (node === state.sink ? ', turns next' : '') +
+        (node === state.node ? ', gets its next hop now' : '') + (isCut ? ', cut off' : '') +
+        (hop && !isSaid ? ', ' + (ways ? waysText(ways[node]) : hopText(hop)) : '') +
         (acts.isStuck(node) ? ', a packet is stuck here' : '');
     mark(spot.g, {
       class: 'node' + kinds.filter(kind => kind[1]).map(kind => ' ' + kind[0]).join(''),
@@ -961,17 +1060,25 @@ function moveNode(view, node, [across, down]) {
   show(now, true);
 }
 
+// The places of the nodes whatever else is drawn: those in the drawing begin at its corner.
+const fixedPlaces = view => view.place.map(at => at.map((side, of) => side + view.corner[of]));
+
+// What the pane shows, with the corner of the drawing and the size of the pane then.
+const lookNow = view => ({...camera, corner: view.corner, pane: view.pane});
+
 // After nodes were moved: the curves of all links go round them, and what is drawn stays where it is on the screen.
 function keepPlaces(view) {
-  const was = {...camera};
-  Object.assign(view, {plain: view.place, isGiven: true});
+  const was = lookNow(view);
+  Object.assign(view, {plain: fixedPlaces(view), isGiven: true});
   arrange(view);
   lookAs(was, view);
   show(now, true);
 }
 
-function lookAs({x, y, scale, isFitted}, view) {
-  look({x: x + view.corner[0] * scale, y: y + view.corner[1] * scale, scale, isFitted});
+// Shows a drawing as it was looked at, also if it begins at another corner now.
+function lookAs({x, y, scale, isFitted, corner}, view) {
+  const [across, down] = view.corner.map((side, of) => (side - corner[of]) * scale);
+  look({x: x + across, y: y + down, scale, isFitted});
 }
 
 // A drag moves the drawing, two fingers and the wheel size it. A drag of a node moves the node, in the lab. After a
@@ -1040,6 +1147,15 @@ const waysText = list => list.length ? (list.length === 1 ? 'way to ' : 'ways to
 const timesText = count => count + (count === 1 ? ' time' : ' times');
 const hopName = hop => hop === 'here' ? 'destination' : hop === 'cut' ? 'none' : hop;
 const changeText = (node, old, next) => node + BLANK + '(' + hopName(old) + ARROW + hopName(next) + ')';
+
+// A node by its number and its name, and as much of a name as the drawing has.
+const MOST_DRAWN_NAME = 18;
+const shortName = name => name.length > MOST_DRAWN_NAME ? name.slice(0, MOST_DRAWN_NAME - 1) + ELLIPSIS : name;
+
+function nodeName(node, view) {
+  const name = view ? acts.names(view)[node] : null;
+  return 'Node ' + node + (name ? ' (' + name + ')' : '');
+}
 
 // A turn, the end of the turns, or a push, in words; and what is pushed next.
 function roundText(round, turn, state) {
@@ -1168,7 +1284,7 @@ function routeText({hops}, route, ways) {
 
 function tellNode(round, state, ways) {
   const known = state && picked !== null && picked < round.nodes;
-  by('picked').textContent = known ? 'Node ' + picked + (picked === round.home ? ', the destination' : '') +
+  by('picked').textContent = known ? nodeName(picked, round.view) + (picked === round.home ? ', the destination' : '') +
           ': turned ' + timesText(state.counts[picked]) + ' in this round' + tellWays(round, state) :
       isLab ? '' :
               'Choose a node to see its route and its count over time.';
@@ -1410,8 +1526,12 @@ const keys = {
   '=': () => zoom(1.25),
   '-': () => zoom(0.8),
   0: fit,
-  f: fit
+  f: fit,
+  '?': openKeys
 };
+
+// The keys are a table in a dialog, which Escape closes.
+function openKeys() { by('keybox').showModal(); }
 
 const shifted = {
   ArrowRight: () => move(-60, 0),
@@ -1423,8 +1543,8 @@ const shifted = {
 // Keys with Ctrl, which only the lab has.
 const controlled = {};
 
-// What a click on a node, on a link or beside them does, who says where nodes are, where a page that was played to its
-// end begins again, and what has failed without the engine's knowing. The lab has its own.
+// What a click on a node, on a link or beside them does, who says where nodes are and what they are called, where a
+// page that was played to its end begins again, and what has failed without the engine's knowing. The lab has its own.
 const acts = {
   node: pick,
   link: () => {},
@@ -1432,7 +1552,8 @@ const acts = {
   empty: () => {},
   drag: null,
   drop: () => {},
-  places: () => null,
+  places: view => placesIn(given.places, view),
+  names: view => namesIn(given.names, view),
   shown: () => {},
   again: () => 0,
   hasFailed: () => false,
@@ -1444,8 +1565,10 @@ const acts = {
 
 // What a key does: nothing where it is typed or scrolls a text, or where it is a letter and these are turned off.
 function actionOf({key, target, shiftKey, ctrlKey, metaKey, altKey}) {
-  if (metaKey || altKey || target.closest('dialog, select, textarea, input:not([type=range])')) return null;
-  if (ctrlKey) return controlled[key];
+  if (altKey || target.closest('dialog, select, textarea, input:not([type=range])')) return null;
+  // On a Mac the key Cmd goes with letters, as Ctrl does elsewhere.
+  if (ctrlKey || metaKey && isLetter(key)) return controlled[shiftKey && isLetter(key) ? key.toUpperCase() : key];
+  if (metaKey) return null;
   if (scrolling.has(key) && isScrolled(target) || isLetter(key) && !hasLetters()) return null;
   if (key === ' ' && target.matches('button, summary')) return null;
   const g = key === 'Enter' && target.closest('.node, .link');
@@ -1540,7 +1663,8 @@ function start() {
     play: () => play(timer === null),
     larger: () => zoom(1.25),
     smaller: () => zoom(0.8),
-    whole: fit
+    whole: fit,
+    keysopen: openKeys
   };
   for (const id in clicks) by(id).addEventListener('click', clicks[id]);
   by('slide').addEventListener('input', () => go(Number(by('slide').value)));
@@ -1571,7 +1695,7 @@ function begin() {
   load(0, by('story').textContent);
   if (blocks.length || isLab) return start();
   showNothing();
-  for (const id of ['bar', 'about', 'zoom']) by(id).setAttribute('hidden', '');
+  for (const id of ['bar', 'about', 'zoom', 'keysopen']) by(id).setAttribute('hidden', '');
 }
 
 // What the lab uses of the viewer.
@@ -1598,8 +1722,19 @@ const offered = {
   lookAs,
   keepInSight,
   moveNode,
+  fixedPlaces,
+  lookNow,
   keepPlaces,
   placesOf,
+  arrange,
+  givenText,
+  given,
+  isRequest,
+  readText,
+  textOf,
+  placesIn,
+  namesIn,
+  nodeName,
   waysIn,
   walkOf,
   chooseLines,
