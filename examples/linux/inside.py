@@ -9,8 +9,8 @@ import sys
 import zipfile
 from pathlib import Path
 
-import kernels
-from kernels import HUB, RUN, ip, run
+from kernels import HUB
+from namespaces import RUN, ip, run, set_sysctls
 
 HERE = Path(__file__).resolve().parent
 SECONDS_IN_ALL = 240
@@ -58,7 +58,7 @@ def try_out():
     try:
         run("mount", "-t", "tmpfs", "tmpfs", RUN)
         ip("netns add r0", f"netns add {HUB}")
-        kernels.set_sysctls("r0")
+        set_sysctls("r0")
         ip("link add name r0 type veth peer name mgmt arp off netns r0", inside=HUB)
         ip("netns del r0", f"netns del {HUB}")
     except OSError as error:
@@ -81,13 +81,13 @@ def leave(kinds):
     run("mount", "--make-rprivate", "/")
 
 
-def go_inside():
+def go_inside(more={}):
     """Takes this process into a network and mounts of its own, as root or as a user who is root there. The process does
-    so itself, whatever its environment says, and compares what the kernel says before and after."""
+    so itself, whatever its environment says, and compares what the kernel says before and after. `more` is needed as well."""
     if sys.platform != "linux":
         raise LeftOut("this is not Linux")
     os.environ["PATH"] = os.environ.get("PATH", os.defpath) + ":/usr/sbin:/sbin"
-    for needed, package in NEEDED.items():
+    for needed, package in {**NEEDED, **more}.items():
         if not shutil.which(needed):
             raise LeftOut(f"there is no {needed}", package)
     outside = namespaces()
@@ -109,23 +109,36 @@ def take_too_long(*_):
     os._exit(1)
 
 
-def start(what, check):
-    """Runs a check there, prints what is wrong or else what it has seen, and ends this process. `what` is printed if there can be
-    no lab here."""
+def enter(what, seconds=SECONDS_IN_ALL, more={}):
+    """Takes this process there, with so many seconds for all. If there can be no lab here, it prints `what` and ends."""
     signal.signal(signal.SIGALRM, take_too_long)
-    signal.alarm(SECONDS_IN_ALL)
+    signal.alarm(seconds)
     try:
-        go_inside()
+        go_inside(more)
         try_out()
     except LeftOut as it:
-        print(f"skipped: {what}, since {' '.join(str(it.why).split())}: {it.package}")
-        sys.exit(0)
-    if package := find_package([it for it in sys.argv[1:] if not it.startswith("--")]):
-        sys.path.insert(0, str(unpacked(package)))
-    if not importlib.util.find_spec("revroute"):
-        sys.exit("linux: WRONG: there is no Python package of the engine; embed/build makes it")
-    wrong, seen = check()
+        leave_out(what, it)
+
+
+def leave_out(what, it):
+    print(f"skipped: {what}, since {' '.join(str(it.why).split())}: {it.package}")
+    sys.exit(0)
+
+
+def end(wrong, seen):
+    """Prints what is wrong or else what was seen, and ends this process."""
     for it in wrong:
         print("WRONG:", it)
     print(f"linux: {len(wrong)} wrong ends" if wrong else f"linux: {seen}")
     sys.exit(1 if wrong else 0)
+
+
+def start(what, check):
+    """Runs a check of callers of the Python package there, prints what is wrong or else what it has seen, and ends this
+    process. `what` is printed if there can be no lab here."""
+    enter(what)
+    if package := find_package([it for it in sys.argv[1:] if not it.startswith("--")]):
+        sys.path.insert(0, str(unpacked(package)))
+    if not importlib.util.find_spec("revroute"):
+        sys.exit("linux: WRONG: there is no Python package of the engine; embed/build makes it")
+    end(*check())

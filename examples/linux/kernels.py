@@ -4,124 +4,46 @@ Make a lab only in a network and with mounts of your own, as the program `lab` d
 """
 
 import contextlib
-import ctypes
 import errno
-import fcntl
-import os
 import socket
 import struct
-import subprocess
 import time
 from collections import Counter
-from pathlib import Path
+
+from namespaces import Counters, Devices, beside, entered, ip, link_lines, set_sysctls
 
 # An address behind the gateway, and a port of it.
 TARGET, PORT = "10.255.255.1", 7
 # The namespace that takes the errors of probes, and drops them: here they only have to be sent, so that they are counted.
 HUB = "hub"
-SECONDS_TO_SETTLE, SECONDS_TO_RUN = 5, 60
-THREAD, RUN = "/proc/thread-self", os.path.realpath("/var/run")
+SECONDS_TO_SETTLE = 5
 # the device of a route that drops, in /proc/net/route
 DROPS = "*"
-SYSCTLS = {
-    "ip_forward": 1,
-    # each error counts: none may be held back
-    "icmp_ratemask": 0,
-    "icmp_ratelimit": 0,
-    # a probe that comes back to its sender goes on, as in any loop
-    "conf/all/accept_local": 1,
-    # a plain route over a link without carrier is not used: its packets would vanish without being counted
-    "conf/all/ignore_routes_with_linkdown": 1,
-}
-OFF = "rp_filter", "send_redirects", "accept_redirects"
-SYSCTLS |= {f"conf/{devices}/{name}": 0 for devices in ("all", "default") for name in OFF}
-CLONE_NEWNET, SIOCGIFFLAGS, SIOCSIFFLAGS, IFF_UP, IFF_RUNNING = 0x40000000, 0x8913, 0x8914, 0x1, 0x40
-libc = ctypes.CDLL(None, use_errno=True)
 
 
 class Wrong(Exception):
     """A run has to end, and why."""
 
 
-def run(*words, given=None):
-    """Runs a command, which has to end with status 0."""
-    pipes = {"stdout": subprocess.PIPE, "stderr": subprocess.STDOUT}
-    ran = subprocess.run(words, input=given, text=True, timeout=SECONDS_TO_RUN, **pipes)
-    if ran.returncode:
-        raise OSError(f"{' '.join(words)}: {ran.stdout.strip() or ran.returncode}")
-
-
-def ip(*lines, inside=None):
-    """Has `ip` do what the lines say, in a router's namespace or in that of the lab."""
-    run("ip", *(["-n", inside] if inside else []), "-batch", "-", given="\n".join(lines) + "\n")
-
-
-@contextlib.contextmanager
-def entered(router):
-    """Within a router's namespace: what this thread opens there stays there."""
-    with open(f"{THREAD}/ns/net") as home, open(f"{RUN}/netns/{router}") as there:
-        enter(there)
-        try:
-            yield
-        finally:
-            enter(home)
-
-
-def enter(space):
-    if libc.setns(space.fileno(), CLONE_NEWNET):
-        raise OSError(ctypes.get_errno(), "setns")
-
-
-def set_sysctls(router):
-    with entered(router):
-        for name, value in SYSCTLS.items():
-            Path("/proc/sys/net/ipv4", name).write_text(str(value))
-
-
-class Router:
+class Router(Devices, Counters):
     """What can be seen of a router, and the socket that its probes leave by."""
 
     def __init__(self, name, address, ttl):
+        Counters.__init__(self, name, ("route", "snmp"))
         with entered(name):
-            self.files = {it: os.open(f"{THREAD}/net/{it}", os.O_RDONLY) for it in ("route", "snmp")}
-            self.socket = socket.socket(socket.AF_INET, socket.SOCK_DGRAM)
+            Devices.__init__(self, socket.socket(socket.AF_INET, socket.SOCK_DGRAM))
         self.socket.bind((address, 0))
         self.socket.setsockopt(socket.IPPROTO_IP, socket.IP_TTL, ttl)
 
     def close(self):
         self.socket.close()
-        for file in self.files.values():
-            os.close(file)
-
-    def read(self, name):
-        return os.pread(self.files[name], 1 << 20, 0).decode().splitlines()
-
-    def counts(self, file, group):
-        """The counters of a group of the kernel's."""
-        names, values = (line.split()[1:] for line in self.read(file) if line.startswith(f"{group}: "))
-        return dict(zip(names, map(int, values)))
-
-    def count(self, file, group, name):
-        """A counter of the kernel's."""
-        return self.counts(file, group)[name]
+        super().close()
 
     def routes(self):
         """The device and the address of each next hop to the target, by rising metric. A route that drops has none."""
         lines = [line.split() for line in self.read("route")[1:]]
         routes = [(int(metric), device, hop) for device, target, hop, _, _, _, metric, *_ in lines if target == hex_of(TARGET)]
         return [it[1:] for it in sorted(routes) if it[1] != DROPS]
-
-    def flags(self, device):
-        asked = struct.pack("16sH14x", device.encode(), 0)
-        return struct.unpack("16sH14x", fcntl.ioctl(self.socket, SIOCGIFFLAGS, asked))[1]
-
-    def is_running(self, device):
-        return bool(self.flags(device) & IFF_RUNNING)
-
-    def set_device(self, device, is_up):
-        """Sets a device up or down. The other end of its link gets or loses its carrier by that."""
-        flags = self.flags(device) & ~IFF_UP | (IFF_UP if is_up else 0)
-        fcntl.ioctl(self.socket, SIOCSIFFLAGS, struct.pack("16sH14x", device.encode(), flags))
 
     def probe(self, data=b""):
         """Sends a probe, and returns whether the router had a route."""
@@ -247,13 +169,10 @@ def build(addresses, links):
         set_sysctls(name)
     # All namespaces share one table of neighbours, which several labs could fill. Neighbours without ARP can be dropped from it.
     dropped = [f"link add name {name} up type veth peer name mgmt arp off netns {name}" for name in addresses]
-    # Linux takes up to a second to see that a link is up if its two ends have the same index.
-    ends = {name: f"name {name} index {100 + at}" for at, name in enumerate(addresses)}
-    linked = [f"link add {ends[v]} netns {u} type veth peer {ends[u]} netns {v}" for u, v in links]
     ip(*dropped, inside=HUB)
-    ip(*linked)
+    ip(*link_lines([*addresses], links))
     for name, address in addresses.items():
-        devices = ["lo", "mgmt", *(v if u == name else u for u, v in links if name in (u, v))]
+        devices = ["lo", "mgmt", *beside(name, links)]
         ip(f"address add {address}/24 dev mgmt", *(f"link set dev {it} up" for it in devices), inside=name)
     ip(f"address add {TARGET}/32 dev lo", inside=next(iter(addresses)))
 

@@ -19,10 +19,11 @@ from concurrent.futures import ThreadPoolExecutor
 from pathlib import Path
 
 import inside
-import kernels
+import namespaces
 import netlink
-from kernels import TARGET, Wrong, entered, ip, libc
-from node_network import DAEMON, DIE_WITH_PARENT, STATE, Network, find_loop, used
+from kernels import TARGET, Wrong
+from namespaces import die_with_parent, entered, ip
+from node_network import DAEMON, STATE, Network, find_loop, used
 
 PLANTED, CASE = Path(__file__).resolve(), "--case"
 # A process may take long to start on a busy machine. What a planted daemon has not done after the second time, it
@@ -415,7 +416,7 @@ def failure_elsewhere(job):
     """The failure of a kind of daemon in a case, which runs beside others in a network of its own."""
     case, kind = job
     words = ["unshare", "--net", "--mount", sys.executable, "-S", PLANTED, CASE, case.happens.__name__, kind]
-    how = {"env": inside.environment(), "preexec_fn": lambda: libc.prctl(DIE_WITH_PARENT, 9)}
+    how = {"env": inside.environment(), "preexec_fn": die_with_parent}
     ran = subprocess.run([*map(str, words)], stdout=subprocess.PIPE, stderr=subprocess.STDOUT, text=True, **how)
     return ran.stdout.strip()
 
@@ -449,7 +450,7 @@ def run_case(name, kind=""):
     """Prints what is wrong in a case. What it mounts is seen by this process only."""
     for it in (STATE, STATE.with_name("netns")):
         it.mkdir(exist_ok=True)
-        kernels.run("mount", "-t", "tmpfs", "tmpfs", str(it))
+        namespaces.run("mount", "-t", "tmpfs", "tmpfs", str(it))
     print(failure(next(it for it in CASES if it.happens.__name__ == name), kind))
 
 

@@ -352,6 +352,8 @@ class Router:
 
     def event(self, happens, *words):
         happens(*words)
+        while self.node.act():
+            pass
         self.is_written = False
 
     def wanted(self):

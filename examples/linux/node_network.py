@@ -7,13 +7,13 @@ import sys
 from pathlib import Path
 
 import inside
-from kernels import RUN, TARGET, Lab, entered, libc
+from kernels import TARGET, Lab
+from namespaces import RUN, die_with_parent, entered
 from netlink import Routes
 
 DAEMON = Path(__file__).resolve().with_name("node_daemon.py")
 # where daemons keep their boot numbers
 STATE = Path(RUN, "state")
-DIE_WITH_PARENT = 1
 
 
 class Network(Lab):
@@ -62,7 +62,7 @@ class Network(Lab):
 
     def start(self, name, *words, **how):
         """Starts a Python program on a router. Without the folders of installed packages it starts sooner."""
-        how |= {"env": inside.environment(), "preexec_fn": lambda: libc.prctl(DIE_WITH_PARENT, 9)}
+        how |= {"env": inside.environment(), "preexec_fn": die_with_parent}
         with entered(name):
             return subprocess.Popen([sys.executable, "-S", *map(str, words)], **how)
 

@@ -1,0 +1,386 @@
+//! The file of the configuration, in TOML.
+
+use crate::datagram::Key;
+use crate::machine::{LONGEST_DEAD, MAIN, Settings};
+use crate::prefix::Prefix;
+use serde::Deserialize;
+use serde::de::{Deserializer, Error as _};
+use std::collections::{BTreeMap, BTreeSet};
+use std::path::{Path, PathBuf};
+use std::time::Duration;
+
+const SHORTEST_HELLO: f64 = 0.02;
+const SHORTEST_SECRET: usize = 16;
+
+/// What the file says.
+#[derive(Deserialize)]
+#[serde(deny_unknown_fields)]
+pub struct Config {
+    router: u32,
+    interfaces: Vec<String>,
+    #[serde(default)]
+    announce: Vec<Prefix>,
+    #[serde(default = "default_hello")]
+    hello: f64,
+    #[serde(default = "default_dead")]
+    dead: f64,
+    #[serde(default = "default_forget")]
+    forget: f64,
+    #[serde(default = "default_ceiling")]
+    ceiling: u32,
+    #[serde(default = "default_table")]
+    table: u32,
+    #[serde(default = "default_state")]
+    pub state: PathBuf,
+    #[serde(default = "default_control")]
+    pub control: PathBuf,
+    #[serde(default)]
+    key: Vec<KeyConfig>,
+    #[serde(default)]
+    interface: BTreeMap<String, InterfaceConfig>,
+}
+
+#[derive(Deserialize)]
+#[serde(deny_unknown_fields)]
+struct KeyConfig {
+    number: u8,
+    secret: Option<String>,
+    file: Option<PathBuf>,
+}
+
+#[derive(Deserialize)]
+#[serde(deny_unknown_fields)]
+struct InterfaceConfig {
+    cost: u32,
+}
+
+fn default_hello() -> f64 {
+    1.0
+}
+
+fn default_dead() -> f64 {
+    4.0
+}
+
+fn default_forget() -> f64 {
+    60.0
+}
+
+fn default_ceiling() -> u32 {
+    64
+}
+
+fn default_table() -> u32 {
+    MAIN
+}
+
+fn default_state() -> PathBuf {
+    "/var/lib/revrouted".into()
+}
+
+pub fn default_control() -> PathBuf {
+    "/run/revrouted/control".into()
+}
+
+impl<'de> Deserialize<'de> for Prefix {
+    fn deserialize<D: Deserializer<'de>>(from: D) -> Result<Prefix, D::Error> {
+        String::deserialize(from)?.parse().map_err(D::Error::custom)
+    }
+}
+
+/// What is wrong with a file: the line, counted from 1, if one is, and why.
+#[derive(Debug, PartialEq, Eq)]
+pub struct Fault {
+    pub line: Option<usize>,
+    pub why: String,
+}
+
+/// Reads a configuration, and what the machine has to know of it.
+pub fn read(text: &str) -> Result<(Config, Settings), Fault> {
+    let config: Config = toml::from_str(text).map_err(|it| Fault {
+        line: named_line(text, &it).or(line_of(&it)),
+        why: why_of(&it),
+    })?;
+    let settings = config.settings().map_err(|(key, why)| Fault {
+        line: line_with(text, key),
+        why,
+    })?;
+    Ok((config, settings))
+}
+
+/// The line of a key that is not known, or is there twice. The crate has the place of its table instead.
+fn named_line(text: &str, error: &toml::de::Error) -> Option<usize> {
+    let said = error.to_string();
+    let after = |part: &str| Some(said.split_once(part)?.1.split_once('`')?.0.to_string());
+    if let Some(key) = after("duplicate field `").or_else(|| after("duplicate key: `")) {
+        return text
+            .lines()
+            .collect::<Vec<_>>()
+            .iter()
+            .rposition(|it| sets(it, &key))
+            .map(|it| it + 1);
+    }
+    line_with(text, &after("unknown field `")?)
+}
+
+/// Whether a line sets a key, or begins its table.
+fn sets(line: &str, key: &str) -> bool {
+    let rest = line.trim_start().trim_start_matches('[').strip_prefix(key);
+    rest.is_some_and(|it| it.trim_start().starts_with(['=', ']', '.']))
+}
+
+fn line_of(error: &toml::de::Error) -> Option<usize> {
+    error.line_col().map(|(line, _)| line + 1)
+}
+
+/// The text of an error without its place, which is printed before it.
+fn why_of(error: &toml::de::Error) -> String {
+    let text = error.to_string();
+    text.rsplit_once(" at line ")
+        .map_or(text.clone(), |(why, _)| why.to_string())
+}
+
+/// The first line that sets this key.
+fn line_with(text: &str, key: &str) -> Option<usize> {
+    text.lines().position(|it| sets(it, key)).map(|it| it + 1)
+}
+
+impl Config {
+    /// Whether a device is one of those over which there may be neighbours.
+    pub fn has_device(&self, name: &str) -> bool {
+        name != "lo"
+            && self
+                .interfaces
+                .iter()
+                .any(|it| matches(it.as_bytes(), name.as_bytes()))
+    }
+
+    /// The settings, or a key of the file and what is wrong with it.
+    fn settings(&self) -> Result<Settings, (&'static str, String)> {
+        if self.interfaces.is_empty() {
+            return Err((
+                "interfaces",
+                "no interface is named, so there are no neighbours".into(),
+            ));
+        }
+        if !(SHORTEST_HELLO..=10.0).contains(&self.hello) {
+            return Err((
+                "hello",
+                format!("`hello` is from {SHORTEST_HELLO} to 10 seconds"),
+            ));
+        }
+        let most = LONGEST_DEAD.as_secs_f64();
+        if !(self.hello * 2.0..=most).contains(&self.dead) {
+            return Err((
+                "dead",
+                format!("`dead` is at least twice `hello`, and at most {most} seconds"),
+            ));
+        }
+        if !(1.0..=86_400.0).contains(&self.forget) {
+            return Err(("forget", "`forget` is from 1 to 86400 seconds".into()));
+        }
+        if self.ceiling == 0 {
+            return Err((
+                "ceiling",
+                "`ceiling` is at least the number of routers".into(),
+            ));
+        }
+        if self.table == 0 || self.table == 255 || self.table >= crate::machine::GATES {
+            return Err((
+                "table",
+                format!(
+                    "{} is not a table for ways, such as 254, the main table",
+                    self.table
+                ),
+            ));
+        }
+        let announce: BTreeSet<Prefix> = self.announce.iter().copied().collect();
+        if announce.len() < self.announce.len() {
+            return Err(("announce", "a prefix is announced twice".into()));
+        }
+        if self.interface.values().any(|it| it.cost == 0) {
+            return Err(("interface", "a cost is at least 1".into()));
+        }
+        Ok(Settings {
+            router: self.router,
+            hello: Duration::from_secs_f64(self.hello),
+            dead: Duration::from_secs_f64(self.dead),
+            forget: Duration::from_secs_f64(self.forget),
+            ceiling: self.ceiling,
+            table: self.table,
+            keys: self.keys().map_err(|why| ("key", why))?,
+            announce,
+            costs: self
+                .interface
+                .iter()
+                .map(|(name, it)| (name.clone(), it.cost))
+                .collect(),
+        })
+    }
+
+    fn keys(&self) -> Result<Vec<Key>, String> {
+        let (mut keys, mut numbers) = (Vec::new(), BTreeSet::new());
+        for it in &self.key {
+            if it.number == 0 || !numbers.insert(it.number) {
+                return Err(format!(
+                    "keys have different numbers from 1 to 255, and there is another {}",
+                    it.number
+                ));
+            }
+            let secret = match (&it.secret, &it.file) {
+                (Some(text), None) => text.clone().into_bytes(),
+                (None, Some(file)) => secret_in(file)?,
+                _ => {
+                    return Err(format!(
+                        "key {} has either a `secret` or a `file`",
+                        it.number
+                    ));
+                }
+            };
+            if secret.len() < SHORTEST_SECRET {
+                return Err(format!(
+                    "the secret of key {} has less than {SHORTEST_SECRET} bytes",
+                    it.number
+                ));
+            }
+            keys.push(Key {
+                number: it.number,
+                secret,
+            });
+        }
+        Ok(keys)
+    }
+}
+
+fn secret_in(file: &Path) -> Result<Vec<u8>, String> {
+    let mut bytes = std::fs::read(file).map_err(|it| format!("{}: {it}", file.display()))?;
+    while bytes.last().is_some_and(u8::is_ascii_whitespace) {
+        bytes.pop();
+    }
+    Ok(bytes)
+}
+
+/// Whether a name fits a pattern, in which `*` stands for any text.
+fn matches(pattern: &[u8], name: &[u8]) -> bool {
+    let Some(star) = pattern.iter().position(|it| *it == b'*') else {
+        return pattern == name;
+    };
+    let (first, rest) = (&pattern[..star], &pattern[star + 1..]);
+    name.strip_prefix(first)
+        .is_some_and(|left| (0..=left.len()).any(|at| matches(rest, &left[at..])))
+}
+
+#[cfg(test)]
+mod tests {
+    use super::*;
+
+    const FIRST: &str = "router = 3\ninterfaces = [\"eth*\", \"wg0\"]\nannounce = [\"10.0.3.0/24\", \"fd00:3::/48\"]\n";
+
+    #[test]
+    fn a_short_file_is_enough() {
+        let (config, settings) = read(FIRST).unwrap_or_else(|it| panic!("{it:?}"));
+        assert_eq!(
+            (settings.router, settings.table, settings.ceiling),
+            (3, 254, 64)
+        );
+        assert_eq!(
+            (settings.hello, settings.dead),
+            (Duration::from_secs(1), Duration::from_secs(4))
+        );
+        assert_eq!(settings.announce.len(), 2);
+        for (name, is_used) in [
+            ("eth0", true),
+            ("eth", true),
+            ("wg0", true),
+            ("wg1", false),
+            ("lo", false),
+            ("xeth0", false),
+        ] {
+            assert_eq!(config.has_device(name), is_used, "{name}");
+        }
+    }
+
+    #[test]
+    fn patterns() {
+        for (pattern, name, fits) in [
+            ("*", "", true),
+            ("*", "eth0", true),
+            ("e*0", "eth0", true),
+            ("e*0", "eth1", false),
+            ("a*b*c", "abbc", true),
+            ("a*b*c", "acb", false),
+            ("", "", true),
+            ("", "a", false),
+            ("a**", "a", true),
+        ] {
+            assert_eq!(
+                matches(pattern.as_bytes(), name.as_bytes()),
+                fits,
+                "{pattern} {name}"
+            );
+        }
+    }
+
+    /// What is wrong with a first file and one line after it.
+    #[track_caller]
+    fn fault(line: &str) -> (Option<usize>, String) {
+        match read(&format!("{FIRST}{line}\n")) {
+            Ok(_) => panic!("{line} is taken"),
+            Err(it) => (it.line, it.why),
+        }
+    }
+
+    #[test]
+    fn faults_have_their_line_and_cause() {
+        for (line, part) in [
+            ("hello = 0.001", "`hello` is from"),
+            ("hello = 1e300", "`hello` is from"),
+            ("hello = nan", "`hello` is from"),
+            ("dead = 1.5", "`dead` is at least twice"),
+            ("dead = 31.0", "at most 30"),
+            ("forget = 0.5", "`forget` is from 1"),
+            ("ceiling = 0", "at least the number of routers"),
+            ("table = 255", "not a table for ways"),
+            ("helo = 1.0", "unknown field `helo`"),
+            ("hello = \"1\"", "expected"),
+            ("router = 4", "duplicate"),
+            ("= 3", "expected"),
+            ("[[key]]\nnumber = 1", "either a `secret` or a `file`"),
+            (
+                "[[key]]\nnumber = 0\nsecret = \"0123456789abcdef\"",
+                "from 1 to 255",
+            ),
+            (
+                "[[key]]\nnumber = 1\nsecret = \"short\"",
+                "less than 16 bytes",
+            ),
+            (
+                "[[key]]\nnumber = 1\nfile = \"/nonexistent\"",
+                "/nonexistent: No such file",
+            ),
+            ("[interface.eth0]\ncost = 0", "at least 1"),
+        ] {
+            let (at, why) = fault(line);
+            assert!(why.contains(part), "{line}: {why}");
+            assert!(at.is_some_and(|it| it >= 4), "{line}: {at:?}");
+        }
+    }
+
+    #[test]
+    fn a_wrong_prefix_is_at_its_line() {
+        let it = read("router = 1\ninterfaces = [\"e\"]\nannounce = [\n  \"10.0.0.0/8\",\n  \"10.0.0.1/8\",\n]\n").err();
+        let it = it.unwrap_or_else(|| panic!("taken"));
+        assert!(it.why.contains("10.0.0.1/8") && it.line.is_some(), "{it:?}");
+        assert!(read("router = 4294967296\ninterfaces = [\"e\"]\n").is_err());
+        assert!(
+            read("interfaces = [\"e\"]\n")
+                .err()
+                .is_some_and(|it| it.why.contains("router"))
+        );
+        assert!(
+            read("router = 1\ninterfaces = []\n")
+                .err()
+                .is_some_and(|it| it.line == Some(2))
+        );
+    }
+}

@@ -1,0 +1,573 @@
+//! The form of datagrams.
+//!
+//! Numbers have their highest byte first.
+//!
+//! ```text
+//! all      0 to 3    52 52 44 kind      the letters RRD, and what it is: 1 hello, 2 news
+//!          4         the number of the key with which it is sealed; 0 without a key
+//!          5         flags: 1 if the list of the sender's prefixes has arrived, 2 if it has to be acknowledged
+//!          6 to 7    the hold time in units of 10 milliseconds: a sender that is silent for so long is gone
+//!          8 to 11   the router that sends it
+//!          12 to 19  its session, a number that grows at each start
+//!          20 to 27  a random number of its process
+//!          28 to 35  the number of the datagram: of hellos on one device, or of news to one neighbour
+//! hello    36..      for each router that the sender hears on this link: its number (4), its session (8) and the
+//!                    random number of its process (8)
+//! news     36 to 39  the router that it is for
+//!          40 to 55  the session and the random number of that router
+//!          56 to 63  the greatest number of its news that arrived
+//!          64 to 71  which of the 64 numbers before that one arrived, the highest number in the lowest bit
+//!          72..      records: flags (1), the length of a prefix (1), as many of its bytes as the length needs, and
+//!                    the message of a node if the flag 1 is set. The flag 2 is set for IPv6, 4 if the sender has left
+//!                    the prefix, and 8 if it knows a router that announces it
+//! the end            16 bytes of HMAC-SHA256 over all before them, if the number of the key is not 0
+//! ```
+
+use crate::prefix::Prefix;
+use hmac::{Hmac, Mac};
+use revroute::MESSAGE_LENGTH;
+use sha2::Sha256;
+use std::net::{IpAddr, Ipv4Addr, Ipv6Addr};
+use std::time::Duration;
+
+/// What fits into one packet on each link that IPv6 runs on (1,280 bytes), beside the headers of IPv6 and UDP.
+pub const MOST_BYTES: usize = 1232;
+const LETTERS: [u8; 3] = *b"RRD";
+const HELLO: u8 = 1;
+const NEWS: u8 = 2;
+const HEAD: usize = 36;
+const NEWS_HEAD: usize = 72;
+const HEARD: usize = 20;
+const SEAL: usize = 16;
+const IS_COMPLETE: u8 = 1;
+const WANTS_ANSWER: u8 = 2;
+const HAS_MESSAGE: u8 = 1;
+const IS_IPV6: u8 = 2;
+const HAS_LEFT: u8 = 4;
+const IS_ALIVE: u8 = 8;
+const HOLD_UNIT: u64 = 10;
+/// The most routers that a hello lists. No link has more.
+pub const MOST_HEARD: usize = (MOST_BYTES - HEAD - SEAL) / HEARD;
+
+/// A key, by which routers know that a datagram is from one of them.
+#[derive(Clone, PartialEq, Eq)]
+pub struct Key {
+    /// Not 0.
+    pub number: u8,
+    pub secret: Vec<u8>,
+}
+
+/// The keys of a router. It seals by the first one, and takes what is sealed by any of them. Without keys it takes only
+/// what is not sealed.
+pub type Keys = [Key];
+
+/// What each datagram begins with.
+#[derive(Clone, Copy, Debug, PartialEq, Eq)]
+pub struct Head {
+    pub from: u32,
+    pub session: u64,
+    /// Different for two processes that have one number and one session by mistake.
+    pub process: u64,
+    pub number: u64,
+    pub hold: Duration,
+}
+
+/// A router that is heard on a link.
+#[derive(Clone, Copy, Debug, PartialEq, Eq)]
+pub struct Heard {
+    pub router: u32,
+    pub session: u64,
+    pub process: u64,
+}
+
+/// What arrived at the sender of news.
+#[derive(Clone, Copy, Debug, Default, PartialEq, Eq)]
+pub struct Arrived {
+    /// The greatest number, or 0.
+    pub greatest: u64,
+    /// The numbers before it: bit i is the number `greatest - 1 - i`.
+    pub before: u64,
+}
+
+/// What news are about, beside their records.
+#[derive(Clone, Copy, Debug, PartialEq, Eq)]
+pub struct Address {
+    pub to: Heard,
+    pub arrived: Arrived,
+    /// Whether the list of the prefixes that the sender knew has arrived at the receiver.
+    pub is_complete: bool,
+    /// Whether it has to be acknowledged.
+    pub wants_answer: bool,
+}
+
+/// A record of news: a prefix, and what the sender says of it.
+#[derive(Clone, Copy, Debug, PartialEq, Eq)]
+pub struct Record<'a> {
+    pub prefix: Prefix,
+    pub says: Says<'a>,
+}
+
+#[derive(Clone, Copy, Debug, PartialEq, Eq)]
+pub enum Says<'a> {
+    /// It knows that there is the prefix.
+    Name,
+    /// What its node says, and whether it knows a router that announces the prefix.
+    Message(&'a [u8], bool),
+    /// It has no ways to the prefix, and will forget it.
+    Left,
+}
+
+#[derive(Debug, PartialEq, Eq)]
+pub enum Body<'a> {
+    Hello(Vec<Heard>),
+    News(Address, Vec<Record<'a>>),
+}
+
+/// Whom a datagram is for, before its seal is looked at: `None` for all.
+pub fn receiver(data: &[u8]) -> Option<u32> {
+    (data.get(3) == Some(&NEWS)).then(|| Some(u32::from_be_bytes(array(data, HEAD)?)))?
+}
+
+/// Reads a datagram that was sealed by one of the keys. `None` if anything is wrong with it. It takes memory only after
+/// the seal was right.
+pub fn read<'a>(data: &'a [u8], keys: &Keys) -> Option<(Head, Body<'a>)> {
+    let data = unsealed(data, keys)?;
+    if data.get(..3)? != LETTERS {
+        return None;
+    }
+    let hold = u16::from_be_bytes(array(data, 6)?);
+    let head = Head {
+        from: u32::from_be_bytes(array(data, 8)?),
+        session: u64::from_be_bytes(array(data, 12)?),
+        process: u64::from_be_bytes(array(data, 20)?),
+        number: u64::from_be_bytes(array(data, 28)?),
+        hold: Duration::from_millis(u64::from(hold) * HOLD_UNIT),
+    };
+    let body = match data[3] {
+        HELLO => Body::Hello(heard_in(data.get(HEAD..)?)?),
+        NEWS => {
+            let address = Address {
+                to: Heard {
+                    router: u32::from_be_bytes(array(data, HEAD)?),
+                    session: u64::from_be_bytes(array(data, 40)?),
+                    process: u64::from_be_bytes(array(data, 48)?),
+                },
+                arrived: Arrived {
+                    greatest: u64::from_be_bytes(array(data, 56)?),
+                    before: u64::from_be_bytes(array(data, 64)?),
+                },
+                is_complete: data[5] & IS_COMPLETE != 0,
+                wants_answer: data[5] & WANTS_ANSWER != 0,
+            };
+            Body::News(address, records_in(data.get(NEWS_HEAD..)?)?)
+        }
+        _ => return None,
+    };
+    Some((head, body))
+}
+
+/// The bytes before the seal, if that is right.
+fn unsealed<'a>(data: &'a [u8], keys: &Keys) -> Option<&'a [u8]> {
+    if data.len() > MOST_BYTES || data.len() < HEAD {
+        return None;
+    }
+    let number = data[4];
+    if keys.is_empty() || number == 0 {
+        return (keys.is_empty() && number == 0).then_some(data);
+    }
+    let key = keys.iter().find(|it| it.number == number)?;
+    let (content, seal) = data.split_at(data.len().checked_sub(SEAL)?);
+    made_seal(key, content)?.verify_truncated_left(seal).ok()?;
+    Some(content)
+}
+
+fn made_seal(key: &Key, content: &[u8]) -> Option<Hmac<Sha256>> {
+    let mut made = Hmac::<Sha256>::new_from_slice(&key.secret).ok()?;
+    made.update(content);
+    Some(made)
+}
+
+fn array<const N: usize>(data: &[u8], at: usize) -> Option<[u8; N]> {
+    data.get(at..at + N)?.try_into().ok()
+}
+
+fn heard_in(data: &[u8]) -> Option<Vec<Heard>> {
+    let parts = data.chunks_exact(HEARD);
+    if !parts.remainder().is_empty() {
+        return None;
+    }
+    parts
+        .map(|it| {
+            Some(Heard {
+                router: u32::from_be_bytes(array(it, 0)?),
+                session: u64::from_be_bytes(array(it, 4)?),
+                process: u64::from_be_bytes(array(it, 12)?),
+            })
+        })
+        .collect()
+}
+
+fn records_in(mut data: &[u8]) -> Option<Vec<Record<'_>>> {
+    let mut found = Vec::new();
+    while !data.is_empty() {
+        let (record, rest) = record_in(data)?;
+        found.push(record);
+        data = rest;
+    }
+    Some(found)
+}
+
+fn record_in(data: &[u8]) -> Option<(Record<'_>, &[u8])> {
+    let (flags, length) = (*data.first()?, *data.get(1)?);
+    if flags & !(HAS_MESSAGE | IS_IPV6 | HAS_LEFT | IS_ALIVE) != 0 {
+        return None;
+    }
+    let (bytes, rest) = split(&data[2..], usize::from(length.div_ceil(8)))?;
+    let prefix = Prefix::new(address_of(bytes, flags & IS_IPV6 != 0)?, length)?;
+    let is_alive = flags & IS_ALIVE != 0;
+    let (says, rest) = match flags & (HAS_MESSAGE | HAS_LEFT) {
+        0 if !is_alive => (Says::Name, rest),
+        HAS_LEFT if !is_alive => (Says::Left, rest),
+        HAS_MESSAGE => {
+            let (message, rest) = split(rest, MESSAGE_LENGTH)?;
+            (Says::Message(message, is_alive), rest)
+        }
+        _ => return None,
+    };
+    prefix
+        .is_routable()
+        .then_some((Record { prefix, says }, rest))
+}
+
+fn split(data: &[u8], at: usize) -> Option<(&[u8], &[u8])> {
+    (at <= data.len()).then(|| data.split_at(at))
+}
+
+/// The address that begins with these bytes.
+fn address_of(bytes: &[u8], is_ipv6: bool) -> Option<IpAddr> {
+    let mut all = [0; 16];
+    all.get_mut(..bytes.len())?.copy_from_slice(bytes);
+    if is_ipv6 {
+        return Some(Ipv6Addr::from(all).into());
+    }
+    let [a, b, c, d, ..] = all;
+    (bytes.len() <= 4).then(|| Ipv4Addr::new(a, b, c, d).into())
+}
+
+/// A hello, as bytes.
+pub fn hello(head: Head, heard: impl Iterator<Item = Heard>, keys: &Keys) -> Vec<u8> {
+    let mut data = begun(HELLO, 0, head, keys);
+    for it in heard.take(MOST_HEARD) {
+        data.extend_from_slice(&it.router.to_be_bytes());
+        data.extend_from_slice(&it.session.to_be_bytes());
+        data.extend_from_slice(&it.process.to_be_bytes());
+    }
+    sealed(data, keys)
+}
+
+/// News, to which records are added as long as there is space for them.
+pub struct News {
+    data: Vec<u8>,
+}
+
+impl News {
+    pub fn new(head: Head, address: Address, keys: &Keys) -> News {
+        let flags = if address.is_complete { IS_COMPLETE } else { 0 };
+        let mut data = begun(NEWS, flags, head, keys);
+        data.extend_from_slice(&address.to.router.to_be_bytes());
+        data.extend_from_slice(&address.to.session.to_be_bytes());
+        data.extend_from_slice(&address.to.process.to_be_bytes());
+        data.extend_from_slice(&address.arrived.greatest.to_be_bytes());
+        data.extend_from_slice(&address.arrived.before.to_be_bytes());
+        News { data }
+    }
+
+    /// Whether there is space for one record more.
+    pub fn has_space(&self) -> bool {
+        self.data.len() + 2 + 16 + MESSAGE_LENGTH + SEAL <= MOST_BYTES
+    }
+
+    pub fn push(&mut self, record: Record<'_>) {
+        let flags = match record.says {
+            Says::Name => 0,
+            Says::Left => HAS_LEFT,
+            Says::Message(_, false) => HAS_MESSAGE,
+            Says::Message(_, true) => HAS_MESSAGE | IS_ALIVE,
+        };
+        let length = record.prefix.length();
+        let bytes = usize::from(length.div_ceil(8));
+        match record.prefix.address() {
+            IpAddr::V4(it) => {
+                self.data.extend_from_slice(&[flags, length]);
+                self.data.extend_from_slice(&it.octets()[..bytes]);
+            }
+            IpAddr::V6(it) => {
+                self.data.extend_from_slice(&[flags | IS_IPV6, length]);
+                self.data.extend_from_slice(&it.octets()[..bytes]);
+            }
+        }
+        if let Says::Message(it, _) = record.says {
+            self.data.extend_from_slice(it);
+        }
+    }
+
+    /// The bytes. Only now it is known whether they have to be acknowledged.
+    pub fn sealed(mut self, wants_answer: bool, keys: &Keys) -> Vec<u8> {
+        if wants_answer {
+            self.data[5] |= WANTS_ANSWER;
+        }
+        sealed(self.data, keys)
+    }
+}
+
+fn begun(kind: u8, flags: u8, head: Head, keys: &Keys) -> Vec<u8> {
+    let key = keys.first().map_or(0, |it| it.number);
+    let units = head.hold.as_millis() / u128::from(HOLD_UNIT);
+    let hold = u16::try_from(units).unwrap_or(u16::MAX);
+    let mut data = Vec::with_capacity(MOST_BYTES);
+    data.extend_from_slice(&LETTERS);
+    data.extend_from_slice(&[kind, key, flags]);
+    data.extend_from_slice(&hold.to_be_bytes());
+    data.extend_from_slice(&head.from.to_be_bytes());
+    data.extend_from_slice(&head.session.to_be_bytes());
+    data.extend_from_slice(&head.process.to_be_bytes());
+    data.extend_from_slice(&head.number.to_be_bytes());
+    data
+}
+
+fn sealed(mut data: Vec<u8>, keys: &Keys) -> Vec<u8> {
+    if let Some(made) = keys.first().and_then(|it| made_seal(it, &data)) {
+        data.extend_from_slice(&made.finalize().into_bytes()[..SEAL]);
+    }
+    data
+}
+
+impl Arrived {
+    /// Whether a number is among those that arrived.
+    pub fn has(&self, number: u64) -> bool {
+        match self.greatest.checked_sub(number) {
+            None => false,
+            Some(0) => number > 0,
+            Some(by) => by <= 64 && self.before >> (by - 1) & 1 == 1,
+        }
+    }
+
+    /// Whether a number is so low that it is not known whether it arrived.
+    pub fn is_past(&self, number: u64) -> bool {
+        number == 0 || self.greatest.saturating_sub(number) > 64
+    }
+
+    /// Notes that a number arrived that is not past.
+    pub fn add(&mut self, number: u64) {
+        if let Some(by) = number.checked_sub(self.greatest).filter(|it| *it > 0) {
+            let moved = self
+                .before
+                .checked_shl(u32::try_from(by).unwrap_or(u32::MAX))
+                .unwrap_or(0);
+            let own = if self.greatest > 0 && by <= 64 {
+                1 << (by - 1)
+            } else {
+                0
+            };
+            self.before = moved | own;
+            self.greatest = number;
+        } else if let Some(by) = self
+            .greatest
+            .checked_sub(number)
+            .filter(|it| (1..=64).contains(it))
+        {
+            self.before |= 1 << (by - 1);
+        }
+    }
+}
+
+#[cfg(test)]
+mod tests {
+    use super::*;
+    use std::collections::BTreeSet;
+
+    const HEAD_OF_ALL: Head = Head {
+        from: 7,
+        session: 8,
+        process: 10,
+        number: 9,
+        hold: Duration::from_millis(4000),
+    };
+
+    fn key(number: u8, secret: &str) -> Key {
+        Key {
+            number,
+            secret: secret.into(),
+        }
+    }
+
+    fn address() -> Address {
+        Address {
+            to: Heard {
+                router: 3,
+                session: 4,
+                process: 5,
+            },
+            arrived: Arrived {
+                greatest: 70,
+                before: 5,
+            },
+            is_complete: true,
+            wants_answer: false,
+        }
+    }
+
+    fn prefix(text: &str) -> Prefix {
+        text.parse().unwrap()
+    }
+
+    #[test]
+    fn a_hello_is_read_as_it_was_written() {
+        let heard = [
+            Heard {
+                router: 1,
+                session: 2,
+                process: 5,
+            },
+            Heard {
+                router: u32::MAX,
+                session: u64::MAX,
+                process: 5,
+            },
+        ];
+        for keys in [vec![], vec![key(1, "one"), key(2, "two")]] {
+            let data = hello(HEAD_OF_ALL, heard.into_iter(), &keys);
+            assert_eq!(
+                read(&data, &keys),
+                Some((HEAD_OF_ALL, Body::Hello(heard.to_vec())))
+            );
+            assert_eq!(receiver(&data), None);
+        }
+    }
+
+    #[test]
+    fn news_are_read_as_they_were_written() {
+        let message = [0xa5; MESSAGE_LENGTH];
+        let all = [
+            "10.1.0.0/16",
+            "0.0.0.0/0",
+            "10.1.2.3/32",
+            "2001:db8::/33",
+            "fd00::1/128",
+            "::/0",
+        ];
+        let says = [
+            Says::Name,
+            Says::Left,
+            Says::Message(&message, true),
+            Says::Message(&message, false),
+        ];
+        let keys = [key(5, "secret")];
+        let mut news = News::new(HEAD_OF_ALL, address(), &keys);
+        let records: Vec<Record<'_>> = all
+            .iter()
+            .flat_map(|it| {
+                says.map(|says| Record {
+                    prefix: prefix(it),
+                    says,
+                })
+            })
+            .collect();
+        for it in &records {
+            assert!(news.has_space());
+            news.push(*it);
+        }
+        let data = news.sealed(false, &keys);
+        let Some((head, Body::News(found, read))) = read(&data, &keys) else {
+            panic!("not read")
+        };
+        assert_eq!(
+            (head, found, receiver(&data)),
+            (HEAD_OF_ALL, address(), Some(3))
+        );
+        assert_eq!(read, records);
+    }
+
+    #[test]
+    fn a_datagram_takes_no_more_than_it_may() {
+        let message = [0; MESSAGE_LENGTH];
+        let mut news = News::new(HEAD_OF_ALL, address(), &[]);
+        while news.has_space() {
+            let says = Says::Message(&message, true);
+            news.push(Record {
+                prefix: prefix("fd00::1/128"),
+                says,
+            });
+        }
+        assert!(news.sealed(false, &[key(1, "one")]).len() <= MOST_BYTES);
+        let most = hello(
+            HEAD_OF_ALL,
+            (0..1000).map(|it| Heard {
+                router: it,
+                session: 1,
+                process: 5,
+            }),
+            &[key(1, "one")],
+        );
+        assert!(most.len() <= MOST_BYTES);
+    }
+
+    #[test]
+    fn only_what_has_a_right_seal_is_read() {
+        let (one, two) = (key(1, "one"), key(2, "two"));
+        let data = hello(HEAD_OF_ALL, [].into_iter(), std::slice::from_ref(&one));
+        let open = hello(HEAD_OF_ALL, [].into_iter(), &[]);
+        assert!(
+            read(&data, &[two.clone(), one.clone()]).is_some(),
+            "while keys are changed"
+        );
+        assert!(
+            read(&data, std::slice::from_ref(&two)).is_none(),
+            "a key that is not known"
+        );
+        assert!(read(&data, &[key(1, "other")]).is_none(), "another secret");
+        assert!(
+            read(&data, &[]).is_none(),
+            "a sealed one at a router without keys"
+        );
+        assert!(
+            read(&open, std::slice::from_ref(&one)).is_none(),
+            "an open one at a router with keys"
+        );
+        for at in 0..data.len() {
+            for bit in 0..8 {
+                let mut other = data.clone();
+                other[at] ^= 1 << bit;
+                assert!(
+                    read(&other, std::slice::from_ref(&one)).is_none(),
+                    "byte {at}"
+                );
+            }
+        }
+    }
+
+    #[test]
+    fn numbers_that_arrived_are_those_that_were_added() {
+        let mut state = 1u64;
+        for _ in 0..200 {
+            let (mut arrived, mut all) = (Arrived::default(), BTreeSet::new());
+            for _ in 0..100 {
+                state = state
+                    .wrapping_mul(6364136223846793005)
+                    .wrapping_add(1442695040888963407);
+                let number = 1 + (state >> 33) % 200;
+                let greatest = all.last().copied().unwrap_or(0);
+                assert_eq!(arrived.is_past(number), greatest > number + 64);
+                if !arrived.is_past(number) {
+                    all.insert(number);
+                    arrived.add(number);
+                }
+                let greatest = all.last().copied().unwrap_or(0);
+                for it in greatest.saturating_sub(64)..=greatest + 1 {
+                    assert_eq!(arrived.has(it), all.contains(&it), "{it} of {all:?}");
+                }
+            }
+        }
+        assert!(Arrived::default().is_past(0) && !Arrived::default().has(0));
+    }
+}

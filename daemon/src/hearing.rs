@@ -1,0 +1,473 @@
+//! What a machine does with a datagram.
+
+use crate::datagram::{self, Address, Body, Head, Heard, Record, Says};
+use crate::destination::Becomes;
+use crate::kernel::{Kernel, Write};
+use crate::machine::{HOLD, MOST_NEIGHBOURS, Machine};
+use crate::neighbour::Adjacency;
+use crate::prefix::Prefix;
+use revroute::HearFault;
+use std::net::Ipv6Addr;
+use std::time::Duration;
+
+/// The shortest hold time that is believed. A shorter one would make a link flap.
+const SHORTEST_HOLD: Duration = Duration::from_millis(100);
+
+/// A record could not be taken, so its datagram must not be acknowledged.
+struct NotTaken;
+
+impl<K: Kernel> Machine<K> {
+    /// Takes a datagram that came in over a device from a link-local address, with a hop limit of 255.
+    pub fn take(&mut self, device: u32, source: Ipv6Addr, data: &[u8], now: Duration) {
+        self.counts.datagrams_received += 1;
+        if !self.is_taken(device, source, data, now) {
+            self.counts.datagrams_ignored += 1;
+        }
+    }
+
+    fn is_taken(&mut self, device: u32, source: Ipv6Addr, data: &[u8], now: Duration) -> bool {
+        if !self
+            .devices
+            .get(&device)
+            .is_some_and(|it| it.is_ready && it.has_carrier)
+        {
+            return false;
+        }
+        if datagram::receiver(data).is_some_and(|it| it != self.settings.router) {
+            return false;
+        }
+        let Some((head, body)) = datagram::read(data, &self.settings.keys) else {
+            return false;
+        };
+        if head.from == self.settings.router {
+            let number = head.from;
+            self.journal.add_rarely(
+                format!(
+                    "another router with the number {number}: {source} on {}",
+                    self.name_of(device)
+                ),
+                now,
+            );
+            return false;
+        }
+        if !self.has_session(device, source, head, now) {
+            return false;
+        }
+        match body {
+            Body::Hello(heard) => self.take_hello(device, source, head, &heard, now),
+            Body::News(address, records) => {
+                self.take_news(device, source, head, (address, &records), now)
+            }
+        }
+    }
+
+    pub fn name_of(&self, device: u32) -> &str {
+        self.devices.get(&device).map_or("?", |it| &it.name)
+    }
+
+    /// The cost of a link, by which several links to one neighbour are ordered.
+    pub fn cost_of(&self, device: u32) -> u32 {
+        self.settings
+            .costs
+            .get(self.name_of(device))
+            .copied()
+            .unwrap_or(1)
+    }
+
+    /// Whether a datagram is from the present session of its sender, which may have begun with it. Only a sender that
+    /// knows a key comes so far.
+    fn has_session(&mut self, device: u32, source: Ipv6Addr, head: Head, now: Duration) -> bool {
+        let known = self
+            .neighbours
+            .get(&head.from)
+            .map(|it| (it.session, it.process));
+        let has = (head.session, head.process);
+        match known {
+            Some(it) if it == has => true,
+            // To mix what two processes say of one number and one session would make loops.
+            Some((session, _)) if head.session <= session => {
+                if let Some(it) = self.devices.get_mut(&device) {
+                    it.outdated.insert(head.from);
+                }
+                let text = self.double(device, source, head.from);
+                self.journal.add_rarely(text, now);
+                false
+            }
+            None if self.neighbours.len() >= MOST_NEIGHBOURS => {
+                self.journal.add_rarely(
+                    format!("more than {MOST_NEIGHBOURS} neighbours: the others are refused"),
+                    now,
+                );
+                false
+            }
+            _ => {
+                self.begin_session(head.from, has, now);
+                true
+            }
+        }
+    }
+
+    fn double(&self, device: u32, source: Ipv6Addr, number: u32) -> String {
+        format!(
+            "router {number} is not the one that is known: {source} on {}. Either it has been started with an earlier boot \
+             number, or two routers have this number",
+            self.name_of(device)
+        )
+    }
+
+    fn take_hello(
+        &mut self,
+        device: u32,
+        source: Ipv6Addr,
+        head: Head,
+        heard: &[Heard],
+        now: Duration,
+    ) -> bool {
+        let link = self.link(head.from, device);
+        if link.is_some_and(|it| head.number <= it.hello)
+            || !self.is_place(head.from, device, source, now)
+        {
+            return false;
+        }
+        let me = self.as_heard();
+        let told = heard.iter().find(|it| it.router == me.router);
+        // A later session, or another process with this one: a boot number that did not grow.
+        let is_later =
+            |it: &&Heard| it.session > me.session || it.session == me.session && **it != me;
+        if let Some(it) = told.filter(is_later) {
+            self.later_session = Some(it.session);
+        }
+        let hears_me = told == Some(&me);
+        if let Some(it) = self
+            .neighbours
+            .get_mut(&head.from)
+            .and_then(|it| it.links.get_mut(&device))
+        {
+            it.hello = head.number;
+        }
+        self.hear_from(head, device, hears_me, now);
+        true
+    }
+
+    /// This process, as its neighbours name it.
+    fn as_heard(&self) -> Heard {
+        Heard {
+            router: self.settings.router,
+            session: self.session,
+            process: self.process,
+        }
+    }
+
+    fn link(&self, number: u32, device: u32) -> Option<&Adjacency> {
+        self.neighbours.get(&number)?.links.get(&device)
+    }
+
+    /// Makes a link to a neighbour, unless it is there. Gates are by device, so a device has one neighbour: `false` if it
+    /// has another one.
+    fn is_place(&mut self, number: u32, device: u32, source: Ipv6Addr, now: Duration) -> bool {
+        let others = self.neighbours.iter().filter(|(it, _)| **it != number);
+        // One that was silent for a long time has noticed that it is not heard.
+        let is_there = |it: &Adjacency| now < it.until + HOLD;
+        if let Some((other, _)) = others
+            .clone()
+            .find(|(_, it)| it.links.get(&device).is_some_and(is_there))
+        {
+            let name = self.name_of(device);
+            let text = format!(
+                "router {number} is refused on {name}, where router {other} is: one neighbour on a device"
+            );
+            self.journal.add_rarely(text, now);
+            return false;
+        }
+        let former: Vec<u32> = others
+            .filter(|(_, it)| it.links.contains_key(&device))
+            .map(|(it, _)| *it)
+            .collect();
+        for it in former {
+            self.remove_link(it, device, "another router has its place", now);
+        }
+        if self
+            .link(number, device)
+            .is_some_and(|it| it.address != source)
+        {
+            self.remove_link(number, device, "it has another address", now);
+        }
+        let Some(it) = self.neighbours.get_mut(&number) else {
+            return false;
+        };
+        it.links
+            .entry(device)
+            .or_insert_with(|| Adjacency::new(source));
+        true
+    }
+
+    /// Something was heard from a neighbour that says whether it hears this router.
+    fn hear_from(&mut self, head: Head, device: u32, hears_me: bool, now: Duration) {
+        let Some(it) = self
+            .neighbours
+            .get_mut(&head.from)
+            .and_then(|it| it.links.get_mut(&device))
+        else {
+            return;
+        };
+        let is_new = !it.is_heard;
+        it.is_heard = true;
+        it.until = now + head.hold.max(SHORTEST_HOLD);
+        it.hears_me = hears_me;
+        if is_new {
+            // The next hello lists the neighbour, so it has to come at once.
+            self.say_hello_soon(device, now);
+        }
+        let why = if hears_me {
+            ""
+        } else {
+            "it does not hear this router"
+        };
+        self.judge_link(head.from, device, why, now);
+    }
+
+    /// Takes a link up or down, as what is heard on it says.
+    pub fn judge_link(&mut self, number: u32, device: u32, why: &str, now: Duration) {
+        let Some(link) = self.link(number, device) else {
+            return;
+        };
+        match (link.is_two_way(), link.is_up) {
+            (true, false) => self.take_up_link(number, device, now),
+            (false, true) => self.take_down_link(number, device, why, now),
+            _ => (),
+        }
+    }
+
+    /// Takes a link up, if the kernel takes its nexthop object. Otherwise the next hello tries again.
+    fn take_up_link(&mut self, number: u32, device: u32, now: Duration) {
+        let Some(address) = self.link(number, device).map(|it| it.address) else {
+            return;
+        };
+        let hop = self.next_hop();
+        if let Some(Err(why)) = self
+            .write(&[Write::AddHop {
+                hop,
+                device,
+                address,
+            }])
+            .first()
+        {
+            let name = self.name_of(device);
+            self.journal.add_rarely(
+                format!("the nexthop {address} on {name} is refused: {why}"),
+                now,
+            );
+            return;
+        }
+        if let Some(it) = self
+            .neighbours
+            .get_mut(&number)
+            .and_then(|it| it.links.get_mut(&device))
+        {
+            (it.is_up, it.hop) = (true, Some(hop));
+        }
+        self.say_hello_soon(device, now);
+        self.links_changed(number, "", now);
+    }
+
+    fn take_down_link(&mut self, number: u32, device: u32, why: &str, now: Duration) {
+        let Some(it) = self
+            .neighbours
+            .get_mut(&number)
+            .and_then(|it| it.links.get_mut(&device))
+        else {
+            return;
+        };
+        it.is_up = false;
+        let hop = it.hop.take();
+        // So the kernel turns to the next way of each prefix by one write.
+        self.drop_hop(hop);
+        self.say_hello_soon(device, now);
+        self.links_changed(number, why, now);
+    }
+
+    /// Notices that neighbours are silent.
+    pub fn notice_silence(&mut self, now: Duration) {
+        let mut late = Vec::new();
+        for (number, it) in &mut self.neighbours {
+            for (device, link) in &mut it.links {
+                if link.is_heard && link.until <= now {
+                    link.is_heard = false;
+                    late.push((*number, *device));
+                }
+            }
+        }
+        for (number, device) in late {
+            self.judge_link(number, device, "nothing is heard from it", now);
+        }
+    }
+
+    fn take_news(
+        &mut self,
+        device: u32,
+        source: Ipv6Addr,
+        head: Head,
+        (address, records): (Address, &[Record<'_>]),
+        now: Duration,
+    ) -> bool {
+        if address.to != self.as_heard() || !self.is_place(head.from, device, source, now) {
+            return false;
+        }
+        let Some(it) = self.neighbours.get_mut(&head.from) else {
+            return false;
+        };
+        if !it.news.is_new(head.number) {
+            return false;
+        }
+        // It has this session of this router, so its sender hears this router.
+        self.hear_from(head, device, true, now);
+        let Some(it) = self.neighbours.get_mut(&head.from).filter(|it| it.is_up) else {
+            return false;
+        };
+        it.news.acknowledge(address.arrived);
+        for prefix in it.news.arrived_leaves() {
+            if let Some(all) = self
+                .destinations
+                .get_mut(&prefix)
+                .and_then(|it| it.leaves.as_mut())
+            {
+                all.remove(&head.from);
+                self.changed.insert(prefix);
+            }
+        }
+        for record in records {
+            if self.take_record(head, record, now).is_err() {
+                return false;
+            }
+        }
+        if let Some(it) = self.neighbours.get_mut(&head.from) {
+            it.news.heard(head.number, address.wants_answer);
+            if address.is_complete && !it.has_told_all {
+                it.has_told_all = true;
+                self.changed.extend(self.destinations.keys());
+            }
+        }
+        true
+    }
+
+    fn take_record(
+        &mut self,
+        head: Head,
+        record: &Record<'_>,
+        now: Duration,
+    ) -> Result<(), NotTaken> {
+        let prefix = record.prefix;
+        if record.says == Says::Left {
+            return self.take_leave(head, prefix);
+        }
+        if !self.destinations.contains_key(&prefix) && !self.take_up(prefix, false, now) {
+            return Err(NotTaken);
+        }
+        let Says::Message(message, is_alive) = record.says else {
+            return Ok(());
+        };
+        let Some(it) = self.destinations.get_mut(&prefix) else {
+            return Err(NotTaken);
+        };
+        if it.leaves.is_some() {
+            if !is_alive {
+                // So that routers that leave a prefix do not teach it each other again.
+                return Ok(());
+            }
+            self.start_again(prefix, Becomes::Other);
+        }
+        self.hear(prefix, head, message, now)
+    }
+
+    /// The node of a prefix hears a message.
+    fn hear(
+        &mut self,
+        prefix: Prefix,
+        head: Head,
+        message: &[u8],
+        now: Duration,
+    ) -> Result<(), NotTaken> {
+        let Some(it) = self
+            .destinations
+            .get_mut(&prefix)
+            .filter(|it| it.leaves.is_none())
+        else {
+            return Err(NotTaken);
+        };
+        if !it.know(head.from) {
+            return Err(NotTaken);
+        }
+        let Some(link) = it.link_to(head.from) else {
+            return Err(NotTaken);
+        };
+        if (link.session, link.number) > (head.session, head.number) {
+            // A datagram was overtaken. An older message with the same announcement would bring an older distance back.
+            return Ok(());
+        }
+        match it.node.hear(message) {
+            Ok(()) => self.heard(prefix, head),
+            Err(HearFault::LaterStart) => {
+                self.later_session = Some(self.later_session.unwrap_or(self.session));
+                Err(NotTaken)
+            }
+            Err(_) => {
+                let text = format!(
+                    "router {} says what this version does not understand",
+                    head.from
+                );
+                self.journal.add_rarely(text, now);
+                Err(NotTaken)
+            }
+        }
+    }
+
+    /// A neighbour has left a prefix, and will forget it. This is acknowledged only once the kernel has no way over it,
+    /// and the node knows nothing that would make one.
+    fn take_leave(&mut self, head: Head, prefix: Prefix) -> Result<(), NotTaken> {
+        let Some(it) = self
+            .destinations
+            .get_mut(&prefix)
+            .filter(|it| it.leaves.is_none())
+        else {
+            return Ok(());
+        };
+        if !it.know(head.from) {
+            return Err(NotTaken);
+        }
+        let (is_own, is_busy) = (it.is_own, it.becomes.is_some());
+        let Some(link) = it.link_to(head.from) else {
+            return Err(NotTaken);
+        };
+        if (link.session, link.number) > (head.session, head.number) {
+            return Ok(());
+        }
+        // The node of an own prefix sends to nobody.
+        let has_to_forget = !is_own && !link.has_left && link.session > 0;
+        (link.session, link.number, link.has_left) = (head.session, head.number, true);
+        it.is_written &= !it.set_link(head.from, false);
+        if has_to_forget && !is_busy {
+            it.becomes = Some(Becomes::Other);
+        }
+        self.changed.insert(prefix);
+        if has_to_forget || is_busy {
+            Err(NotTaken)
+        } else {
+            Ok(())
+        }
+    }
+
+    /// A message was heard. The link is up for the node now, also if it was heard in an earlier session.
+    fn heard(&mut self, prefix: Prefix, head: Head) -> Result<(), NotTaken> {
+        self.counts.messages_heard += 1;
+        let is_up = self.neighbours.get(&head.from).is_some_and(|it| it.is_up);
+        if let Some(it) = self.destinations.get_mut(&prefix) {
+            if let Some(link) = it.link_to(head.from) {
+                (link.session, link.number, link.has_left) = (head.session, head.number, false);
+            }
+            it.set_link(head.from, is_up);
+            it.is_written = false;
+        }
+        self.changed.insert(prefix);
+        Ok(())
+    }
+}

@@ -1,0 +1,84 @@
+//! A neighbour, and the links to it.
+
+use crate::datagram::Heard;
+use crate::news::News;
+use std::collections::BTreeMap;
+use std::net::Ipv6Addr;
+use std::time::Duration;
+
+/// One link to a neighbour. Two routers may have several.
+pub struct Adjacency {
+    pub address: Ipv6Addr,
+    /// The number of the last hello.
+    pub hello: u64,
+    /// The neighbour is gone if nothing is heard until then.
+    pub until: Duration,
+    pub is_heard: bool,
+    /// Whether the neighbour says that it hears this session of this router.
+    pub hears_me: bool,
+    /// The number of the nexthop object in the kernel.
+    pub hop: Option<u32>,
+    /// Both ends hear each other, and the kernel has the nexthop object.
+    pub is_up: bool,
+}
+
+impl Adjacency {
+    pub fn new(address: Ipv6Addr) -> Adjacency {
+        Adjacency {
+            address,
+            hello: 0,
+            until: Duration::ZERO,
+            is_heard: false,
+            hears_me: false,
+            hop: None,
+            is_up: false,
+        }
+    }
+
+    pub fn is_two_way(&self) -> bool {
+        self.is_heard && self.hears_me
+    }
+}
+
+pub struct Neighbour {
+    pub session: u64,
+    /// The random number of its process.
+    pub process: u64,
+    /// The links by the index of the device.
+    pub links: BTreeMap<u32, Adjacency>,
+    /// Whether a link is up.
+    pub is_up: bool,
+    /// Whether one was up in this session. If not, nothing was said to the neighbour.
+    pub was_up: bool,
+    pub since: Duration,
+    pub news: News,
+    /// Whether all prefixes that the neighbour knew have come. Before that nothing is let in from it: what it sends to a
+    /// prefix that this router does not know would be taken for a greater one.
+    pub has_told_all: bool,
+    /// How often news were sent, so that each of several links is tried.
+    pub turns: usize,
+}
+
+impl Neighbour {
+    pub fn new((session, process): (u64, u64), news: News, since: Duration) -> Neighbour {
+        Neighbour {
+            session,
+            process,
+            links: BTreeMap::new(),
+            is_up: false,
+            was_up: false,
+            since,
+            news,
+            has_told_all: false,
+            turns: 0,
+        }
+    }
+
+    pub fn heard(&self, number: u32) -> Heard {
+        Heard {
+            router: number,
+            session: self.session,
+            process: self.process,
+        }
+    }
+}

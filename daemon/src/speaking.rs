@@ -1,0 +1,196 @@
+//! What a machine says to its neighbours.
+
+use crate::datagram::{self, Address, Head, News, Record, Says};
+use crate::kernel::Kernel;
+use crate::machine::Machine;
+use crate::neighbour::Neighbour;
+use crate::prefix::Prefix;
+use std::time::Duration;
+
+impl<K: Kernel> Machine<K> {
+    /// Says hello where it is time, and what is new to all neighbours.
+    pub fn speak(&mut self, now: Duration) {
+        let devices: Vec<u32> = self
+            .devices
+            .iter()
+            .filter(|(_, it)| it.is_ready && it.has_carrier && it.next_hello <= now)
+            .map(|(it, _)| *it)
+            .collect();
+        for it in devices {
+            self.say_hello(it, now);
+        }
+        let up: Vec<u32> = self
+            .neighbours
+            .iter()
+            .filter(|(_, it)| it.is_up)
+            .map(|(it, _)| *it)
+            .collect();
+        for it in up {
+            self.say_news(it, now);
+        }
+    }
+
+    fn head(&self, number: u64) -> Head {
+        Head {
+            from: self.settings.router,
+            session: self.session,
+            process: self.process,
+            number,
+            hold: self.settings.dead,
+        }
+    }
+
+    fn say_hello(&mut self, index: u32, now: Duration) {
+        let Some(device) = self.devices.get_mut(&index) else {
+            return;
+        };
+        device.hellos += 1;
+        device.next_hello = now + self.settings.hello;
+        let number = device.hellos;
+        let outdated = std::mem::take(&mut device.outdated);
+        let is_heard = |it: &Neighbour| it.links.get(&index).is_some_and(|it| it.is_heard);
+        let is_told =
+            |(number, it): &(&u32, &Neighbour)| is_heard(it) || outdated.contains(*number);
+        let some = self.neighbours.iter().filter(is_told);
+        let heard = some.map(|(number, it)| it.heard(*number));
+        let data = datagram::hello(self.head(number), heard, &self.settings.keys);
+        self.send(index, data);
+    }
+
+    /// Says by a hello on each device that this router hears nobody any more, so that its neighbours use it no longer.
+    pub fn say_goodbye(&mut self) {
+        for it in self
+            .neighbours
+            .values_mut()
+            .flat_map(|it| it.links.values_mut())
+        {
+            it.is_heard = false;
+        }
+        let all: Vec<u32> = self
+            .devices
+            .iter()
+            .filter(|(_, it)| it.is_ready && it.has_carrier)
+            .map(|(it, _)| *it)
+            .collect();
+        for it in all {
+            self.say_hello(it, Duration::ZERO);
+        }
+    }
+
+    fn send(&mut self, device: u32, data: Vec<u8>) {
+        self.counts.datagrams_sent += 1;
+        self.counts.bytes_sent += data.len() as u64;
+        self.outbox.push((device, data));
+    }
+
+    /// Says to a neighbour what is new, what was lost, and what has arrived.
+    fn say_news(&mut self, number: u32, now: Duration) {
+        let Some(it) = self.neighbours.get_mut(&number) else {
+            return;
+        };
+        it.news.expire(now);
+        while self
+            .neighbours
+            .get(&number)
+            .is_some_and(|it| it.news.is_due())
+        {
+            if !self.say_once(number, now) {
+                return;
+            }
+        }
+    }
+
+    /// Says one datagram of news. Returns whether it was sent.
+    fn say_once(&mut self, number: u32, now: Duration) -> bool {
+        let Some(it) = self.neighbours.get_mut(&number) else {
+            return false;
+        };
+        let up: Vec<u32> = it
+            .links
+            .iter()
+            .filter(|(_, it)| it.is_up)
+            .map(|(it, _)| *it)
+            .collect();
+        if up.is_empty() {
+            return false;
+        }
+        // Each datagram takes the next one of several links, so one that loses all does not hold up the others.
+        it.turns = it.turns.wrapping_add(1);
+        let device = up[it.turns % up.len()];
+        let (to, arrived, is_complete) =
+            (it.heard(number), it.news.arrived(), it.news.is_complete());
+        let count = it.news.next_number();
+        let head = self.head(count);
+        let mut data = News::new(
+            head,
+            Address {
+                to,
+                arrived,
+                is_complete,
+                wants_answer: false,
+            },
+            &self.settings.keys,
+        );
+        let (prefixes, leaves) = self.add_records(number, &mut data);
+        let Some(it) = self.neighbours.get_mut(&number) else {
+            return false;
+        };
+        if prefixes.is_empty() && !it.news.is_due() {
+            // What was to be said is not written yet, or is no news any more.
+            return false;
+        }
+        let wants_answer = it.news.wants_answer(&prefixes);
+        it.news.sent(prefixes, leaves, now);
+        let data = data.sealed(wants_answer, &self.settings.keys);
+        self.send(device, data);
+        true
+    }
+
+    /// Adds what is to be said to a neighbour, as long as there is space. Returns the prefixes, and those of them that
+    /// this router says it has left.
+    fn add_records(&mut self, number: u32, data: &mut News) -> (Vec<Prefix>, Vec<Prefix>) {
+        let (mut told, mut leaves) = (Vec::new(), Vec::new());
+        let Some(neighbour) = self.neighbours.get_mut(&number) else {
+            return (told, leaves);
+        };
+        while data.has_space() && neighbour.news.can_say_more() {
+            let Some(prefix) = neighbour.news.next_prefix() else {
+                break;
+            };
+            let Some(it) = self.destinations.get_mut(&prefix) else {
+                neighbour.news.forget(&prefix);
+                continue;
+            };
+            if let Some(all) = &it.leaves {
+                if all.contains(&number) {
+                    data.push(Record {
+                        prefix,
+                        says: Says::Left,
+                    });
+                    told.push(prefix);
+                    leaves.push(prefix);
+                } else {
+                    neighbour.news.forget(&prefix);
+                }
+                continue;
+            }
+            // Nothing is said that is not written. Then the neighbour learns only that there is this prefix.
+            let message = if it.is_written {
+                it.node.say(number).ok().flatten()
+            } else {
+                None
+            };
+            if message.is_none() && !neighbour.news.is_unlisted(&prefix) {
+                continue;
+            }
+            self.counts.messages_said += u64::from(message.is_some());
+            let is_alive = it.node.distance().is_some();
+            let says = message
+                .as_ref()
+                .map_or(Says::Name, |it| Says::Message(it, is_alive));
+            data.push(Record { prefix, says });
+            told.push(prefix);
+        }
+        (told, leaves)
+    }
+}

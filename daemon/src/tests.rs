@@ -1,0 +1,1152 @@
+//! Machines in a network in memory, which loses, repeats and reorders datagrams. After each line that is written to a
+//! kernel, the tables of all kernels must have no loop.
+
+use crate::datagram::Key;
+use crate::kernel::{Kernel, Refusal, Write};
+use crate::machine::{GATES, LONGEST_DEAD, MOST_NEIGHBOURS, MOST_PREFIXES, Machine, Settings};
+use crate::prefix::Prefix;
+use std::cell::RefCell;
+use std::collections::{BTreeMap, BTreeSet};
+use std::net::{IpAddr, Ipv6Addr};
+use std::rc::Rc;
+use std::time::Duration;
+
+const STEP: Duration = Duration::from_millis(5);
+
+struct Dice(u64);
+
+impl Dice {
+    fn below(&mut self, limit: u64) -> u64 {
+        self.0 = self
+            .0
+            .wrapping_mul(6364136223846793005)
+            .wrapping_add(1442695040888963407);
+        (self.0 >> 33) % limit
+    }
+
+    fn chance(&mut self, percent: u64) -> bool {
+        self.below(100) < percent
+    }
+}
+
+/// What one kernel has.
+#[derive(Default)]
+struct Tables {
+    last: BTreeSet<Prefix>,
+    shut: BTreeSet<(u32, Prefix)>,
+    open: BTreeSet<(u32, Prefix)>,
+    hold: BTreeSet<(u32, bool)>,
+    rules: BTreeSet<(u32, String, bool)>,
+    hops: BTreeMap<u32, (u32, Ipv6Addr)>,
+    ways: BTreeMap<(Prefix, u32), u32>,
+    without_carrier: BTreeSet<u32>,
+}
+
+/// The kernels of all routers, and the links between devices.
+struct World {
+    tables: BTreeMap<u32, Tables>,
+    /// The prefixes that each router delivers.
+    own: BTreeMap<u32, BTreeSet<Prefix>>,
+    /// The default route of each router, which somebody else has made: the device.
+    defaults: BTreeMap<u32, u32>,
+    /// The other end of each device: a router and its device.
+    ends: BTreeMap<(u32, u32), (u32, u32)>,
+    dice: Dice,
+    refused_percent: u64,
+    checks: u64,
+    /// The last lines that were written, for a reader of a failure.
+    lines: Vec<String>,
+}
+
+fn address(router: u32, device: u32) -> Ipv6Addr {
+    Ipv6Addr::new(0xfe80, 0, 0, 0, 0, 0, router as u16 + 1, device as u16)
+}
+
+fn contains(prefix: &Prefix, address: IpAddr) -> bool {
+    let all = if address.is_ipv4() { 32 } else { 128 };
+    let one = Prefix::new(address, all).unwrap();
+    *prefix == one || prefix.has_within(&one)
+}
+
+fn last_address(prefix: &Prefix) -> IpAddr {
+    match prefix.address() {
+        IpAddr::V4(it) => {
+            let rest = u32::MAX.checked_shr(prefix.length().into()).unwrap_or(0);
+            (u32::from(it) | rest).to_be_bytes().into()
+        }
+        IpAddr::V6(it) => {
+            let rest = u128::MAX.checked_shr(prefix.length().into()).unwrap_or(0);
+            (u128::from(it) | rest).to_be_bytes().into()
+        }
+    }
+}
+
+fn longest<'a>(all: impl Iterator<Item = &'a Prefix>, address: IpAddr) -> Option<Prefix> {
+    all.filter(|it| contains(it, address))
+        .max_by_key(|it| it.length())
+        .copied()
+}
+
+impl Tables {
+    fn apply(&mut self, line: &Write) -> Result<(), i32> {
+        let there = |is_new: bool| if is_new { Ok(()) } else { Err(libc::EEXIST) };
+        let gone = |is_old: bool| if is_old { Ok(()) } else { Err(libc::ESRCH) };
+        match line.clone() {
+            Write::AddLast { prefix, .. } => {
+                self.last.insert(prefix);
+                Ok(())
+            }
+            Write::RemoveLast { prefix, .. } => gone(self.last.remove(&prefix)),
+            Write::Shut { table, prefix } => there(self.shut.insert((table, prefix))),
+            Write::RemoveShut { table, prefix } => gone(self.shut.remove(&(table, prefix))),
+            Write::Open { table, prefix } => there(self.open.insert((table, prefix))),
+            Write::Close { table, prefix } => gone(self.open.remove(&(table, prefix))),
+            Write::Hold { table, is_ipv6 } => there(self.hold.insert((table, is_ipv6))),
+            Write::Release { table, is_ipv6 } => gone(self.hold.remove(&(table, is_ipv6))),
+            Write::AddRule {
+                table,
+                device,
+                is_ipv6,
+            } => there(self.rules.insert((table, device, is_ipv6))),
+            Write::RemoveRule {
+                table,
+                device,
+                is_ipv6,
+            } => gone(self.rules.remove(&(table, device, is_ipv6))),
+            Write::AddHop {
+                hop,
+                device,
+                address,
+            } => {
+                if self.without_carrier.contains(&device) {
+                    return Err(libc::ENETDOWN);
+                }
+                there(self.hops.insert(hop, (device, address)).is_none())
+            }
+            Write::RemoveHop { hop } => {
+                self.ways.retain(|_, it| *it != hop);
+                gone(self.hops.remove(&hop).is_some())
+            }
+            Write::AddWay {
+                prefix,
+                place,
+                hop,
+                replaces,
+                ..
+            } => {
+                if !self.hops.contains_key(&hop) {
+                    return Err(libc::EINVAL);
+                }
+                if !replaces && self.ways.contains_key(&(prefix, place)) {
+                    return Err(libc::EEXIST);
+                }
+                self.ways.insert((prefix, place), hop);
+                Ok(())
+            }
+            Write::RemoveWay { prefix, place, .. } => {
+                gone(self.ways.remove(&(prefix, place)).is_some())
+            }
+        }
+    }
+
+    fn lose_carrier(&mut self, device: u32) {
+        self.without_carrier.insert(device);
+        let hops: Vec<u32> = self
+            .hops
+            .iter()
+            .filter(|(_, it)| it.0 == device)
+            .map(|(it, _)| *it)
+            .collect();
+        for hop in hops {
+            self.hops.remove(&hop);
+            self.ways.retain(|_, it| *it != hop);
+        }
+    }
+
+    /// Whether a packet to an address that comes in by a device is let in.
+    fn lets_in(&self, device: u32, to: IpAddr) -> bool {
+        let table = GATES + device;
+        if !self
+            .rules
+            .iter()
+            .any(|it| it.0 == table && it.2 == to.is_ipv6())
+        {
+            return true;
+        }
+        let here = |all: &BTreeSet<(u32, Prefix)>| {
+            longest(all.iter().filter(|it| it.0 == table).map(|it| &it.1), to)
+        };
+        match here(&self.shut).max(here(&self.open)) {
+            Some(it) => self.open.contains(&(table, it)),
+            None => !self.hold.contains(&(table, to.is_ipv6())),
+        }
+    }
+}
+
+impl World {
+    /// The first and the last address of each prefix.
+    fn addresses(&self) -> BTreeSet<IpAddr> {
+        let all = self.tables.values().flat_map(|it| &it.last);
+        all.flat_map(|it| [it.address(), last_address(it)])
+            .collect()
+    }
+
+    /// The routers to which packets are sent and let in, each with whether that is by a way of the daemon.
+    fn used(&self, router: u32, to: IpAddr) -> Vec<(u32, bool)> {
+        let it = &self.tables[&router];
+        let own = &self.own[&router];
+        let devices: Vec<(u32, bool)> = match longest(it.last.iter().chain(own), to) {
+            Some(prefix) if own.contains(&prefix) => Vec::new(),
+            Some(prefix) => {
+                let ways = it.ways.iter().filter(|((at, _), _)| *at == prefix);
+                ways.map(|(_, hop)| (it.hops[hop].0, true)).collect()
+            }
+            None => self
+                .defaults
+                .get(&router)
+                .map(|device| (*device, false))
+                .into_iter()
+                .collect(),
+        };
+        let ends = devices
+            .into_iter()
+            .filter_map(|(device, is_way)| Some((*self.ends.get(&(router, device))?, is_way)));
+        ends.filter(|((other, at), _)| self.tables[other].lets_in(*at, to))
+            .map(|((other, _), is_way)| (other, is_way))
+            .collect()
+    }
+
+    /// No loop has a way of the daemon in it. A loop of default routes alone is not the daemon's.
+    fn check(&mut self, changed: Option<Prefix>) {
+        self.checks += 1;
+        for to in self.addresses() {
+            if changed.is_some_and(|it| !contains(&it, to)) {
+                continue;
+            }
+            let used: BTreeMap<u32, Vec<(u32, bool)>> = self
+                .tables
+                .keys()
+                .map(|it| (*it, self.used(*it, to)))
+                .collect();
+            for (router, links) in &used {
+                for (next, _) in links.iter().filter(|it| it.1) {
+                    let mut seen = BTreeSet::new();
+                    let mut open = vec![*next];
+                    while let Some(at) = open.pop() {
+                        assert_ne!(
+                            at,
+                            *router,
+                            "a loop to {to}: {used:?}\n{}",
+                            self.lines.join("\n")
+                        );
+                        if seen.insert(at) {
+                            open.extend(used[&at].iter().map(|it| it.0));
+                        }
+                    }
+                }
+            }
+        }
+    }
+}
+
+fn prefix_of(line: &Write) -> Option<Prefix> {
+    match line {
+        Write::AddLast { prefix, .. }
+        | Write::RemoveLast { prefix, .. }
+        | Write::Shut { prefix, .. }
+        | Write::RemoveShut { prefix, .. }
+        | Write::Open { prefix, .. }
+        | Write::Close { prefix, .. }
+        | Write::AddWay { prefix, .. }
+        | Write::RemoveWay { prefix, .. } => Some(*prefix),
+        _ => None,
+    }
+}
+
+#[derive(Clone)]
+struct Handle {
+    world: Rc<RefCell<World>>,
+    router: u32,
+}
+
+impl Kernel for Handle {
+    fn write(&mut self, lines: &[Write]) -> Vec<Result<(), Refusal>> {
+        let mut results = Vec::new();
+        for line in lines {
+            let mut world = self.world.borrow_mut();
+            let percent = world.refused_percent;
+            let is_refused = world.dice.chance(percent);
+            let told = if is_refused { "refused" } else { "" };
+            world.lines.push(format!("{} {line:?} {told}", self.router));
+            if world.lines.len() > 4000 {
+                world.lines.drain(..2000);
+            }
+            if is_refused {
+                results.push(Err(Refusal(libc::ENOMEM)));
+                continue;
+            }
+            let tables = world.tables.get_mut(&self.router).unwrap();
+            results.push(match tables.apply(line) {
+                Err(error) if !line.is_done_by(error) => Err(Refusal(error)),
+                _ => Ok(()),
+            });
+            world.check(prefix_of(line));
+        }
+        results
+    }
+
+    fn left_behind(&mut self) -> Result<Vec<Write>, Refusal> {
+        let world = self.world.borrow();
+        let it = &world.tables[&self.router];
+        let table = 254;
+        let mut left: Vec<Write> = Vec::new();
+        left.extend(it.last.iter().map(|prefix| Write::RemoveLast {
+            table,
+            prefix: *prefix,
+        }));
+        left.extend(it.shut.iter().map(|(table, prefix)| Write::RemoveShut {
+            table: *table,
+            prefix: *prefix,
+        }));
+        left.extend(it.hops.keys().map(|hop| Write::RemoveHop { hop: *hop }));
+        left.extend(it.ways.keys().map(|(prefix, place)| Write::RemoveWay {
+            table,
+            prefix: *prefix,
+            place: *place,
+        }));
+        left.extend(it.open.iter().map(|(table, prefix)| Write::Close {
+            table: *table,
+            prefix: *prefix,
+        }));
+        left.extend(it.hold.iter().map(|(table, is_ipv6)| Write::Release {
+            table: *table,
+            is_ipv6: *is_ipv6,
+        }));
+        left.extend(
+            it.rules
+                .iter()
+                .cloned()
+                .map(|(table, device, is_ipv6)| Write::RemoveRule {
+                    table,
+                    device,
+                    is_ipv6,
+                }),
+        );
+        Ok(left)
+    }
+}
+
+struct Datagram {
+    from: (u32, u32),
+    to: (u32, u32),
+    data: Vec<u8>,
+}
+
+/// Routers with their processes, and what is on its way between them.
+struct Lab {
+    world: Rc<RefCell<World>>,
+    machines: BTreeMap<u32, Machine<Handle>>,
+    sessions: BTreeMap<u32, u64>,
+    announced: BTreeMap<u32, BTreeSet<Prefix>>,
+    links: Vec<((u32, u32), (u32, u32))>,
+    /// Devices over which nothing goes out.
+    cut: BTreeSet<(u32, u32)>,
+    way: Vec<Datagram>,
+    now: Duration,
+    dice: Dice,
+    lost_percent: u64,
+    late_percent: u64,
+    sent: u64,
+    forget: Duration,
+    /// The routers that run with the number of another one.
+    doubles: BTreeMap<u32, u32>,
+    neglects: fn(&mut Settings),
+}
+
+fn settings(router: u32, announce: BTreeSet<Prefix>, forget: Duration) -> Settings {
+    Settings {
+        router,
+        hello: Duration::from_secs(1),
+        dead: Duration::from_secs(4),
+        forget,
+        ceiling: 64,
+        table: 254,
+        keys: Vec::new(),
+        announce,
+        costs: BTreeMap::new(),
+    }
+}
+
+fn prefix(text: &str) -> Prefix {
+    text.parse().unwrap()
+}
+
+impl Lab {
+    fn new(links: &[(u32, u32)], seed: u64) -> Lab {
+        let mut counts: BTreeMap<u32, u32> = BTreeMap::new();
+        let mut device = |router: u32| {
+            let count = counts.entry(router).or_default();
+            *count += 1;
+            (router, *count)
+        };
+        let links: Vec<_> = links
+            .iter()
+            .map(|(u, v)| (device(*u), device(*v)))
+            .collect();
+        let ends = links
+            .iter()
+            .flat_map(|(u, v)| [(*u, *v), (*v, *u)])
+            .collect();
+        let routers: BTreeSet<u32> = counts.keys().copied().collect();
+        let world = World {
+            tables: routers.iter().map(|it| (*it, Tables::default())).collect(),
+            own: routers.iter().map(|it| (*it, BTreeSet::new())).collect(),
+            defaults: BTreeMap::new(),
+            ends,
+            dice: Dice(seed ^ 0x9e37),
+            refused_percent: 0,
+            checks: 0,
+            lines: Vec::new(),
+        };
+        Lab {
+            world: Rc::new(RefCell::new(world)),
+            machines: BTreeMap::new(),
+            sessions: BTreeMap::new(),
+            announced: routers
+                .iter()
+                .map(|it| (*it, BTreeSet::from([own(*it)])))
+                .collect(),
+            links,
+            cut: BTreeSet::new(),
+            way: Vec::new(),
+            now: Duration::from_secs(1),
+            dice: Dice(seed),
+            lost_percent: 0,
+            late_percent: 0,
+            sent: 0,
+            forget: seconds(30),
+            doubles: BTreeMap::new(),
+            neglects: |_| (),
+        }
+    }
+
+    fn routers(&self) -> Vec<u32> {
+        self.announced.keys().copied().collect()
+    }
+
+    fn start(&mut self, router: u32) {
+        let session = *self
+            .sessions
+            .entry(router)
+            .and_modify(|it| *it += 1)
+            .or_insert(1);
+        self.start_as(router, session);
+    }
+
+    fn start_as(&mut self, router: u32, session: u64) {
+        self.machines.remove(&router);
+        let kernel = Handle {
+            world: self.world.clone(),
+            router,
+        };
+        let told = format!(
+            "{router} starts in session {session}, as {:?}",
+            self.doubles.get(&router)
+        );
+        self.world.borrow_mut().lines.push(told);
+        let percent = std::mem::take(&mut self.world.borrow_mut().refused_percent);
+        let mut set = settings(router, self.announced[&router].clone(), self.forget);
+        (self.neglects)(&mut set);
+        set.router = self.doubles.get(&router).copied().unwrap_or(set.router);
+        let mut machine = Machine::new(set, session, kernel, self.now).expect("nothing is refused");
+        self.world.borrow_mut().refused_percent = percent;
+        self.world
+            .borrow_mut()
+            .own
+            .insert(router, self.announced[&router].clone());
+        for (at, device) in self.devices(router) {
+            let has_carrier = !self.world.borrow().tables[&at]
+                .without_carrier
+                .contains(&device);
+            machine.device_is(device, &format!("eth{device}"), has_carrier, self.now);
+        }
+        self.machines.insert(router, machine);
+    }
+
+    fn devices(&self, router: u32) -> Vec<(u32, u32)> {
+        self.links
+            .iter()
+            .flat_map(|(u, v)| [*u, *v])
+            .filter(|it| it.0 == router)
+            .collect()
+    }
+
+    fn start_all(&mut self) {
+        for it in self.routers() {
+            self.start(it);
+        }
+    }
+
+    /// Time goes on.
+    fn run(&mut self, time: Duration) {
+        let end = self.now + time;
+        while self.now < end {
+            self.now += STEP;
+            for it in std::mem::take(&mut self.way) {
+                if self.dice.chance(self.late_percent) {
+                    self.way.push(it);
+                } else {
+                    self.deliver(&it);
+                    if self.dice.chance(self.late_percent / 4) {
+                        self.way.push(it);
+                    }
+                }
+            }
+            if self.late_percent > 0 && self.way.len() > 1 {
+                let at = self.dice.below(self.way.len() as u64) as usize;
+                self.way.swap(0, at);
+            }
+            for router in self.routers() {
+                self.turn(router);
+            }
+        }
+    }
+
+    fn deliver(&mut self, it: &Datagram) {
+        if self.cut.contains(&it.from) {
+            return;
+        }
+        if let Some(machine) = self.machines.get_mut(&it.to.0) {
+            machine.take(it.to.1, address(it.from.0, it.from.1), &it.data, self.now);
+        }
+    }
+
+    fn turn(&mut self, router: u32) {
+        let Some(machine) = self.machines.get_mut(&router) else {
+            return;
+        };
+        machine.turn(self.now);
+        for (device, data) in std::mem::take(&mut machine.outbox) {
+            self.sent += 1;
+            let to = self.world.borrow().ends[&(router, device)];
+            if !self.dice.chance(self.lost_percent) {
+                self.way.push(Datagram {
+                    from: (router, device),
+                    to,
+                    data,
+                });
+            }
+        }
+        if let Some(later) = machine.later_session {
+            self.sessions.insert(router, later);
+            self.start(router);
+        }
+    }
+
+    /// Cuts a link in both directions, or one of them, or all but the datagrams; or joins it again.
+    fn set_link(&mut self, at: usize, is_up: bool, has_carrier: bool) {
+        let (u, v) = self.links[at];
+        for it in [u, v] {
+            if is_up {
+                self.cut.remove(&it);
+            } else {
+                self.cut.insert(it);
+            }
+            let mut world = self.world.borrow_mut();
+            let tables = world.tables.get_mut(&it.0).unwrap();
+            if is_up {
+                tables.without_carrier.remove(&it.1);
+            } else if !has_carrier {
+                tables.lose_carrier(it.1);
+            }
+            drop(world);
+            if let Some(machine) = self.machines.get_mut(&it.0) {
+                machine.device_is(
+                    it.1,
+                    &format!("eth{}", it.1),
+                    is_up || has_carrier,
+                    self.now,
+                );
+            }
+        }
+    }
+
+    fn announce(&mut self, router: u32, prefix: Prefix, is_announced: bool) {
+        let all = self.announced.get_mut(&router).unwrap();
+        if is_announced {
+            all.insert(prefix);
+        } else {
+            all.remove(&prefix);
+        }
+        self.world.borrow_mut().own.insert(router, all.clone());
+        self.world.borrow_mut().check(Some(prefix));
+        let mut set = settings(router, all.clone(), self.forget);
+        set.router = self.doubles.get(&router).copied().unwrap_or(router);
+        if let Some(machine) = self.machines.get_mut(&router) {
+            machine.configure(set, self.now);
+        }
+    }
+
+    /// Where a packet goes that takes the first way of each router: the routers on its path.
+    fn path(&self, from: u32, to: IpAddr) -> Vec<u32> {
+        let (world, mut path) = (self.world.borrow(), vec![from]);
+        for _ in 0..20 {
+            let Some((next, _)) = world.used(path[path.len() - 1], to).first().copied() else {
+                break;
+            };
+            path.push(next);
+        }
+        path
+    }
+
+    fn arrives(&self, from: u32, to: u32) -> bool {
+        self.path(from, last_address(&own(to))).last() == Some(&to)
+    }
+
+    /// What the machines have of a prefix.
+    fn told(&self, prefix: Prefix) -> String {
+        let mut text = String::new();
+        for (router, machine) in &self.machines {
+            text += &format!("\n{router} in session {}:", machine.session);
+            for (number, it) in &machine.neighbours {
+                let links: Vec<_> = it
+                    .links
+                    .iter()
+                    .map(|(at, it)| (*at, it.is_heard, it.hears_me, it.is_up))
+                    .collect();
+                let news = (it.news.pending(), it.news.is_complete());
+                text += &format!(
+                    "\n    {number}.{} told {} news {news:?} {links:?}",
+                    it.session, it.has_told_all
+                );
+            }
+            if let Some(it) = machine.destinations.get(&prefix) {
+                let node = (
+                    it.is_own,
+                    it.node.height(),
+                    it.node.distance(),
+                    it.is_prepared,
+                    it.is_written,
+                    it.becomes,
+                );
+                let links: Vec<_> = it
+                    .links
+                    .iter()
+                    .map(|it| (it.neighbour, it.is_up, it.session, it.number))
+                    .collect();
+                text += &format!(
+                    "\n    {node:?} {:?} {:?}\n    {links:?}",
+                    it.node.table().unwrap().ways(),
+                    it.node.table().unwrap().gates()
+                );
+                text += &format!(
+                    " hops {:?} gates {:?}",
+                    it.hops().collect::<Vec<_>>(),
+                    it.open_gates().collect::<Vec<_>>()
+                );
+            }
+            for it in machine
+                .journal
+                .after(0)
+                .collect::<Vec<_>>()
+                .iter()
+                .rev()
+                .take(6)
+            {
+                text += &format!("\n    {}", it.text);
+            }
+        }
+        text
+    }
+
+    fn expect_all_arrive(&self) {
+        for from in self.routers() {
+            for to in self.routers() {
+                assert!(
+                    self.arrives(from, to),
+                    "{from} to {to}: {}",
+                    self.told(own(to))
+                );
+            }
+        }
+    }
+}
+
+fn own(router: u32) -> Prefix {
+    prefix(&format!("10.0.{router}.0/24"))
+}
+
+fn seconds(count: u64) -> Duration {
+    Duration::from_secs(count)
+}
+
+const RING: [(u32, u32); 5] = [(0, 1), (1, 2), (2, 3), (3, 4), (4, 0)];
+
+#[test]
+fn routers_of_a_ring_reach_each_other_by_shortest_paths() {
+    let mut lab = Lab::new(&RING, 1);
+    lab.start_all();
+    lab.run(Duration::from_millis(300));
+    lab.expect_all_arrive();
+    assert_eq!(lab.path(0, own(2).address()), [0, 1, 2]);
+    assert_eq!(lab.path(0, own(3).address()), [0, 4, 3]);
+}
+
+#[test]
+fn nothing_but_hellos_is_said_when_nothing_changes() {
+    let mut lab = Lab::new(&RING, 2);
+    lab.start_all();
+    lab.run(seconds(5));
+    let (before, said) = (lab.sent, lab.machines[&0].counts.messages_said);
+    lab.run(seconds(10));
+    assert!(
+        (100..=110).contains(&(lab.sent - before)),
+        "{} in 10 s on 10 devices",
+        lab.sent - before
+    );
+    assert_eq!(lab.machines[&0].counts.messages_said, said);
+}
+
+#[test]
+fn a_link_that_loses_its_carrier_is_left_at_once() {
+    let mut lab = Lab::new(&RING, 3);
+    lab.start_all();
+    lab.run(seconds(2));
+    lab.set_link(0, false, false);
+    lab.run(Duration::from_millis(200));
+    lab.expect_all_arrive();
+    assert_eq!(lab.path(0, own(1).address()), [0, 4, 3, 2, 1]);
+    lab.set_link(0, true, false);
+    lab.run(Duration::from_millis(500));
+    lab.expect_all_arrive();
+    assert_eq!(lab.path(0, own(1).address()), [0, 1]);
+}
+
+#[test]
+fn a_link_that_loses_all_in_one_direction_is_left() {
+    let mut lab = Lab::new(&RING, 4);
+    lab.start_all();
+    lab.run(seconds(2));
+    let one_end = lab.links[0].0;
+    lab.cut.insert(one_end);
+    lab.run(seconds(5));
+    lab.expect_all_arrive();
+    assert_eq!(lab.path(0, own(1).address()), [0, 4, 3, 2, 1]);
+    assert_eq!(lab.path(1, own(0).address()), [1, 2, 3, 4, 0]);
+    lab.cut.remove(&one_end);
+    lab.run(seconds(2));
+    assert_eq!(lab.path(0, own(1).address()), [0, 1]);
+}
+
+#[test]
+fn a_process_that_starts_again_is_used_soon() {
+    let mut lab = Lab::new(&RING, 5);
+    lab.start_all();
+    lab.run(seconds(2));
+    lab.start(1);
+    lab.run(Duration::from_millis(150));
+    lab.expect_all_arrive();
+}
+
+#[test]
+fn a_prefix_can_be_withdrawn_and_come_back_elsewhere() {
+    let mut lab = Lab::new(&RING, 6);
+    let other = prefix("10.9.0.0/16");
+    lab.start_all();
+    lab.announce(0, other, true);
+    lab.run(seconds(1));
+    assert_eq!(lab.path(2, other.address()), [2, 1, 0]);
+    lab.announce(0, other, false);
+    lab.run(seconds(3));
+    let distances: Vec<_> = lab
+        .machines
+        .values()
+        .map(|it| it.destinations[&other].node.distance())
+        .collect();
+    assert_eq!(distances, [None; 5], "nobody has it");
+    lab.announce(3, other, true);
+    lab.run(seconds(1));
+    assert_eq!(lab.path(1, other.address()), [1, 2, 3]);
+    lab.announce(0, other, true);
+    lab.run(seconds(1));
+    assert_eq!(lab.path(1, other.address()), [1, 0], "the nearest of two");
+}
+
+#[test]
+fn a_prefix_that_nobody_announces_is_forgotten_and_can_come_back() {
+    let mut lab = Lab::new(&RING, 15);
+    let (inner, outer) = (prefix("10.9.1.0/24"), prefix("10.9.0.0/16"));
+    lab.start_all();
+    lab.announce(0, inner, true);
+    lab.announce(2, outer, true);
+    lab.run(seconds(1));
+    assert_eq!(lab.path(3, inner.address()).last(), Some(&0));
+    lab.announce(0, inner, false);
+    lab.run(seconds(40));
+    assert!(
+        lab.machines
+            .values()
+            .all(|it| !it.destinations.contains_key(&inner)),
+        "{}",
+        lab.told(inner)
+    );
+    assert!(
+        lab.world
+            .borrow()
+            .tables
+            .values()
+            .all(|it| !it.last.contains(&inner))
+    );
+    assert_eq!(
+        lab.path(0, inner.address()),
+        [0, 1, 2],
+        "it is a part of the outer prefix again"
+    );
+    lab.announce(4, inner, true);
+    lab.run(seconds(1));
+    assert_eq!(lab.path(0, inner.address()), [0, 4]);
+    // one router is away while the others leave it
+    lab.announce(4, inner, false);
+    lab.set_link(2, false, false);
+    lab.set_link(3, false, false);
+    lab.run(seconds(40));
+    assert!(
+        lab.machines[&1].destinations.contains_key(&inner)
+            || lab.machines[&2].destinations.contains_key(&inner)
+    );
+    lab.set_link(2, true, false);
+    lab.set_link(3, true, false);
+    lab.run(seconds(40));
+    assert!(
+        lab.machines
+            .values()
+            .all(|it| !it.destinations.contains_key(&inner)),
+        "{}",
+        lab.told(inner)
+    );
+}
+
+#[test]
+fn two_links_between_two_routers_are_one_way() {
+    let mut lab = Lab::new(&[(0, 1), (0, 1), (1, 2)], 7);
+    lab.start_all();
+    lab.run(seconds(1));
+    lab.expect_all_arrive();
+    assert_eq!(
+        lab.world.borrow().tables[&0].ways.len(),
+        4,
+        "two routes to each of two routers"
+    );
+    lab.set_link(0, false, false);
+    lab.run(Duration::from_millis(100));
+    lab.expect_all_arrive();
+    lab.set_link(1, false, true);
+    lab.run(seconds(5));
+    assert_eq!(lab.path(0, own(2).address()), [0]);
+    lab.set_link(1, true, true);
+    lab.run(seconds(2));
+    lab.expect_all_arrive();
+}
+
+#[test]
+fn two_routers_with_one_number_make_no_loop_and_say_so() {
+    // routers 0 and 4 of the ring run as number 0
+    let mut lab = Lab::new(&RING, 8);
+    lab.neglects = |it| it.router %= 4;
+    lab.start_all();
+    lab.run(seconds(20));
+    let said: Vec<String> = lab
+        .machines
+        .values()
+        .flat_map(|it| it.journal.after(0).map(|it| it.text.clone()))
+        .collect();
+    assert!(
+        said.iter()
+            .any(|it| it.contains("another router with the number 0")),
+        "{said:?}"
+    );
+    assert!(lab.arrives(1, 2) && lab.arrives(2, 1));
+}
+
+#[test]
+fn two_processes_with_one_number_and_one_session_are_told_apart() {
+    let mut lab = Lab::new(&[(0, 1), (0, 3), (1, 2), (2, 3), (3, 4)], 16);
+    lab.doubles.insert(3, 1);
+    lab.start_all();
+    lab.run(seconds(3));
+    let said: Vec<String> = lab.machines[&0]
+        .journal
+        .after(0)
+        .map(|it| it.text.clone())
+        .collect();
+    assert!(
+        said.iter()
+            .any(|it| it.contains("two routers have this number")),
+        "{said:?}"
+    );
+    lab.doubles.clear();
+    lab.start(3);
+    // its neighbours keep its place for the number that it had
+    lab.run(seconds(90));
+    lab.expect_all_arrive();
+}
+
+#[test]
+fn a_boot_number_that_goes_back_is_noticed() {
+    let mut lab = Lab::new(&RING, 9);
+    lab.sessions.insert(1, 7);
+    lab.start_all();
+    lab.run(seconds(1));
+    lab.start_as(1, 3);
+    lab.run(seconds(1));
+    assert_eq!(
+        lab.machines[&1].session, 9,
+        "greater than what its neighbours know"
+    );
+    lab.expect_all_arrive();
+    // also if it was away for longer than its neighbours wait
+    lab.machines.remove(&1);
+    lab.run(seconds(10));
+    lab.start_as(1, 3);
+    lab.run(seconds(3));
+    assert_eq!(lab.machines[&1].session, 10);
+    lab.expect_all_arrive();
+}
+
+/// One storm: links that are cut and joined, processes that are killed and started again, prefixes that come and go, writes
+/// that are refused, while datagrams are lost, repeated and reordered, and each router has a default route.
+fn storm(seed: u64) -> u64 {
+    let links = [
+        (0, 1),
+        (1, 2),
+        (2, 3),
+        (3, 4),
+        (4, 0),
+        (0, 2),
+        (1, 3),
+        (0, 1),
+    ];
+    let mut lab = Lab::new(&links, seed);
+    for router in lab.routers() {
+        let devices = lab.devices(router);
+        let at = lab.dice.below(devices.len() as u64) as usize;
+        lab.world
+            .borrow_mut()
+            .defaults
+            .insert(router, devices[at].1);
+    }
+    lab.start_all();
+    (lab.lost_percent, lab.late_percent) = (20, 20);
+    lab.world.borrow_mut().refused_percent = 3;
+    let others = ["10.0.0.0/8", "10.0.2.0/25", "0.0.0.0/0", "10.0.1.128/26"].map(prefix);
+    for _ in 0..40 {
+        let (router, link) = (lab.dice.below(5) as u32, lab.dice.below(8) as usize);
+        let one = others[lab.dice.below(4) as usize];
+        match lab.dice.below(12) {
+            0..=2 => lab.set_link(link, false, false),
+            3 => lab.set_link(link, false, true),
+            4..=6 => lab.set_link(link, true, true),
+            7 => drop(lab.machines.remove(&router)),
+            8 => lab.start(router),
+            9 => {
+                let other = lab.dice.below(5) as u32;
+                lab.doubles.insert(router, other);
+                // often with the session of the other one
+                let session = lab.sessions.get(&other).copied().unwrap_or(1);
+                lab.sessions.insert(router, session);
+                lab.start_as(router, session);
+            }
+            _ => {
+                let is_announced = lab.dice.chance(60);
+                lab.announce(router, one, is_announced);
+            }
+        }
+        let time = 1 + lab.dice.below(400);
+        lab.run(Duration::from_millis(time));
+    }
+    calm_down(&mut lab);
+    lab.world.borrow().checks
+}
+
+/// No more is lost. After some time all routers reach each other.
+fn calm_down(lab: &mut Lab) {
+    (lab.lost_percent, lab.late_percent) = (0, 0);
+    lab.world.borrow_mut().refused_percent = 0;
+    for at in 0..lab.links.len() {
+        lab.set_link(at, false, false);
+        lab.set_link(at, true, false);
+    }
+    let doubles = std::mem::take(&mut lab.doubles);
+    for router in lab.routers() {
+        if !lab.machines.contains_key(&router) || doubles.contains_key(&router) {
+            lab.start(router);
+        }
+    }
+    lab.run(seconds(15));
+    lab.expect_all_arrive();
+}
+
+/// How many storms there are. `REVROUTED_STORMS` can say another number.
+fn storms() -> u64 {
+    std::env::var("REVROUTED_STORMS")
+        .ok()
+        .and_then(|it| it.parse().ok())
+        .unwrap_or(20)
+}
+
+#[test]
+fn no_storm_makes_a_loop() {
+    for seed in 0..storms() {
+        println!("seed {seed}");
+        let checks = storm(seed);
+        assert!(checks > 100, "{checks}");
+    }
+}
+
+#[test]
+fn a_hold_ends() {
+    let mut lab = Lab::new(&RING, 10);
+    lab.start_all();
+    assert!(LONGEST_DEAD < crate::machine::HOLD);
+    lab.run(seconds(1));
+    assert!(
+        lab.world
+            .borrow()
+            .tables
+            .values()
+            .all(|it| it.hold.is_empty())
+    );
+}
+
+/// How many mutated inputs each test tries. `REVROUTED_FUZZ` can say another number.
+fn mutations() -> u64 {
+    std::env::var("REVROUTED_FUZZ")
+        .ok()
+        .and_then(|it| it.parse().ok())
+        .unwrap_or(20_000)
+}
+
+/// Changes some bytes, cuts some out, or repeats some.
+fn mutate(data: &mut Vec<u8>, dice: &mut Dice) {
+    for _ in 0..=dice.below(4) {
+        let at = dice.below(data.len() as u64 + 1) as usize;
+        let end = (at + dice.below(20) as usize).min(data.len());
+        match dice.below(5) {
+            0 | 1 if at < data.len() => data[at] ^= 1 << dice.below(8),
+            2 if at < data.len() => data[at] = [0, 1, 0x7f, 0x80, 0xff][dice.below(5) as usize],
+            3 => drop(data.drain(at..end)),
+            _ => {
+                let part = data[at..end].to_vec();
+                data.splice(at..at, part);
+            }
+        }
+    }
+}
+
+/// Two routers with these keys, and what they have said.
+fn recorded(keys: fn(&mut Settings)) -> (Lab, Vec<Vec<u8>>) {
+    let mut lab = Lab::new(&[(0, 1)], 11);
+    lab.neglects = keys;
+    lab.start_all();
+    let mut all = Vec::new();
+    for _ in 0..400 {
+        lab.run(STEP);
+        all.extend(
+            lab.way
+                .iter()
+                .filter(|it| it.to.0 == 1)
+                .map(|it| it.data.clone()),
+        );
+    }
+    assert!(lab.arrives(0, 1) && all.len() > 4);
+    (lab, all)
+}
+
+#[test]
+fn mutated_datagrams_do_no_harm() {
+    let (mut lab, all) = recorded(|_| ());
+    let mut dice = Dice(12);
+    let machine = lab.machines.get_mut(&1).unwrap();
+    for round in 0..mutations() {
+        let mut data = all[dice.below(all.len() as u64) as usize].clone();
+        mutate(&mut data, &mut dice);
+        machine.take(1, address(0, 1), &data, lab.now);
+        if round % 64 == 0 {
+            lab.now += STEP;
+            machine.turn(lab.now);
+            machine.outbox.clear();
+        }
+    }
+    assert!(
+        machine.destinations.len() <= MOST_PREFIXES && machine.neighbours.len() <= MOST_NEIGHBOURS
+    );
+}
+
+#[test]
+fn strangers_change_nothing() {
+    fn keys(it: &mut Settings) {
+        it.keys = vec![Key {
+            number: 1,
+            secret: b"a secret of the routers".to_vec(),
+        }];
+    }
+    let (mut lab, all) = recorded(keys);
+    let (_, open) = recorded(|_| ());
+    let mut dice = Dice(13);
+    let machine = lab.machines.get_mut(&1).unwrap();
+    machine.outbox.clear();
+    let (now, before) = (
+        lab.now,
+        (
+            machine.counts.messages_heard,
+            machine.journal.count(),
+            machine.next_time(),
+        ),
+    );
+    for _ in 0..mutations() {
+        let some = if dice.chance(50) { &all } else { &open };
+        let mut data = some[dice.below(some.len() as u64) as usize].clone();
+        if dice.chance(90) {
+            mutate(&mut data, &mut dice);
+        }
+        // what was recorded is a replay if nothing has changed it
+        machine.take(1, address(0, 1), &data, now);
+    }
+    assert_eq!(
+        (
+            machine.counts.messages_heard,
+            machine.journal.count(),
+            machine.next_time()
+        ),
+        before
+    );
+    assert_eq!(
+        (
+            machine.neighbours.len(),
+            machine.destinations.len(),
+            machine.changed.len()
+        ),
+        (1, 2, 0)
+    );
+}
+
+#[test]
+fn mutated_configurations_are_read_or_refused() {
+    let text = "router = 3\ninterfaces = [\"eth*\"]\nannounce = [\"10.0.3.0/24\", \"fd00::/48\"]\nhello = 1.0\ndead = 4.0\n\
+                [[key]]\nnumber = 1\nsecret = \"0123456789abcdef\"\n[interface.eth1]\ncost = 3\n";
+    let mut dice = Dice(14);
+    let mut refused = 0;
+    for _ in 0..mutations() / 10 {
+        let mut data = text.as_bytes().to_vec();
+        mutate(&mut data, &mut dice);
+        match crate::config::read(&String::from_utf8_lossy(&data)) {
+            Ok((_, it)) => assert!(
+                it.hello >= Duration::from_millis(20)
+                    && it.dead <= LONGEST_DEAD
+                    && it.dead >= it.hello * 2
+            ),
+            Err(_) => refused += 1,
+        }
+    }
+    assert!(refused > 0);
+}

@@ -1,0 +1,264 @@
+"""A network of routers in namespaces, each with a daemon revrouted, and what is seen of them: probes, loops, bytes and processors."""
+
+import os
+import socket
+import subprocess
+from collections import namedtuple
+from pathlib import Path
+from threading import Thread
+
+import revrouted
+from namespaces import RUN, Counters, Devices, beside, die_with_parent, entered, ip, libc, link_lines, run, set_sysctls
+
+HERE = Path(__file__).resolve().parent
+FOLDER = Path(RUN, "daemons")
+SIXES = {
+    "icmp/ratelimit": 0,
+    "conf/all/forwarding": 1,
+    "conf/all/ignore_routes_with_linkdown": 1,
+    # addresses of links are ready at once
+    "conf/all/accept_dad": 0,
+    "conf/default/accept_dad": 0,
+}
+# Enough for the number of the last start, but not for another file beside it.
+STATE_SIZE = "8k"
+TICKS = 1e9
+
+# A prefix that routers announce, and an address in it that they have.
+Announced = namedtuple("Announced", "prefix address routers")
+# When a round of probes was sent, its family, and for each router and each target by how many links the probe came.
+Round = namedtuple("Round", "time family steps")
+
+
+def addresses_of(number):
+    return f"10.0.0.{number + 1}", f"fd00::{number + 1:x}"
+
+
+def announced_by_all(names):
+    """An address of each family for each router."""
+    return [Announced(it, it, [name]) for at, name in enumerate(names) for it in addresses_of(at)]
+
+
+class Router(Devices, Counters):
+    """A router's namespace."""
+
+    def __init__(self, name):
+        Counters.__init__(self, name, ("dev", "snmp", "snmp6", "if_inet6"))
+        with entered(name):
+            Devices.__init__(self, socket.socket(socket.AF_INET, socket.SOCK_DGRAM))
+
+    def close(self):
+        self.socket.close()
+        super().close()
+
+    def sent(self):
+        """The bytes and the packets that it has sent over links."""
+        lines = [line.replace(":", " ").split() for line in self.read("dev")[2:]]
+        return [sum(int(it[at]) for it in lines if it[0] != "lo") for at in (9, 10)]
+
+    def expired(self):
+        """The packets that came with the last step that they had left."""
+        sixes = dict(line.split() for line in self.read("snmp6"))
+        return self.count("snmp", "Ip", "InHdrErrors") + int(sixes["Ip6InHdrErrors"])
+
+    def link_local(self, device):
+        """The address of the link at a device, or None while it has none."""
+        lines = [line.split() for line in self.read("if_inet6")]
+        found = [it[0] for it in lines if it[5] == device and it[3] == "20"]
+        return socket.inet_ntop(socket.AF_INET6, bytes.fromhex(found[0])) if found else None
+
+
+class Network:
+    """The routers, their links, and their daemons. All of it ends with this process."""
+
+    def __init__(self, names, links, announced, program, timers):
+        self.names, self.links, self.announced, self.program, self.timers = names, links, announced, program, timers
+        self.running, self.ended, self.starts, self.taken = {}, [], 0, 0
+        run("mkdir", "-p", FOLDER)
+        ip(*(f"netns add {name}" for name in names))
+        for name in names:
+            set_sysctls(name)
+            set_sysctls(name, 6, SIXES)
+        ip(*link_lines(names, links))
+        for name in names:
+            up = [f"link set dev {it} up" for it in ("lo", *beside(name, links))]
+            ip(*up, *(f"address add {it} dev lo" for it in self.addresses(name)), inside=name)
+            self.mount_state(name)
+        self.routers = {it: Router(it) for it in names}
+
+    def close(self):
+        self.kill(*self.running)
+        for it in self.routers.values():
+            it.close()
+        run("umount", *(self.state(it) for it in self.names))
+        ip(*(f"netns del {it}" for it in self.names))
+
+    def addresses(self, name):
+        """The addresses that a router has, one in each prefix that it announces."""
+        return [it.address for it in self.announced if name in it.routers]
+
+    # Links
+
+    def set_link(self, u, v, is_up):
+        """Sets the end of a link at u down or up, so v loses or gets its carrier."""
+        self.routers[u].set_device(v, is_up)
+
+    def deafen(self, u, v, is_deaf):
+        """Has u lose all that comes from v, or no more."""
+        table = f"table inet deaf_{v}"
+        chain = f"{{ chain ear {{ type filter hook prerouting priority -400; iifname {v} drop; }}; }}"
+        with entered(u):
+            run("nft", f"add {table}; delete {table}" + f"; {table} {chain}" * is_deaf)
+
+    def add_default(self, name, device):
+        """Gives a router a default route for IPv4 over a device. It has none to a neighbour whose end of the link is down."""
+        if via := self.routers[device].link_local(name):
+            run("ip", "-4", "-n", name, "route", "replace", "default", "via", "inet6", via, "dev", device)
+
+    # Daemons
+
+    def state(self, name):
+        return FOLDER / name
+
+    def mount_state(self, name):
+        """Gives a router a small disk of its own."""
+        run("mkdir", "-p", self.state(name))
+        run("mount", "-t", "tmpfs", "-o", f"size={STATE_SIZE}", "tmpfs", self.state(name))
+
+    def fill_disk(self, name):
+        try:
+            with open(self.state(name) / "filler", "wb", buffering=0) as file:
+                while True:
+                    file.write(bytes(1024))
+        except OSError:
+            pass
+
+    def empty_disk(self, name):
+        (self.state(name) / "filler").unlink(missing_ok=True)
+
+    def start(self, *some, number=None, environment=None):
+        """Starts daemons, perhaps with the number of another router."""
+        for name in some:
+            at = self.names.index(name) if number is None else number
+            file = FOLDER / f"{name}.toml"
+            prefixes = [it.prefix for it in self.announced if name in it.routers]
+            file.write_text(revrouted.configuration(at + 1, self.state(name), prefixes, self.timers))
+            with open(self.log(name), "ab") as log, entered(name):
+                how = {"stdin": subprocess.DEVNULL, "stdout": log, "stderr": log, "preexec_fn": die_with_parent}
+                how["env"] = {**os.environ, **(environment or {})}
+                self.running[name] = subprocess.Popen([*map(str, revrouted.words(self.program, file))], **how)
+            self.starts += 1
+
+    def kill(self, *some):
+        """Kills daemons. Their kernels keep what they were told."""
+        ended = [self.running.pop(it) for it in [*some] if it in self.running]
+        for it in ended:
+            self.taken += seconds_of(it.pid)
+            it.kill()
+        for it in ended:
+            it.wait()
+
+    def signal(self, name, what):
+        if name in self.running:
+            self.running[name].send_signal(what)
+
+    def gone(self):
+        """The routers whose daemons have ended by themselves, each with its status and the last line that it said."""
+        found = {}
+        for name, it in [*self.running.items()]:
+            if it.poll() is not None:
+                del self.running[name]
+                found[name] = f"the daemon of {name} has ended with status {it.returncode}: {self.last_line(name)}"
+        return found
+
+    def log(self, name):
+        return FOLDER / f"{name}.log"
+
+    def last_line(self, name):
+        return (self.log(name).read_text(errors="replace").splitlines() or [""])[-1]
+
+    # Measures
+
+    def seconds(self):
+        """The seconds of a processor that all daemons have taken."""
+        return self.taken + sum(seconds_of(it.pid) for it in self.running.values())
+
+    def memory(self):
+        """The KiB that each daemon takes, with its share of what several use."""
+        return [memory_of(it.pid) for it in self.running.values()]
+
+    def sent(self):
+        """The bytes and packets that all routers have sent."""
+        return [sum(some) for some in zip(*(it.sent() for it in self.routers.values()))]
+
+    def expired(self):
+        return sum(it.expired() for it in self.routers.values())
+
+
+def seconds_of(pid):
+    try:
+        return int(Path("/proc", str(pid), "schedstat").read_text().split()[0]) / TICKS
+    except (OSError, IndexError):
+        return 0
+
+
+def memory_of(pid):
+    lines = Path("/proc", str(pid), "smaps_rollup").read_text().splitlines()
+    return sum(int(line.split()[1]) for line in lines if line.startswith("Pss:"))
+
+
+def built(source, *words):
+    """What a source in C makes."""
+    made = Path(RUN, source).with_suffix("")
+    run("cc", "-O2", "-o", made, HERE / source, *words)
+    return made
+
+
+class Watch:
+    """The program of watch.c over a network: rounds of probes and loops, as they come."""
+
+    def __init__(self, network, probe_ms, read_ms):
+        self.rounds, self.loops, self.reads, self.targets = [], [], None, network.announced
+        lab = FOLDER / "lab"
+        routers = [f"router {name} {' '.join(addresses_of(at))}" for at, name in enumerate(network.names)]
+        targets = [f"target {it.address} {' '.join(str(network.names.index(name)) for name in it.routers)}" for it in network.announced]
+        lab.write_text("\n".join([*routers, *targets]) + "\n")
+        pipes = {"stdin": subprocess.PIPE, "stdout": subprocess.PIPE, "text": True, "preexec_fn": hurry}
+        program = Path(RUN, "watch")
+        if not program.exists():
+            built("watch.c", "-lpthread")
+        self.process = subprocess.Popen([*map(str, (program, lab, probe_ms, read_ms))], **pipes)
+        self.thread = Thread(target=self.follow)
+        self.thread.start()
+
+    def follow(self):
+        for line in self.process.stdout:
+            kind, *words = line.split()
+            if kind == "round":
+                self.rounds.append(Round(float(words[0]), int(words[1]), bytes.fromhex(words[2])))
+            elif kind == "loop":
+                self.loops.append((float(words[0]), words[1], words[2:]))
+            elif kind == "reads":
+                self.reads = Reads(*map(int, words[:3]), float(words[3]))
+
+    def last(self, family):
+        """The last round of a family, or None."""
+        return next((it for it in reversed(self.rounds) if it.family == family), None)
+
+    def close(self):
+        """Ends the program, once the last probes are back. Returns what it says of its reads."""
+        self.process.stdin.close()
+        self.thread.join()
+        if self.process.wait() or not self.reads:
+            raise OSError("watch has failed")
+        return self.reads
+
+
+# How often all kernels were read, how often a loop was seen at first, and again, and the milliseconds of a read.
+Reads = namedtuple("Reads", "count once twice milliseconds")
+
+
+def hurry():
+    """The program that watches should not wait for what it watches."""
+    die_with_parent()
+    libc.nice(-5)
