@@ -11,7 +11,7 @@ The faults of a check are the files NAME.edit in its folder faults/. They have t
 'old:' and 'new:' can be repeated, and so can 'file:'. With the line '# everywhere' a text may occur more than once, and each occurrence is replaced.
 With a line '# in: answer_alone' it has to occur once in the function of this name.
 The command can-fail of a check makes the edit in a copy of the repository and runs the check there, or the command that a line '# by:' has, such as
-'package/version --check'. It must fail, and print what '# says:' has.
+'package/version --check'. It must fail, and print what '# says:' has. A line '# builds:' names a program that is built with the edit, without a proof.
 """
 
 import argparse
@@ -22,6 +22,8 @@ import subprocess
 import sys
 import tempfile
 from pathlib import Path
+
+import unproved
 
 TOP = Path(__file__).resolve().parent.parent
 
@@ -132,28 +134,16 @@ def try_edit(edit, parts, words_over, built=False):
 
 # What the programs are built from, and what the checks read.
 BUILT_FROM = ("VERSION", "crates", "crates.txt", "HANDLES", "checks", "docs", "examples")
-# Left out of a copy, because their proofs take longest.
-TESTS = ("test_networks", "test_rounds", "test_runs")
-
-
-def leave_out_tests(folder):
-    """Takes the crates TESTS out of a copy of the repository."""
-    for it in TESTS:
-        shutil.rmtree(folder / "crates" / it)
-    listed = folder / "crates.txt"
-    lines = listed.read_text(encoding="utf-8").splitlines(keepends=True)
-    listed.write_text("".join(it for it in lines if it.partition(":")[0] not in TESTS), encoding="utf-8")
 
 
 def build(folder, edit):
-    """Proves and builds the program that the line '# builds:' of an edit names, in a copy of the repository. Returns the program, or None."""
-    leave_out_tests(folder)
+    """Builds the program that the line '# builds:' of an edit names, in a copy of the repository and without a proof. Returns the program, or None."""
     name = edit.said("# builds")[0]
-    ran = subprocess.run(["rt", "run"], cwd=folder / "crates" / name, stdin=subprocess.DEVNULL, stdout=subprocess.PIPE, stderr=subprocess.STDOUT, text=True)
-    if "logic=proved" not in ran.stdout:
-        print(f"{edit.path.name} was not built\n{ran.stdout[-3000:]}")
-        return None
-    return folder / "crates" / name / "out" / name
+    program = folder / "crates" / name / "out" / name
+    said = unproved.build(folder / "crates" / name, program)
+    if said:
+        print(f"{edit.path.name} was not built\n{said[-3000:]}", flush=True)
+    return None if said else program
 
 
 def words(description):
@@ -171,7 +161,7 @@ def end(found):
 def plant_between(name, parts, usage):
     """Plants the faults of a check that looks at the program revroute, over a copy of these parts of the repository. The
     check runs checks/between of the copy, which runs the program that the words name. A fault with a line '# builds:' is one of the
-    program itself, which is then built."""
+    program itself, which is then built without a proof."""
     known = words(usage)
     known.add_argument("--program", type=Path, default=TOP / "revroute")
     asked = known.parse_args()
@@ -182,4 +172,4 @@ def plant_between(name, parts, usage):
         return [folder / "checks" / name / "check", program] if program else ["false"]
 
     planted = edits(name, asked.faults)
-    end([try_edit(it, BUILT_FROM if it.said("# builds") else parts, words_over, built=bool(it.said("# builds"))) for it in planted])
+    end([try_edit(it, BUILT_FROM if it.said("# builds") else parts, words_over) for it in planted])

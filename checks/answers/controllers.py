@@ -15,7 +15,7 @@ from drawn import CHANGES, Drawn
 from phases import has_cycle
 
 TOP = Path(__file__).resolve().parents[2]
-PIPE, PAGE = TOP / "examples" / "pipe", TOP / "docs" / "PUSHING.md"
+PIPE = TOP / "examples" / "pipe"
 # Seeds, the most nodes of a network, and the number of changes. Each begins with a line that is refused, since there is no network yet.
 STORIES = [(50, 4, 60), (51, 8, 80), (52, 12, 80), (55, 30, 60)]
 PUSH = re.compile(r"(\d+): (\w+) -> (\w+)")
@@ -89,20 +89,9 @@ def pushes_of(changes):
     return hops, ways, sum("refused" in it for it in values)
 
 
-def compare_page(name):
-    """Compares a controller with the program on the page that begins with the same two lines, if there is one."""
-    text = (PIPE / name).read_text()
-    begins = "".join(text.splitlines(keepends=True)[:2])
-    for shown in re.findall(r"^```\w+\n(.*?)^```$", PAGE.read_text(), re.M | re.S):
-        if shown.startswith(begins) and shown != text:
-            stop(name, f"docs/{PAGE.name} shows another program")
-
-
 def check(program):
     """Checks each controller."""
     names = ["controller.py", "ways_controller.py", "controller.sh"]
-    for name in names:
-        compare_page(name)
     if not shutil.which("jq"):
         shared.skip("the controller in bash", "jq")
         names.remove("controller.sh")

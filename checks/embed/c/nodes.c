@@ -19,7 +19,7 @@
 
 #include <revroute.h>
 
-enum { ROUTERS = 6, POOL = 64, STEPS = 60000, SEEDS = 20, FENCED = 1 << 16, UNTOUCHED = 0x5a, NEIGHBOURS = 38 };
+enum { ROUTERS = 6, POOL = 64, STEPS = 60000, SEEDS = 20, FENCED = 1 << 16, UNTOUCHED = 0x5a, NEIGHBOURS = 38, CONTENT = REVROUTE_MESSAGE_LENGTH - 8 };
 
 static const revroute_policy policies[] = {
     {REVROUTE_FULL, 0, 0, 0}, {REVROUTE_FULL, 0, 1, 1}, {REVROUTE_CEILING, ROUTERS, 0, 1}, {REVROUTE_CEILING, ROUTERS, 1, 0}};
@@ -51,6 +51,7 @@ static void ask_null(void) {
     expect(revroute_node_has_news(&none, 1, &number) == REVROUTE_NO_NETWORK && number == UNTOUCHED, "no node has news");
     expect(revroute_node_distance(&none, &number) == REVROUTE_NO_NETWORK && number == UNTOUCHED, "no node has a distance");
     expect(revroute_node_height(&none, &height) == REVROUTE_NO_NETWORK && height == UNTOUCHED, "no node has a height");
+    expect(!revroute_node_act(&none), "no node acts");
     expect(!revroute_node_lets_in(&none, 1) && !revroute_node_sends_to(&none, 1), "no node has a flag");
     for (size_t at = 0; at < REVROUTE_MESSAGE_LENGTH; at++) expect(message[at] == UNTOUCHED, "no node writes");
     revroute_node_close(&none);
@@ -174,7 +175,18 @@ static uint8_t *say_each(revroute_node *node, uint32_t to) {
     return message;
 }
 
-/* Bytes that are not a message: each other length, and each other header. The node says the same message then. */
+/* A number of 8 bytes in a message, the highest byte first. */
+static void put_number(uint8_t *at, uint64_t number) {
+    for (int byte = 7; byte >= 0; byte--, number >>= 8) at[byte] = (uint8_t)number;
+}
+
+static uint64_t number_at(const uint8_t *at) {
+    uint64_t number = 0;
+    for (int byte = 0; byte < 8; byte++) number = number << 8 | at[byte];
+    return number;
+}
+
+/* Bytes that are not a message: each other length, and each other header. The node says the same then, with a later stamp. */
 static void hear_noise(revroute_node *node, uint32_t to, const uint8_t *message) {
     uint8_t said[2][REVROUTE_MESSAGE_LENGTH], *bytes = place_end;
     size_t length;
@@ -193,16 +205,12 @@ static void hear_noise(revroute_node *node, uint32_t to, const uint8_t *message)
         expect(revroute_node_hear(node, bytes, REVROUTE_MESSAGE_LENGTH) == REVROUTE_NO_MESSAGE, "another header is a message");
     }
     expect(revroute_node_say(node, to, said[1], sizeof said[1], &length) == REVROUTE_ANSWERED, "noise is to be written");
-    expect(!memcmp(said[0], said[1], sizeof said[0]), "noise has changed a node");
-}
-
-/* Writes a number of 8 bytes into a message, the highest byte first. */
-static void put_number(uint8_t *at, uint64_t number) {
-    for (int byte = 7; byte >= 0; byte--, number >>= 8) at[byte] = (uint8_t)number;
+    expect(!memcmp(said[0], said[1], CONTENT), "noise has changed a node");
+    expect(number_at(said[1] + CONTENT) == number_at(said[0] + CONTENT) + 1, "a message has no stamp of its own");
 }
 
 /* A message of a neighbour that knows a later start of this router changes nothing. It does not count if it is no message,
- * for another router, or from a stranger. The node is written, and the message would be an event. */
+ * for another router, or from a stranger. */
 static void hear_later_starts(revroute_node *node, uint64_t boot, const uint8_t *message) {
     uint8_t said[2][REVROUTE_MESSAGE_LENGTH], *bytes = place_end - REVROUTE_MESSAGE_LENGTH;
     uint32_t to = message[7];
@@ -217,16 +225,41 @@ static void hear_later_starts(revroute_node *node, uint64_t boot, const uint8_t 
         expect(revroute_node_hear(node, bytes, REVROUTE_MESSAGE_LENGTH) == REVROUTE_NO_MESSAGE, "noise has a later start");
     }
     expect(revroute_node_say(node, to, said[1], sizeof said[1], &length) == REVROUTE_ANSWERED, "a later start is to be written");
-    expect(!memcmp(said[0], said[1], sizeof said[0]) && confirm(node) == state, "a later start has changed a node");
+    expect(!memcmp(said[0], said[1], CONTENT) && confirm(node) == state, "a later start has changed a node");
     for (size_t at = 4; at < 12; at += 4) {
         memcpy(bytes, message, REVROUTE_MESSAGE_LENGTH);
         put_number(bytes + 24, boot + 1);
         bytes[at] ^= 0x40;
+        put_number(bytes + CONTENT, UINT64_MAX);
         expect(revroute_node_hear(node, bytes, REVROUTE_MESSAGE_LENGTH) == REVROUTE_ANSWERED, "a stranger knows a later start");
-        expect(confirm(node) == ++state, "what is heard is no event");
+        expect(confirm(node) == state, "what a stranger says is an event");
     }
     expect(revroute_node_say(node, to, said[1], sizeof said[1], &length) == REVROUTE_ANSWERED, "there is nothing to say");
-    expect(!memcmp(said[0], said[1], sizeof said[0]), "a stranger has changed a node");
+    expect(!memcmp(said[0], said[1], CONTENT), "a stranger has changed a node");
+}
+
+/* A message that was heard is no event when it is heard again, nor is one with an earlier stamp or of an earlier start. The
+ * node is written. One with a later stamp is an event. The node is written then too. */
+static void hear_again(revroute_node *node, const uint8_t *message) {
+    uint8_t *bytes = place_end - REVROUTE_MESSAGE_LENGTH;
+    uint32_t news = UNTOUCHED;
+    uint64_t state = confirm(node), stamp = number_at(message + CONTENT);
+    for (uint64_t early = 0; early <= stamp; early++)
+        for (uint64_t boot = number_at(message + 16);; boot--) {
+            memcpy(bytes, message, REVROUTE_MESSAGE_LENGTH);
+            put_number(bytes + 16, boot);
+            put_number(bytes + CONTENT, boot < number_at(message + 16) ? UINT64_MAX - early : early);
+            expect(revroute_node_hear(node, bytes, REVROUTE_MESSAGE_LENGTH) == REVROUTE_ANSWERED, "what is old is refused");
+            expect(revroute_node_has_news(node, message[7], &news) == REVROUTE_ANSWERED, "what is old is to be written");
+            if (!boot) break;
+        }
+    expect(confirm(node) == state, "what is old is an event");
+    memcpy(bytes, message, REVROUTE_MESSAGE_LENGTH);
+    put_number(bytes + CONTENT, stamp + 1);
+    expect(revroute_node_hear(node, bytes, REVROUTE_MESSAGE_LENGTH) == REVROUTE_ANSWERED, "a later message is refused");
+    expect(confirm(node) == state + 1, "a later message is no event");
+    while (revroute_node_act(node)) state++;
+    expect(confirm(node) == state + 1, "a policy that rests is an event");
 }
 
 /* A node takes only the number of its state now. The node is unwritten, and is then written. */
@@ -266,11 +299,12 @@ static void pass_on(revroute_node *two, uint32_t from) {
     memset(place, UNTOUCHED, sizeof message);
     expect(revroute_node_say(&two[to], from, place, sizeof message, &length) == REVROUTE_UNWRITTEN && !length, "a node says something before it is written");
     expect(revroute_node_say(&two[to], from, place, 0, &length) == REVROUTE_UNWRITTEN, "a short buffer comes before the order");
-    expect(place[0] == UNTOUCHED && place[55] == UNTOUCHED, "a node writes before it is written");
+    expect(place[0] == UNTOUCHED && place[REVROUTE_MESSAGE_LENGTH - 1] == UNTOUCHED, "a node writes before it is written");
     expect(revroute_node_has_news(&two[to], from, &news) == REVROUTE_UNWRITTEN && news == UNTOUCHED, "a node has news before it is written");
     expect(revroute_node_hear(&two[to], place, 0) == REVROUTE_NO_MESSAGE, "no bytes are a message");
     confirm_only_the_last(&two[to], 7);
     hear_later_starts(&two[to], 1, message);
+    hear_again(&two[to], message);
 }
 
 /* A router that starts with a smaller boot number than before. Its neighbour says so, also over a link that is down. */
@@ -331,6 +365,9 @@ typedef struct router {
     uint64_t boot, events;
     table written, read;
     int is_stale; /* an event came after the table was written */
+    struct {
+        uint64_t boot, stamp;
+    } last[ROUTERS]; /* the last message that was taken from each other router */
 } router;
 
 static router routers[ROUTERS];
@@ -352,6 +389,7 @@ static void start(uint32_t me, int is_gateway, const revroute_policy *policy) {
     router *it = &routers[me];
     memset(&it->written, 0, sizeof it->written);
     memset(&it->read, 0, sizeof it->read);
+    memset(it->last, 0, sizeof it->last);
     it->is_stale = 0;
     it->events = 0;
     it->boot++;
@@ -416,7 +454,12 @@ static void step(router *it, uint32_t me, int is_wrong, int is_gateway, const re
         expect((drawn(6) ? revroute_node_link_up : revroute_node_link_down)(&it->node, other) == REVROUTE_ANSWERED, "a link stays");
         it->is_stale = 1;
         it->events++;
-    } else if (what < 26) {
+    } else if (what < 14) {
+        while (revroute_node_act(&it->node)) {
+            it->is_stale = 1;
+            it->events++;
+        }
+    } else if (what < 28) {
         if (is_wrong && revroute_node_written(&it->node, it->events) != REVROUTE_ANSWERED) stop("a node is not written");
         if (is_wrong && drawn(5)) return;
         if (is_wrong || drawn(3)) read_table(it);
@@ -431,15 +474,27 @@ static void step(router *it, uint32_t me, int is_wrong, int is_gateway, const re
     }
 }
 
+/* Whether a message is newer than all that a router has taken of its sender. Then it is taken too. */
+static int is_taken(router *it, const uint8_t *message) {
+    uint64_t boot = number_at(message + 16), stamp = number_at(message + CONTENT);
+    uint32_t from = message[7];
+    if (boot < it->last[from].boot || (boot == it->last[from].boot && stamp <= it->last[from].stamp)) return 0;
+    it->last[from].boot = boot;
+    it->last[from].stamp = stamp;
+    return 1;
+}
+
 /* A message from the pool is heard, and stays there half of the time. */
 static void deliver(void) {
     if (!pooled) return;
     size_t at = drawn((uint32_t)pooled);
     router *it = &routers[pool[at].to];
     expect(revroute_node_hear(&it->node, pool[at].bytes, REVROUTE_MESSAGE_LENGTH) == REVROUTE_ANSWERED, "a message is noise");
-    it->is_stale = 1;
-    it->events++;
     heard++;
+    if (is_taken(it, pool[at].bytes)) {
+        it->is_stale = 1;
+        it->events++;
+    }
     if (drawn(2)) pool[at] = pool[--pooled];
 }
 

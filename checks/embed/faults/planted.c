@@ -154,6 +154,7 @@ enum {
     noise_told_as_heard,
     noise_that_is_to_be_written,
     the_message_read_too_far,
+    a_repeat_that_is_an_event,
     a_message_that_is_not_heard,
     a_way_of_a_node_too_few,
     a_gate_that_is_open_too_early,
@@ -596,14 +597,17 @@ revroute_status revroute_version(uint8_t *text, size_t room, size_t *length) {
     return status;
 }
 
-/* Confirms the state as it is now. */
-static revroute_status confirm_now(revroute_node *node) {
+/* The number of the state as it is now. */
+static uint64_t state_of(revroute_node *node) {
     uint64_t state = 0;
     size_t length;
     uint32_t none;
     engine_node_gates(node, &none, 0, &length, &state);
-    return engine_node_written(node, state);
+    return state;
 }
+
+/* Confirms the state as it is now. */
+static revroute_status confirm_now(revroute_node *node) { return engine_node_written(node, state_of(node)); }
 
 revroute_status revroute_node_say(revroute_node *node, uint32_t neighbour, uint8_t *message, size_t room, size_t *length) {
     if (FAULT == a_node_that_speaks_before_it_is_written) confirm_now(node);
@@ -614,9 +618,11 @@ revroute_status revroute_node_say(revroute_node *node, uint32_t neighbour, uint8
 
 revroute_status revroute_node_hear(revroute_node *node, const uint8_t *bytes, size_t count) {
     if (FAULT == a_message_that_is_not_heard && node->at && count == REVROUTE_MESSAGE_LENGTH)
-        return memcmp(bytes, "FRN\1", 4) ? REVROUTE_NO_MESSAGE : engine_node_link_down(node, UINT32_MAX);
+        return memcmp(bytes, "FRN\2", 4) ? REVROUTE_NO_MESSAGE : engine_node_link_down(node, UINT32_MAX);
     if (FAULT == the_message_read_too_far) (void)*(const volatile uint8_t *)(bytes + count);
+    uint64_t before = state_of(node);
     revroute_status status = engine_node_hear(node, bytes, count);
+    if (FAULT == a_repeat_that_is_an_event && status == REVROUTE_ANSWERED && state_of(node) == before) engine_node_link_down(node, UINT32_MAX);
     if (FAULT == noise_that_is_to_be_written && status == REVROUTE_NO_MESSAGE) engine_node_link_down(node, UINT32_MAX);
     if (FAULT == a_later_start_that_is_an_event && status == REVROUTE_LATER_START) engine_node_link_down(node, UINT32_MAX);
     if (FAULT == a_later_start_that_is_not_told && status == REVROUTE_LATER_START) return engine_node_link_down(node, UINT32_MAX);
