@@ -92,10 +92,16 @@ class Browser:
         self.wait("location.protocol !== 'about:' && document.readyState === 'complete'", f'{address} was not opened')
 
     def wait(self, script, fault):
-        end = time.monotonic() + 30
-        while not self.value(script):
+        """Waits until the value of the script is true. While a page is loaded, what the script names may not be there yet."""
+        end, why = time.monotonic() + 30, None
+        while True:
+            try:
+                if self.value(script):
+                    return
+            except RuntimeError as error:
+                why = error
             if time.monotonic() > end:
-                raise TimeoutError(fault)
+                raise TimeoutError(fault) from why
             time.sleep(0.02)
 
     def value(self, script):
