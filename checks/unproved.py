@@ -84,14 +84,23 @@ def compile_module(module, to, *words):
     subprocess.run([clang(), *words, module, "-o", to], check=True)
 
 
-def build(crate, to):
-    """Builds the program whose crate is in this folder, and writes it to `to`. Returns what the toolchain said if it does not compile, or an empty text."""
+def edited(module, room, edit):
+    """A module whose text the function `edit` has changed, in a folder `room`."""
+    text = room / "module.ll"
+    compile_module(module, text, "-O0", "-S", "-emit-llvm")
+    text.write_text(edit(text.read_text()))
+    return text
+
+
+def build(crate, to, edit=None):
+    """Builds the program whose crate is in this folder, and writes it to `to`. If there is a function `edit`, it changes the text of the module. Returns
+    what the toolchain said if it does not compile, or an empty text."""
     with tempfile.TemporaryDirectory(prefix="unproved-") as name:
         module, said = keep_module(crate, Path(name))
         if not module.is_file():
             return said
         to.parent.mkdir(parents=True, exist_ok=True)
-        compile_module(module, to, "-O1", "-c")
+        compile_module(edited(module, Path(name), edit) if edit else module, to, "-O1", "-c")
         proving.link(to)
     return ""
 
@@ -127,7 +136,7 @@ def build_library(top, name, to):
     said if it does not compile, or an empty text."""
     with tempfile.TemporaryDirectory(prefix="unproved-") as room:
         room = Path(room)
-        copy, text, made = room / "copy", room / "module.ll", room / "engine.o"
+        copy, made = room / "copy", room / "engine.o"
         shutil.copytree(top / "crates", copy / "crates", ignore=shutil.ignore_patterns("out"))
         for it in ("crates.txt", "HANDLES"):
             shutil.copy(top / it, copy)
@@ -135,9 +144,7 @@ def build_library(top, name, to):
         module, said = keep_module(copy / "crates" / name, room)
         if not module.is_file():
             return said
-        compile_module(module, text, "-O0", "-S", "-emit-llvm")
-        text.write_text(export(text.read_text(), exported))
-        compile_module(text, made, "-O1", "-c")
+        compile_module(edited(module, room, lambda text: export(text, exported)), made, "-O1", "-c")
         subprocess.run(["objcopy", "--localize-symbol=main", made], check=True)
         for it in ("libos_c.a", "liblibc_c.a"):
             subprocess.run(["ar", "x", crates.kit() / "c" / it], cwd=room, check=True)
