@@ -12,6 +12,9 @@ The faults of a check are the files NAME.edit in its folder faults/. They have t
 With a line '# in: answer_alone' it has to occur once in the function of this name.
 The command can-fail of a check makes the edit in a copy of the repository and runs the check there, or the command that a line '# by:' has, such as
 'package/version --check'. It must fail, and print what '# says:' has. A line '# builds:' names a program that is built with the edit, without a proof.
+
+A check that waits no longer for a program prints 'timed out'. A busy machine may be the cause, so that alone finds no fault, whatever else the check
+prints. The line '# hangs' marks a fault by which the check waits in vain: it is found all the same.
 """
 
 import argparse
@@ -26,6 +29,8 @@ from pathlib import Path
 import unproved
 
 TOP = Path(__file__).resolve().parent.parent
+# What a check prints where it waits no longer, as the exceptions of Python do.
+LATE = "timed out"
 
 
 class BadEdit(Exception):
@@ -100,12 +105,14 @@ def ran(words, **how):
     return it.returncode, it.stdout
 
 
-def is_found(check, name, says, words, **how):
-    """Runs a check, and prints and returns whether it fails and prints what it must."""
+def is_found(check, name, says, words, hangs=False, **how):
+    """Runs a check, and prints and returns whether it fails and prints what it must. A check that timed out has found nothing, unless the fault hangs."""
     status, said = ran(words, **how)
     told = next((it for it in said.splitlines() if says in it), "")
-    is_well = status == 1 and bool(told)
-    print(f"{check}: found: {name}: {told[:200]}" if is_well else f"{check}: NOT FOUND: {name}: status {status}, {said[-300:].strip()}", flush=True)
+    late = "" if hangs else next((it for it in said.splitlines() if LATE in it), "")
+    is_well = status == 1 and bool(told) and not late
+    why = f"the check waited in vain: {late}" if late else f"status {status}, {said[-300:].strip()}"
+    print(f"{check}: found: {name}: {told[:200]}" if is_well else f"{check}: NOT FOUND: {name}: {why}", flush=True)
     return is_well
 
 
@@ -129,7 +136,7 @@ def try_edit(edit, parts, words_over, built=False):
             print(f"{check}: BAD EDIT: {edit.path.name}: {error}", flush=True)
             return False
         words = [folder / by[0], *by[1:]] if by else words_over(folder, edit)
-        return is_found(check, edit.path.stem, edit.said("# says")[0], words)
+        return is_found(check, edit.path.stem, edit.said("# says")[0], words, "# hangs" in edit.lines)
 
 
 # What the programs are built from, and what the checks read.

@@ -101,7 +101,7 @@ class Browser:
             except RuntimeError as error:
                 why = error
             if time.monotonic() > end:
-                raise TimeoutError(fault) from why
+                raise TimeoutError(f'{fault}: timed out') from why
             time.sleep(0.02)
 
     def value(self, script):

@@ -14,6 +14,7 @@ use std::thread::Threads;
 enum Asked {
     Open,
     Calls,
+    Refused,
     OneWorker,
     Walk,
     Plan,
@@ -41,9 +42,10 @@ enum Asked {
 }
 
 /// The words that ask.
-const WORDS: [(&str, Asked); 26] = [
+const WORDS: [(&str, Asked); 27] = [
     ("open", Asked::Open),
     ("calls", Asked::Calls),
+    ("refused", Asked::Refused),
     ("one worker", Asked::OneWorker),
     ("walk", Asked::Walk),
     ("plan", Asked::Plan),
@@ -94,6 +96,7 @@ fn put_answer<R: Threads + Wait + Sync + Alloc<A = Global>>(
     match named(word(first)?, &WORDS)? {
         Asked::Open => rounds::open(rt.alloc(), text, case),
         Asked::Calls => rounds::calls(rt.alloc(), text, case),
+        Asked::Refused => rounds::refused(rt.alloc(), text, case),
         Asked::OneWorker => rounds::one_worker(rt.alloc(), text, case),
         Asked::Walk => live_walks::walk(rt.alloc(), text, case),
         Asked::Plan => crews::plan_of(text, case),

@@ -14,6 +14,15 @@ use fr_round::{Closed, OpenFault, OpenWhy, Refusal, Round, Worker};
 use serde_json::Value;
 use std::alloc::{AllocError, Global};
 
+/// What a round refuses whose destination is node 0, and whose node 2 has no link, while there is no node 3.
+const REFUSED: [Target; 5] = [
+    Target::Turn(0),
+    Target::Turn(2),
+    Target::Turn(3),
+    Target::Look(2),
+    Target::Look(3),
+];
+
 /// Threads share an open round, and a worker may go to one of them.
 fn is_shared<T: Sync>(_value: &T) {}
 
@@ -239,6 +248,36 @@ fn put_replies(
             put_deed(text, round, b, *deed);
         }
     }
+}
+
+/// `["refused", times]`: how many calls were refused when a worker made each of [`REFUSED`] so many times, and the
+/// result of closing the round. checks/counts/check counts what they cost.
+pub fn refused(alloc: Global, text: &mut Answer, asked: &[Value]) -> Result<(), Fault> {
+    let [times] = asked else {
+        return Err(Fault::NoCase);
+    };
+    let times = small_number(times)?;
+    let (round, mut a, b) = opened_by_two(alloc, Net::new(alloc, 3, &[(0, 1)])?)?;
+    text.put("refused ", &refusals(&round, &mut a, times));
+    text.say(", ");
+    put_closed(text, &closed_by_both(alloc, round, a, b)?);
+    Ok(())
+}
+
+/// Makes each call of [`REFUSED`] so many times, and counts those that are refused.
+fn refusals(round: &Round, worker: &mut Worker, times: u32) -> u64
+    requires { IsOwn round.now worker.old }
+    ensures { IsOwn round.now worker.new }
+{
+    let mut refused = 0u64;
+    for _time in 0..times {
+        for target in REFUSED {
+            if reply(round, worker, target).is_err() {
+                refused = refused.saturating_add(1);
+            }
+        }
+    }
+    refused
 }
 
 /// The worker of a call, and what it does.
