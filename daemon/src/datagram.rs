@@ -10,7 +10,8 @@
 //!          8 to 11   the router that sends it
 //!          12 to 19  its session, a number that grows at each start
 //!          20 to 27  a random number of its process
-//!          28 to 35  the number of the datagram: of hellos on one device, or of news to one neighbour
+//!          28 to 35  the number of the datagram: of hellos on one device, with a random number of that device in the
+//!                    upper half; or of news to one neighbour
 //! hello    36..      for each router that the sender hears on this link: its number (4), its session (8) and the
 //!                    random number of its process (8)
 //! news     36 to 39  the router that it is for
@@ -335,7 +336,7 @@ fn begun(kind: u8, flags: u8, head: Head, keys: &Keys) -> Vec<u8> {
     data
 }
 
-fn sealed(mut data: Vec<u8>, keys: &Keys) -> Vec<u8> {
+pub fn sealed(mut data: Vec<u8>, keys: &Keys) -> Vec<u8> {
     if let Some(made) = keys.first().and_then(|it| made_seal(it, &data)) {
         data.extend_from_slice(&made.finalize().into_bytes()[..SEAL]);
     }

@@ -123,10 +123,7 @@ impl<K: Kernel> Machine<K> {
         heard: &[Heard],
         now: Duration,
     ) -> bool {
-        let link = self.link(head.from, device);
-        if link.is_some_and(|it| head.number <= it.hello)
-            || !self.is_place(head.from, device, source, now)
-        {
+        if !self.is_new_hello(head, device) || !self.is_place(head.from, device, source, now) {
             return false;
         }
         let me = self.as_heard();
@@ -138,15 +135,23 @@ impl<K: Kernel> Machine<K> {
             self.later_session = Some(it.session);
         }
         let hears_me = told == Some(&me);
-        if let Some(it) = self
-            .neighbours
-            .get_mut(&head.from)
-            .and_then(|it| it.links.get_mut(&device))
-        {
-            it.hello = head.number;
+        if let Some(it) = self.neighbours.get_mut(&head.from) {
+            it.hellos.note(head.number, device);
         }
         self.hear_from(head, device, hears_me, now);
         true
+    }
+
+    /// Whether a hello has not been heard before, on whatever device. All hellos from one device of a neighbour belong to
+    /// the device over which they come, as long as the neighbour is heard there.
+    fn is_new_hello(&self, head: Head, device: u32) -> bool {
+        let Some(it) = self.neighbours.get(&head.from) else {
+            return false;
+        };
+        it.hellos.is_new(head.number)
+            && it.hellos.device(head.number).is_none_or(|other| {
+                other == device || !it.links.get(&other).is_some_and(|it| it.is_heard)
+            })
     }
 
     /// This process, as its neighbours name it.
@@ -310,10 +315,11 @@ impl<K: Kernel> Machine<K> {
         (address, records): (Address, &[Record<'_>]),
         now: Duration,
     ) -> bool {
-        if address.to != self.as_heard() || !self.is_place(head.from, device, source, now) {
+        let is_here = |it: &Adjacency| it.address == source;
+        if address.to != self.as_heard() || !self.link(head.from, device).is_some_and(is_here) {
             return false;
         }
-        let Some(it) = self.neighbours.get_mut(&head.from) else {
+        let Some(it) = self.neighbours.get(&head.from) else {
             return false;
         };
         if !it.news.is_new(head.number) {

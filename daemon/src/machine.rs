@@ -27,6 +27,11 @@ pub const MOST_NEIGHBOURS: usize = 512;
 pub const LONGEST_DEAD: Duration = Duration::from_secs(30);
 pub const HOLD: Duration = Duration::from_secs(60);
 
+/// A number that no other process draws, as far as chance can see to that.
+fn random() -> u64 {
+    RandomState::new().build_hasher().finish()
+}
+
 /// What a machine is told at its start, and at a reload.
 #[derive(Clone)]
 pub struct Settings {
@@ -53,7 +58,8 @@ pub struct Device {
     /// Whether all that comes in and is not let in is dropped, as long as the neighbour is not up or its list has not
     /// come.
     pub hold: Hold,
-    pub hellos: u64,
+    /// The number of the last hello. The upper half is a random number of the device.
+    pub hello: u64,
     pub next_hello: Duration,
     /// Routers that were heard, but are not those that are known by their numbers. The next hello tells them whom
     /// this router knows instead, so that they start again.
@@ -130,7 +136,7 @@ impl<K: Kernel> Machine<K> {
         let former = crate::writing::clear(&mut kernel, now)?;
         let mut machine = Machine {
             session,
-            process: RandomState::new().build_hasher().finish(),
+            process: random(),
             kernel,
             journal: Journal::default(),
             devices: BTreeMap::new(),
@@ -234,7 +240,7 @@ impl<K: Kernel> Machine<K> {
             has_carrier: false,
             is_ready: false,
             hold: Hold::Unknown,
-            hellos: 0,
+            hello: random() << 32,
             next_hello: now,
             outdated: BTreeSet::new(),
         });

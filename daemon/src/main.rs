@@ -7,6 +7,8 @@ mod daemon;
 mod datagram;
 mod destination;
 mod hearing;
+#[cfg(test)]
+mod hostile;
 mod interfaces;
 mod journal;
 mod kernel;

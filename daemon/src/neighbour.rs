@@ -9,8 +9,6 @@ use std::time::Duration;
 /// One link to a neighbour. Two routers may have several.
 pub struct Adjacency {
     pub address: Ipv6Addr,
-    /// The number of the last hello.
-    pub hello: u64,
     /// The neighbour is gone if nothing is heard until then.
     pub until: Duration,
     pub is_heard: bool,
@@ -26,7 +24,6 @@ impl Adjacency {
     pub fn new(address: Ipv6Addr) -> Adjacency {
         Adjacency {
             address,
-            hello: 0,
             until: Duration::ZERO,
             is_heard: false,
             hears_me: false,
@@ -40,12 +37,46 @@ impl Adjacency {
     }
 }
 
+/// How many devices of a neighbour are known by their hellos.
+const MOST_SERIES: usize = 1024;
+
+/// The hellos that have been heard from a neighbour. The upper half of a hello's number is that of a series: each device of
+/// the neighbour has another one.
+#[derive(Default)]
+pub struct Hellos {
+    /// The last number of each series, and the device over which it came.
+    heard: BTreeMap<u32, (u64, u32)>,
+}
+
+fn series_of(number: u64) -> u32 {
+    (number >> 32) as u32
+}
+
+impl Hellos {
+    pub fn is_new(&self, number: u64) -> bool {
+        match self.heard.get(&series_of(number)) {
+            Some((last, _)) => number > *last,
+            None => self.heard.len() < MOST_SERIES,
+        }
+    }
+
+    /// The device over which hellos of the same series came.
+    pub fn device(&self, number: u64) -> Option<u32> {
+        self.heard.get(&series_of(number)).map(|it| it.1)
+    }
+
+    pub fn note(&mut self, number: u64, device: u32) {
+        self.heard.insert(series_of(number), (number, device));
+    }
+}
+
 pub struct Neighbour {
     pub session: u64,
     /// The random number of its process.
     pub process: u64,
     /// The links by the index of the device.
     pub links: BTreeMap<u32, Adjacency>,
+    pub hellos: Hellos,
     /// Whether a link is up.
     pub is_up: bool,
     /// Whether one was up in this session. If not, nothing was said to the neighbour.
@@ -65,6 +96,7 @@ impl Neighbour {
             session,
             process,
             links: BTreeMap::new(),
+            hellos: Hellos::default(),
             is_up: false,
             was_up: false,
             since,

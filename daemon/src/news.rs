@@ -222,12 +222,10 @@ impl News {
         self.flights.values().map(|it| it.due).min()
     }
 
-    /// Whether a datagram of the neighbour is new. One that came before has to be acknowledged again.
-    pub fn is_new(&mut self, number: u64) -> bool {
-        let is_past = self.arrived.is_past(number);
-        let is_there = !is_past && self.arrived.has(number);
-        self.owes |= is_there;
-        !is_past && !is_there
+    /// Whether a datagram of the neighbour is new. One that came before is not acknowledged again: what is said again
+    /// has another number.
+    pub fn is_new(&self, number: u64) -> bool {
+        !self.arrived.is_past(number) && !self.arrived.has(number)
     }
 
     /// A datagram of the neighbour has been heard. It is to be acknowledged if it has something to acknowledge.

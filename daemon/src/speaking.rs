@@ -44,9 +44,9 @@ impl<K: Kernel> Machine<K> {
         let Some(device) = self.devices.get_mut(&index) else {
             return;
         };
-        device.hellos += 1;
+        device.hello += 1;
         device.next_hello = now + self.settings.hello;
-        let number = device.hellos;
+        let number = device.hello;
         let outdated = std::mem::take(&mut device.outdated);
         let is_heard = |it: &Neighbour| it.links.get(&index).is_some_and(|it| it.is_heard);
         let is_told =

@@ -1,9 +1,8 @@
 //! Machines in a network in memory, which loses, repeats and reorders datagrams. After each line that is written to a
 //! kernel, the tables of all kernels must have no loop.
 
-use crate::datagram::Key;
 use crate::kernel::{Kernel, Refusal, Write};
-use crate::machine::{GATES, LONGEST_DEAD, MOST_NEIGHBOURS, MOST_PREFIXES, Machine, Settings};
+use crate::machine::{GATES, LONGEST_DEAD, Machine, Settings};
 use crate::prefix::Prefix;
 use std::cell::RefCell;
 use std::collections::{BTreeMap, BTreeSet};
@@ -13,10 +12,10 @@ use std::time::Duration;
 
 const STEP: Duration = Duration::from_millis(5);
 
-struct Dice(u64);
+pub struct Dice(pub u64);
 
 impl Dice {
-    fn below(&mut self, limit: u64) -> u64 {
+    pub fn below(&mut self, limit: u64) -> u64 {
         self.0 = self
             .0
             .wrapping_mul(6364136223846793005)
@@ -24,7 +23,7 @@ impl Dice {
         (self.0 >> 33) % limit
     }
 
-    fn chance(&mut self, percent: u64) -> bool {
+    pub fn chance(&mut self, percent: u64) -> bool {
         self.below(100) < percent
     }
 }
@@ -363,7 +362,7 @@ struct Lab {
     neglects: fn(&mut Settings),
 }
 
-fn settings(router: u32, announce: BTreeSet<Prefix>, forget: Duration) -> Settings {
+pub fn settings(router: u32, announce: BTreeSet<Prefix>, forget: Duration) -> Settings {
     Settings {
         router,
         hello: Duration::from_secs(1),
@@ -1016,137 +1015,4 @@ fn a_hold_ends() {
             .values()
             .all(|it| it.hold.is_empty())
     );
-}
-
-/// How many mutated inputs each test tries. `REVROUTED_FUZZ` can say another number.
-fn mutations() -> u64 {
-    std::env::var("REVROUTED_FUZZ")
-        .ok()
-        .and_then(|it| it.parse().ok())
-        .unwrap_or(20_000)
-}
-
-/// Changes some bytes, cuts some out, or repeats some.
-fn mutate(data: &mut Vec<u8>, dice: &mut Dice) {
-    for _ in 0..=dice.below(4) {
-        let at = dice.below(data.len() as u64 + 1) as usize;
-        let end = (at + dice.below(20) as usize).min(data.len());
-        match dice.below(5) {
-            0 | 1 if at < data.len() => data[at] ^= 1 << dice.below(8),
-            2 if at < data.len() => data[at] = [0, 1, 0x7f, 0x80, 0xff][dice.below(5) as usize],
-            3 => drop(data.drain(at..end)),
-            _ => {
-                let part = data[at..end].to_vec();
-                data.splice(at..at, part);
-            }
-        }
-    }
-}
-
-/// Two routers with these keys, and what they have said.
-fn recorded(keys: fn(&mut Settings)) -> (Lab, Vec<Vec<u8>>) {
-    let mut lab = Lab::new(&[(0, 1)], 11);
-    lab.neglects = keys;
-    lab.start_all();
-    let mut all = Vec::new();
-    for _ in 0..400 {
-        lab.run(STEP);
-        all.extend(
-            lab.way
-                .iter()
-                .filter(|it| it.to.0 == 1)
-                .map(|it| it.data.clone()),
-        );
-    }
-    assert!(lab.arrives(0, 1) && all.len() > 4);
-    (lab, all)
-}
-
-#[test]
-fn mutated_datagrams_do_no_harm() {
-    let (mut lab, all) = recorded(|_| ());
-    let mut dice = Dice(12);
-    let machine = lab.machines.get_mut(&1).unwrap();
-    for round in 0..mutations() {
-        let mut data = all[dice.below(all.len() as u64) as usize].clone();
-        mutate(&mut data, &mut dice);
-        machine.take(1, address(0, 1), &data, lab.now);
-        if round % 64 == 0 {
-            lab.now += STEP;
-            machine.turn(lab.now);
-            machine.outbox.clear();
-        }
-    }
-    assert!(
-        machine.destinations.len() <= MOST_PREFIXES && machine.neighbours.len() <= MOST_NEIGHBOURS
-    );
-}
-
-#[test]
-fn strangers_change_nothing() {
-    fn keys(it: &mut Settings) {
-        it.keys = vec![Key {
-            number: 1,
-            secret: b"a secret of the routers".to_vec(),
-        }];
-    }
-    let (mut lab, all) = recorded(keys);
-    let (_, open) = recorded(|_| ());
-    let mut dice = Dice(13);
-    let machine = lab.machines.get_mut(&1).unwrap();
-    machine.outbox.clear();
-    let (now, before) = (
-        lab.now,
-        (
-            machine.counts.messages_heard,
-            machine.journal.count(),
-            machine.next_time(),
-        ),
-    );
-    for _ in 0..mutations() {
-        let some = if dice.chance(50) { &all } else { &open };
-        let mut data = some[dice.below(some.len() as u64) as usize].clone();
-        if dice.chance(90) {
-            mutate(&mut data, &mut dice);
-        }
-        // what was recorded is a replay if nothing has changed it
-        machine.take(1, address(0, 1), &data, now);
-    }
-    assert_eq!(
-        (
-            machine.counts.messages_heard,
-            machine.journal.count(),
-            machine.next_time()
-        ),
-        before
-    );
-    assert_eq!(
-        (
-            machine.neighbours.len(),
-            machine.destinations.len(),
-            machine.changed.len()
-        ),
-        (1, 2, 0)
-    );
-}
-
-#[test]
-fn mutated_configurations_are_read_or_refused() {
-    let text = "router = 3\ninterfaces = [\"eth*\"]\nannounce = [\"10.0.3.0/24\", \"fd00::/48\"]\nhello = 1.0\ndead = 4.0\n\
-                [[key]]\nnumber = 1\nsecret = \"0123456789abcdef\"\n[interface.eth1]\ncost = 3\n";
-    let mut dice = Dice(14);
-    let mut refused = 0;
-    for _ in 0..mutations() / 10 {
-        let mut data = text.as_bytes().to_vec();
-        mutate(&mut data, &mut dice);
-        match crate::config::read(&String::from_utf8_lossy(&data)) {
-            Ok((_, it)) => assert!(
-                it.hello >= Duration::from_millis(20)
-                    && it.dead <= LONGEST_DEAD
-                    && it.dead >= it.hello * 2
-            ),
-            Err(_) => refused += 1,
-        }
-    }
-    assert!(refused > 0);
 }
