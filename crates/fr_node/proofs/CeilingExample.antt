@@ -23,7 +23,11 @@ use Rattle.fr_node.proofs.Nearest.{distance_once}
 abbrev link : ℕ → ℕ → Link
 link neighbour h = record {
   neighbour = neighbour;
+  carrier = true;
   up = true;
+  deaf = 0;
+  is_heard = true;
+  silent = 0;
   peer = 1;
   stamp = 1;
   heard = 1;

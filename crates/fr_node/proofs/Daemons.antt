@@ -19,8 +19,9 @@ use Rattle.fr_node.specs.Tables.{ChangesWays, Confirms, Forwarder, HasAnotherSta
 use Rattle.fr_node.specs.Tables.{HaveNoLoop, Moves, OpensGates, Plane, Removes, last_plane}
 use Rattle.fr_node.proofs.Going.{goes_on_more}
 use Rattle.fr_node.proofs.Forwarders.{only}
-use Rattle.fr_node.proofs.Stepping.{KnowsSame, gate_to, said_same, same, way_to}
+use Rattle.fr_node.proofs.Stepping.{KnowsSame, gate_to, is_said_by, said_same, same, way_to}
 use Rattle.fr_node.proofs.Tables.{IsBacked, backed_start, backed_step, loop_free}
+use Rattle.fr_node.proofs.Ticking.{ticked_same}
 
 -- this node of router y is among these states
 record IsState (y : ℕ) (n : Node) (r : Router) : Type 0 where
@@ -50,32 +51,35 @@ way_of y n r is w t = subst (λ q. IsWay q y w) (sym is.state)
 gate_of : (y : ℕ) (n : Node) (r : Router) → IsState y n r → (w : ℕ) → lets_in n w ≡ true → IsOpen r w
 gate_of y n r is w t = subst (λ q. IsOpen q w) (sym is.state) (gate_to n w t is.history is.known)
 
--- past the list there is nothing known, also with a router of which nothing is known after it
-past_same : (ls : List Link) (w i : ℕ) → length ls ≤ i
-    → KnowsSame unknown (get_or (ls ++ record unknown { neighbour = w } ∷ []) i unknown)
-past_same ls w i past = subst (λ l. KnowsSame unknown l)
-    (sym (ap (λ (n : ℕ). get_or (ls ++ record unknown { neighbour = w } ∷ []) n unknown) (omega (arith, past))
-    ∙ get_or-append-add ls (record unknown { neighbour = w } ∷ []) (i - length ls) unknown))
-    (after (i - length ls))
-  where
-    after : (k : ℕ) → KnowsSame unknown (get_or (record unknown { neighbour = w } ∷ []) k unknown)
-    after zero = record { peer = refl; stamp = refl; heard = refl; seen = refl; acked = refl }
-    after (suc k) = record { peer = refl; stamp = refl; heard = refl; seen = refl; acked = refl }
+-- the link, to whomever it leads
+abbrev pub nameless : Link → Link
+nameless l = record l { neighbour = 0 }
 
--- what is known of each router stays when one more is known
-pub known_same : (ls : List Link) (w v : ℕ)
-    → KnowsSame (link_to ls v) (link_to (ls ++ record unknown { neighbour = w } ∷ []) v)
-known_same ls w v = ⊎_elim
-    (λ l. same (link_to ls v) (link_to (ls ++ x ∷ []) v) (ap (λ (i : ℕ). get_or (ls ++ x ∷ []) i unknown)
+-- past the list there is nothing known, also with a router of which nothing is known after it
+past_alike : (ls : List Link) (w i : ℕ) → length ls ≤ i
+    → nameless (get_or (ls ++ record unknown { neighbour = w } ∷ []) i unknown) ≡ unknown
+past_alike ls w i past = ap (λ (n : ℕ). nameless (get_or (ls ++ record unknown { neighbour = w } ∷ []) n unknown))
+    (omega (arith, past))
+    ∙ ap nameless (get_or-append-add ls (record unknown { neighbour = w } ∷ []) (i - length ls) unknown)
+    ∙ after (i - length ls)
+  where
+    after : (k : ℕ) → nameless (get_or (record unknown { neighbour = w } ∷ []) k unknown) ≡ unknown
+    after zero = refl
+    after (suc k) = refl
+
+-- the link to each router stays when one more is known
+pub known_alike : (ls : List Link) (w v : ℕ)
+    → nameless (link_to (ls ++ record unknown { neighbour = w } ∷ []) v) ≡ nameless (link_to ls v)
+known_alike ls w v = ⊎_elim
+    (λ l. ap nameless (ap (λ (i : ℕ). get_or (ls ++ x ∷ []) i unknown)
     (place ∙ rw (ne_eqb (place_of ls v) (length ls) (λ e. omega (arith, e, l))) refl)
     ∙ get_or_append_left ls (x ∷ []) unknown (place_of ls v) l))
-    (λ past. subst (λ k. KnowsSame k (link_to (ls ++ x ∷ []) v)) (sym (get_or_past ls (place_of ls v) unknown past))
-    (past_same ls w (place_of (ls ++ x ∷ []) v) (omega (
+    (λ past. past_alike ls w (place_of (ls ++ x ∷ []) v) (omega (
       arith,
       place,
       beyond (eqb (place_of ls v) (length ls))
           (length ls) (cond (leads_to v x) 0 1) (place_of ls v) past,
-    ))))
+    )) ∙ sym (ap nameless (get_or_past ls (place_of ls v) unknown past)))
     (cases_lt (place_of ls v) (length ls))
   where
     x : Link
@@ -88,6 +92,17 @@ known_same ls w v = ⊎_elim
     beyond : (b : Bool) (n k i : ℕ) → n ≤ i → n ≤ cond b (n + k) i
     beyond true n k i l = omega arith
     beyond false n k i l = l
+
+-- so what is known of it stays
+pub known_same : (ls : List Link) (w v : ℕ)
+    → KnowsSame (link_to ls v) (link_to (ls ++ record unknown { neighbour = w } ∷ []) v)
+known_same ls w v = record {
+  peer = ap (λ (l : Link). l.peer) (known_alike ls w v);
+  stamp = ap (λ (l : Link). l.stamp) (known_alike ls w v);
+  heard = ap (λ (l : Link). l.heard) (known_alike ls w v);
+  seen = ap (λ (l : Link). l.seen) (known_alike ls w v);
+  acked = ap (λ (l : Link). l.acked) (known_alike ls w v);
+}
 
 -- the router of a node, by what it knows of others
 abbrev router_by : Node → (h peer heard seen acked : ℕ → ℕ) → Router
@@ -199,8 +214,10 @@ module _ (pool : List Message) (y : ℕ) (d e : Forwarder Node) (f : Forwarder R
       knows (inl kept) w = same (link_to d.state.links.items w) (link_to e.state.links.items w)
           (ap (λ ls. link_to ls w) kept)
       knows (inr (inl (v, m, says))) w = said_same v m d.state.links.items e.state.links.items says w
-      knows (inr (inr (v, more))) w = subst (λ ls. KnowsSame (link_to d.state.links.items w) (link_to ls w)) (sym more)
-          (known_same d.state.links.items v w)
+      knows (inr (inr (inl (v, more)))) w = subst (λ ls. KnowsSame (link_to d.state.links.items w) (link_to ls w))
+          (sym more) (known_same d.state.links.items v w)
+      knows (inr (inr (inr (patience, ticked)))) w =
+          ticked_same patience d.state.links.items e.state.links.items ticked w
 
       own : e.state.own ≡ d.state.own
       own = ap (λ (n : Node). n.own) c.node
@@ -309,13 +326,7 @@ module _ (pool : List Message) (y : ℕ) (d e : Forwarder Node) (f : Forwarder R
 
 -- what `say` returns is true of the router
 said_by : (y : ℕ) (n : Node) (r : Router) (m : Message) → IsState y n r → IsMessageTo n m.to m → IsSaidBy r m
-said_by y n r m is says = subst (λ q. IsSaidBy q m) (sym is.state) (record {
-  boot = says.boot;
-  echo = says.echo;
-  number = omega (arith, says.number);
-  height = says.height ∙ sym is.known.last ∙ ap is.history (sym says.number);
-  heard = says.heard;
-})
+said_by y n r m is says = subst (λ q. IsSaidBy q m) (sym is.state) (is_said_by n m.to m says is.history is.known)
 
 -- the daemons are a plane of routers that is backed
 record AreBacked (s : Plane Node) : Type 0 where

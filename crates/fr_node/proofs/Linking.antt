@@ -118,13 +118,16 @@ hears_at own m ls i x k at h to newer = record {
   ignored = λ no. absurd (no ((taken_at own m ls i x at to).0 newer));
 }
 
+-- the link, as the caller says
+abbrev pub with_carrier : Bool → Link → Link
+with_carrier up l = record l { carrier = up; up = up; deaf = 0 }
+
 pub sets_up_at : (w : ℕ) (up : Bool) (ls : List Link) (i : ℕ) (x : Link) → IsAt ls w i x
-    → SetsUp w up ls (set ls i (record x { up = up }))
+    → SetsUp w up ls (set ls i (with_carrier up x))
 sets_up_at w up ls i x at = record {
-  neighbours = neighbours-set ls w i x (record x { up = up }) at refl;
-  others = link_to-set_other ls w i x (record x { up = up }) at refl;
-  itself = λ _. link_to-set ls w i x (record x { up = up }) at refl
-      ∙ ap (λ (l : Link). record l { up = up }) (sym (found_at ls w i x at));
+  neighbours = neighbours-set ls w i x (with_carrier up x) at refl;
+  others = link_to-set_other ls w i x (with_carrier up x) at refl;
+  itself = λ _. link_to-set ls w i x (with_carrier up x) at refl ∙ ap (with_carrier up) (sym (found_at ls w i x at));
   stranger = λ s. absurd (s (omega (arith, at.place, at.within)));
 }
 

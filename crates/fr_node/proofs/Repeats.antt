@@ -10,6 +10,7 @@ use Rattle.fr_node.specs.Links.{Hears, IsKnown, IsNewer, link_to}
 use Rattle.fr_node.specs.Repeats.{AreCalls, IsCall, RepeatsAreIgnored, last_node}
 use Rattle.fr_node.proofs.Daemons.{known_same}
 use Rattle.fr_node.proofs.Stepping.{KnowsSame, said_same, same, same_or_not, set_same, taken_or_not}
+use Rattle.fr_node.proofs.Ticking.{ticked_same}
 
 -- the node has taken a message of this start with this stamp, or one that is newer
 HasReached : (boot stamp : ℕ) → Link → Type 0
@@ -47,8 +48,9 @@ module _ (boot stamp w : ℕ) where
   kept : (n k : Node) → KeepsLinks n k → KnowsSame (link_to n.links.items w) (link_to k.links.items w)
   kept n k (inl all) = same (link_to n.links.items w) (link_to k.links.items w) (ap (λ ls. link_to ls w) all)
   kept n k (inr (inl (v, m, says))) = said_same v m n.links.items k.links.items says w
-  kept n k (inr (inr (v, more))) = subst (λ ls. KnowsSame (link_to n.links.items w) (link_to ls w)) (sym more)
+  kept n k (inr (inr (inl (v, more)))) = subst (λ ls. KnowsSame (link_to n.links.items w) (link_to ls w)) (sym more)
       (known_same n.links.items v w)
+  kept n k (inr (inr (inr (patience, ticked)))) = ticked_same patience n.links.items k.links.items ticked w
 
   called : (n k : Node) → IsCall n k → HasReached boot stamp (link_to n.links.items w)
       → HasReached boot stamp (link_to k.links.items w)

@@ -174,7 +174,7 @@ says s x w = record {
 }
   where
     honest : IsSaidBy (s.router x) (said (s.router x) x w)
-    honest = record { boot = refl; echo = refl; number = omega arith; height = refl; heard = refl }
+    honest = record { boot = refl; echo = omega arith; number = omega arith; height = refl; heard = refl }
 
 -- a router changes
 module _ (pool : List Message) (a b c t : Router) where

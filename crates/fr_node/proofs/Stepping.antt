@@ -1,6 +1,6 @@
 -- What a node does is a step of the laws.
 use Rattle.std.proofs.Common.{[], Bool, IsTrue, List, Some, ap, arith, false, inl, inr, length, refl, true, subst, sym, ℕ, ⊎_elim, ◌%◌, ◌+◌, ◌^◌, ◌∷◌, ◌<◌, ◌≡◌, ◌≢◌, ◌≤◌, ◌⊎◌, ◌∙◌}
-use Rattle.std.proofs.lemmas.Bool.{cases_lt}
+use Rattle.std.proofs.lemmas.Bool.{cases_Bool, cases_lt}
 use Rattle.std.proofs.Math.Nat.{eq-or-lt_of_le}
 use Rattle.std.proofs.lemmas.Bool.Decides.{nat_tests}
 use Rattle.fr_node.specs.declared.link.Link.{Link}
@@ -9,12 +9,12 @@ use Rattle.fr_node.specs.declared.node.Node.{Node}
 use Rattle.fr_node.specs.declared.own.Own.{Own}
 use Rattle.fr_node.specs.Events.{IsAfterEvent, unstamped}
 use Rattle.fr_node.specs.Histories.{Announces, IsHistory}
-use Rattle.fr_node.specs.Links.{Hears, IsHeard, IsNewer, IsTaken, Says, SetsUp, is_way, link_to, place_of}
+use Rattle.fr_node.specs.Links.{Hears, IsHeard, IsNewer, IsTaken, Says, SetsUp, echo_of, is_way, link_to, place_of}
 use Rattle.fr_node.specs.Nodes.{IsMessageTo, Steps, lets_in, router, sends_to}
 use Rattle.fr_node.specs.Policies.{Acts}
-use Rattle.fr_node.specs.Routers.{IsBelow, IsFrom, IsOpen, IsWay}
+use Rattle.fr_node.specs.Routers.{IsBelow, IsFrom, IsOpen, IsSaidBy, IsWay}
 use Rattle.fr_node.proofs.Histories.{Announces-none}
-use Rattle.fr_node.proofs.Linking.{IsAt, found_at, up_leads}
+use Rattle.fr_node.proofs.Linking.{IsAt, found_at, up_leads, with_carrier}
 
 pub same_or_not : (a b : ℕ) → (a ≡ b) ⊎ (a ≢ b)
 same_or_not a b = grind arith
@@ -177,14 +177,14 @@ pub set_same : (w : ℕ) (up : Bool) (ls ks : List Link) → SetsUp w up ls ks �
     → KnowsSame (link_to ls v) (link_to ks v)
 set_same w up ls ks s v = ⊎_elim
     (λ here. ⊎_elim
-    (λ known. known_up (subst (λ u. link_to ks u ≡ record (link_to ls u) { up = up }) (sym here) (s.itself known)))
+    (λ known. known_up (subst (λ u. link_to ks u ≡ with_carrier up (link_to ls u)) (sym here) (s.itself known)))
     (λ past. same (link_to ls v) (link_to ks v)
     (ap (λ (js : List Link). link_to js v) (s.stranger (λ known. omega (arith, past, known)))))
     (cases_lt (place_of ls w) (length ls)))
     (λ other. same (link_to ls v) (link_to ks v) (s.others v other))
     (same_or_not v w)
   where
-    known_up : link_to ks v ≡ record (link_to ls v) { up = up } → KnowsSame (link_to ls v) (link_to ks v)
+    known_up : link_to ks v ≡ with_carrier up (link_to ls v) → KnowsSame (link_to ls v) (link_to ks v)
     known_up e = record {
       peer = ap (λ (l : Link). l.peer) e;
       stamp = ap (λ (l : Link). l.stamp) e;
@@ -192,11 +192,6 @@ set_same w up ls ks s v = ⊎_elim
       seen = ap (λ (l : Link). l.seen) e;
       acked = ap (λ (l : Link). l.acked) e;
     }
-
-takes_up : (pool : List Message) (y boot w : ℕ) (up : Bool) (ls ks : List Link) → SetsUp w up ls ks
-    → (v : ℕ) → Takes pool y boot v (link_to ls v) (link_to ks v)
-takes_up pool y boot w up ls ks s v = takes_none pool y boot v (link_to ls v) (link_to ks v)
-    (set_same w up ls ks s v)
 
 steps : (pool : List Message) (old new : Node) → Announces old.own new.own
     → ((w : ℕ) → Takes pool old.own.me old.own.boot w (link_to old.links.items w) (link_to new.links.items w))
@@ -248,10 +243,16 @@ pub after_hearing : (m : Message) (old mid new : Node) → InTurn old mid new
 after_hearing m old mid new turn hears = in_turn (m ∷ []) old mid new turn
     (takes_hears old.own m old.links.items mid.links.items hears)
 
+-- an event in which the same stays known
+pub after_keeping : (old mid new : Node) → InTurn old mid new
+    → ((w : ℕ) → KnowsSame (link_to old.links.items w) (link_to mid.links.items w)) → IsAfterEvent [] old new
+after_keeping old mid new turn knows = in_turn [] old mid new turn
+    (λ w. takes_none [] old.own.me old.own.boot w (link_to old.links.items w) (link_to mid.links.items w) (knows w))
+
 pub after_setting : (w : ℕ) (up : Bool) (old mid new : Node) → InTurn old mid new
     → SetsUp w up old.links.items mid.links.items → IsAfterEvent [] old new
-after_setting w up old mid new turn sets = in_turn [] old mid new turn
-    (takes_up [] old.own.me old.own.boot w up old.links.items mid.links.items sets)
+after_setting w up old mid new turn sets = after_keeping old mid new turn
+    (set_same w up old.links.items mid.links.items sets)
 
 -- the policy has acted once more
 pub after_acting : (old mid new : Node) → mid ≡ record old { own = mid.own }
@@ -286,6 +287,25 @@ with_stamp n w stamp m is = record {
   distance = is.distance;
 }
 
+echo_most : (l : Link) → echo_of l ≤ l.peer
+echo_most l = ⊎_elim (λ heard. rw heard (omega arith)) (λ silent. rw silent (omega arith)) (cases_Bool l.is_heard)
+
+-- what is said is true of the router, whatever it had announced
+pub is_said_by : (n : Node) (w : ℕ) (m : Message) → IsMessageTo n w m → (h : ℕ → ℕ) → IsHistory n.own h
+    → IsSaidBy (router n h) m
+is_said_by n w m is h known = record {
+  boot = is.boot;
+  echo = omega (
+    arith,
+    is.echo,
+    echo_most (link_to n.links.items w),
+    ap (λ (v : ℕ). (link_to n.links.items v).peer) is.to,
+  );
+  number = omega (arith, is.number);
+  height = is.height ∙ sym known.last ∙ ap h (sym is.number);
+  heard = is.heard ∙ sym (ap (λ (v : ℕ). (link_to n.links.items v).heard) is.to);
+}
+
 pub unstamped_same : (m : Message) → m.stamp ≡ 0 → unstamped m ≡ m
 unstamped_same m none = ap (λ (s : ℕ). record m { stamp = s }) (sym none)
 
@@ -308,11 +328,15 @@ said_same w m ls ks says v = ⊎_elim
       acked = ap (λ (l : Link). l.acked) e;
     }
 
+-- a call after which the same is known
+pub steps_kept : (old new : Node) → new.own ≡ old.own
+    → ((w : ℕ) → KnowsSame (link_to old.links.items w) (link_to new.links.items w)) → Steps [] old new
+steps_kept old new own knows = steps [] old new (subst (Announces old.own) (sym own) (Announces-none old.own))
+    (λ w. takes_none [] old.own.me old.own.boot w (link_to old.links.items w) (link_to new.links.items w) (knows w))
+
 pub steps_said : (w : ℕ) (m : Message) (old new : Node) → new.own ≡ old.own → Says w m old.links.items new.links.items
     → Steps [] old new
-steps_said w m old new own says = steps [] old new (subst (Announces old.own) (sym own) (Announces-none old.own))
-    (λ v. takes_none [] old.own.me old.own.boot v (link_to old.links.items v) (link_to new.links.items v)
-    (said_same w m old.links.items new.links.items says v))
+steps_said w m old new own says = steps_kept old new own (said_same w m old.links.items new.links.items says)
 
 is_lower_fact : (own : Own) (l : Link) → IsTrue (is_way own l) → (0 < l.heard)
     × IsBelow l.seen l.neighbour own.used own.me

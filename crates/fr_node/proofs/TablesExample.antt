@@ -129,11 +129,11 @@ begins = plane fa0 fb0 []
 
 step1 : IsPlaneStep begins (plane fa0 fb0 (hello_a ∷ []))
 step1 = says begins hello_a refl
-    (record { boot = refl; echo = refl; number = omega arith; height = refl; heard = refl })
+    (record { boot = refl; echo = omega arith; number = omega arith; height = refl; heard = refl })
 
 step2 : IsPlaneStep (plane fa0 fb0 (hello_a ∷ [])) (plane fa0 fb0 pool1)
 step2 = says (plane fa0 fb0 (hello_a ∷ [])) hello_b refl
-    (record { boot = refl; echo = refl; number = omega arith; height = refl; heard = refl })
+    (record { boot = refl; echo = omega arith; number = omega arith; height = refl; heard = refl })
 
 step3 : IsPlaneStep (plane fa0 fb0 pool1) (plane (changed a1 fa0) (changed b1 fb0) pool1)
 step3 = moves pool1 fa0 fb0 (changed a1 fa0) (changed b1 fb0)
@@ -174,7 +174,7 @@ step4 = moves pool1 (changed a1 fa0) (changed b1 fb0) fa1 fb1
 
 step5 : IsPlaneStep (plane fa1 fb1 pool1) (plane fa1 fb1 pool2)
 step5 = says (plane fa1 fb1 pool1) lower refl
-    (record { boot = refl; echo = refl; number = omega arith; height = refl; heard = refl })
+    (record { boot = refl; echo = omega arith; number = omega arith; height = refl; heard = refl })
 
 step6 : IsPlaneStep (plane fa1 fb1 pool2) (plane fa1 (changed b2 fb1) pool2)
 step6 = moves pool2 fa1 fb1 fa1 (changed b2 fb1) (rests pool2 0 fa1) (inl (record {
@@ -204,7 +204,7 @@ step8 = moves pool2 fa1 fb3 fa1 fb2 (rests pool2 0 fa1)
 
 step9 : IsPlaneStep (plane fa1 fb2 pool2) (plane fa1 fb2 pool3)
 step9 = says (plane fa1 fb2 pool2) answer refl
-    (record { boot = refl; echo = refl; number = omega arith; height = refl; heard = refl })
+    (record { boot = refl; echo = omega arith; number = omega arith; height = refl; heard = refl })
 
 step10 : IsPlaneStep (plane fa1 fb2 pool3) (plane (changed a2 fa1) fb2 pool3)
 step10 = moves pool3 fa1 fb2 (changed a2 fa1) fb2 (inl (record {

@@ -1,11 +1,11 @@
 -- Daemons, each of which calls the node of one router and writes its forwarding table. A call is here what its contract
 -- ensures. The definitions are this project's own.
-use Rattle.std.specs.Prelude.{List, [], ◌++◌, ◌∷◌, ◌<◌, ◌≡◌, ◌⊎◌, true, ℕ}
+use Rattle.std.specs.Prelude.{List, [], map, ◌++◌, ◌∷◌, ◌<◌, ◌≡◌, ◌⊎◌, true, ℕ}
 use Rattle.std.specs.List.{Contains}
 use Rattle.fr_node.specs.declared.message.Message.{Message}
 use Rattle.fr_node.specs.declared.node.Node.{Node}
 use Rattle.fr_node.specs.Histories.{IsHistory}
-use Rattle.fr_node.specs.Links.{Says, unknown}
+use Rattle.fr_node.specs.Links.{Says, after_tick, unknown}
 use Rattle.fr_node.specs.Nodes.{IsMessageTo, Steps, lets_in, sends_to}
 use Rattle.fr_node.specs.Tables.{Forwarder, HasAnotherState, IsLoopFree, IsPlaneRun, IsSilent, Plane, Writes}
 use Rattle.fr_node.specs.Tables.{last_plane}
@@ -15,7 +15,7 @@ pub record IsFresh (n : Node) : Type 0 where
   pub links : n.links.items ≡ []
   pub announced : (h : ℕ → ℕ) × IsHistory n.own h
 
--- an event: `link_up` or `link_down`, an `act` that changes something, or `hear` of a message that was sent
+-- an event: `link_up` or `link_down`, a `tick` or an `act` that changes something, or `hear` of a message that was sent
 pub record HasEvent (pool : List Message) (d e : Forwarder Node) : Type 0 where
   pub messages : List Message
   pub sent : (m : Message) → Contains messages m → Contains pool m
@@ -29,13 +29,14 @@ pub record StartsAnew (y : ℕ) (d e : Forwarder Node) : Type 0 where
   pub fresh : IsFresh e.state
   pub table : HasAnotherState d e
 
--- the links of a node after `say`, or after `know`, or unchanged
+-- the links of a node after `say`, `know` or `tick`, or unchanged
 abbrev pub KeepsLinks : Node → Node → Type 0
 KeepsLinks n k = (k.links.items ≡ n.links.items)
     ⊎ ((w : ℕ) × (m : Message) × Says w m n.links.items k.links.items)
     ⊎ ((w : ℕ) × (k.links.items ≡ n.links.items ++ record unknown { neighbour = w } ∷ []))
+    ⊎ ((patience : ℕ) × (k.links.items ≡ map (after_tick patience) n.links.items))
 
--- `say`, `know` or `written`, or a call that changes nothing: they change no ways and no gates
+-- `say`, `know` or `written`, a `tick` that is no event, or a call that changes nothing: they change no ways and no gates
 pub record IsCalled (d e : Forwarder Node) : Type 0 where
   pub links : KeepsLinks d.state e.state
   pub node : e.state ≡ record d.state {

@@ -44,21 +44,21 @@ pub record SaysMessage (w : ℕ) (old new : Node) (m : Message) : Type 0 where
   pub said : Says w (unstamped m) old.links.items new.links.items
   pub safe : (h : ℕ → ℕ) → IsHistory old.own h → IsSaidBy (router old h) m
 
--- a message has been said to w, if the link to it is up. Nothing else changes
+-- a message has been said to w, if the link to it has a carrier. Nothing else changes
 pub record SaysTo (w : ℕ) (old new : Node) (said : Option Message) : Type 0 where
-  pub up : IsSome said ↔ IsTrue (link_to old.links.items w).up
+  pub carrier : IsSome said ↔ IsTrue (link_to old.links.items w).carrier
   pub message : IfSome said (SaysMessage w old new)
   pub none : MatchOption said (new ≡ old) (λ m. new ≡ record old { links = new.links; stamp = m.stamp })
   pub step : Steps [] old new
 
--- whether the message for w differs from the last one that was said to it, by more than its stamp. If the link is down,
--- there is no news
+-- whether the message for w differs from the last one that was said to it, by more than its stamp. If the link has no
+-- carrier, there is no news
 pub record IsNews (w : ℕ) (n : Node) (news : Bool) : Type 0 where
-  pub down : ¬ IsTrue (link_to n.links.items w).up → ¬ IsTrue news
-  pub up : IsTrue (link_to n.links.items w).up
+  pub down : ¬ IsTrue (link_to n.links.items w).carrier → ¬ IsTrue news
+  pub up : IsTrue (link_to n.links.items w).carrier
       → (m : Message) × IsMessageTo n w m × (IsTrue news ↔ ((link_to n.links.items w).said ≢ Some (unstamped m)))
 
--- packets that come over the link are let in: it is up, and the node is a gateway, or the neighbour has acknowledged
+-- packets that come over the link are let in: it counts as up, and the node is a gateway, or the neighbour has acknowledged
 -- enough
 abbrev pub is_gate : Node → Link → Bool
 is_gate n l = l.up && (n.gateway || has_answered n.own l)

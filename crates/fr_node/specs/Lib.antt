@@ -15,4 +15,5 @@ pub mod Lowerings  -- the same of routers that may lower their heights
 pub mod Heights  -- how often a router announces the same height
 pub mod Ceilings  -- where packets end below a ceiling
 pub mod Repeats  -- messages that are heard again
+pub mod OneWay  -- links that work one way
 pub mod Rests  -- how many heights routers below a ceiling announce together

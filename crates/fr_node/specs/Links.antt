@@ -1,5 +1,5 @@
 -- What a node knows of its neighbours, and how a message changes it. The definitions are this project's own.
-use Rattle.std.specs.Prelude.{Bool, None, Some, ℕ, List, map, length, ◌≡◌, ◌≢◌, ◌==◌, ◌<◌, ◌≤◌, ◌⊎◌, ◌&&◌, ◌||◌, false, nat_le, nat_lt}
+use Rattle.std.specs.Prelude.{Bool, None, Some, ℕ, List, if◌then◌else◌, map, length, min, ◌≡◌, ◌≢◌, ◌==◌, ◌<◌, ◌≤◌, ◌⊎◌, ◌&&◌, ◌||◌, ◌+◌, ◌-◌, ◌^◌, false, true, nat_le, nat_lt}
 use Rattle.std.specs.List.{position_or_len, slice_index_or}
 use Rattle.fr_node.specs.declared.message.TheConstants.{CUT_OFF}
 use Rattle.fr_node.specs.declared.link.Link.{Link}
@@ -10,7 +10,11 @@ use Rattle.fr_node.specs.declared.own.Own.{Own}
 abbrev pub unknown : Link
 unknown = record {
   neighbour = 0;
+  carrier = false;
   up = false;
+  deaf = 0;
+  is_heard = false;
+  silent = 0;
   peer = 0;
   stamp = 0;
   heard = 0;
@@ -38,7 +42,7 @@ link_to ls w = slice_index_or ls (place_of ls w) unknown
 abbrev pub is_lower : Own → Link → Bool
 is_lower own l = nat_lt 0 l.heard && (nat_lt l.seen own.used || (l.seen == own.used && nat_lt l.neighbour own.me))
 
--- the router may send packets on the link
+-- the router may send packets on the link: it counts as up, and the neighbour is lower
 abbrev pub is_way : Own → Link → Bool
 is_way own l = l.up && is_lower own l
 
@@ -59,11 +63,17 @@ pub record IsTaken (own : Own) (m : Message) (ls : List Link) : Type 0 where
 
 -- router `own` has taken the message m, and the link l has become k. Its start and its stamp are noted. If the start is
 -- greater, then what was known is forgotten. If the message is for the present start of the router, then its
--- announcement is taken unless a later one was heard, and its acknowledgement if it is greater
+-- announcement is taken unless a later one was heard, and its acknowledgement if it is greater. Then the neighbour is not
+-- deaf, and the link counts as up if it has a carrier. A neighbour that has started again is given time to hear the router
 pub record IsHeard (own : Own) (m : Message) (l k : Link) : Type 0 where
   pub neighbour : k.neighbour ≡ l.neighbour
-  pub up : k.up ≡ l.up
+  pub carrier : k.carrier ≡ l.carrier
   pub said : k.said ≡ l.said
+  pub both_ways : m.echo ≡ own.boot → (k.up ≡ l.carrier) × (k.deaf ≡ 0)
+  pub one_way : m.echo ≢ own.boot → k.up ≡ l.up
+  pub deaf : m.echo ≢ own.boot → l.peer ≡ m.boot → k.deaf ≡ l.deaf
+  pub started : l.peer < m.boot → k.deaf ≡ 0
+  pub lately : (k.is_heard ≡ true) × (k.silent ≡ 0)
   pub start : k.peer ≡ m.boot
   pub stamp : k.stamp ≡ m.stamp
   pub informed : m.echo ≡ own.boot → (l.peer ≡ m.boot → l.heard ≤ m.number)
@@ -85,11 +95,11 @@ pub record Hears (own : Own) (m : Message) (ls ks : List Link) : Type 0 where
   pub taken : IsTaken own m ls → IsHeard own m (link_to ls m.from) (link_to ks m.from)
   pub ignored : ¬ IsTaken own m ls → ks ≡ ls
 
--- the link to w is up now, or down, if w is known. All else that is known stays
+-- the caller says that the link to w is up, or that it is down, if w is known. All else that is known stays
 pub record SetsUp (w : ℕ) (up : Bool) (ls ks : List Link) : Type 0 where
   pub neighbours : map (λ l. l.neighbour) ks ≡ map (λ l. l.neighbour) ls
   pub others : (v : ℕ) → v ≢ w → link_to ks v ≡ link_to ls v
-  pub itself : IsKnown ls w → link_to ks w ≡ record (link_to ls w) { up = up }
+  pub itself : IsKnown ls w → link_to ks w ≡ record (link_to ls w) { carrier = up; up = up; deaf = 0 }
   pub stranger : ¬ IsKnown ls w → ks ≡ ls
 
 -- the message m has been said to w, and is kept. All else that is known stays
@@ -97,3 +107,29 @@ pub record Says (w : ℕ) (m : Message) (ls ks : List Link) : Type 0 where
   pub neighbours : map (λ l. l.neighbour) ks ≡ map (λ l. l.neighbour) ls
   pub others : (v : ℕ) → v ≢ w → link_to ks v ≡ link_to ls v
   pub itself : link_to ks w ≡ record (link_to ls w) { said = Some m }
+
+-- something lasts that has lasted for so many ticks, and there are fewer than the caller's patience with one more
+abbrev pub lasts : Bool → (ticks patience : ℕ) → Bool
+lasts is_so ticks patience = is_so && nat_lt (ticks + 1) patience
+
+-- one tick more, if they are counted, in 32 bits
+abbrev pub one_more : Bool → ℕ → ℕ
+one_more is_counted ticks = if is_counted then min (ticks + 1) (2 ^ 32 - 1) else ticks
+
+-- the link after a tick. While it counts as up, the ticks are counted for which the neighbour has seemed deaf, and while the
+-- neighbour is heard those for which it has been silent
+abbrev pub after_tick : ℕ → Link → Link
+after_tick patience l = record l {
+  up = lasts l.up l.deaf patience;
+  deaf = one_more l.up l.deaf;
+  is_heard = lasts l.is_heard l.silent patience;
+  silent = one_more l.is_heard l.silent;
+}
+
+-- the link counts as up, and the next tick ends that
+abbrev pub is_lost : ℕ → Link → Bool
+is_lost patience l = l.up && nat_le patience (l.deaf + 1)
+
+-- the start of the neighbour that the router says it knows: none if it has not heard the neighbour lately
+abbrev pub echo_of : Link → ℕ
+echo_of l = if l.is_heard then l.peer else 0

@@ -5,7 +5,7 @@ use Rattle.fr_node.specs.declared.message.Message.{Message}
 use Rattle.fr_node.specs.declared.node.Node.{Node}
 use Rattle.fr_node.specs.Distances.{IsDistance}
 use Rattle.fr_node.specs.Histories.{IsHistory}
-use Rattle.fr_node.specs.Links.{has_answered, is_way, link_to}
+use Rattle.fr_node.specs.Links.{echo_of, has_answered, is_way, link_to}
 use Rattle.fr_node.specs.Routers.{GoesOn, Router}
 
 -- the router that the node is, if it has announced these heights
@@ -41,7 +41,7 @@ pub record IsMessageTo (n : Node) (w : ℕ) (m : Message) : Type 0 where
   pub from : m.from ≡ n.own.me
   pub to : m.to ≡ w
   pub boot : m.boot ≡ n.own.boot
-  pub echo : m.echo ≡ (link_to n.links.items w).peer
+  pub echo : m.echo ≡ echo_of (link_to n.links.items w)
   pub number : m.number ≡ n.own.number
   pub height : m.height ≡ n.own.announced
   pub heard : m.heard ≡ (link_to n.links.items w).heard

@@ -5,7 +5,8 @@ use Rattle.fr_node.specs.declared.node.Node.{Node}
 use Rattle.fr_node.specs.Daemons.{KeepsLinks}
 use Rattle.fr_node.specs.Links.{Hears, IsKnown, IsTaken, SetsUp}
 
--- node n has become k by a call: `hear`, `link_up` or `link_down`, or one that keeps what was heard of neighbours
+-- node n has become k by a call: `hear`, `link_up` or `link_down`, or one that keeps what was heard of neighbours, also
+-- `tick`
 pub record IsCall (n k : Node) : Type 0 where
   pub me : k.own.me ≡ n.own.me
   pub links : KeepsLinks n k

@@ -10,6 +10,7 @@ ghost use Rattle.fr_node.specs.Lowerings.{CallsKeepLinksOrFall, LinkBoundsWithFa
 ghost use Rattle.fr_node.specs.Lowerings.{SomeRouterFalls};
 ghost use Rattle.fr_node.specs.Repeats.{RepeatsAreIgnored};
 ghost use Rattle.fr_node.specs.Rests.{AnnouncementsEnd, CallsStayBelow, SomeRoutersAnnounce, TestsLeadDown};
+ghost use Rattle.fr_node.specs.OneWay.{DeafLinksAreLost, DeafLinksHoldNothingBack, SilenceIsTold};
 ghost use Rattle.fr_node.specs.Paths.{BoundIsReached, CallsKeepLinks, DownPathIsQuiet, LinkBoundsAnnouncements};
 ghost use Rattle.fr_node.specs.Paths.{PathBoundsAnnouncements, UnheardAreAnnouncements};
 
@@ -90,6 +91,16 @@ pub fn heights_law()
     ensures again { SameHeightIsBounded }
     ensures possible { SomeHeightComesBack }
     ensures calls { CallsActBeside }
+{}
+
+/// Links that work one way hold no router back. A link does not count as up after as many ticks as the caller's patience
+/// in which the neighbour seemed deaf: what was taken of it was for another start of the router, and it did not start
+/// again. If each other neighbour was heard, and none is lower, then the router is a sink. After as many ticks in which no
+/// message of a neighbour was taken, the router seems deaf to that neighbour: so the link counts at neither end.
+pub fn one_way_law()
+    ensures lost { DeafLinksAreLost }
+    ensures free { DeafLinksHoldNothingBack }
+    ensures told { SilenceIsTold }
 {}
 
 /// No two messages have the same bytes. So `Message::read` returns the message that `Message::write` wrote. Once a node

@@ -1,18 +1,28 @@
 //! What a router knows of one neighbour.
 
-ghost use Rattle.std.specs.Prelude.{◌≡◌, ◌≢◌, ◌<◌, ◌≤◌, ◌⊎◌, ◌↔◌, IsTrue, false};
+ghost use Rattle.std.specs.Prelude.{◌≡◌, ◌≢◌, ◌<◌, ◌≤◌, ◌⊎◌, ◌↔◌, IsTrue, false, true};
 ghost use Rattle.fr_node.specs.Distances.{way_of};
-ghost use Rattle.fr_node.specs.Links.{IsHeard, IsNewer, has_answered, is_lower, is_way};
+ghost use Rattle.fr_node.specs.Links.{IsHeard, IsNewer, after_tick, echo_of, has_answered, is_lost, is_lower, is_way, lasts, one_more};
 
 use crate::message::{CUT_OFF, Message};
 use crate::own::Own;
 use crate::way::Way;
 
-/// What a router knows of one neighbour, and whether the link to it is up.
+/// What a router knows of one neighbour, and whether the link to it counts as up.
 #[derive(Clone, Copy, Debug, PartialEq, Eq)]
 pub(crate) struct Link {
     pub(crate) neighbour: u32,
+    /// Whether the caller says that the link is up.
+    pub(crate) carrier: bool,
+    /// Whether the link counts as up: there is a carrier, and the neighbour did not seem deaf for too many ticks.
     pub(crate) up: bool,
+    /// For how many ticks the neighbour has seemed deaf: since it last said something to this start of the router, since
+    /// it started again, or since the link came up.
+    pub(crate) deaf: u32,
+    /// Whether the neighbour was heard lately: it was not silent for too many ticks.
+    pub(crate) is_heard: bool,
+    /// For how many ticks the neighbour has been silent: since its last message was taken.
+    pub(crate) silent: u32,
     /// The greatest start of the neighbour that is known. 0: none.
     pub(crate) peer: u64,
     /// The greatest stamp of a message that was taken of that start. 0: none.
@@ -34,7 +44,11 @@ impl Link {
     pub(crate) fn new(neighbour: u32) -> Link
         ensures { result ≡ record {
           neighbour = neighbour;
+          carrier = false;
           up = false;
+          deaf = 0;
+          is_heard = false;
+          silent = 0;
           peer = 0;
           stamp = 0;
           heard = 0;
@@ -46,7 +60,11 @@ impl Link {
     {
         Link {
             neighbour,
+            carrier: false,
             up: false,
+            deaf: 0,
+            is_heard: false,
+            silent: 0,
             peer: 0,
             stamp: 0,
             heard: 0,
@@ -74,6 +92,7 @@ impl Link {
             known
                 .with_acknowledgement(message, own)
                 .with_announcement(message)
+                .heard_both_ways()
         } else {
             known
         }
@@ -81,8 +100,12 @@ impl Link {
 
     /// With the message's stamp, and with what is known of its start: nothing, if it is greater.
     fn for_start_of(self, message: &Message) -> Link
-        ensures same { message.now.boot ≡ self.peer → result ≡ record self { stamp = message.now.stamp } }
+        ensures same { message.now.boot ≡ self.peer
+            → result ≡ record self { is_heard = true; silent = 0; stamp = message.now.stamp } }
         ensures other { message.now.boot ≢ self.peer → result ≡ record self {
+          deaf = 0;
+          is_heard = true;
+          silent = 0;
           peer = message.now.boot;
           stamp = message.now.stamp;
           heard = 0;
@@ -93,9 +116,17 @@ impl Link {
     {
         let stamp = message.stamp;
         if message.boot == self.peer {
-            return Link { stamp, ..self };
+            return Link {
+                is_heard: true,
+                silent: 0,
+                stamp,
+                ..self
+            };
         }
         Link {
+            deaf: 0,
+            is_heard: true,
+            silent: 0,
             peer: message.boot,
             stamp,
             heard: 0,
@@ -104,6 +135,56 @@ impl Link {
             acked: 0,
             ..self
         }
+    }
+
+    /// After a message that the neighbour says to this start of the router: the link works both ways.
+    fn heard_both_ways(self) -> Link
+        ensures { result ≡ record self { up = self.carrier; deaf = 0 } }
+    {
+        Link {
+            up: self.carrier,
+            deaf: 0,
+            ..self
+        }
+    }
+
+    /// With what the caller says: that the link is up, or that it is down.
+    pub(crate) fn with_carrier(self, up: bool) -> Link
+        ensures { result ≡ record self { carrier = up; up = up; deaf = 0 } }
+    {
+        Link {
+            carrier: up,
+            up,
+            deaf: 0,
+            ..self
+        }
+    }
+
+    /// Whether the link counts as up, and the next tick ends that.
+    pub(crate) fn is_lost(&self, patience: u32) -> bool
+        ensures { result ≡ is_lost patience self.now }
+    {
+        self.up && self.deaf.saturating_add(1) >= patience
+    }
+
+    /// After a tick.
+    pub(crate) fn after_tick(self, patience: u32) -> Link
+        ensures { result ≡ after_tick patience self }
+    {
+        Link {
+            up: lasts(self.up, self.deaf, patience),
+            deaf: one_more(self.up, self.deaf),
+            is_heard: lasts(self.is_heard, self.silent, patience),
+            silent: one_more(self.is_heard, self.silent),
+            ..self
+        }
+    }
+
+    /// The start of the neighbour that the router says it knows: none if it has not heard the neighbour lately.
+    pub(crate) fn echo(&self) -> u64
+        ensures { result ≡ echo_of self.now }
+    {
+        if self.is_heard { self.peer } else { 0 }
     }
 
     /// With the neighbour's acknowledgement. One of a number that was not announced is ignored.
@@ -181,5 +262,23 @@ impl Link {
             neighbour: self.neighbour,
             distance: self.distance,
         }
+    }
+}
+
+/// Whether something that has lasted for so many ticks lasts for one tick more.
+fn lasts(is_so: bool, ticks: u32, patience: u32) -> bool
+    ensures { result ≡ lasts is_so ticks patience }
+{
+    is_so && ticks.saturating_add(1) < patience
+}
+
+/// One tick more, if they are counted.
+fn one_more(is_counted: bool, ticks: u32) -> u32
+    ensures { result ≡ one_more is_counted ticks }
+{
+    if is_counted {
+        ticks.saturating_add(1)
+    } else {
+        ticks
     }
 }

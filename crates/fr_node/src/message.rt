@@ -18,13 +18,14 @@ pub struct Message {
     pub to: u32,
     /// The start of the router that says it: a greater number at each start.
     pub boot: u64,
-    /// The greatest start of the neighbour that the router knows. 0 if it knows none.
+    /// The greatest start of the neighbour that the router knows. 0 if it knows none, or has not heard the neighbour
+    /// lately.
     pub echo: u64,
     /// The number of the router's last announcement.
     pub number: u64,
     /// The height that it announced under this number.
     pub height: u64,
-    /// The greatest number that it has heard of the neighbour's start in `echo`. 0 if it has heard none.
+    /// The greatest number that it has heard of the greatest start of the neighbour. 0 if it has heard none.
     pub heard: u64,
     /// How many links a packet crosses from the router to a gateway, by what it has heard.
     /// [`CUT_OFF`](crate::CUT_OFF) if it has no way.

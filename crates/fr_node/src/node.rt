@@ -5,7 +5,7 @@ ghost use Rattle.std.specs.Prelude.{IsTrue, IfErr, IfOk, IsSome, IfSome, IfNone,
 ghost use Rattle.std.specs.List.{list_all, list_any, position};
 ghost use Rattle.fr_node.specs.Histories.{Announces};
 ghost use Rattle.fr_node.specs.declared.fault.NodeFault.TheVariants.{Itself, LaterStart, Memory, Outdated, TooHigh, Unwritten};
-ghost use Rattle.fr_node.specs.Links.{Hears, IsKnown, IsTaken, SetsUp, has_answered, is_lower, is_way, leads_to, link_to, unknown};
+ghost use Rattle.fr_node.specs.Links.{Hears, IsKnown, IsTaken, SetsUp, after_tick, has_answered, is_lost, is_lower, is_way, leads_to, link_to, unknown};
 ghost use Rattle.fr_node.specs.Distances.{AreWays, HasNoWay, IsDistance, IsNearest, ways_of};
 ghost use Rattle.fr_node.specs.Policies.{Acts, Announcement, FallsTo, IsAboveAll, IsBelowCeiling, IsBestOrNone, MaySettle, RisesTo, better_of, is_higher, is_up};
 ghost use Rattle.fr_node.specs.Nodes.{IsMessageTo, Steps, lets_in, sends_to};
@@ -28,9 +28,9 @@ pub const START_HEIGHTS: u64 = 1 << 63;
 /// One router, for one destination.
 ///
 /// After an event it says nothing until the caller has said that the ways and gates are written to its table. `link_up`
-/// and `link_down` are events, `hear` of a message that is taken, and `act` if it changes something. A table that was
-/// written before the last event cannot be confirmed: each event gives the ways and gates another number, their
-/// [`state`](Node::state).
+/// and `link_down` are events, `hear` of a message that is taken, `tick` if a link counts as up no longer, and `act` if it
+/// changes something. A table that was written before the last event cannot be confirmed: each event gives the ways and
+/// gates another number, their [`state`](Node::state).
 #[derive(Drop)]
 pub struct Node {
     own: Own,
@@ -122,8 +122,9 @@ impl Node {
         Ok(())
     }
 
-    /// Call this when the link to a neighbour comes up. If the neighbour is not known, no link changes. The policy may
-    /// change the height. Then the ways and gates have to be written. It does not allocate. O(d) for d known neighbours.
+    /// Call this when the link to a neighbour comes up. It counts as up then, until [`tick`](Node::tick) ends that. If the
+    /// neighbour is not known, no link changes. The policy may change the height. Then the ways and gates have to be
+    /// written. It does not allocate. O(d) for d known neighbours.
     pub fn link_up(&mut self, neighbour: u32)
         ensures set { SetsUp neighbour true self.old.links.items self.new.links.items }
         ensures after { IsAfterEvent [] self.old self.new }
@@ -140,6 +141,30 @@ impl Node {
     {
         self.set_link_up(neighbour, false);
         self.finish_event();
+    }
+
+    /// Call this at a steady interval, such as that at which messages are said again. A link counts as up no longer once
+    /// the neighbour has said nothing to this start of the router for as many ticks as `patience`: because it does not hear
+    /// the router, or is not heard. Then the neighbour is no way, its gate closes, and the router does not wait for it.
+    /// What it says to this start later makes the link count as up again. Ticks are counted anew when the link comes up,
+    /// and when the neighbour starts again.
+    ///
+    /// A neighbour of which no message was taken for as many ticks is told so by what the router says to it: `echo` is 0
+    /// there. So the link counts at neither end if it works one way.
+    ///
+    /// Returns whether a link was lost so. That is an event as [`link_down`](Node::link_down): the policy may change the
+    /// height, and the ways and gates have to be written. Otherwise this was no event. It does not allocate. O(d).
+    pub fn tick(&mut self, patience: u32) -> bool
+        ensures links { self.new.links.items ≡ map (after_tick patience) self.old.links.items }
+        ensures lost { result ≡ list_any (is_lost patience) self.old.links.items }
+        ensures after { IsTrue result → IsAfterEvent [] self.old self.new }
+        ensures kept { ¬ IsTrue result → self.new ≡ record self.old { links = self.new.links } }
+    {
+        if !self.tick_all(patience) {
+            return false;
+        }
+        self.finish_event();
+        true
     }
 
     /// Lets the policy change the height once more. Returns whether it has changed what this router knows of itself. Then
@@ -223,7 +248,8 @@ impl Node {
         Ok(())
     }
 
-    /// The message for a neighbour now. `None` if the neighbour is not known, or the link to it is down. It may be said as
+    /// The message for a neighbour now. `None` if the neighbour is not known, or the caller has not said that the link to
+    /// it is up. It has a message also if the link does not count as up since a [`tick`](Node::tick). It may be said as
     /// often as the caller likes, and has another stamp each time: the neighbour takes it after all that were said before,
     /// and ignores it once it has taken a later one. O(d).
     ///
@@ -240,14 +266,14 @@ impl Node {
         Ok(self.say_written(neighbour))
     }
 
-    /// The message for a neighbour, if the link to it is up.
+    /// The message for a neighbour, if the link to it has a carrier.
     fn say_written(&mut self, neighbour: u32) -> Option<Message>
         ensures { SaysTo neighbour self.old self.new result }
     {
         let Some(i) = self.index_of(neighbour) else {
             return None;
         };
-        if !self.links[i].up {
+        if !self.links[i].carrier {
             return None;
         }
         let message = self.message_at(i);
@@ -259,8 +285,8 @@ impl Node {
         })
     }
 
-    /// Whether there is news for a neighbour: its link is up, and the message for it differs from the last one that was
-    /// said, by more than its stamp. O(d).
+    /// Whether there is news for a neighbour: there is a message for it ([`say`](Node::say)), which differs from the last
+    /// one that was said, by more than its stamp. O(d).
     ///
     /// Fails with `Unwritten` if the ways and gates after the last event are not written.
     pub fn has_news(&self, neighbour: u32) -> Result<bool, NodeFault>
@@ -274,12 +300,12 @@ impl Node {
         Ok(self.has_other_message(neighbour))
     }
 
-    /// Whether the message for a neighbour at a link that is up differs from the last one that was said.
+    /// Whether the message for a neighbour at a link that has a carrier differs from the last one that was said.
     fn has_other_message(&self, neighbour: u32) -> bool
         ensures { IsNews neighbour self.now result }
     {
         match self.index_of(neighbour) {
-            Some(i) => self.links[i].up && !self.links[i].was_last_said(&self.message_at(i)),
+            Some(i) => self.links[i].carrier && !self.links[i].was_last_said(&self.message_at(i)),
             None => false,
         }
     }
@@ -407,7 +433,7 @@ impl Node {
             from: self.own.me,
             to: link.neighbour,
             boot: self.own.boot,
-            echo: link.peer,
+            echo: link.echo(),
             number: self.own.number,
             height: self.own.announced,
             heard: link.heard,
@@ -421,8 +447,19 @@ impl Node {
         ensures set { SetsUp neighbour up self.old.links.items self.new.links.items }
     {
         if let Some(i) = self.index_of(neighbour) {
-            self.links[i].up = up;
+            self.links[i] = self.links[i].with_carrier(up);
         }
+    }
+
+    /// Lets a tick pass on all links. Returns whether one counts as up no longer.
+    fn tick_all(&mut self, patience: u32) -> bool
+        ensures same { self.new ≡ record self.old { links = self.new.links } }
+        ensures links { self.new.links.items ≡ map (after_tick patience) self.old.links.items }
+        ensures lost { result ≡ list_any (is_lost patience) self.old.links.items }
+    {
+        let is_lost = will_lose(&self.links, patience);
+        tick_links(&mut self.links, patience);
+        is_lost
     }
 
     /// Takes a message if it is to be taken, and returns whether it is.
@@ -564,6 +601,22 @@ impl Node {
         }
         let highest = highest_link(&self.links)?;
         Some(highest.seen.saturating_add(1).min(u64::from(ceiling)))
+    }
+}
+
+/// Whether a tick ends that one of these links counts as up.
+fn will_lose(links: &[Link], patience: u32) -> bool
+    ensures { result ≡ list_any (is_lost patience) links.now }
+{
+    links.iter().any(|link| link.is_lost(patience))
+}
+
+/// What the links are after a tick.
+fn tick_links(links: &mut [Link], patience: u32)
+    ensures { links.new ≡ map (after_tick patience) links.old }
+{
+    for link in links.iter_mut() {
+        *link = link.after_tick(patience);
     }
 }
 

@@ -18,7 +18,7 @@ returns-then-index c =
     c.index-then-index.ensures in
     let said = ap (λ (l : Link). l.said) (found_at _ _ _ _ at) in
     let same = unstamped_same c.message_at.result c.message_at.ensures.stamp in record {
-      down = λ no _. no (ap (λ (l : Link). l.up) (found_at _ _ _ _ (is_at c.args.self.now.links.items c.args.neighbour
+      down = λ no _. no (ap (λ (l : Link). l.carrier) (found_at _ _ _ _ (is_at c.args.self.now.links.items c.args.neighbour
           c.in-Some.i c.index.result.now c.in-Some.ensures c.index.ensures)) ∙ c.if-index.true);
       up = λ up. (
         c.message_at.result,

@@ -1,5 +1,6 @@
-use Rattle.std.proofs.Common.{ap, refl, sym}
+use Rattle.std.proofs.Common.{ap, refl, sym, ◌∙◌}
 use Rattle.fr_node.specs.declared.link.Link.{Link}
+use Rattle.fr_node.specs.Links.{echo_of}
 use Rattle.fr_node.proofs.Linking.{found_at, is_at}
 use Rattle.fr_node.proofs.node.Node.message_at.Goals as goal
 
@@ -11,7 +12,7 @@ returns-clause-content c = λ w e.
       from = refl;
       to = at.neighbour;
       boot = refl;
-      echo = sym (ap (λ (l : Link). l.peer) found);
+      echo = c.echo.ensures ∙ sym (ap echo_of found);
       number = refl;
       height = refl;
       heard = sym (ap (λ (l : Link). l.heard) found);
