@@ -28,7 +28,7 @@ one_of_two a b c h = ⊎_elim
     (λ f. omega (arith, (one_facts a).1 f))
     (cases_Bool a)
 
-one_most : (a b : Bool) → (a ≡ true → b ≡ true) → one a ≤ one b
+pub one_most : (a b : Bool) → (a ≡ true → b ≡ true) → one a ≤ one b
 one_most a b h = ⊎_elim
     (λ t. omega (arith, (one_facts b).2 (h t), (one_facts a).0))
     (λ f. omega (arith, (one_facts a).1 f))

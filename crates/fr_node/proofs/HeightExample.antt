@@ -1,7 +1,7 @@
 -- A router falls below a neighbour beside another one that is lower still, and rises when that one rises. Both happen
 -- twice, so its heights come back.
-use Rattle.std.proofs.Common.{Contains, List, [], arith, eqb, false, inl, inr, refl, subst, suc, zero, ℕ, ⊎_elim, ◌∷◌, ◌<◌}
-use Rattle.std.proofs.Common.{◌≡◌}
+use Rattle.std.proofs.Common.{Contains, List, [], arith, eqb, false, inl, inr, refl, subst, suc, zero, ℕ, ⊎_elim, ◌∷◌}
+use Rattle.std.proofs.Common.{◌<◌, ◌≡◌}
 use Rattle.std.specs.List.{IsDistinct}
 use Rattle.fr_node.specs.declared.message.Message.{Message}
 use Rattle.fr_node.specs.Heights.{FallsBeside, KeepsLinks, RisesBeside, SomeHeightComesBack, knows_low}
@@ -319,13 +319,13 @@ only_zero w h = ⊎_elim
     (λ none. absurd (Contains-none w none))
     (Contains-cases w 0 [] h)
 
-keeps : (x : ℕ) → x < 3 → KeepsBelow 6 3 3 x (is_below x) (beside_each x) (net a2 b1 c4 pool7) later
+keeps : (x : ℕ) → x < 3 → KeepsBelow 6 6 3 3 x (is_below x) (beside_each x) (net a2 b1 c4 pool7) later
 keeps zero within = let e : unheard_beside (net a2 b1 c4 pool7) 0 both ≡ 3 = refl in record {
   down = is_below_only 0;
   neighbours = of_both (λ w. w < 3) (omega arith) (omega arith);
   once = apart_first;
   links = beside_both;
-  below = (omega arith, (omega arith, (omega arith, (omega arith, tt))));
+  below = (inl (omega arith), (inr refl, (inl (omega arith), (inr refl, tt))));
   unheard = omega (arith, e);
 }
 keeps (suc zero) within = let e : unheard_beside (net a2 b1 c4 pool7) 1 (0 ∷ []) ≡ 1 = refl in record {
@@ -333,7 +333,7 @@ keeps (suc zero) within = let e : unheard_beside (net a2 b1 c4 pool7) 1 (0 ∷ [
   neighbours = only_zero;
   once = apart_second;
   links = ((refl, inl refl, (refl, inl refl, (refl, inl refl, (refl, inl refl, tt)))));
-  below = (omega arith, (omega arith, (omega arith, (omega arith, tt))));
+  below = (inl (omega arith), (inl (omega arith), (inl (omega arith), (inl (omega arith), tt))));
   unheard = omega (arith, e);
 }
 keeps (suc (suc zero)) within = let e : unheard_beside (net a2 b1 c4 pool7) 2 (0 ∷ []) ≡ 1 = refl in record {
@@ -341,7 +341,7 @@ keeps (suc (suc zero)) within = let e : unheard_beside (net a2 b1 c4 pool7) 2 (0
   neighbours = only_zero;
   once = apart_third;
   links = ((refl, inl refl, (refl, inl refl, (refl, inl refl, (refl, inl refl, tt)))));
-  below = (omega arith, (omega arith, (omega arith, (omega arith, tt))));
+  below = (inl (omega arith), (inl (omega arith), (inl (omega arith), (inl (omega arith), tt))));
   unheard = omega (arith, e);
 }
 keeps (suc (suc (suc x))) within = absurd (omega (arith, within))

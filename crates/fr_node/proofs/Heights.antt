@@ -185,7 +185,8 @@ module _ (low : (e w h : ℕ) → Bool) (e x : ℕ) (ws : List ℕ) (s t : Net) 
     where
       none : (s.router x).announced (s.router x).number ≡ e → has_low low e ws (t.router x) ≡ true → ⊥
       none same y = let w = any_of (λ v. knows_low low e v (t.router x)) ws y in
-          false_true (sym (subst (λ (v : ℕ). knows_low low v w.0 (t.router x) ≡ false) same (r.none_low w.0 w.1)) ∙ w.2)
+          false_true (sym (subst (λ (v : ℕ). knows_low low v w.0 (t.router x) ≡ false) same (r.none_low w.0 w.1))
+          ∙ w.2)
 
       above : has_low low e ws (t.router x) ≡ true
           → (may_return low e ws (s.router x) ≡ true) ⊎ (hears_low low e ws (s.router x) (t.router x) ≡ true)

@@ -1,7 +1,8 @@
--- Routers that stay at or below a ceiling come to rest. Announcements are ordered by height, and those of equal heights
--- by the number of their router. From one place in this order to the next their number at most doubles.
-use Rattle.std.proofs.Common.{Bool, Contains, List, [], add-one, arith, false, inl, inr, not, refl, subst, suc, true, zero}
-use Rattle.std.proofs.Common.{ℕ, ⊎_elim}
+-- Routers that stay below a ceiling, or at one height above, come to rest. Announcements are ordered by height, and
+-- those of equal heights by the number of their router. From one place in this order to the next their number at most
+-- doubles.
+use Rattle.std.proofs.Common.{Bool, Contains, List, [], add-one, arith, false, inl, inr, not, refl, subst, suc, true}
+use Rattle.std.proofs.Common.{zero, ℕ, ⊎_elim}
 use Rattle.std.proofs.Common.{◌∷◌, ◌&&◌, ◌*◌, ◌+◌, ◌<◌, ◌==◌, ◌^◌, ◌≡◌, ◌≢◌, ◌≤◌, ◌⊎◌}
 use Rattle.std.proofs.Math.Nat.{mul-le-mul_right, pow-suc}
 use Rattle.std.proofs.lemmas.Bool.{cases_Bool, cases_lt, or_cases}
@@ -9,10 +10,10 @@ use Rattle.std.proofs.lemmas.Bool.Decides.{nat_tests}
 use Rattle.std.proofs.lemmas.Nat.{pow-add}
 use Rattle.fr_node.specs.Heights.{announces, announces_below, hears_low, knows_low, steps_with}
 use Rattle.fr_node.specs.Paths.{times}
-use Rattle.fr_node.specs.Rests.{AnnouncementsEnd, KeepsBelow, LeadsDown, StaysBelow, TestsLeadDown, is_within}
+use Rattle.fr_node.specs.Rests.{AnnouncementsEnd, KeepsBelow, LeadsDown, StaysBelow, TestsLeadDown}
 use Rattle.fr_node.specs.Rests.{times_of_all, unheard_beside}
 use Rattle.fr_node.specs.Routers.{IsRun, Net, Router, last}
-use Rattle.fr_node.proofs.Counting.{one, one_facts, one_of_two}
+use Rattle.fr_node.proofs.Counting.{one, one_facts, one_most, one_of_two}
 use Rattle.fr_node.proofs.Heights.{height_bound, is_below_only, is_below_test}
 use Rattle.fr_node.proofs.Lows.{GoesSlowly, announced_on, announces_low, goes_slowly, hears_bound, hears_new}
 use Rattle.fr_node.proofs.Members.{Contains-cases, Contains-head, Contains-tail}
@@ -51,11 +52,11 @@ steps_most p q each x s ts = omega (
   steps_none (λ _ _. false) (λ _ _. refl) x s ts,
 )
 
-costs_lead_down : (x : ℕ) (cost : ℕ → ℕ) → ((w : ℕ) → 1 ≤ cost w) → LeadsDown x (is_within cost)
-costs_lead_down x cost least e w h y = let costs = least w in inl (grind (arith, nat_tests, y, costs))
-
 pub tests_lead_down : TestsLeadDown
-tests_lead_down = (is_below_only, costs_lead_down)
+tests_lead_down = (
+  is_below_only,
+  λ x cost least e w h y. let costs = least w in inl (grind (arith, nat_tests, y, costs)),
+)
 
 -- Announcements by rank: by height, and of equal heights by the number of their router
 
@@ -113,9 +114,9 @@ module _ (e x : ℕ) (low : (e w h : ℕ) → Bool) (down : LeadsDown x low) whe
           (λ rest. inr rest)
           (or_cases (hears_one w r t) (hears_low low e ws r t) y)
 
-module _ (ceiling routers most : ℕ) (low : (x e w h : ℕ) → Bool) (beside : ℕ → List ℕ) (s : Net) (ts : List Net)
-    (holds : Holds s) (run : IsRun s ts)
-    (keeps : (x : ℕ) → x < routers → KeepsBelow ceiling routers most x (low x) (beside x) s ts) where
+module _ (ceiling top routers most : ℕ) (above : ceiling ≤ top) (low : (x e w h : ℕ) → Bool) (beside : ℕ → List ℕ)
+    (s : Net) (ts : List Net) (holds : Holds s) (run : IsRun s ts)
+    (keeps : (x : ℕ) → x < routers → KeepsBelow ceiling top routers most x (low x) (beside x) s ts) where
   -- the announcements of w below router x at height e
   of_one : (e x w : ℕ) → ℕ
   of_one e x w = steps_with (announces_low e x w) w s ts
@@ -152,7 +153,7 @@ module _ (ceiling routers most : ℕ) (low : (x e w h : ℕ) → Bool) (beside :
         (Contains-cases w x (beside x) h)),
   )
     where
-      k : KeepsBelow ceiling routers most x (low x) (beside x) s ts
+      k : KeepsBelow ceiling top routers most x (low x) (beside x) s ts
       k = keeps x within
 
   next_router : (e x : ℕ) → x < routers → lower e (x + 1) + (1 + most) ≤ (lower e x + (1 + most)) * 2
@@ -187,31 +188,56 @@ module _ (ceiling routers most : ℕ) (low : (x e w h : ℕ) → Bool) (beside :
   unfolding of_one lower
   first = below_none (of_one 0 0) (λ w. steps_none (announces_low 0 0 w) (none_lower w) w s ts) routers
 
+  step_up : (e c : ℕ) → lower e 0 + (1 + most) ≤ (1 + most) * 2 ^ (c * routers)
+      → lower (e + 1) 0 + (1 + most) ≤ (1 + most) * 2 ^ ((c + 1) * routers)
+  step_up e c before = rw (more c routers) (rw (pow-add 2 (c * routers) routers) (omega (
+    arith,
+    next_height e,
+    at_height e routers (omega arith),
+    mul-le-mul_right (2 ^ routers) before,
+    assoc (1 + most) (2 ^ (c * routers)) (2 ^ routers),
+  )))
+    where
+      more : (a b : ℕ) → (a + 1) * b ≡ a * b + b
+      more a b = grind arith
+
+      assoc : (a b c : ℕ) → a * b * c ≡ a * (b * c)
+      assoc a b c = grind arith
+
   below_height : (e : ℕ) → lower e 0 + (1 + most) ≤ (1 + most) * 2 ^ (e * routers)
   below_height zero = rw (zero_mul routers) (omega (arith, first))
     where
       zero_mul : (n : ℕ) → 0 * n ≡ 0
       zero_mul n = grind arith
-  below_height (suc e) = next (below_height e)
-    where
-      next : lower e 0 + (1 + most) ≤ (1 + most) * 2 ^ (e * routers)
-          → lower (suc e) 0 + (1 + most) ≤ (1 + most) * 2 ^ (suc e * routers)
-      next before = rw (more e routers) (rw (pow-add 2 (e * routers) routers) (omega (
-        arith,
-        subst (λ (i : ℕ). lower i 0 ≤ lower e routers) (add-one e) (next_height e),
-        at_height e routers (omega arith),
-        mul-le-mul_right (2 ^ routers) before,
-        assoc (1 + most) (2 ^ (e * routers)) (2 ^ routers),
-      )))
-        where
-          more : (a b : ℕ) → suc a * b ≡ a * b + b
-          more a b = grind arith
+  below_height (suc e) = subst (λ (i : ℕ). lower i 0 + (1 + most) ≤ (1 + most) * 2 ^ (i * routers)) (add-one e)
+      (step_up e e (below_height e))
 
-          assoc : (a b c : ℕ) → a * b * c ≡ a * (b * c)
-          assoc a b c = grind arith
+  -- no height between the ceiling and top is announced
+  none_between : (x : ℕ) (r : Net) (rs : List Net) → StaysBelow ceiling top x rs
+      → steps_with (announces_low top 0 x) x r rs ≤ steps_with (announces_low ceiling 0 x) x r rs
+  unfolding one
+  none_between x r [] stays = omega arith
+  none_between x r (t ∷ rs) stays = omega (
+    arith,
+    one_most (announces_low top 0 x (r.router x) (t.router x)) (announces_low ceiling 0 x (r.router x) (t.router x))
+        (λ y. ⊎_elim
+        (λ l. grind (arith, nat_tests, y, l))
+        (λ same. grind (arith, nat_tests, y, same))
+        stays.0),
+    none_between x t rs stays.1,
+  )
+
+  below_top : lower top 0 + (1 + most) ≤ (1 + most) * 2 ^ (ceiling * routers)
+  unfolding of_one lower
+  below_top = omega (
+    arith,
+    below_most (of_one top 0) (of_one ceiling 0) routers
+        (λ x within. none_between x s ts (keeps x within).below),
+    below_height ceiling,
+  )
 
   all_below : (x : ℕ) (r : Net) (rs : List Net) → IsRun r rs → GoesSlowly x r rs
-      → StaysBelow ceiling x rs → times r (last r rs) x ≤ steps_with (announces_low (ceiling + 1) 0 x) x r rs
+      → StaysBelow ceiling top x rs → times r (last r rs) x ≤ steps_with (announces_low (top + 1) 0 x) x r rs
   unfolding one
   all_below x r [] ran slowly stays = omega arith
   all_below x r (t ∷ rs) ran slowly stays = omega (
@@ -222,21 +248,24 @@ module _ (ceiling routers most : ℕ) (low : (x e w h : ℕ) → Bool) (beside :
   )
     where
       step : (t.router x).number
-          ≤ (r.router x).number + one (announces_low (ceiling + 1) 0 x (r.router x) (t.router x))
+          ≤ (r.router x).number + one (announces_low (top + 1) 0 x (r.router x) (t.router x))
       step = ⊎_elim
           (λ n. omega (arith, n))
           (λ n. omega (
             arith,
             n,
-            (one_facts (announces_low (ceiling + 1) 0 x (r.router x) (t.router x))).2 (announced n),
+            (one_facts (announces_low (top + 1) 0 x (r.router x) (t.router x))).2 (announced n),
           ))
           slowly.1
         where
           announced : (t.router x).number ≡ (r.router x).number + 1
-              → announces_low (ceiling + 1) 0 x (r.router x) (t.router x) ≡ true
-          announced n = let at_most = stays.0 in grind (arith, nat_tests, n, at_most)
+              → announces_low (top + 1) 0 x (r.router x) (t.router x) ≡ true
+          announced n = ⊎_elim
+              (λ l. grind (arith, nat_tests, n, l, above))
+              (λ same. grind (arith, nat_tests, n, same))
+              stays.0
 
-  together : (n : ℕ) → n ≤ routers → times_of_all s (last s ts) n ≤ below (of_one (ceiling + 1) 0) n
+  together : (n : ℕ) → n ≤ routers → times_of_all s (last s ts) n ≤ below (of_one (top + 1) 0) n
   unfolding below of_one
   together zero within = omega arith
   together (suc n) within = omega (
@@ -247,8 +276,8 @@ module _ (ceiling routers most : ℕ) (low : (x e w h : ℕ) → Bool) (beside :
 
   rest : times_of_all s (last s ts) routers ≤ (1 + most) * 2 ^ ((ceiling + 1) * routers)
   unfolding lower
-  rest = omega (arith, together routers (omega arith), below_height (ceiling + 1))
+  rest = omega (arith, together routers (omega arith), step_up top ceiling below_top)
 
 pub announcements_end : AnnouncementsEnd
-announcements_end s past future ceiling routers most low beside begins ran runs keeps = rest ceiling routers most low
-    beside (last s past) future (held s past begins ran) runs keeps
+announcements_end s past future ceiling top routers most low beside begins ran runs above keeps = rest ceiling top
+    routers most above low beside (last s past) future (held s past begins ran) runs keeps

@@ -1,7 +1,8 @@
--- How many heights routers announce together that stay at or below a ceiling, while links stay as they are.
--- Messages may be lost, delayed, repeated and overtaken, and nothing is supposed of what was heard before. The
--- definitions and laws are this project's own.
-use Rattle.std.specs.Prelude.{Bool, IsTrue, List, [], ◌∷◌, eqb, nat_le, true, zero, suc, ℕ, ◌+◌, ◌*◌, ◌^◌, ◌<◌, ◌≡◌, ◌≤◌, ◌⊎◌}
+-- How many heights routers announce together that stay below a ceiling, or at one height above, while links stay as
+-- they are. Messages may be lost, delayed, repeated and overtaken, and nothing is supposed of what was heard before.
+-- The definitions and laws are this project's own.
+use Rattle.std.specs.Prelude.{Bool, IsTrue, List, [], ◌∷◌, eqb, nat_le, true, zero, suc, ℕ, ◌+◌, ◌*◌, ◌^◌, ◌<◌, ◌≡◌}
+use Rattle.std.specs.Prelude.{◌≤◌, ◌⊎◌}
 use Rattle.std.specs.List.{Contains, IsDistinct}
 use Rattle.fr_node.specs.declared.node.Node.{Node}
 use Rattle.fr_node.specs.declared.policy.Rise.TheVariants.{Ceiling}
@@ -24,25 +25,27 @@ abbrev pub TestsLeadDown : Type 0
 TestsLeadDown = ((x : ℕ) → LeadsDown x (is_below x))
     × ((x : ℕ) (cost : ℕ → ℕ) → ((w : ℕ) → 1 ≤ cost w) → LeadsDown x (is_within cost))
 
--- in these networks, which follow one another, the last height that router x has announced is at most the ceiling
-abbrev pub StaysBelow : ℕ → ℕ → List Net → Type 0
-StaysBelow ceiling x [] = Unit {0}
-StaysBelow ceiling x (t ∷ ts) = ((t.router x).announced (t.router x).number ≤ ceiling) × StaysBelow ceiling x ts
+-- in these networks, which follow one another, the last height that router x has announced is below the ceiling, or is
+-- top
+abbrev pub StaysBelow : (ceiling top x : ℕ) → List Net → Type 0
+StaysBelow ceiling top x [] = Unit {0}
+StaysBelow ceiling top x (t ∷ ts) = (((t.router x).announced (t.router x).number < ceiling)
+    ⊎ ((t.router x).announced (t.router x).number ≡ top)) × StaysBelow ceiling top x ts
 
 -- what router x has not heard of these neighbours
 abbrev pub unheard_beside : Net → ℕ → List ℕ → ℕ
 unheard_beside s x [] = 0
 unheard_beside s x (w ∷ ws) = unheard s x w + unheard_beside s x ws
 
--- router x acts by this test beside these other routers, each of them listed once, and stays at or below the ceiling.
--- At first there are at most `most` announcements of them that it has not heard
-pub record KeepsBelow (ceiling routers most x : ℕ) (low : (e w h : ℕ) → Bool) (ws : List ℕ) (s : Net)
+-- router x acts by this test beside these other routers, each of them listed once, and stays below the ceiling or at
+-- top. At first there are at most `most` announcements of them that it has not heard
+pub record KeepsBelow (ceiling top routers most x : ℕ) (low : (e w h : ℕ) → Bool) (ws : List ℕ) (s : Net)
     (ts : List Net) : Type 0 where
   pub down : LeadsDown x low
   pub neighbours : (w : ℕ) → Contains ws w → w < routers
   pub once : IsDistinct eqb (x ∷ ws)
   pub links : KeepsLinks low x ws s ts
-  pub below : StaysBelow ceiling x ts
+  pub below : StaysBelow ceiling top x ts
   pub unheard : unheard_beside s x ws ≤ most
 
 -- how often the routers below this number together announce a height
@@ -50,18 +53,19 @@ abbrev pub times_of_all : Net → Net → ℕ → ℕ
 times_of_all s t zero = 0
 times_of_all s t (suc n) = times s t n + times_of_all s t n
 
--- together they announce no more than so many heights, however long the run is. Each may go by a test of its own
+-- together they announce no more than so many heights, however long the run is. Each may go by a test of its own. The
+-- top may be the ceiling, or any greater height
 abbrev pub AnnouncementsEnd : Type 0
-AnnouncementsEnd = (s : Net) (past future : List Net) (ceiling routers most : ℕ) (low : (x e w h : ℕ) → Bool)
-    (beside : ℕ → List ℕ) → IsStart s → IsRun s past → IsRun (last s past) future
-    → ((x : ℕ) → x < routers → KeepsBelow ceiling routers most x (low x) (beside x) (last s past) future)
+AnnouncementsEnd = (s : Net) (past future : List Net) (ceiling top routers most : ℕ) (low : (x e w h : ℕ) → Bool)
+    (beside : ℕ → List ℕ) → IsStart s → IsRun s past → IsRun (last s past) future → ceiling ≤ top
+    → ((x : ℕ) → x < routers → KeepsBelow ceiling top routers most x (low x) (beside x) (last s past) future)
     → times_of_all (last s past) (last (last s past) future) routers ≤ (1 + most) * 2 ^ ((ceiling + 1) * routers)
 
 -- this happens: of three routers one announces four heights
 abbrev pub SomeRoutersAnnounce : Type 0
 SomeRoutersAnnounce = (s : Net) × (past future : List Net) × (ceiling routers most : ℕ) × (beside : ℕ → List ℕ)
     × IsStart s × IsRun s past × IsRun (last s past) future
-    × ((x : ℕ) → x < routers → KeepsBelow ceiling routers most x (is_below x) (beside x) (last s past) future)
+    × ((x : ℕ) → x < routers → KeepsBelow ceiling ceiling routers most x (is_below x) (beside x) (last s past) future)
     × (times_of_all (last s past) (last (last s past) future) routers ≡ 4)
 
 -- a call of a gateway, or of a node that rises to this ceiling at most, announces no height above the ceiling

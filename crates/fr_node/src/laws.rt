@@ -47,8 +47,8 @@ pub fn ways_law()
 /// no router restarts, they announce a bounded number of heights together, whatever happens to messages. Each of them
 /// acts as in `heights_law`, and may do so by a test of its own, if only heights below its own are low enough. Such
 /// tests are whether a neighbour is lower, and whether its height and the cost of the link to it are together at most
-/// the height. In some run routers announce four heights. A call of a `Node` with `Rise::Ceiling` that starts at or
-/// below the ceiling stays there.
+/// the height. Instead of the ceiling they may announce one height above it. In some run routers announce four heights.
+/// A call of a `Node` with `Rise::Ceiling` that starts at or below the ceiling stays there.
 pub fn ceiling_law()
     ensures arrive { JoinedPacketsArrive }
     ensures joined { SomeRouterIsJoined }
