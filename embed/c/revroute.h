@@ -689,7 +689,8 @@ void revroute_way_reader_close(revroute_way_reader *reader);
  * 1. Write, then say that it is written, then send. After an event, the program writes the ways and gates to the
  *    forwarding table, and only then calls revroute_node_written. Until then revroute_node_say returns
  *    REVROUTE_UNWRITTEN. More events may come before. Events are revroute_node_link_up, revroute_node_link_down,
- *    revroute_node_act if it changes something, and revroute_node_hear if the message is taken.
+ *    revroute_node_tick if a link is lost, revroute_node_act if it changes something, and revroute_node_hear if the
+ *    message is taken.
  * 2. Write in this order: close the gates that are not listed any more, change the ways, then open gates.
  * 3. Drop what comes through a closed gate: packets from each neighbour that revroute_node_gates does not list.
  * 4. The boot number grows at each start of a router.
@@ -771,9 +772,22 @@ revroute_status revroute_node_open_gateway(revroute_node *node, uint32_t me, uin
 revroute_status revroute_node_know(revroute_node *node, uint32_t neighbour);
 
 /* Events. The link to a neighbour comes up, or goes down. If the neighbour is not known, no link changes. A link that
- * goes down keeps what was heard on it. The policy may change the height. O(d). */
+ * comes up counts as up until revroute_node_tick ends that. A link that goes down keeps what was heard on it. The policy
+ * may change the height. O(d). */
 revroute_status revroute_node_link_up(revroute_node *node, uint32_t neighbour);
 revroute_status revroute_node_link_down(revroute_node *node, uint32_t neighbour);
+
+/* Notices links that do not work both ways. Call this at a steady interval, such as that at which you say messages again.
+ * A link counts as up no longer once its neighbour has said nothing to this start of the router for `patience` calls:
+ * because it does not hear the router, or is not heard. Then the neighbour is no way, its gate closes, and the router does
+ * not wait for it. The node goes on saying messages over such a link, and the link counts as up again once the
+ * neighbour says something to this start. Calls are counted anew when the link comes up, and when the neighbour starts
+ * again. A neighbour that was not heard for as many calls is told so by the messages for it, so the link does not count
+ * at its end either.
+ *
+ * Returns 1 if a link was lost so, which is an event as revroute_node_link_down is. Returns 0 if none was, which is no
+ * event, and for a null node. O(d). */
+uint32_t revroute_node_tick(revroute_node *node, uint32_t patience);
 
 /* Lets the policy change the height once more. Each event takes one step of the policy, so call this after an event
  * until it returns 0. Returns 1 if something has changed, which is an event. Returns 0 if nothing has changed, which is
@@ -804,12 +818,14 @@ revroute_status revroute_node_written(revroute_node *node, uint64_t state);
  * the neighbour takes it after those that were said before. Messages may be lost, so say one to each neighbour again after
  * some time; bytes that are only sent again are ignored once they were heard.
  *
- * The first of these that holds: REVROUTE_UNWRITTEN; REVROUTE_TOO_SHORT; REVROUTE_LINK_DOWN; REVROUTE_ANSWERED. O(d). */
+ * The first of these that holds: REVROUTE_UNWRITTEN; REVROUTE_TOO_SHORT; REVROUTE_LINK_DOWN if the neighbour is not
+ * known, or if the program has not said that the link to it is up; REVROUTE_ANSWERED, also for a link that
+ * revroute_node_tick has lost. O(d). */
 revroute_status revroute_node_say(revroute_node *node, uint32_t neighbour, uint8_t *message, size_t room,
                                   size_t *length);
 
-/* Writes to *news 1 if the link to the neighbour is up and the message for it differs from the last one that was said to
- * it by more than its stamp, and 0 otherwise. REVROUTE_UNWRITTEN, and *news is unchanged, if the ways and gates are not written. O(d). */
+/* Writes to *news 1 if revroute_node_say has a message for the neighbour which differs from the last one by more than its
+ * stamp, and 0 otherwise. REVROUTE_UNWRITTEN, and *news is unchanged, if the ways and gates are not written. O(d). */
 revroute_status revroute_node_has_news(revroute_node *node, uint32_t neighbour, uint32_t *news);
 
 /* Writes the neighbours to which packets may be sent, the nearest first, and equally near ones by number, to the front of

@@ -1,40 +1,46 @@
 -- What the calls of a node ensure makes them calls of the laws.
 use Rattle.std.proofs.Common.{Bool, List, None, Some, [], ap, arith, cond, eq-eqb, eqb, false, get_or, inl, inr}
-use Rattle.std.proofs.Common.{length, length-append, ne_eqb, not, refl, subst, sym, true, ℕ, ⊎_elim, ◌++◌, ◌+◌, ◌<◌, ◌∙◌}
-use Rattle.std.proofs.Common.{◌∷◌, ◌≡◌}
+use Rattle.std.proofs.Common.{length, length-append, map, ne_eqb, not, refl, subst, suc, sym, true, zero, ℕ, ⊎_elim}
+use Rattle.std.proofs.Common.{◌++◌, ◌+◌, ◌<◌, ◌∙◌, ◌∷◌, ◌≡◌}
+use Rattle.std.specs.List.{list_any}
 use Rattle.std.proofs.Math.Seq.{get_or-append_seam}
 use Rattle.std.specs.Global.{Vec}
 use Rattle.std.proofs.lemmas.Bool.{cases_eq, cases_lt, cond-false, cond-true}
+use Rattle.std.proofs.lemmas.Bool.Decides.{nat_tests}
 use Rattle.std.proofs.lemmas.List.{get_or_append_left, get_or_past}
 use Rattle.std.proofs.lemmas.List.Folds.{position_or_len_push}
 use Rattle.std.proofs.lemmas.List.Sums.{prefix_len-le-length}
 use Rattle.fr_node.specs.Events.{IsAfterEvent, unstamped}
-use Rattle.fr_node.specs.Links.{Hears, IsKnown, Says, SetsUp, leads_to, link_to, place_of, unknown}
+use Rattle.fr_node.specs.Links.{Hears, IsKnown, Says, SetsUp, after_tick, is_lost, leads_to, link_to, place_of, unknown}
 use Rattle.fr_node.specs.Nodes.{Steps}
 use Rattle.fr_node.proofs.Announcing.{true_false}
 use Rattle.fr_node.proofs.Stepping.{taken_or_not}
+use Rattle.fr_node.proofs.Ticking.{link_to-ticked, steps_ticked}
 use Rattle.fr_laws.proofs.ListedOnce.{once_kept}
 use Rattle.fr_node.specs.declared.link.Link.{Link}
 use Rattle.fr_node.specs.declared.message.Message.{Message}
 use Rattle.fr_node.specs.declared.node.Node.{Node}
 use Rattle.fr_node.specs.declared.own.Own.{Own}
-use Rattle.fr_laws.specs.Announcements.{ActingIsACall, AreListedOnce, HearingIsACall, IsCall, KnowingIsACall}
-use Rattle.fr_laws.specs.Announcements.{RepeatingIsACall, SayingIsACall, WritingIsACall}
+use Rattle.fr_laws.specs.Announcements.{ActingIsACall, AreListedOnce, HearingIsACall, IsAsSaid, IsCall, KnowingIsACall}
+use Rattle.fr_laws.specs.Announcements.{RepeatingIsACall, SayingIsACall, TickingIsACall, WritingIsACall}
 
 -- the same links are known
 alike : (ls ks : List Link) (w : ℕ) → ks ≡ ls → (link_to ks w).up ≡ (link_to ls w).up
 alike ls ks w e = ap (λ (js : List Link). (link_to js w).up) e
 
-hearing_up : (own : Own) (m : Message) (ls ks : List Link) → Hears own m ls ks
-    → (w : ℕ) → (link_to ks w).up ≡ (link_to ls w).up
-hearing_up own m ls ks h w = ⊎_elim
+hearing_up : (own : Own) (m : Message) (ls ks : List Link) → (link_to ls m.from).up ≡ (link_to ls m.from).carrier
+    → Hears own m ls ks → (w : ℕ) → (link_to ks w).up ≡ (link_to ls w).up
+hearing_up own m ls ks said h w = ⊎_elim
     (λ e. subst (λ (v : ℕ). (link_to ks v).up ≡ (link_to ls v).up) (sym e) here)
     (λ other. ap (λ (l : Link). l.up) (h.others w other))
     (cases_eq w m.from)
   where
     here : (link_to ks m.from).up ≡ (link_to ls m.from).up
     here = ⊎_elim
-        (λ taken. (h.taken taken).up)
+        (λ taken. ⊎_elim
+        (λ both. ((h.taken taken).both_ways both).0 ∙ sym said)
+        (λ one. (h.taken taken).one_way one)
+        (cases_eq m.echo own.boot))
         (λ none. alike ls ks m.from (h.ignored none))
         (taken_or_not own m ls)
 
@@ -118,12 +124,12 @@ module _ (ls : List Link) (w : ℕ) (stranger : ¬ IsKnown ls w) where
           (omega (arith, place_there v out, ap {B = ℕ} (λ (b : Bool). cond b 0 1) (ne_eqb w v other))))
           (cases_eq w v)
 
-pub taking_is_a_call : (m : Message) (old new : Node) → Hears old.own m old.links.items new.links.items
-    → IsAfterEvent (m ∷ []) old new → IsCall (m ∷ []) old new
-taking_is_a_call m old new hears event = record {
+pub taking_is_a_call : (m : Message) (old new : Node) → IsAsSaid old m.from
+    → Hears old.own m old.links.items new.links.items → IsAfterEvent (m ∷ []) old new → IsCall (m ∷ []) old new
+taking_is_a_call m old new said hears event = record {
   same = event.same;
   once = once_kept old.links.items new.links.items hears.neighbours;
-  up = hearing_up old.own m old.links.items new.links.items hears;
+  up = hearing_up old.own m old.links.items new.links.items said hears;
   step = event.step;
   acts = inl event.policy;
 }
@@ -169,8 +175,8 @@ unchanged : (messages : List Message) (old new : Node) → new ≡ old → IsCal
 unchanged messages old new e = subst (IsCall messages old) (sym e) (rests messages old old.is_written)
 
 pub hearing_is_a_call : HearingIsACall
-hearing_is_a_call m old new hears taken ignored = ⊎_elim
-    (λ is. taking_is_a_call m old new hears (taken is))
+hearing_is_a_call m old new said hears taken ignored = ⊎_elim
+    (λ is. taking_is_a_call m old new said hears (taken is))
     (λ none. unchanged (m ∷ []) old new (ignored none))
     (taken_or_not old.own m old.links.items)
 
@@ -216,3 +222,36 @@ knowing_is_a_call w old new (inl e) rest step = only_links old new (stamp_kept o
 knowing_is_a_call w old new (inr (stranger, e)) rest step = only_links old new (stamp_kept old new rest)
     (λ once. subst AreListedOnce (sym e) (knowing_once old.links.items w stranger once))
     (λ v. alike _ new.links.items v e ∙ knowing_up old.links.items w stranger v) step
+
+-- a tick that ends for none of these links that it counts as up
+ticking_up : (patience : ℕ) (ls : List Link) → list_any (is_lost patience) ls ≡ false
+    → (w : ℕ) → (link_to (map (after_tick patience) ls) w).up ≡ (link_to ls w).up
+ticking_up patience ls none w = ap (λ (l : Link). l.up) (link_to-ticked patience ls w) ∙ lasts_up (link_to ls w) kept
+  where
+    lasts_up : (l : Link) → is_lost patience l ≡ false → (after_tick patience l).up ≡ l.up
+    lasts_up l lost = grind (arith, nat_tests, lost)
+
+    kept : is_lost patience (link_to ls w) ≡ false
+    kept = ⊎_elim
+        (λ known. all ls none (place_of ls w) known)
+        (λ past. subst (λ (l : Link). is_lost patience l ≡ false) (sym (get_or_past ls (place_of ls w) unknown past)) refl)
+        (cases_lt (place_of ls w) (length ls))
+
+    all : (ks : List Link) → list_any (is_lost patience) ks ≡ false → (i : ℕ) → i < length ks
+        → is_lost patience (get_or ks i unknown) ≡ false
+    all [] over i within = absurd (omega (arith, within))
+    all (k ∷ ks) over zero within = grind over
+    all (k ∷ ks) over (suc i) within = all ks (grind over) i (omega (arith, within))
+
+neighbours_ticked : (patience : ℕ) (ls : List Link)
+    → map (λ (l : Link). l.neighbour) (map (after_tick patience) ls) ≡ map (λ (l : Link). l.neighbour) ls
+neighbours_ticked patience [] = refl
+neighbours_ticked patience (l ∷ ls) = rw (neighbours_ticked patience ls) refl
+
+pub ticking_is_a_call : TickingIsACall
+ticking_is_a_call patience old new ticked none rest = only_links old new (stamp_kept old new rest)
+    (subst (λ ls. AreListedOnce old.links.items → AreListedOnce ls) (sym ticked)
+    (once_kept old.links.items (map (after_tick patience) old.links.items)
+    (neighbours_ticked patience old.links.items)))
+    (λ w. ap (λ ls. (link_to ls w).up) ticked ∙ ticking_up patience old.links.items none w)
+    (steps_ticked patience old new (ap (λ (n : Node). n.own) rest) ticked)

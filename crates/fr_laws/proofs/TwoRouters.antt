@@ -18,7 +18,7 @@ use Rattle.fr_node.specs.Arrivals.{IsLinkedTo, IsQuiet, IsStill, IsTold}
 use Rattle.fr_node.specs.Distances.{IsDistance, IsNearest}
 use Rattle.fr_node.specs.Events.{IsAfterEvent}
 use Rattle.fr_node.specs.Histories.{IsHistory}
-use Rattle.fr_node.specs.Links.{Hears, IsHeard, IsNewer, is_lower, is_way, unknown}
+use Rattle.fr_node.specs.Links.{Hears, IsHeard, IsNewer, echo_of, is_lower, is_way, unknown}
 use Rattle.fr_node.specs.Nodes.{IsMessageTo}
 use Rattle.fr_node.specs.Policies.{Acts, IsAboveAll, is_higher, is_up}
 use Rattle.fr_node.specs.declared.link.Link.{Link}
@@ -50,7 +50,7 @@ own me height number = record {
 
 -- a link that is up, to a neighbour of which nothing is known
 abbrev new_link : ℕ → Link
-new_link neighbour = record (unknown) { neighbour = neighbour; up = true }
+new_link neighbour = record (unknown) { neighbour = neighbour; carrier = true; up = true }
 
 -- What the routers say: 0 that it has started, the gateway 1 its height, 0 its height, and the gateway that it has
 -- heard that
@@ -69,14 +69,14 @@ answer = record { from = 1; to = 0; boot = 1; echo = 1; number = 1; height = 0; 
 
 -- the gateway's link, once it has heard that 0 has started, and the reply
 abbrev met : Link
-met = record (new_link 0) { peer = 1; stamp = 1 }
+met = record (new_link 0) { is_heard = true; peer = 1; stamp = 1 }
 
 abbrev told : Link
 told = record met { stamp = 2; heard = 2; seen = 1; distance = 1; acked = 1 }
 
 -- the other router's link, once it has heard the gateway's height, and the answer
 abbrev greeted : Link
-greeted = record (new_link 1) { peer = 1; stamp = 1; heard = 1; distance = 0 }
+greeted = record (new_link 1) { is_heard = true; peer = 1; stamp = 1; heard = 1; distance = 0 }
 
 abbrev answered : Link
 answered = record greeted { stamp = 2; acked = 2 }
@@ -99,8 +99,13 @@ hears_one o m l k from to newer heard = hears_at o m (l ∷ []) 0 l k (record {
 hears_started : Hears (own 1 0 1) started (new_link 0 ∷ []) (met ∷ [])
 hears_started = hears_one (own 1 0 1) started (new_link 0) met refl refl (inl (omega arith)) (record {
   neighbour = refl;
-  up = refl;
+  carrier = refl;
   said = refl;
+  both_ways = λ _. (refl, refl);
+  one_way = λ _. refl;
+  deaf = λ _ _. refl;
+  started = λ _. refl;
+  lately = (refl, refl);
   start = refl;
   stamp = refl;
   informed = λ e _. absurd (omega (arith, e));
@@ -114,8 +119,13 @@ hears_started = hears_one (own 1 0 1) started (new_link 0) met refl refl (inl (o
 hears_hello : Hears (own 0 0 1) hello (new_link 1 ∷ []) (greeted ∷ [])
 hears_hello = hears_one (own 0 0 1) hello (new_link 1) greeted refl refl (inl (omega arith)) (record {
   neighbour = refl;
-  up = refl;
+  carrier = refl;
   said = refl;
+  both_ways = λ _. (refl, refl);
+  one_way = λ _. refl;
+  deaf = λ _ _. refl;
+  started = λ _. refl;
+  lately = (refl, refl);
   start = refl;
   stamp = refl;
   informed = λ _ _. (refl, refl, refl);
@@ -129,8 +139,13 @@ hears_hello = hears_one (own 0 0 1) hello (new_link 1) greeted refl refl (inl (o
 hears_reply : Hears (own 1 0 1) reply (met ∷ []) (told ∷ [])
 hears_reply = hears_one (own 1 0 1) reply met told refl refl (inr (refl, omega arith)) (record {
   neighbour = refl;
-  up = refl;
+  carrier = refl;
   said = refl;
+  both_ways = λ _. (refl, refl);
+  one_way = λ _. refl;
+  deaf = λ _ _. refl;
+  started = λ _. refl;
+  lately = (refl, refl);
   start = refl;
   stamp = refl;
   informed = λ _ _. (refl, refl, refl);
@@ -145,8 +160,13 @@ hears_reply = hears_one (own 1 0 1) reply met told refl refl (inr (refl, omega a
 hears_answer : Hears (own 0 1 2) answer (greeted ∷ []) (answered ∷ [])
 hears_answer = hears_one (own 0 1 2) answer greeted answered refl refl (inr (refl, omega arith)) (record {
   neighbour = refl;
-  up = refl;
+  carrier = refl;
   said = refl;
+  both_ways = λ _. (refl, refl);
+  one_way = λ _. refl;
+  deaf = λ _ _. refl;
+  started = λ _. refl;
+  lately = (refl, refl);
   start = refl;
   stamp = refl;
   informed = λ _ _. (refl, refl, refl);
@@ -423,7 +443,7 @@ module _ (alloc : Global) where
   }
 
   gate_says : (e : ℕ) (b : Bool) (l : Link) (m : Message) → m.from ≡ 1 → m.to ≡ 0 → m.boot ≡ 1 → m.number ≡ 1 → m.height ≡ 0
-      → m.distance ≡ 0 → l.neighbour ≡ 0 → m.echo ≡ l.peer → m.heard ≡ l.heard → IsMessageTo (gate e b l) 0 m
+      → m.distance ≡ 0 → l.neighbour ≡ 0 → m.echo ≡ echo_of l → m.heard ≡ l.heard → IsMessageTo (gate e b l) 0 m
   gate_says e b l m from to boot number height distance leads echo heard = record {
     from = from;
     to = to;

@@ -5,9 +5,9 @@
 -- are a run of full reversal nevertheless.
 use Rattle.std.specs.Prelude.{◌≡◌, ◌≢◌, ℕ, ◌-◌, ◌*◌, ◌<◌, ◌≤◌, ◌⊎◌, ◌↔◌, ◌==◌, if◌then◌else◌, IsTrue, List, [], ◌++◌}
 use Rattle.std.specs.Prelude.{◌∷◌, Bool, Contains, Option}
-use Rattle.std.specs.Prelude.{false, length, replicate, slice_index, sum, true}
+use Rattle.std.specs.Prelude.{false, length, map, replicate, slice_index, sum, true}
 use Rattle.std.specs.Global.{Global}
-use Rattle.std.specs.List.{slice_index_or}
+use Rattle.std.specs.List.{list_any, slice_index_or}
 use Rattle.fr_graph.specs.Links.{HasPath, Joins, Points}
 use Rattle.fr_core.specs.History.{links_after, moment_of, turn_count_of}
 use Rattle.fr_core.specs.Legal.{IsRun}
@@ -18,7 +18,7 @@ use Rattle.fr_core.specs.declared.entry.Reply.TheVariants.{Turned}
 use Rattle.fr_node.specs.Arrivals.{IsLinkedTo, IsQuiet}
 use Rattle.fr_node.specs.Events.{IsAfterEvent, SaysTo}
 use Rattle.fr_node.specs.Histories.{IsHistory}
-use Rattle.fr_node.specs.Links.{Hears, IsKnown, IsTaken, SetsUp, link_to, place_of, unknown}
+use Rattle.fr_node.specs.Links.{Hears, IsKnown, IsTaken, SetsUp, after_tick, is_lost, link_to, place_of, unknown}
 use Rattle.fr_node.specs.Nodes.{IsMessageTo, Steps}
 use Rattle.fr_node.specs.Policies.{Acts}
 use Rattle.fr_node.specs.Routers.{IsBelow}
@@ -176,11 +176,23 @@ SomeRouterAnnounces = (alloc : Global) → (n d : ℕ) × (first : List (ℕ × 
 
 -- The running code: by what each call of a node ensures, it is a call of these laws while no link goes up or down
 
--- `hear` is such a call, in which the node hears one message. If it does not take the message, nothing changes
+-- the link to w counts as up exactly if the caller has said that it is up. So it is until a tick ends that
+abbrev pub IsAsSaid : Node → ℕ → Type 0
+IsAsSaid n w = (link_to n.links.items w).up ≡ (link_to n.links.items w).carrier
+
+-- `hear` is such a call, in which the node hears one message over a link that is as the caller has said. If it does not take
+-- the message, nothing changes
 abbrev pub HearingIsACall : Type 0
-HearingIsACall = (m : Message) (old new : Node) → Hears old.own m old.links.items new.links.items
+HearingIsACall = (m : Message) (old new : Node) → IsAsSaid old m.from
+    → Hears old.own m old.links.items new.links.items
     → (IsTaken old.own m old.links.items → IsAfterEvent (m ∷ []) old new)
     → (¬ IsTaken old.own m old.links.items → new ≡ old) → IsCall (m ∷ []) old new
+
+-- `tick` is such a call if it ends for no link that it counts as up
+abbrev pub TickingIsACall : Type 0
+TickingIsACall = (patience : ℕ) (old new : Node) → new.links.items ≡ map (after_tick patience) old.links.items
+    → list_any (is_lost patience) old.links.items ≡ false → new ≡ record old { links = new.links }
+    → IsCall [] old new
 
 -- `act` is such a call, whether it changes something or nothing
 abbrev pub ActingIsACall : Type 0

@@ -5,7 +5,7 @@ ghost use Rattle.fr_laws.specs.Announcements.{AnnouncementsAreARun, HeightsFollo
 ghost use Rattle.fr_laws.specs.Announcements.{EachAnnouncesFew, AllAnnounceFew, QuietRoutersAreSettled};
 ghost use Rattle.fr_laws.specs.Announcements.{SomeRouterAnnounces};
 ghost use Rattle.fr_laws.specs.Announcements.{ActingIsACall, HearingIsACall, KnowingIsACall, RepeatingIsACall};
-ghost use Rattle.fr_laws.specs.Announcements.{SayingIsACall, WritingIsACall};
+ghost use Rattle.fr_laws.specs.Announcements.{SayingIsACall, TickingIsACall, WritingIsACall};
 
 /// In a network of routers with `Rise::Full` that stays as it is, the announcements are a run of full reversal,
 /// whatever messages are lost, delayed, repeated and overtaken. Suppose that each router is connected to the one
@@ -26,6 +26,7 @@ pub fn announcements_law()
 pub fn calls_law()
     ensures hear { HearingIsACall }
     ensures act { ActingIsACall }
+    ensures tick { TickingIsACall }
     ensures repeat { RepeatingIsACall }
     ensures write { WritingIsACall }
     ensures say { SayingIsACall }

@@ -1,6 +1,7 @@
 -- The results of calls on nodes. This project's own.
 use Rattle.std.specs.Prelude.{Bool, IsTrue, List, None, Some, [], false, length, map, not, true, ℕ}
 use Rattle.std.specs.Prelude.{◌++◌, ◌<◌, ◌≤◌, ◌==◌, ◌∷◌, ◌↔◌, ◌≡◌, ◌≢◌, ◌⊎◌, if◌then◌else◌}
+use Rattle.std.specs.List.{list_any}
 use Rattle.fr_node.specs.declared.message.Message.{Message}
 use Rattle.fr_node.specs.declared.message.TheConstants.{CUT_OFF, MESSAGE_LENGTH}
 use Rattle.fr_node.specs.declared.node.Node.{Node}
@@ -12,7 +13,7 @@ use Rattle.fr_node.specs.Bytes.{bytes_of}
 use Rattle.fr_node.specs.Distances.{AreWays, IsDistance}
 use Rattle.fr_node.specs.Events.{IsAfterEvent, IsNews, IsStarted, KnowsLaterStart, SaysMessage, gates_of}
 use Rattle.fr_node.specs.Histories.{IsHistory}
-use Rattle.fr_node.specs.Links.{Hears, IsKnown, IsTaken, SetsUp, link_to, unknown}
+use Rattle.fr_node.specs.Links.{Hears, IsKnown, IsTaken, SetsUp, after_tick, is_lost, link_to, unknown}
 use Rattle.fr_node.specs.Nodes.{Steps, router}
 use Rattle.fr_node.specs.Policies.{Acts}
 use Rattle.fr_node.specs.Routers.{IsOpen, IsWay}
@@ -88,6 +89,14 @@ pub record TurnsLink (neighbour : ℕ) (up : Bool) (status : ℕ) (k j : Node) :
   pub after : IsAfterEvent [] k j
   pub statuses : status ≡ REVROUTE_ANSWERED
 
+-- a tick passes on all links. 1: for one of them it ends that the link counts as up, which is an event. 0: no event
+pub record TicksOnce (patience flag : ℕ) (k j : Node) : Type 0 where
+  pub links : j.links.items ≡ map (after_tick patience) k.links.items
+  pub lost : (flag ≡ 1) ↔ IsTrue (list_any (is_lost patience) k.links.items)
+  pub after : flag ≡ 1 → IsAfterEvent [] k j
+  pub kept : flag ≡ 0 → KeepsAllButLinks k j
+  pub flags : (flag ≡ 0) ⊎ (flag ≡ 1)
+
 -- the policy acts once more. 1: that has changed something, and is an event. 0: nothing has changed
 pub record ActsAgain (flag : ℕ) (k j : Node) : Type 0 where
   pub policy : Acts k j.own
@@ -124,13 +133,13 @@ IsSaid neighbour k j o = (m : Message) × SaysMessage neighbour k j m × IsWritt
 
 -- a message for the neighbour, or the status says why there is none
 pub record SaysBytesTo (neighbour : ℕ) (o : Outcome ℕ) (k j : Node) : Type 0 where
-  pub said : o.status ≡ REVROUTE_ANSWERED → IsSaid neighbour k j o × IsTrue (link_to k.links.items neighbour).up
+  pub said : o.status ≡ REVROUTE_ANSWERED → IsSaid neighbour k j o × IsTrue (link_to k.links.items neighbour).carrier
   pub same : j ≡ record k { links = j.links; stamp = j.stamp }
   pub step : Steps [] k j
   -- before the ways and gates are written, nothing is said
   pub unwritten : (o.status ≡ REVROUTE_UNWRITTEN) ↔ (k.is_written ≡ false)
   pub too_short : (o.status ≡ REVROUTE_TOO_SHORT) ↔ ((k.is_written ≡ true) × (length o.before < MESSAGE_LENGTH))
-  pub down : o.status ≡ REVROUTE_LINK_DOWN → ¬ IsTrue (link_to k.links.items neighbour).up
+  pub down : o.status ≡ REVROUTE_LINK_DOWN → ¬ IsTrue (link_to k.links.items neighbour).carrier
   pub unchanged : o.status ≢ REVROUTE_ANSWERED → IsSame k j × (o.after ≡ o.before)
   pub size : (o.status ≡ REVROUTE_ANSWERED) ⊎ (o.status ≡ REVROUTE_TOO_SHORT) → o.size ≡ MESSAGE_LENGTH
   pub none : (o.status ≡ REVROUTE_UNWRITTEN) ⊎ (o.status ≡ REVROUTE_LINK_DOWN) → o.size ≡ 0

@@ -5,7 +5,7 @@ ghost use Rattle.fr_node.specs.Events.{gates_of};
 ghost use Rattle.fr_node.specs.Nodes.{lets_in, sends_to};
 ghost use Rattle.revroute_c.specs.NodeCalls.{ActsAgain, AreGatesOf, AreNeighbours, AreWaysOf, ConfirmsWritten, HearsBytes};
 ghost use Rattle.revroute_c.specs.NodeCalls.{HearsMessage, InNode, IsSafeGate, IsSafeWay, IsStateOf, KnowsNeighbour, OfNode, SaysBytesTo};
-ghost use Rattle.revroute_c.specs.NodeCalls.{TellsNews, TellsNodeDistance, TurnsLink, neighbours_of, number_of_flag};
+ghost use Rattle.revroute_c.specs.NodeCalls.{TellsNews, TellsNodeDistance, TicksOnce, TurnsLink, neighbours_of, number_of_flag};
 ghost use Rattle.revroute_c.specs.Replies.{outcome, GivesList, IsWritten};
 
 use crate::replies::hand_out;
@@ -79,6 +79,13 @@ impl NodeState {
             self.node.link_down(neighbour);
         }
         ANSWERED
+    }
+
+    /// Lets a tick pass. Returns whether a link was lost, as a number.
+    pub(crate) fn tick(&mut self, patience: u32) -> u32
+        ensures { InNode (TicksOnce patience result) ⊥ self.old self.new }
+    {
+        number(self.node.tick(patience))
     }
 
     /// Lets the policy act once more. Returns whether that has changed something, as a number.

@@ -5,8 +5,8 @@ ghost use denote.RawPtr.{null_ptr};
 ghost use Rattle.fr_node.specs.Nodes.{lets_in, sends_to};
 ghost use Rattle.revroute_c.specs.NodeCalls.{ActsAgain, AreGatesOf, AreWaysOf, ConfirmsWritten, HearsBytes, InNode};
 ghost use Rattle.revroute_c.specs.NodeCalls.{IsNoStart, IsOpened, IsOpenedGateway, IsSafeGate, IsSafeWay, IsStateOf};
-ghost use Rattle.revroute_c.specs.NodeCalls.{KnowsNeighbour, OfNode, SaysBytesTo, TellsNews, TellsNodeDistance, TurnsLink};
-ghost use Rattle.revroute_c.specs.NodeCalls.{number_of_flag, policy_of};
+ghost use Rattle.revroute_c.specs.NodeCalls.{KnowsNeighbour, OfNode, SaysBytesTo, TellsNews, TellsNodeDistance, TicksOnce};
+ghost use Rattle.revroute_c.specs.NodeCalls.{TurnsLink, number_of_flag, policy_of};
 ghost use Rattle.revroute_c.specs.NodeLending.{IsSameNode};
 ghost use Rattle.revroute_c.specs.Replies.{outcome, GivesList};
 ghost use Rattle.revroute_c.specs.Statuses.{REVROUTE_ANSWERED, REVROUTE_NO_MEMORY};
@@ -162,6 +162,20 @@ pub extern "C" fn revroute_node_link_down(handle: &mut NodeHandle, neighbour: u3
     }
 }
 
+/// Lets a tick pass on all links, as [`Node::tick`] does. Returns 1 if a link counts as up no longer, because its neighbour
+/// has said nothing to this start of the router for `patience` ticks: then ways and gates have to be written, as after
+/// [`revroute_node_link_up`]. Returns 0 otherwise, which is no event, and for a null handle. It takes no memory. O(d).
+#[unsafe(no_mangle)]
+pub extern "C" fn revroute_node_tick(handle: &mut NodeHandle, patience: u32) -> u32
+    ensures ticks { InNode (TicksOnce patience result) (result ≡ 0) handle.old.machine handle.new.machine }
+    ensures same_handle { handle.new.at ≡ handle.old.at }
+{
+    match handle.node_state_mut() {
+        Some(machine) => machine.tick(patience),
+        None => 0,
+    }
+}
+
 /// Lets the policy change the height once more, as [`Node::act`] does. Returns 1 if that has changed something: then ways
 /// and gates have to be written, as after [`revroute_node_link_up`]. Returns 0 if nothing has changed, which is no event,
 /// and for a null handle. Each event takes one step of the policy, so call this until it returns 0. It takes no memory.
@@ -224,7 +238,7 @@ pub extern "C" fn revroute_node_written(handle: &mut NodeHandle, state: u64) -> 
 ///
 /// - `UNWRITTEN`: ways and gates are not written yet. This is tested first.
 /// - `TOO_SHORT`: the place has less than 64 bytes. `size` is 64.
-/// - `LINK_DOWN`: the neighbour is not known, or the link to it is down.
+/// - `LINK_DOWN`: the neighbour is not known, or the caller has not said that the link to it is up.
 /// - `NO_NETWORK`: the handle is null.
 ///
 /// In these cases the node and the place are unchanged, and `size` is 0 except for `TOO_SHORT`. O(d).
@@ -247,8 +261,8 @@ pub extern "C" fn revroute_node_say(
     }
 }
 
-/// Writes to `news` whether there is news for a neighbour: 1 if its link is up and the message for it differs from the last
-/// one that was said by more than its stamp, and 0 otherwise. Returns `ANSWERED`, or:
+/// Writes to `news` whether there is news for a neighbour: 1 if there is a message for it, which differs from the last one
+/// that was said by more than its stamp, and 0 otherwise. Returns `ANSWERED`, or:
 ///
 /// - `UNWRITTEN`: ways and gates are not written yet.
 /// - `NO_NETWORK`: the handle is null.

@@ -118,6 +118,7 @@ _WORDS: dict[str, list[Any]] = {
     "node_know": [_node, _number],
     "node_link_up": [_node, _number],
     "node_link_down": [_node, _number],
+    "node_tick": [_node, _number],
     "node_act": [_node],
     "node_hear": [_node, ctypes.c_char_p, _size],
     "node_written": [_node, _wide],
