@@ -3,8 +3,7 @@
 usage: router.py ME PORT NEIGHBOUR:PORT..            (router 0 is the gateway)
 
 It prints its table as a line of JSON whenever the table changes. In a real router `write` changes the forwarding table
-and the filters of the system. Without a datagram for DEAD seconds a link is down; an empty datagram only says that the
-link is there.
+and the filters of the system. The node loses a link that has not worked both ways for PATIENCE ticks.
 """
 
 import json
@@ -14,7 +13,7 @@ import time
 
 from revroute import LaterStart, Node, NotAMessage
 
-HELLO, DEAD, CEILING = 0.1, 0.5, 64
+HELLO, PATIENCE, CEILING = 0.1, 5, 64
 NOTHING = {"ways": [], "gates": [], "distance": None}
 
 
@@ -29,13 +28,15 @@ class Router:
         boot = time.time_ns()
         self.node = Node(me, boot, ceiling=CEILING) if me else Node.gateway(me, boot)
         self.addresses = {number: ("127.0.0.1", at) for number, at in neighbours.items()}
-        self.heard, self.table = dict.fromkeys(neighbours, None), NOTHING
+        self.table = NOTHING
         for number in neighbours:
             self.node.know(number)
+            self.node.link_up(number)
         self.socket = socket.socket(socket.AF_INET, socket.SOCK_DGRAM)
         self.socket.bind(("127.0.0.1", port))
         # An earlier process may have left its ways and gates in the system.
         write(self.table)
+        self.write()
 
     def listen(self, seconds):
         """Waits for one datagram. Returns whether there was an event."""
@@ -44,28 +45,16 @@ class Router:
             data, address = self.socket.recvfrom(2048)
         except socket.timeout:
             return False
-        sender = next((it for it, at in self.addresses.items() if at == address), None)
-        if sender is None:
+        if address not in self.addresses.values():
             return False
-        is_new, self.heard[sender] = self.heard[sender] is None, time.monotonic()
-        if is_new:
-            self.node.link_up(sender)
         try:
             self.node.hear(data)
         except NotAMessage:
-            return is_new
+            return False
         except LaterStart:
             write(NOTHING)
             sys.exit("The clock has gone back, or another router has the same number.")
         return True
-
-    def notice_silence(self):
-        """Takes down the links on which nothing was heard for too long. Returns whether there was an event."""
-        late = [it for it, at in self.heard.items() if at is not None and time.monotonic() - at > DEAD]
-        for it in late:
-            self.heard[it] = None
-            self.node.link_down(it)
-        return bool(late)
 
     def write(self):
         while self.node.act():
@@ -81,18 +70,19 @@ class Router:
         """Sends news at once, and everything again when it is time."""
         for number, address in self.addresses.items():
             if is_time or self.node.has_news(number):
-                self.socket.sendto(self.node.say(number) or b"", address)
+                self.socket.sendto(self.node.say(number), address)
 
     def run(self):
         next_time = time.monotonic()
         while True:
             is_event = self.listen(next_time - time.monotonic())
-            if self.notice_silence() or is_event:
-                self.write()
             is_time = time.monotonic() >= next_time
-            self.speak(is_time)
             if is_time:
                 next_time = time.monotonic() + HELLO
+                is_event = self.node.tick(PATIENCE) or is_event
+            if is_event:
+                self.write()
+            self.speak(is_time)
 
 
 if __name__ == "__main__":

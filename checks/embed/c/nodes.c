@@ -2,13 +2,13 @@
  *
  * First each call gets a null node; buffers that end where the next page cannot be accessed, of each length; bytes that
  * are not a message, and messages that know a later start, which must change nothing; and numbers of states that events
- * have overtaken. Memory is refused to each call that takes some.
+ * have overtaken. Memory is refused to each call that takes some. Links between two routers are lost by ticks, at each end.
  *
- * Then routers run with random events. Links come up and go down at each end on its own, messages are lost, delayed,
- * repeated and reordered, and routers restart. Each router reads its table some time after an event and writes it some
- * time later. Only once the node has taken the number of its state the router says something. After each step the program
- * looks for a loop in the tables: there must be none. The same routers are run in the wrong order, in which they say
- * something before the table is written. Then loops must be seen.
+ * Then routers run with random events. Links come up and go down at each end on its own, also by ticks, messages are
+ * lost, delayed, repeated and reordered, and routers restart. Each router reads its table some time after an event and
+ * writes it some time later. Only once the node has taken the number of its state the router says something. After each
+ * step the program looks for a loop in the tables: there must be none. The same routers are run in the wrong order, in
+ * which they say something before the table is written. Then loops must be seen.
  *
  * It prints how many allocations were refused, how many calls reported this, how many messages were heard, and how many
  * steps of the wrong order left a loop.
@@ -51,7 +51,7 @@ static void ask_null(void) {
     expect(revroute_node_has_news(&none, 1, &number) == REVROUTE_NO_NETWORK && number == UNTOUCHED, "no node has news");
     expect(revroute_node_distance(&none, &number) == REVROUTE_NO_NETWORK && number == UNTOUCHED, "no node has a distance");
     expect(revroute_node_height(&none, &height) == REVROUTE_NO_NETWORK && height == UNTOUCHED, "no node has a height");
-    expect(!revroute_node_act(&none), "no node acts");
+    expect(!revroute_node_act(&none) && !revroute_node_tick(&none, 0), "no node acts");
     expect(!revroute_node_lets_in(&none, 1) && !revroute_node_sends_to(&none, 1), "no node has a flag");
     for (size_t at = 0; at < REVROUTE_MESSAGE_LENGTH; at++) expect(message[at] == UNTOUCHED, "no node writes");
     revroute_node_close(&none);
@@ -353,6 +353,56 @@ static void talk(void) {
     expect(!refusing_held, "closed nodes hold memory");
 }
 
+/* A router says a message, and the other one of two hears it. */
+static void tell(revroute_node *two, uint32_t from) {
+    uint8_t message[REVROUTE_MESSAGE_LENGTH];
+    uint32_t to = 1 - from;
+    size_t length;
+    expect(revroute_node_say(&two[from], to, message, sizeof message, &length) == REVROUTE_ANSWERED, "a router is silent");
+    expect(revroute_node_hear(&two[to], message, sizeof message) == REVROUTE_ANSWERED, "a router hears nothing");
+    while (revroute_node_act(&two[to])) continue;
+    confirm(&two[to]);
+}
+
+/* A node loses a link at the tick at which its patience ends, and not before. It goes on saying messages over it, with no
+ * start of the neighbour. */
+static void lose_link(revroute_node *node, uint32_t neighbour, uint32_t patience) {
+    uint8_t message[REVROUTE_MESSAGE_LENGTH];
+    size_t length;
+    uint64_t state = confirm(node);
+    for (uint32_t tick = 1; tick < patience; tick++) expect(!revroute_node_tick(node, patience), "a link is lost early");
+    expect(confirm(node) == state && revroute_node_tick(node, patience) == 1, "a link is not lost");
+    expect(!revroute_node_sends_to(node, neighbour) && !revroute_node_lets_in(node, neighbour), "a lost link is used");
+    expect(revroute_node_say(node, neighbour, message, sizeof message, &length) == REVROUTE_UNWRITTEN, "a loss is no event");
+    expect(confirm(node) == state + 1 && !revroute_node_tick(node, patience), "a link is lost twice");
+    expect(revroute_node_say(node, neighbour, message, sizeof message, &length) == REVROUTE_ANSWERED, "a lost link gets no message");
+    expect(!number_at(message + 24), "a router hears a neighbour that is silent");
+}
+
+/* Two routers. One hears nothing and loses the link. The other one hears that, and loses the link too. The link counts at an
+ * end again once this end is told that it is heard. */
+static void lose_links(void) {
+    revroute_node two[2] = {REVROUTE_NO_NODE, REVROUTE_NO_NODE};
+    open_two(two);
+    for (uint32_t at = 0; at < 4; at++) tell(two, at % 2);
+    for (uint32_t patience = 2; patience < 20; patience++) {
+        uint32_t deaf = patience % 2, other = 1 - deaf;
+        expect(revroute_node_sends_to(&two[1], 0) && revroute_node_lets_in(&two[0], 1), "the link is not used");
+        lose_link(&two[deaf], other, patience);
+        for (uint32_t tick = 1; tick <= patience; tick++) {
+            tell(two, deaf);
+            expect(revroute_node_tick(&two[other], patience) == (tick == patience), "the other end loses the link at another time");
+        }
+        confirm(&two[other]);
+        expect(!revroute_node_sends_to(&two[1], 0) && !revroute_node_lets_in(&two[0], 1), "the link counts at an end");
+        tell(two, other);
+        expect(revroute_node_sends_to(&two[1], 0) == deaf && revroute_node_lets_in(&two[0], 1) == other, "the wrong end counts the link");
+        tell(two, deaf);
+    }
+    for (int at = 0; at < 2; at++) revroute_node_close(&two[at]);
+    expect(!refusing_held, "closed nodes hold memory");
+}
+
 /* The neighbours that a router sends to, and those that it lets in, as bits. */
 typedef struct table {
     uint32_t ways, gates;
@@ -454,7 +504,11 @@ static void step(router *it, uint32_t me, int is_wrong, int is_gateway, const re
         expect((drawn(6) ? revroute_node_link_up : revroute_node_link_down)(&it->node, other) == REVROUTE_ANSWERED, "a link stays");
         it->is_stale = 1;
         it->events++;
-    } else if (what < 14) {
+    } else if (what == 12) {
+        uint32_t is_lost = revroute_node_tick(&it->node, 1 + drawn(8));
+        it->is_stale |= (int)is_lost;
+        it->events += is_lost;
+    } else if (what == 13) {
         while (revroute_node_act(&it->node)) {
             it->is_stale = 1;
             it->events++;
@@ -523,6 +577,7 @@ int main(void) {
     ask_null();
     without_memory();
     talk();
+    lose_links();
     for (uint64_t from = 0; from < SEEDS; from++) expect(!run(from, 0), "there is a loop");
     for (uint64_t from = 0; from < SEEDS; from++) loops += run(from, 1);
     for (uint32_t me = 0; me < ROUTERS; me++) revroute_node_close(&routers[me].node);

@@ -236,6 +236,59 @@ class NodeTest(unittest.TestCase):
                 self.assertFalse(hear(2, old))
             self.assertEqual(exchange(6, line), 0)
 
+    def test_a_link_counts_while_it_works_both_ways(self):
+        """Routers 0 to 4 in a ring, of which router 0 is the gateway. All messages from 2 to 1 are lost. Router 1 does not hear
+        router 2, and loses the link. It says so, and router 2 loses the link too, as a cut would have it. Once messages arrive
+        again, both have it back."""
+
+        def hear_all(lost):
+            said = [(me, to, nodes[me].say(to)) for me in range(ROUTERS) for to in ((me - 1) % ROUTERS, (me + 1) % ROUTERS)]
+            for me, to, message in said:
+                if (me, to) != lost:
+                    nodes[to].hear(message)
+                    while nodes[to].act():
+                        pass
+                    write(nodes[to])
+
+        def pass_ticks(count, lost=None):
+            losses = []
+            for _ in range(count):
+                hear_all(lost)
+                for me, node in enumerate(nodes):
+                    if node.tick(patience):
+                        losses.append(me)
+                        while node.act():
+                            pass
+                        write(node)
+            return losses
+
+        for patience in (3, 4, 9):
+            nodes = ring(height=ROUTERS, ceiling=ROUTERS)
+            self.assertEqual(pass_ticks(30), [])
+            self.assertEqual([it.distance for it in nodes], [0, 1, 2, 2, 1])
+            self.assertEqual(pass_ticks(2 * patience, (2, 1)), [1, 2])
+            self.assertFalse(nodes[1].lets_in(2) or nodes[2].sends_to(1) or nodes[1].sends_to(2) or nodes[2].lets_in(1))
+            self.assertEqual(pass_ticks(30, (2, 1)), [])
+            self.assertEqual([it.distance for it in nodes], [0, 1, 3, 2, 1])
+            self.assertEqual(pass_ticks(30), [])
+            self.assertEqual([it.distance for it in nodes], [0, 1, 2, 2, 1])
+            self.assertTrue(nodes[1].lets_in(2) and nodes[2].sends_to(1))
+
+    def test_a_router_does_not_wait_for_a_neighbour_that_it_does_not_hear(self):
+        """Router 2 has links to routers 1 and 3. Router 1 has a way, and 3 is never heard."""
+        node, form = Node(2, 1, 0, ceiling=9, wait=False), struct.Struct(">4s3I6Q")
+        for other in (1, 3):
+            node.know(other)
+            node.link_up(other)
+        for tick in range(1, 6):
+            node.hear(form.pack(b"FRN\2", 1, 2, 4, 1, 1, 1, 4, 1, tick))
+            while node.act():
+                pass
+            write(node)
+            self.assertEqual((node.ways(), node.height), ([], 0))
+            self.assertEqual(node.tick(5), tick == 5)
+        self.assertEqual((node.ways(), node.height), ([1], 5))
+
     def test_the_policy_goes_on_until_it_rests(self):
         """A router rises above two neighbours, of heights 3 and 9. Then it comes down to its distance, which is 4."""
         node, form = Node(1, 1, 2, wait=False), struct.Struct(">4s3I6Q")
@@ -299,7 +352,7 @@ class NodeTest(unittest.TestCase):
         node.close()
         self.assertEqual(repr(node), "<revroute.Node, closed>")
         questions = (node.ways, node.gates, node.table, lambda: node.height, lambda: node.say(1), lambda: node.lets_in(1))
-        for call in (*questions, node.act, lambda: node.written(0), lambda: node.hear(b"")):
+        for call in (*questions, node.act, lambda: node.tick(1), lambda: node.written(0), lambda: node.hear(b"")):
             self.assertRaises(ValueError, call)
 
     def test_a_child_has_nodes_of_its_own(self):

@@ -18,6 +18,13 @@ fn write(node: &mut Node) -> Result<(), Box<dyn Error>> {
     Ok(node.written(table)?)
 }
 
+/// A router says a message, and its neighbour hears it.
+fn pass(from: &mut Node, to: &mut Node, neighbour: u32) -> Result<(), Box<dyn Error>> {
+    to.hear(&from.say(neighbour)?.expect("the link is up"))?;
+    while to.act() {}
+    write(to)
+}
+
 /// The message with another number of 8 bytes at an index.
 fn with_number(mut message: [u8; MESSAGE_LENGTH], at: usize, number: u64) -> [u8; MESSAGE_LENGTH] {
     message[at..at + 8].copy_from_slice(&number.to_be_bytes());
@@ -248,6 +255,43 @@ fn what_is_not_newer_is_no_event() -> Result<(), Box<dyn Error>> {
     }
     node.hear(&neighbour.say(1)?.expect("the link is up"))?;
     assert_eq!(node.say(2), Err(Unwritten));
+    Ok(())
+}
+
+#[test]
+fn a_link_that_works_one_way_counts_at_neither_end() -> Result<(), Box<dyn Error>> {
+    const PATIENCE: u32 = 3;
+    let (mut gateway, mut router) = (Node::gateway(0, 1)?, Node::new(1, 1, 1, POLICY)?);
+    for (it, other) in [(&mut gateway, 1), (&mut router, 0)] {
+        it.know(other)?;
+        it.link_up(other);
+        write(it)?;
+    }
+    for _ in 0..2 {
+        pass(&mut gateway, &mut router, 1)?;
+        pass(&mut router, &mut gateway, 0)?;
+    }
+    assert_eq!(router.table()?.ways(), [0]);
+    // The router does not hear the gateway any more.
+    let mut lost = Vec::new();
+    for tick in 1..=2 * PATIENCE {
+        if router.tick(PATIENCE) {
+            lost.push((1, tick));
+            assert_eq!(router.say(0), Err(Unwritten));
+            write(&mut router)?;
+        }
+        pass(&mut router, &mut gateway, 0)?;
+        if gateway.tick(PATIENCE) {
+            lost.push((0, tick));
+            write(&mut gateway)?;
+        }
+    }
+    // The gateway was told for the last time that it was heard before the tick before the router's loss.
+    assert_eq!(lost, [(1, PATIENCE), (0, 2 * PATIENCE - 2)]);
+    assert!(router.table()?.ways().is_empty() && gateway.table()?.gates().is_empty());
+    pass(&mut gateway, &mut router, 1)?;
+    pass(&mut router, &mut gateway, 0)?;
+    assert_eq!((router.table()?.ways(), gateway.table()?.gates()), (&[0][..], &[1][..]));
     Ok(())
 }
 
