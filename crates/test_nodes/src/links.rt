@@ -7,6 +7,8 @@ use crate::world::MOST_ROUTERS;
 #[derive(Clone, Copy)]
 pub struct Links {
     rows: [u32; MOST_ROUTERS],
+    /// The neighbours that hear nothing of each router.
+    deaf: [u32; MOST_ROUTERS],
 }
 
 impl Links {
@@ -21,7 +23,23 @@ impl Links {
                 }
             }
         }
-        Links { rows }
+        Links {
+            rows,
+            deaf: [0; MOST_ROUTERS],
+        }
+    }
+
+    /// The same links, of which about one of six does not work both ways.
+    pub fn with_one_way(self, draws: &mut Draws, routers: u32) -> Links {
+        let mut deaf = self.deaf;
+        for x in 0..routers {
+            for w in 0..routers {
+                if self.joins(x, w) && draws.below(12) == 0 {
+                    set(&mut deaf, x, w);
+                }
+            }
+        }
+        Links { deaf, ..self }
     }
 
     /// Links between routers whose numbers follow one another, from `first` up to `last`.
@@ -31,24 +49,34 @@ impl Links {
             set(&mut rows, x, x.wrapping_add(1));
             set(&mut rows, x.wrapping_add(1), x);
         }
-        Links { rows }
+        Links {
+            rows,
+            deaf: [0; MOST_ROUTERS],
+        }
     }
 
     pub fn joins(&self, x: u32, w: u32) -> bool {
-        is_set(self.row(x), w)
+        is_set(row_of(&self.rows, x), w)
     }
 
-    fn row(&self, x: u32) -> u32 {
-        self.rows.get(x as usize).copied().unwrap_or(0)
+    /// Whether w hears what x says.
+    pub fn carries(&self, x: u32, w: u32) -> bool {
+        self.joins(x, w) && !is_set(row_of(&self.deaf, x), w)
     }
 
-    /// The routers that are joined to one of these, a bit for each.
+    pub fn works(&self, x: u32, w: u32) -> bool {
+        self.carries(x, w) && self.carries(w, x)
+    }
+
+    /// The routers that are joined to one of these by links that work both ways, a bit for each.
     pub fn joined_to(&self, some: u32, routers: u32) -> u32 {
         let mut joined = some;
         for _ in 0..routers {
             for x in 0..routers {
-                if is_set(joined, x) {
-                    joined |= self.row(x);
+                for w in 0..routers {
+                    if is_set(joined, x) && self.works(x, w) {
+                        joined |= 1u32.wrapping_shl(w);
+                    }
                 }
             }
         }
@@ -69,6 +97,10 @@ pub fn routers_where<F: Fn(u32) -> bool>(routers: u32, holds: F) -> u32
         bits |= u32::from(holds(x)).wrapping_shl(x);
     }
     bits
+}
+
+fn row_of(rows: &[u32; MOST_ROUTERS], x: u32) -> u32 {
+    rows.get(x as usize).copied().unwrap_or(0)
 }
 
 fn set(rows: &mut [u32; MOST_ROUTERS], x: u32, w: u32) {

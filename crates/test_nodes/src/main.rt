@@ -2,13 +2,14 @@
 //! which routers restart. Each line of standard input is a word and a number:
 //!
 //!     steps N   draws N steps with each policy, over all links between a few routers
-//!     rest N    draws N histories with each kind of routers; then links stay and messages arrive
+//!     rest N    draws N histories with each kind of routers; then links stay, of which some work one way, ticks pass, and
+//!               messages arrive
 //!     again N   lets routers on a line hear one old message N times, also with later stamps
 //!
-//! The program prints what happened, in how many steps the library differed from the rules (rules.rt), and in how many
-//! routers used a loop. Of histories it also prints how many did not come to rest, after how many a router that is joined
+//! The program prints what happened, how often a tick ended that a link counted as up, in how many steps the library
+//! differed from the rules (rules.rt), and in how many routers used a loop. Of histories it also prints how many did not come to rest, after how many a router that is joined
 //! to a gateway was not served, and in how many a router announced more heights than it may. Then it looks for what three
-//! kinds of routers do not keep, and has to see that.
+//! kinds of routers do not keep, and a fourth one without ticks, and has to see that.
 #![tactic(auto)]
 
 mod draws;
@@ -21,7 +22,7 @@ mod world;
 
 use fr_node::{NodeFault, Policy, Rise};
 use kinds::{Kind, Promise};
-use rest::Rests;
+use rest::{PATIENCE, Rests};
 use std::alloc::Global;
 use std::io;
 use world::{Found, World};
@@ -55,8 +56,9 @@ fn main(rt: HostRuntime) -> io::Result<()> {
                 tell_kept(&rt, histories, kind, promise)?;
             }
             for (kind, promise) in NOT_KEPT {
-                tell_broken(&rt, histories, kind, promise)?;
+                tell_broken(&rt, histories, (kind, promise), Some(PATIENCE))?;
             }
+            tell_broken(&rt, histories, (Kind::Ceiling, Promise::Served), None)?;
         }
         if let Some(times) = number_after(line, "again ") {
             tell_repeats(&rt, times)?;
@@ -87,12 +89,13 @@ fn tell_steps<R: Alloc<A = Global> + Print>(rt: &R, steps: u32, choice: u32) -> 
                 heard,
                 events,
                 restarts,
+                lost,
                 used,
                 differ,
                 loops,
             } = found;
             println!(rt;
-                "  {policy:?}: {steps} steps, {heard} heard, {events} events, {restarts} restarts, {used} used; {differ} differ, {loops} loops"
+                "  {policy:?}: {steps} steps, {heard} heard, {events} events, {restarts} restarts, {lost} lost, {used} used; {differ} differ, {loops} loops"
             )
         }
         Err(fault) => rt.println(fault),
@@ -124,7 +127,7 @@ fn tell_kept<R: Alloc<A = Global> + Print>(
     kind: Kind,
     promise: Promise,
 ) -> io::Result<()> {
-    match rest::draw_histories(rt.alloc(), kind, promise, histories) {
+    match rest::draw_histories(rt.alloc(), (kind, promise), Some(PATIENCE), histories) {
         Ok(rests) => {
             let Rests {
                 found,
@@ -133,9 +136,14 @@ fn tell_kept<R: Alloc<A = Global> + Print>(
                 unserved,
                 above,
             } = rests;
-            let Found { differ, loops, .. } = found;
+            let Found {
+                lost,
+                differ,
+                loops,
+                ..
+            } = found;
             println!(rt;
-                "  {kind:?}, {promise:?}: {joined} joined; {differ} differ, {loops} loops, {restless} restless, {unserved} unserved, {above} above"
+                "  {kind:?}, {promise:?}: {joined} joined, {lost} lost; {differ} differ, {loops} loops, {restless} restless, {unserved} unserved, {above} above"
             )
         }
         Err(fault) => rt.println(fault),
@@ -146,17 +154,22 @@ fn tell_kept<R: Alloc<A = Global> + Print>(
 fn tell_broken<R: Alloc<A = Global> + Print>(
     rt: &R,
     histories: u32,
-    kind: Kind,
-    promise: Promise,
+    (kind, promise): (Kind, Promise),
+    patience: Option<u32>,
 ) -> io::Result<()> {
-    match rest::draw_histories(rt.alloc(), kind, promise, histories) {
+    match rest::draw_histories(rt.alloc(), (kind, promise), patience, histories) {
         Ok(rests) => {
             let seen = if rests.has_broken() {
                 "seen"
             } else {
                 "NOT SEEN"
             };
-            println!(rt; "  {kind:?} does not keep {promise:?}: {seen}")
+            let ticks = if patience.is_none() {
+                " without ticks"
+            } else {
+                ""
+            };
+            println!(rt; "  {kind:?}{ticks} does not keep {promise:?}: {seen}")
         }
         Err(fault) => rt.println(fault),
     }

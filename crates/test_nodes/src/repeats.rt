@@ -44,7 +44,7 @@ pub fn changes(alloc: Global, kind: Kind, times: u32, is_late: bool) -> Result<u
 
 fn exchange_often(world: &mut World, links: &Links) -> Result<(), NodeFault> {
     for _ in 0..6 {
-        exchange_all(world, links, u32::MAX)?;
+        exchange_all(world, links, None, u32::MAX)?;
     }
     Ok(())
 }

@@ -1,4 +1,5 @@
-//! Histories that come to rest: anything happens for a while; then links stay as they are, and messages arrive.
+//! Histories that come to rest: anything happens for a while; then links stay as they are, and messages arrive, except
+//! over links that work one way.
 
 use crate::draws::Draws;
 use crate::kinds::{Kind, Promise};
@@ -11,6 +12,10 @@ use std::alloc::Global;
 const UNFAIR_ROUNDS: u32 = 12;
 
 const MOST_ROUNDS: u32 = 400;
+
+/// The patience of the ticks between the rounds in which all messages arrive. Two rounds are enough to hear a neighbour and
+/// to be told that it hears.
+pub const PATIENCE: u32 = 3;
 
 /// What came of histories.
 #[derive(Clone, Copy, Default)]
@@ -26,11 +31,12 @@ pub struct Rests {
     pub above: u32,
 }
 
-/// Draws so many histories of 2 to 16 routers, of which none to three are gateways.
+/// Draws so many histories of 2 to 16 routers, of which none to three are gateways. Each other one has links that work one
+/// way.
 pub fn draw_histories(
     alloc: Global,
-    kind: Kind,
-    promise: Promise,
+    (kind, promise): (Kind, Promise),
+    patience: Option<u32>,
     histories: u32,
 ) -> Result<Rests, NodeFault> {
     let mut rests = Rests::default();
@@ -38,7 +44,10 @@ pub fn draw_histories(
         let mut draws = Draws::from(u64::from(seed).wrapping_add(1 << 32));
         let routers = draws.below(15).wrapping_add(2);
         let gateways = draws.below(4).min(routers);
-        let links = Links::drawn(&mut draws, routers);
+        let mut links = Links::drawn(&mut draws, routers);
+        if draws.below(2) == 0 {
+            links = links.with_one_way(&mut draws, routers);
+        }
         let mut world = World::new(alloc, kind, (routers, gateways), u64::from(seed) + 1)?;
         for _ in 0..draws.below(200) {
             world.step()?;
@@ -47,7 +56,7 @@ pub fn draw_histories(
         if loses_all {
             world.lose_all();
         }
-        rests.end(&mut world, &links, promise, loses_all)?;
+        rests.end(&mut world, &links, (promise, patience), loses_all)?;
         rests.found = rests.found.and(world.found());
     }
     Ok(rests)
@@ -64,7 +73,7 @@ impl Rests {
         &mut self,
         world: &mut World,
         links: &Links,
-        promise: Promise,
+        (promise, patience): (Promise, Option<u32>),
         loses_all: bool,
     ) -> Result<(), NodeFault> {
         set_links(world, links)?;
@@ -81,7 +90,7 @@ impl Rests {
             Promise::Served | Promise::Bounded => joined,
             Promise::AllRest => u32::MAX,
         };
-        if !comes_to_rest(world, links, looked_at)? {
+        if !comes_to_rest(world, links, patience, looked_at)? {
             self.restless = self.restless.wrapping_add(1);
         } else if !are_served(world, joined & !gateways) {
             self.unserved = self.unserved.wrapping_add(1);
@@ -112,7 +121,7 @@ fn limits(world: &World, links: &Links) -> [u64; MOST_ROUTERS] {
         for x in 0..world.count() {
             let mut least = if world.is_gateway(x) { 0 } else { u64::MAX };
             for w in 0..world.count() {
-                if links.joins(x, w) {
+                if links.works(x, w) {
                     let beyond = more.get(w as usize).copied().unwrap_or(u64::MAX);
                     least = least.min(beyond.saturating_add(1).saturating_add(world.unheard(x, w)));
                 }
@@ -132,7 +141,7 @@ fn limits(world: &World, links: &Links) -> [u64; MOST_ROUTERS] {
 fn exchange_some(world: &mut World, links: &Links) -> Result<(), NodeFault> {
     for x in 0..world.count() {
         for w in 0..world.count() {
-            if links.joins(x, w) {
+            if links.carries(x, w) {
                 exchange_one(world, x, w)?;
                 world.look();
             }
@@ -153,11 +162,17 @@ fn exchange_one(world: &mut World, x: u32, w: u32) -> Result<(), NodeFault> {
     }
 }
 
-/// Delivers all messages until nothing changes at these routers for two rounds.
-fn comes_to_rest(world: &mut World, links: &Links, looked_at: u32) -> Result<bool, NodeFault> {
+/// Delivers all messages until nothing changes at these routers for two rounds, after the ticks in which both ends of a link
+/// lose it.
+fn comes_to_rest(
+    world: &mut World,
+    links: &Links,
+    patience: Option<u32>,
+    looked_at: u32,
+) -> Result<bool, NodeFault> {
     let mut still = 0u32;
-    for _ in 0..MOST_ROUNDS {
-        still = if exchange_all(world, links, looked_at)? {
+    for round in 0..MOST_ROUNDS {
+        still = if exchange_all(world, links, patience, looked_at)? || round < 2 * PATIENCE {
             0
         } else {
             still.wrapping_add(1)
@@ -169,8 +184,14 @@ fn comes_to_rest(world: &mut World, links: &Links, looked_at: u32) -> Result<boo
     Ok(false)
 }
 
-/// Each router says something to each neighbour, which hears it. Returns whether anything has changed at these routers.
-pub fn exchange_all(world: &mut World, links: &Links, looked_at: u32) -> Result<bool, NodeFault> {
+/// Each router says something to each neighbour, which hears it if the link carries it. Then a tick passes at each router.
+/// Returns whether anything has changed at these routers.
+pub fn exchange_all(
+    world: &mut World,
+    links: &Links,
+    patience: Option<u32>,
+    looked_at: u32,
+) -> Result<bool, NodeFault> {
     let mut before = [Seen::default(); MOST_ROUTERS];
     for (x, it) in before.iter_mut().enumerate() {
         *it = world.seen(x as u32);
@@ -179,9 +200,16 @@ pub fn exchange_all(world: &mut World, links: &Links, looked_at: u32) -> Result<
         for w in 0..world.count() {
             if links.joins(x, w)
                 && let Some(message) = world.say(x, w)?
+                && links.carries(x, w)
             {
                 world.hear(&message)?;
             }
+        }
+        world.look();
+    }
+    if let Some(patience) = patience {
+        for x in 0..world.count() {
+            world.tick(x, patience)?;
         }
         world.look();
     }

@@ -8,7 +8,14 @@ use std::alloc::{AllocError, Global};
 #[derive(Clone, Copy)]
 struct Seen {
     neighbour: u32,
+    /// Whether the router was told that the link is up, and whether it still counts as up.
+    carrier: bool,
     up: bool,
+    /// The tick after which the link was last known to work both ways, or was given time to.
+    works_since: u64,
+    /// Whether the neighbour was heard lately, and the tick after which it was last heard.
+    is_heard: bool,
+    heard_since: u64,
     peer: u64,
     stamp: u64,
     number: u64,
@@ -35,6 +42,8 @@ pub struct Rules {
     seen: Vec<Seen>,
     /// How many messages it has said.
     stamp: u64,
+    /// How many ticks have passed.
+    ticks: u64,
 }
 
 impl Rules {
@@ -55,7 +64,11 @@ impl Rules {
         for neighbour in 0..routers {
             seen.push(Seen {
                 neighbour,
+                carrier: false,
                 up: false,
+                works_since: 0,
+                is_heard: false,
+                heard_since: 0,
                 peer: 0,
                 stamp: 0,
                 number: 0,
@@ -73,6 +86,7 @@ impl Rules {
             said,
             seen,
             stamp: 0,
+            ticks: 0,
         })
     }
 
@@ -103,8 +117,27 @@ impl Rules {
 
     pub fn set_up(&mut self, w: u32, up: bool) {
         if let Some(seen) = self.seen.get_mut(w as usize) {
+            seen.carrier = up;
             seen.up = up;
+            seen.works_since = self.ticks;
         }
+    }
+
+    /// A tick passes. Returns whether a link counts as up no longer: for so many ticks the neighbour has not said to this
+    /// start of the router that it hears it.
+    pub fn tick(&mut self, patience: u32) -> bool {
+        self.ticks = self.ticks.wrapping_add(1);
+        let mut is_lost = false;
+        for seen in self.seen.iter_mut() {
+            if seen.up && self.ticks.wrapping_sub(seen.works_since) >= u64::from(patience) {
+                seen.up = false;
+                is_lost = true;
+            }
+            if self.ticks.wrapping_sub(seen.heard_since) >= u64::from(patience) {
+                seen.is_heard = false;
+            }
+        }
+        is_lost
     }
 
     /// Hears a message, and returns whether it counts: it is for this router, and the last one of its sender.
@@ -120,7 +153,10 @@ impl Rules {
             return false;
         }
         seen.stamp = m.stamp;
+        seen.is_heard = true;
+        seen.heard_since = self.ticks;
         if m.boot > seen.peer {
+            seen.works_since = self.ticks;
             seen.peer = m.boot;
             seen.number = 0;
             seen.height = 0;
@@ -130,6 +166,8 @@ impl Rules {
         if m.echo != self.boot {
             return true;
         }
+        seen.up = seen.carrier;
+        seen.works_since = self.ticks;
         if m.heard <= last {
             seen.acked = seen.acked.max(m.heard);
         }
@@ -198,7 +236,7 @@ impl Rules {
 
     pub fn say(&mut self, w: u32) -> Option<Message> {
         let seen = self.seen(w)?;
-        if !seen.up {
+        if !seen.carrier {
             return None;
         }
         let last = self.last();
@@ -207,7 +245,7 @@ impl Rules {
             from: self.me,
             to: w,
             boot: self.boot,
-            echo: seen.peer,
+            echo: if seen.is_heard { seen.peer } else { 0 },
             number: last.number,
             height: last.height,
             heard: seen.number,

@@ -46,6 +46,8 @@ pub struct Found {
     pub heard: u32,
     pub events: u32,
     pub restarts: u32,
+    /// How often a tick ended that a link counted as up.
+    pub lost: u32,
     pub used: u32,
     pub differ: u32,
     pub loops: u32,
@@ -59,6 +61,7 @@ impl Found {
             heard: self.heard.wrapping_add(other.heard),
             events: self.events.wrapping_add(other.events),
             restarts: self.restarts.wrapping_add(other.restarts),
+            lost: self.lost.wrapping_add(other.lost),
             used: self.used.wrapping_add(other.used),
             differ: self.differ.wrapping_add(other.differ),
             loops: self.loops.wrapping_add(other.loops),
@@ -140,7 +143,11 @@ impl World {
             0 => self.restart(x)?,
             1..=3 => self.set_up(x, w, false)?,
             4..=40 => self.set_up(x, w, true)?,
-            41..=200 => {
+            41..=60 => {
+                let patience = self.draws.below(12);
+                self.tick(x, patience)?;
+            }
+            61..=210 => {
                 if let Some(message) = self.say(x, w)? {
                     self.keep(message)?;
                 }
@@ -192,6 +199,25 @@ impl World {
             both.node.link_down(w);
         }
         self.end_event(x)
+    }
+
+    /// A tick passes at a router.
+    pub fn tick(&mut self, x: u32, patience: u32) -> Result<(), NodeFault> {
+        let Some(both) = self.routers.get_mut(x as usize) else {
+            return Ok(());
+        };
+        let is_event = both.rules.tick(patience);
+        let before = both.node.state();
+        let is_lost = both.node.tick(patience);
+        if is_lost != is_event || (both.node.state() != before) != is_event {
+            self.found.differ = self.found.differ.wrapping_add(1);
+        }
+        if is_event {
+            self.found.lost = self.found.lost.wrapping_add(1);
+            both.rules.act()?;
+            return self.end_event(x);
+        }
+        Ok(())
     }
 
     /// After an event of a router. Each other time its policy goes on until it rests. Then its table is written.
