@@ -7,9 +7,10 @@
 //!     again N   lets routers on a line hear one old message N times, also with later stamps
 //!
 //! The program prints what happened, how often a tick ended that a link counted as up, in how many steps the library
-//! differed from the rules (rules.rt), and in how many routers used a loop. Of histories it also prints how many did not come to rest, after how many a router that is joined
-//! to a gateway was not served, and in how many a router announced more heights than it may. Then it looks for what three
-//! kinds of routers do not keep, and a fourth one without ticks, and has to see that.
+//! differed from the rules (rules.rt), and in how many routers used a loop. Of histories it also prints how many did not
+//! come to rest, after how many a router that is joined to a gateway was not served, and in how many a router announced
+//! more heights than it may. Then it looks for what three kinds of routers do not keep, and a fourth one without ticks, and
+//! has to see that.
 #![tactic(auto)]
 
 mod draws;
