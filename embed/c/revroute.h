@@ -772,18 +772,18 @@ revroute_status revroute_node_open_gateway(revroute_node *node, uint32_t me, uin
 revroute_status revroute_node_know(revroute_node *node, uint32_t neighbour);
 
 /* Events. The link to a neighbour comes up, or goes down. If the neighbour is not known, no link changes. A link that
- * comes up counts as up until revroute_node_tick ends that. A link that goes down keeps what was heard on it. The policy
- * may change the height. O(d). */
+ * comes up counts as up until revroute_node_tick ends that. A link that goes down keeps what was heard on it. The
+ * policy may change the height. O(d). */
 revroute_status revroute_node_link_up(revroute_node *node, uint32_t neighbour);
 revroute_status revroute_node_link_down(revroute_node *node, uint32_t neighbour);
 
-/* Notices links that do not work both ways. Call this at a steady interval, such as that at which you say messages again.
- * A link counts as up no longer once its neighbour has said nothing to this start of the router for `patience` calls:
- * because it does not hear the router, or is not heard. Then the neighbour is no way, its gate closes, and the router does
- * not wait for it. The node goes on saying messages over such a link, and the link counts as up again once the
- * neighbour says something to this start. Calls are counted anew when the link comes up, and when the neighbour starts
- * again. A neighbour that was not heard for as many calls is told so by the messages for it, so the link does not count
- * at its end either.
+/* Notices links that do not work both ways. Call this at a steady interval, such as that at which you say messages
+ * again. A link counts as up no longer once its neighbour has said nothing to this start of the router for `patience`
+ * calls: because it does not hear the router, or is not heard. Then the neighbour is no way, its gate closes, and the
+ * router does not wait for it. The node goes on saying messages over such a link, and the link counts as up again once
+ * the neighbour says something to this start. Calls are counted anew when the link comes up, and when the neighbour
+ * starts again. A neighbour that was not heard for as many calls is told so by the messages for it, so the link does
+ * not count at its end either.
  *
  * Returns 1 if a link was lost so, which is an event as revroute_node_link_down is. Returns 0 if none was, which is no
  * event, and for a null node. O(d). */
@@ -824,8 +824,9 @@ revroute_status revroute_node_written(revroute_node *node, uint64_t state);
 revroute_status revroute_node_say(revroute_node *node, uint32_t neighbour, uint8_t *message, size_t room,
                                   size_t *length);
 
-/* Writes to *news 1 if revroute_node_say has a message for the neighbour which differs from the last one by more than its
- * stamp, and 0 otherwise. REVROUTE_UNWRITTEN, and *news is unchanged, if the ways and gates are not written. O(d). */
+/* Writes to *news 1 if revroute_node_say has a message for the neighbour which differs from the last one by more than
+ * its stamp, and 0 otherwise. REVROUTE_UNWRITTEN, and *news is unchanged, if the ways and gates are not written.
+ * O(d). */
 revroute_status revroute_node_has_news(revroute_node *node, uint32_t neighbour, uint32_t *news);
 
 /* Writes the neighbours to which packets may be sent, the nearest first, and equally near ones by number, to the front of

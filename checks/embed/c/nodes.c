@@ -2,7 +2,8 @@
  *
  * First each call gets a null node; buffers that end where the next page cannot be accessed, of each length; bytes that
  * are not a message, and messages that know a later start, which must change nothing; and numbers of states that events
- * have overtaken. Memory is refused to each call that takes some. Links between two routers are lost by ticks, at each end.
+ * have overtaken. Memory is refused to each call that takes some. Links between two routers are lost by ticks, at each
+ * end.
  *
  * Then routers run with random events. Links come up and go down at each end on its own, also by ticks, messages are
  * lost, delayed, repeated and reordered, and routers restart. Each router reads its table some time after an event and
@@ -364,8 +365,8 @@ static void tell(revroute_node *two, uint32_t from) {
     confirm(&two[to]);
 }
 
-/* A node loses a link at the tick at which its patience ends, and not before. It goes on saying messages over it, with no
- * start of the neighbour. */
+/* A node loses a link at the tick at which its patience ends, and not before. It goes on saying messages over it, with
+ * no start of the neighbour. */
 static void lose_link(revroute_node *node, uint32_t neighbour, uint32_t patience) {
     uint8_t message[REVROUTE_MESSAGE_LENGTH];
     size_t length;
@@ -379,8 +380,8 @@ static void lose_link(revroute_node *node, uint32_t neighbour, uint32_t patience
     expect(!number_at(message + 24), "a router hears a neighbour that is silent");
 }
 
-/* Two routers. One hears nothing and loses the link. The other one hears that, and loses the link too. The link counts at an
- * end again once this end is told that it is heard. */
+/* Two routers. One hears nothing and loses the link. The other one hears that, and loses the link too. The link counts
+ * at an end again once this end is told that it is heard. */
 static void lose_links(void) {
     revroute_node two[2] = {REVROUTE_NO_NODE, REVROUTE_NO_NODE};
     open_two(two);

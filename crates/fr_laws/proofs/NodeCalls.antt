@@ -234,7 +234,8 @@ ticking_up patience ls none w = ap (λ (l : Link). l.up) (link_to-ticked patienc
     kept : is_lost patience (link_to ls w) ≡ false
     kept = ⊎_elim
         (λ known. all ls none (place_of ls w) known)
-        (λ past. subst (λ (l : Link). is_lost patience l ≡ false) (sym (get_or_past ls (place_of ls w) unknown past)) refl)
+        (λ past. subst (λ (l : Link). is_lost patience l ≡ false) (sym (get_or_past ls (place_of ls w) unknown past))
+        refl)
         (cases_lt (place_of ls w) (length ls))
 
     all : (ks : List Link) → list_any (is_lost patience) ks ≡ false → (i : ℕ) → i < length ks

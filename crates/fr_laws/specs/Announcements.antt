@@ -180,8 +180,8 @@ SomeRouterAnnounces = (alloc : Global) → (n d : ℕ) × (first : List (ℕ × 
 abbrev pub IsAsSaid : Node → ℕ → Type 0
 IsAsSaid n w = (link_to n.links.items w).up ≡ (link_to n.links.items w).carrier
 
--- `hear` is such a call, in which the node hears one message over a link that is as the caller has said. If it does not take
--- the message, nothing changes
+-- `hear` is such a call, in which the node hears one message over a link that is as the caller has said. If it does not
+-- take the message, nothing changes
 abbrev pub HearingIsACall : Type 0
 HearingIsACall = (m : Message) (old new : Node) → IsAsSaid old m.from
     → Hears old.own m old.links.items new.links.items

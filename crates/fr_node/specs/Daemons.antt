@@ -36,7 +36,8 @@ KeepsLinks n k = (k.links.items ≡ n.links.items)
     ⊎ ((w : ℕ) × (k.links.items ≡ n.links.items ++ record unknown { neighbour = w } ∷ []))
     ⊎ ((patience : ℕ) × (k.links.items ≡ map (after_tick patience) n.links.items))
 
--- `say`, `know` or `written`, a `tick` that is no event, or a call that changes nothing: they change no ways and no gates
+-- `say`, `know` or `written`, a `tick` that is no event, or a call that changes nothing: they change no ways and no
+-- gates
 pub record IsCalled (d e : Forwarder Node) : Type 0 where
   pub links : KeepsLinks d.state e.state
   pub node : e.state ≡ record d.state {

@@ -58,8 +58,8 @@ pub record IsNews (w : ℕ) (n : Node) (news : Bool) : Type 0 where
   pub up : IsTrue (link_to n.links.items w).carrier
       → (m : Message) × IsMessageTo n w m × (IsTrue news ↔ ((link_to n.links.items w).said ≢ Some (unstamped m)))
 
--- packets that come over the link are let in: it counts as up, and the node is a gateway, or the neighbour has acknowledged
--- enough
+-- packets that come over the link are let in: it counts as up, and the node is a gateway, or the neighbour has
+-- acknowledged enough
 abbrev pub is_gate : Node → Link → Bool
 is_gate n l = l.up && (n.gateway || has_answered n.own l)
 

@@ -63,8 +63,9 @@ pub record IsTaken (own : Own) (m : Message) (ls : List Link) : Type 0 where
 
 -- router `own` has taken the message m, and the link l has become k. Its start and its stamp are noted. If the start is
 -- greater, then what was known is forgotten. If the message is for the present start of the router, then its
--- announcement is taken unless a later one was heard, and its acknowledgement if it is greater. Then the neighbour is not
--- deaf, and the link counts as up if it has a carrier. A neighbour that has started again is given time to hear the router
+-- announcement is taken unless a later one was heard, and its acknowledgement if it is greater. Then the neighbour is
+-- not deaf, and the link counts as up if it has a carrier. A neighbour that has started again is given time to hear the
+-- router
 pub record IsHeard (own : Own) (m : Message) (l k : Link) : Type 0 where
   pub neighbour : k.neighbour ≡ l.neighbour
   pub carrier : k.carrier ≡ l.carrier
@@ -116,8 +117,8 @@ lasts is_so ticks patience = is_so && nat_lt (ticks + 1) patience
 abbrev pub one_more : Bool → ℕ → ℕ
 one_more is_counted ticks = if is_counted then min (ticks + 1) (2 ^ 32 - 1) else ticks
 
--- the link after a tick. While it counts as up, the ticks are counted for which the neighbour has seemed deaf, and while the
--- neighbour is heard those for which it has been silent
+-- the link after a tick. While it counts as up, the ticks are counted for which the neighbour has seemed deaf, and
+-- while the neighbour is heard those for which it has been silent
 abbrev pub after_tick : ℕ → Link → Link
 after_tick patience l = record l {
   up = lasts l.up l.deaf patience;

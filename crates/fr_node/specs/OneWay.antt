@@ -21,8 +21,8 @@ IsSilentCall w n k = KeepsLinks n k
 abbrev pub IsForAnotherStart : Node → Message → Type 0
 IsForAnotherStart n m = (m.echo ≢ n.own.boot) × (m.boot ≡ (link_to n.links.items m.from).peer)
 
--- node n has become k by a call in which w seems deaf: what is taken of w is for another start of n, and the caller does not
--- say that the link to w is up
+-- node n has become k by a call in which w seems deaf: what is taken of w is for another start of n, and the caller
+-- does not say that the link to w is up
 abbrev pub IsDeafCall : ℕ → Node → Node → Type 0
 IsDeafCall w n k = KeepsLinks n k
     ⊎ ((m : Message) × Hears n.own m n.links.items k.links.items
@@ -48,8 +48,8 @@ abbrev pub DeafLinksAreLost : Type 0
 DeafLinksAreLost = (patience w : ℕ) (n : Node) (ks : List Node) → LastsFor (IsDeafCall w) patience n ks
     → (link_to (last_node n ks).links.items w).up ≡ false
 
--- the link does not make the node wait: its neighbour was heard and is not lower, or has seemed deaf for so long. It is the
--- one link to this neighbour
+-- the link does not make the node wait: its neighbour was heard and is not lower, or has seemed deaf for so long. It is
+-- the one link to this neighbour
 pub record HoldsNothingBack (patience : ℕ) (n : Node) (ks : List Node) (l : Link) : Type 0 where
   pub once : link_to (last_node n ks).links.items l.neighbour ≡ l
   pub why : ((0 < l.heard) × (is_lower (last_node n ks).own l ≡ false))

@@ -93,8 +93,8 @@ pub record Restarts (r t : Router) : Type 0 where
   pub heard : (w : ℕ) → t.heard w ≡ 0
   pub acked : (w : ℕ) → t.acked w ≡ 0
 
--- the message says what its router knows, and a height with the number under which the router announced it. As the start
--- of the neighbour it says the one that it knows, or an earlier one, by which the neighbour learns nothing
+-- the message says what its router knows, and a height with the number under which the router announced it. As the
+-- start of the neighbour it says the one that it knows, or an earlier one, by which the neighbour learns nothing
 pub record IsSaidBy (r : Router) (m : Message) : Type 0 where
   pub boot : m.boot ≡ r.boot
   pub echo : m.echo ≤ r.peer m.to

@@ -93,10 +93,11 @@ pub fn heights_law()
     ensures calls { CallsActBeside }
 {}
 
-/// Links that work one way hold no router back. A link does not count as up after as many ticks as the caller's patience
-/// in which the neighbour seemed deaf: what was taken of it was for another start of the router, and it did not start
-/// again. If each other neighbour was heard, and none is lower, then the router is a sink. After as many ticks in which no
-/// message of a neighbour was taken, the router seems deaf to that neighbour: so the link counts at neither end.
+/// Links that work one way hold no router back. A link does not count as up after as many ticks as the caller's
+/// patience in which the neighbour seemed deaf: what was taken of it was for another start of the router, and it did
+/// not start again. If each other neighbour was heard, and none is lower, then the router is a sink. After as many
+/// ticks in which no message of a neighbour was taken, the router seems deaf to that neighbour: so the link counts at
+/// neither end.
 pub fn one_way_law()
     ensures lost { DeafLinksAreLost }
     ensures free { DeafLinksHoldNothingBack }

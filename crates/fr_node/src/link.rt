@@ -16,8 +16,8 @@ pub(crate) struct Link {
     pub(crate) carrier: bool,
     /// Whether the link counts as up: there is a carrier, and the neighbour did not seem deaf for too many ticks.
     pub(crate) up: bool,
-    /// For how many ticks the neighbour has seemed deaf: since it last said something to this start of the router, since
-    /// it started again, or since the link came up.
+    /// For how many ticks the neighbour has seemed deaf: since it last said something to this start of the router,
+    /// since it started again, or since the link came up.
     pub(crate) deaf: u32,
     /// Whether the neighbour was heard lately: it was not silent for too many ticks.
     pub(crate) is_heard: bool,

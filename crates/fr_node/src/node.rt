@@ -28,9 +28,9 @@ pub const START_HEIGHTS: u64 = 1 << 63;
 /// One router, for one destination.
 ///
 /// After an event it says nothing until the caller has said that the ways and gates are written to its table. `link_up`
-/// and `link_down` are events, `hear` of a message that is taken, `tick` if a link counts as up no longer, and `act` if it
-/// changes something. A table that was written before the last event cannot be confirmed: each event gives the ways and
-/// gates another number, their [`state`](Node::state).
+/// and `link_down` are events, `hear` of a message that is taken, `tick` if a link counts as up no longer, and `act` if
+/// it changes something. A table that was written before the last event cannot be confirmed: each event gives the ways
+/// and gates another number, their [`state`](Node::state).
 #[derive(Drop)]
 pub struct Node {
     own: Own,
@@ -122,9 +122,9 @@ impl Node {
         Ok(())
     }
 
-    /// Call this when the link to a neighbour comes up. It counts as up then, until [`tick`](Node::tick) ends that. If the
-    /// neighbour is not known, no link changes. The policy may change the height. Then the ways and gates have to be
-    /// written. It does not allocate. O(d) for d known neighbours.
+    /// Call this when the link to a neighbour comes up. It counts as up then, until [`tick`](Node::tick) ends that. If
+    /// the neighbour is not known, no link changes. The policy may change the height. Then the ways and gates have to
+    /// be written. It does not allocate. O(d) for d known neighbours.
     pub fn link_up(&mut self, neighbour: u32)
         ensures set { SetsUp neighbour true self.old.links.items self.new.links.items }
         ensures after { IsAfterEvent [] self.old self.new }
@@ -143,17 +143,17 @@ impl Node {
         self.finish_event();
     }
 
-    /// Call this at a steady interval, such as that at which messages are said again. A link counts as up no longer once
-    /// the neighbour has said nothing to this start of the router for as many ticks as `patience`: because it does not hear
-    /// the router, or is not heard. Then the neighbour is no way, its gate closes, and the router does not wait for it.
-    /// What it says to this start later makes the link count as up again. Ticks are counted anew when the link comes up,
-    /// and when the neighbour starts again.
+    /// Call this at a steady interval, such as that at which messages are said again. A link counts as up no longer
+    /// once the neighbour has said nothing to this start of the router for as many ticks as `patience`: because it does
+    /// not hear the router, or is not heard. Then the neighbour is no way, its gate closes, and the router does not
+    /// wait for it. What it says to this start later makes the link count as up again. Ticks are counted anew when the
+    /// link comes up, and when the neighbour starts again.
     ///
-    /// A neighbour of which no message was taken for as many ticks is told so by what the router says to it: `echo` is 0
-    /// there. So the link counts at neither end if it works one way.
+    /// A neighbour of which no message was taken for as many ticks is told so by what the router says to it: `echo` is
+    /// 0 there. So the link counts at neither end if it works one way.
     ///
-    /// Returns whether a link was lost so. That is an event as [`link_down`](Node::link_down): the policy may change the
-    /// height, and the ways and gates have to be written. Otherwise this was no event. It does not allocate. O(d).
+    /// Returns whether a link was lost so. That is an event as [`link_down`](Node::link_down): the policy may change
+    /// the height, and the ways and gates have to be written. Otherwise this was no event. It does not allocate. O(d).
     pub fn tick(&mut self, patience: u32) -> bool
         ensures links { self.new.links.items ≡ map (after_tick patience) self.old.links.items }
         ensures lost { result ≡ list_any (is_lost patience) self.old.links.items }
@@ -248,10 +248,10 @@ impl Node {
         Ok(())
     }
 
-    /// The message for a neighbour now. `None` if the neighbour is not known, or the caller has not said that the link to
-    /// it is up. It has a message also if the link does not count as up since a [`tick`](Node::tick). It may be said as
-    /// often as the caller likes, and has another stamp each time: the neighbour takes it after all that were said before,
-    /// and ignores it once it has taken a later one. O(d).
+    /// The message for a neighbour now. `None` if the neighbour is not known, or the caller has not said that the link
+    /// to it is up. It has a message also if the link does not count as up since a [`tick`](Node::tick). It may be said
+    /// as often as the caller likes, and has another stamp each time: the neighbour takes it after all that were said
+    /// before, and ignores it once it has taken a later one. O(d).
     ///
     /// Fails with `Unwritten` if the ways and gates after the last event are not written. Then nothing has changed.
     pub fn say(&mut self, neighbour: u32) -> Result<Option<Message>, NodeFault>
@@ -285,8 +285,8 @@ impl Node {
         })
     }
 
-    /// Whether there is news for a neighbour: there is a message for it ([`say`](Node::say)), which differs from the last
-    /// one that was said, by more than its stamp. O(d).
+    /// Whether there is news for a neighbour: there is a message for it ([`say`](Node::say)), which differs from the
+    /// last one that was said, by more than its stamp. O(d).
     ///
     /// Fails with `Unwritten` if the ways and gates after the last event are not written.
     pub fn has_news(&self, neighbour: u32) -> Result<bool, NodeFault>

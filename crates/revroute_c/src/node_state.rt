@@ -5,7 +5,8 @@ ghost use Rattle.fr_node.specs.Events.{gates_of};
 ghost use Rattle.fr_node.specs.Nodes.{lets_in, sends_to};
 ghost use Rattle.revroute_c.specs.NodeCalls.{ActsAgain, AreGatesOf, AreNeighbours, AreWaysOf, ConfirmsWritten, HearsBytes};
 ghost use Rattle.revroute_c.specs.NodeCalls.{HearsMessage, InNode, IsSafeGate, IsSafeWay, IsStateOf, KnowsNeighbour, OfNode, SaysBytesTo};
-ghost use Rattle.revroute_c.specs.NodeCalls.{TellsNews, TellsNodeDistance, TicksOnce, TurnsLink, neighbours_of, number_of_flag};
+ghost use Rattle.revroute_c.specs.NodeCalls.{TellsNews, TellsNodeDistance, TicksOnce, TurnsLink, neighbours_of};
+ghost use Rattle.revroute_c.specs.NodeCalls.{number_of_flag};
 ghost use Rattle.revroute_c.specs.Replies.{outcome, GivesList, IsWritten};
 
 use crate::replies::hand_out;

@@ -162,9 +162,10 @@ pub extern "C" fn revroute_node_link_down(handle: &mut NodeHandle, neighbour: u3
     }
 }
 
-/// Lets a tick pass on all links, as [`Node::tick`] does. Returns 1 if a link counts as up no longer, because its neighbour
-/// has said nothing to this start of the router for `patience` ticks: then ways and gates have to be written, as after
-/// [`revroute_node_link_up`]. Returns 0 otherwise, which is no event, and for a null handle. It takes no memory. O(d).
+/// Lets a tick pass on all links, as [`Node::tick`] does. Returns 1 if a link counts as up no longer, because its
+/// neighbour has said nothing to this start of the router for `patience` ticks: then ways and gates have to be written,
+/// as after [`revroute_node_link_up`]. Returns 0 otherwise, which is no event, and for a null handle. It takes no
+/// memory. O(d).
 #[unsafe(no_mangle)]
 pub extern "C" fn revroute_node_tick(handle: &mut NodeHandle, patience: u32) -> u32
     ensures ticks { InNode (TicksOnce patience result) (result ≡ 0) handle.old.machine handle.new.machine }
@@ -261,8 +262,8 @@ pub extern "C" fn revroute_node_say(
     }
 }
 
-/// Writes to `news` whether there is news for a neighbour: 1 if there is a message for it, which differs from the last one
-/// that was said by more than its stamp, and 0 otherwise. Returns `ANSWERED`, or:
+/// Writes to `news` whether there is news for a neighbour: 1 if there is a message for it, which differs from the last
+/// one that was said by more than its stamp, and 0 otherwise. Returns `ANSWERED`, or:
 ///
 /// - `UNWRITTEN`: ways and gates are not written yet.
 /// - `NO_NETWORK`: the handle is null.

@@ -2,15 +2,15 @@
 //! which routers restart. Each line of standard input is a word and a number:
 //!
 //!     steps N   draws N steps with each policy, over all links between a few routers
-//!     rest N    draws N histories with each kind of routers; then links stay, of which some work one way, ticks pass, and
-//!               messages arrive
+//!     rest N    draws N histories with each kind of routers; then links stay, of which some work one way, ticks pass,
+//!               and messages arrive
 //!     again N   lets routers on a line hear one old message N times, also with later stamps
 //!
 //! The program prints what happened, how often a tick ended that a link counted as up, in how many steps the library
-//! differed from the rules (rules.rt), and in how many routers used a loop. Of histories it also prints how many did not
-//! come to rest, after how many a router that is joined to a gateway was not served, and in how many a router announced
-//! more heights than it may. Then it looks for what three kinds of routers do not keep, and a fourth one without ticks, and
-//! has to see that.
+//! differed from the rules (rules.rt), and in how many routers used a loop. Of histories it also prints how many did
+//! not come to rest, after how many a router that is joined to a gateway was not served, and in how many a router
+//! announced more heights than it may. Then it looks for what three kinds of routers do not keep, and a fourth one
+//! without ticks, and has to see that.
 #![tactic(auto)]
 
 mod draws;

@@ -13,8 +13,8 @@ const UNFAIR_ROUNDS: u32 = 12;
 
 const MOST_ROUNDS: u32 = 400;
 
-/// The patience of the ticks between the rounds in which all messages arrive. Two rounds are enough to hear a neighbour and
-/// to be told that it hears.
+/// The patience of the ticks between the rounds in which all messages arrive. Two rounds are enough to hear a neighbour
+/// and to be told that it hears.
 pub const PATIENCE: u32 = 3;
 
 /// What came of histories.
@@ -31,8 +31,8 @@ pub struct Rests {
     pub above: u32,
 }
 
-/// Draws so many histories of 2 to 16 routers, of which none to three are gateways. Each other one has links that work one
-/// way.
+/// Draws so many histories of 2 to 16 routers, of which none to three are gateways. Each other one has links that work
+/// one way.
 pub fn draw_histories(
     alloc: Global,
     (kind, promise): (Kind, Promise),
@@ -162,8 +162,8 @@ fn exchange_one(world: &mut World, x: u32, w: u32) -> Result<(), NodeFault> {
     }
 }
 
-/// Delivers all messages until nothing changes at these routers for two rounds, after the ticks in which both ends of a link
-/// lose it.
+/// Delivers all messages until nothing changes at these routers for two rounds, after the ticks in which both ends of a
+/// link lose it.
 fn comes_to_rest(
     world: &mut World,
     links: &Links,
@@ -184,8 +184,8 @@ fn comes_to_rest(
     Ok(false)
 }
 
-/// Each router says something to each neighbour, which hears it if the link carries it. Then a tick passes at each router.
-/// Returns whether anything has changed at these routers.
+/// Each router says something to each neighbour, which hears it if the link carries it. Then a tick passes at each
+/// router. Returns whether anything has changed at these routers.
 pub fn exchange_all(
     world: &mut World,
     links: &Links,

@@ -123,8 +123,8 @@ impl Rules {
         }
     }
 
-    /// A tick passes. Returns whether a link counts as up no longer: for so many ticks the neighbour has not said to this
-    /// start of the router that it hears it.
+    /// A tick passes. Returns whether a link counts as up no longer: for so many ticks the neighbour has not said to
+    /// this start of the router that it hears it.
     pub fn tick(&mut self, patience: u32) -> bool {
         self.ticks = self.ticks.wrapping_add(1);
         let mut is_lost = false;

@@ -237,9 +237,9 @@ class NodeTest(unittest.TestCase):
             self.assertEqual(exchange(6, line), 0)
 
     def test_a_link_counts_while_it_works_both_ways(self):
-        """Routers 0 to 4 in a ring, of which router 0 is the gateway. All messages from 2 to 1 are lost. Router 1 does not hear
-        router 2, and loses the link. It says so, and router 2 loses the link too, as a cut would have it. Once messages arrive
-        again, both have it back."""
+        """Routers 0 to 4 in a ring, of which router 0 is the gateway. All messages from 2 to 1 are lost. Router 1 does
+        not hear router 2, and loses the link. It says so, and router 2 loses the link too, as a cut would have it. Once
+        messages arrive again, both have it back."""
 
         def hear_all(lost):
             said = [(me, to, nodes[me].say(to)) for me in range(ROUTERS) for to in ((me - 1) % ROUTERS, (me + 1) % ROUTERS)]

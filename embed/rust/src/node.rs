@@ -289,8 +289,8 @@ impl Node {
         }
     }
 
-    /// An event: the link to a neighbour comes up. It counts as up until [`tick`](Node::tick) ends that. If the neighbour is
-    /// not known, no link changes. `O(d)`, and needs no memory.
+    /// An event: the link to a neighbour comes up. It counts as up until [`tick`](Node::tick) ends that. If the
+    /// neighbour is not known, no link changes. `O(d)`, and needs no memory.
     pub fn link_up(&mut self, neighbour: u32) {
         // SAFETY: the handle is the library's own, and no other call has it.
         let status = unsafe { sys::revroute_node_link_up(self.handle.get(), neighbour) };
@@ -306,12 +306,12 @@ impl Node {
     }
 
     /// Notices links that do not work both ways. Call this at a steady interval, such as that at which you say messages
-    /// again. A link counts as up no longer once its neighbour has said nothing to this start of the router for `patience`
-    /// calls: because it does not hear the router, or is not heard. Then the neighbour is no way, its gate closes, and the
-    /// router does not wait for it. The node goes on saying messages over such a link, and the link counts as up again
-    /// once the neighbour says something to this start. Calls are counted anew when the link comes up, and when the
-    /// neighbour starts again. A neighbour that was not heard for as many calls is told so by the messages for it, so the
-    /// link does not count at its end either.
+    /// again. A link counts as up no longer once its neighbour has said nothing to this start of the router for
+    /// `patience` calls: because it does not hear the router, or is not heard. Then the neighbour is no way, its gate
+    /// closes, and the router does not wait for it. The node goes on saying messages over such a link, and the link
+    /// counts as up again once the neighbour says something to this start. Calls are counted anew when the link comes
+    /// up, and when the neighbour starts again. A neighbour that was not heard for as many calls is told so by the
+    /// messages for it, so the link does not count at its end either.
     ///
     /// Returns whether a link was lost so, which is an event as [`link_down`](Node::link_down) is; if not, it is none.
     /// `O(d)`, and needs no memory.
@@ -404,9 +404,10 @@ impl Node {
         }
     }
 
-    /// The message for a neighbour. `None` if the neighbour is not known, or if you have not said that the link to it is up.
-    /// A link that [`tick`](Node::tick) has lost has messages. One may be said as often as you like, and has another stamp
-    /// each time. Messages may be lost, so say one to each neighbour again after some time. `O(d)`, and needs no memory.
+    /// The message for a neighbour. `None` if the neighbour is not known, or if you have not said that the link to it
+    /// is up. A link that [`tick`](Node::tick) has lost has messages. One may be said as often as you like, and has
+    /// another stamp each time. Messages may be lost, so say one to each neighbour again after some time. `O(d)`, and
+    /// needs no memory.
     ///
     /// # Errors
     ///
@@ -427,8 +428,8 @@ impl Node {
         }
     }
 
-    /// Whether there is news for a neighbour: there is a message for it ([`say`](Node::say)), which differs from the last one
-    /// that was said by more than its stamp. `O(d)`, and needs no memory.
+    /// Whether there is news for a neighbour: there is a message for it ([`say`](Node::say)), which differs from the
+    /// last one that was said by more than its stamp. `O(d)`, and needs no memory.
     ///
     /// # Errors
     ///

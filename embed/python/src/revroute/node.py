@@ -64,11 +64,11 @@ class Node:
     """The state machine of one router, for one destination, in a network without a controller. Each router runs its
     own, and they exchange messages.
 
-    Events are `link_up`, `link_down`, `tick` if a link is lost, `hear` of a message that is taken, and `act` if it changes
-    something. After an event, write the ways and gates of `table` to the forwarding table, and then call `written`. Only
-    then `say` has messages. So at no moment do the links that routers use contain a loop, whatever happens to messages and
-    whichever routers restart. docs/NODES.md has all rules for this. Among them: each router drops packets from neighbours
-    that it does not let in, and `boot` is greater at each start.
+    Events are `link_up`, `link_down`, `tick` if a link is lost, `hear` of a message that is taken, and `act` if it
+    changes something. After an event, write the ways and gates of `table` to the forwarding table, and then call
+    `written`. Only then `say` has messages. So at no moment do the links that routers use contain a loop, whatever
+    happens to messages and whichever routers restart. docs/NODES.md has all rules for this. Among them: each router
+    drops packets from neighbours that it does not let in, and `boot` is greater at each start.
 
     >>> import revroute
     >>> def write(node):
@@ -157,8 +157,8 @@ class Node:
             raise MemoryError
 
     def link_up(self, neighbour: int) -> None:
-        """An event: the link to a neighbour comes up. It counts as up until `tick` ends that. If the neighbour is not known,
-        no link changes."""
+        """An event: the link to a neighbour comes up. It counts as up until `tick` ends that. If the neighbour is not
+        known, no link changes."""
         self._call(questions.revroute_node_link_up, _number(neighbour))
 
     def link_down(self, neighbour: int) -> None:
@@ -166,13 +166,13 @@ class Node:
         self._call(questions.revroute_node_link_down, _number(neighbour))
 
     def tick(self, patience: int) -> bool:
-        """Notices links that do not work both ways. Call this at a steady interval, such as that at which you say messages
-        again. A link counts as up no longer once its neighbour has said nothing to this start of the router for `patience`
-        calls: because it does not hear the router, or is not heard. Then the neighbour is no way, its gate closes, and the
-        router does not wait for it. The node goes on saying messages over such a link, and the link counts as up again once
-        the neighbour says something to this start. Calls are counted anew when the link comes up, and when the neighbour
-        starts again. A neighbour that was not heard for as many calls is told so by the messages for it, so the link does
-        not count at its end either.
+        """Notices links that do not work both ways. Call this at a steady interval, such as that at which you say
+        messages again. A link counts as up no longer once its neighbour has said nothing to this start of the router
+        for `patience` calls: because it does not hear the router, or is not heard. Then the neighbour is no way, its
+        gate closes, and the router does not wait for it. The node goes on saying messages over such a link, and the
+        link counts as up again once the neighbour says something to this start. Calls are counted anew when the link
+        comes up, and when the neighbour starts again. A neighbour that was not heard for as many calls is told so by
+        the messages for it, so the link does not count at its end either.
 
         Returns whether a link was lost so, which is an event as `link_down` is; if not, it is none."""
         return bool(self._call(questions.revroute_node_tick, _number(patience)))
@@ -231,9 +231,9 @@ class Node:
             raise Outdated("an event came after the ways and gates were handed out")
 
     def say(self, neighbour: int) -> Optional[bytes]:
-        """The message for a neighbour. None if it is not known, or if you have not said that the link to it is up. A link
-        that `tick` has lost has messages. One may be said as often as you like, and has another stamp each time. Messages
-        may be lost, so say one to each neighbour again after some time.
+        """The message for a neighbour. None if it is not known, or if you have not said that the link to it is up. A
+        link that `tick` has lost has messages. One may be said as often as you like, and has another stamp each time.
+        Messages may be lost, so say one to each neighbour again after some time.
 
         Raises Unwritten if the ways and gates are not written.
         """
@@ -244,8 +244,8 @@ class Node:
         return message.raw if status == _calls.ANSWERED else None
 
     def has_news(self, neighbour: int) -> bool:
-        """Whether `say` has a message for a neighbour which differs from the last one that was said to it by more than its
-        stamp.
+        """Whether `say` has a message for a neighbour which differs from the last one that was said to it by more than
+        its stamp.
 
         Raises Unwritten if the ways and gates are not written.
         """
