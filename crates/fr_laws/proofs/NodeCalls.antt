@@ -231,18 +231,18 @@ ticking_up patience ls none w = ap (λ (l : Link). l.up) (link_to-ticked patienc
     lasts_up : (l : Link) → is_lost patience l ≡ false → (after_tick patience l).up ≡ l.up
     lasts_up l lost = grind (arith, nat_tests, lost)
 
+    all : (ks : List Link) → list_any (is_lost patience) ks ≡ false → (i : ℕ) → i < length ks
+        → is_lost patience (get_or ks i unknown) ≡ false
+    all [] over i within = absurd (omega (arith, within))
+    all (k ∷ ks) over zero within = grind (arith, over)
+    all (k ∷ ks) over (suc i) within = all ks (grind (arith, over)) i (omega (arith, within))
+
     kept : is_lost patience (link_to ls w) ≡ false
     kept = ⊎_elim
         (λ known. all ls none (place_of ls w) known)
         (λ past. subst (λ (l : Link). is_lost patience l ≡ false) (sym (get_or_past ls (place_of ls w) unknown past))
         refl)
         (cases_lt (place_of ls w) (length ls))
-
-    all : (ks : List Link) → list_any (is_lost patience) ks ≡ false → (i : ℕ) → i < length ks
-        → is_lost patience (get_or ks i unknown) ≡ false
-    all [] over i within = absurd (omega (arith, within))
-    all (k ∷ ks) over zero within = grind over
-    all (k ∷ ks) over (suc i) within = all ks (grind over) i (omega (arith, within))
 
 neighbours_ticked : (patience : ℕ) (ls : List Link)
     → map (λ (l : Link). l.neighbour) (map (after_tick patience) ls) ≡ map (λ (l : Link). l.neighbour) ls

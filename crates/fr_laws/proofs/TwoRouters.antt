@@ -30,8 +30,8 @@ use Rattle.fr_node.specs.declared.policy.Policy.{Policy}
 use Rattle.fr_node.specs.declared.policy.Rise.TheVariants.{Full}
 use Rattle.fr_laws.proofs.HopsAlong.{falling_acyclic}
 use Rattle.fr_laws.proofs.NodeCalls.{rests, taking_is_a_call}
-use Rattle.fr_laws.specs.Announcements.{AreListedOnce, AreSteps, Configuration, IsLower, IsNetwork, IsRouter, IsStep}
-use Rattle.fr_laws.specs.Announcements.{SomeRouterAnnounces}
+use Rattle.fr_laws.specs.Announcements.{AreListedOnce, AreSteps, Configuration, IsAsSaid, IsLower, IsNetwork}
+use Rattle.fr_laws.specs.Announcements.{IsRouter, IsStep, SomeRouterAnnounces}
 
 abbrev policy : Policy
 policy = record { rise = Full; lower = false; wait = false }
@@ -385,12 +385,12 @@ module _ (alloc : Global) where
       (λ none. absurd (Contains-none k none))
       (Contains-cases k m [] h)
 
-  router_hears : (a mid c b : Node) (m : Message) (pool : List Message) → InTurn a mid c
+  router_hears : (a mid c b : Node) (m : Message) (pool : List Message) → InTurn a mid c → IsAsSaid a m.from
       → Hears a.own m a.links.items c.links.items → IsStep 0 (moment a b (m ∷ pool)) (moment c b (m ∷ pool))
-  router_hears a mid c b m pool turn hears = record {
+  router_hears a mid c b m pool turn as_said hears = record {
     messages = m ∷ [];
     sent = only_last m pool;
-    call = taking_is_a_call m a c hears event;
+    call = taking_is_a_call m a c as_said hears event;
     others = others;
     said = λ k h. inl h;
   }
@@ -406,12 +406,12 @@ module _ (alloc : Global) where
 
   -- a gateway announces nothing
   gate_hears : (a : Node) (e : ℕ) (b : Bool) (l k : Link) (m : Message) (pool : List Message)
-      → Hears (own 1 0 1) m (l ∷ []) (k ∷ [])
+      → IsAsSaid (gate e b l) m.from → Hears (own 1 0 1) m (l ∷ []) (k ∷ [])
       → IsStep 1 (moment a (gate e b l) (m ∷ pool)) (moment a (gate ((e + 1) % 2 ^ 64) false k) (m ∷ pool))
-  gate_hears a e b l k m pool hears = record {
+  gate_hears a e b l k m pool as_said hears = record {
     messages = m ∷ [];
     sent = only_last m pool;
-    call = taking_is_a_call m (gate e b l) heard hears event;
+    call = taking_is_a_call m (gate e b l) heard as_said hears event;
     others = others;
     said = λ k h. inl h;
   }
@@ -620,25 +620,25 @@ module _ (alloc : Global) where
   step1 = says before gate0 [] started says_started
 
   step2 : IsStep 1 (moment before gate0 pool1) (moment before gate1 pool1)
-  step2 = gate_hears before 0 true (new_link 0) met started [] hears_started
+  step2 = gate_hears before 0 true (new_link 0) met started [] refl hears_started
 
   step3 : IsStep 1 (moment before gate1 pool1) (moment before gate1 pool2)
   step3 = says before gate1 pool1 hello (gate_says 1 false met hello refl refl refl refl refl refl refl refl refl)
 
   step4 : IsStep 0 (moment before gate1 pool2) (moment after gate1 pool2)
-  step4 = router_hears before middle after gate1 hello pool1 rises hears_hello
+  step4 = router_hears before middle after gate1 hello pool1 rises refl hears_hello
 
   step5 : IsStep 1 (moment after gate1 pool2) (moment after gate1 pool3)
   step5 = says after gate1 pool2 reply says_reply
 
   step6 : IsStep 1 (moment after gate1 pool3) (moment after gate2 pool3)
-  step6 = gate_hears after 1 false met told reply pool2 hears_reply
+  step6 = gate_hears after 1 false met told reply pool2 refl hears_reply
 
   step7 : IsStep 1 (moment after gate2 pool3) (moment after gate2 pool4)
   step7 = says after gate2 pool3 answer (gate_says 2 false told answer refl refl refl refl refl refl refl refl refl)
 
   step8 : IsStep 0 (moment after gate2 pool4) (moment done gate2 pool4)
-  step8 = router_hears after at_rest done gate2 answer pool3 stays hears_answer
+  step8 = router_hears after at_rest done gate2 answer pool3 stays refl hears_answer
 
   abbrev last_four : List (ℕ × Configuration)
   last_four = (1, moment after gate1 pool3) ∷ (1, moment after gate2 pool3) ∷ (1, moment after gate2 pool4)
