@@ -291,7 +291,10 @@ fn a_link_that_works_one_way_counts_at_neither_end() -> Result<(), Box<dyn Error
     assert!(router.table()?.ways().is_empty() && gateway.table()?.gates().is_empty());
     pass(&mut gateway, &mut router, 1)?;
     pass(&mut router, &mut gateway, 0)?;
-    assert_eq!((router.table()?.ways(), gateway.table()?.gates()), (&[0][..], &[1][..]));
+    assert_eq!(
+        (router.table()?.ways(), gateway.table()?.gates()),
+        (&[0][..], &[1][..])
+    );
     Ok(())
 }
 
