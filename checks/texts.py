@@ -34,6 +34,9 @@ DRAWER_ERRORS = {
     "--fly": "revdot: unknown word '--fly', try 'revdot --help'\n",
     "--page fly": "revdot: unknown word 'fly', try 'revdot --help'\n  tip: revdot reads requests from standard input, as in 'revdot < FILE'\n",
 }
+# The same for a direction that is none.
+DRAWER_ERRORS |= dict.fromkeys(("--rankdir", "--rankdir down", "--rankdir lr", "--rankdir=", "--rankdir --turns", "--turns --rankdir=L --page"),
+                               "revdot: --rankdir takes TB, LR, BT or RL, try 'revdot --help'\n")
 DRAWER_NOT_UTF8 = "revdot: a word is not UTF-8, try 'revdot --help'\n"
 
 # What is written for a version.
@@ -79,10 +82,28 @@ PLAY = {
 DRAWER = {
     "--ways": ["bold arrows to the nearest ways"],
     "--turns": ["a graph for each turn of the last round"],
+    "--rankdir DIRECTION": ["TB from top to bottom", "LR from left to right", "BT or RL"],
     "--page": ["a page for a browser"],
     "-h, --help": ["this text"],
     "-V, --version": ["the version"],
+    "A line that begins with #": ["is a comment"],
 }
+# A network of one node, and how revdot draws it in a direction, whose line is empty for that from top to bottom.
+ONE_NODE = b'["net",1,0,[]]\n'
+DIRECTIONS = {"TB": "", "LR": "    rankdir = LR\n", "BT": "    rankdir = BT\n", "RL": "    rankdir = RL\n"}
+
+
+def one_node(direction):
+    return f"""digraph network {{
+    graph [ nodesep = 0.4 ranksep = 0.4 fontname = Helvetica ]
+    node [ shape = circle fixedsize = true width = 0.55 fontname = Helvetica style = filled fillcolor = white ]
+    edge [ color = gray50 arrowsize = 0.8 ]
+{DIRECTIONS[direction]}    0 [ label = <0<br/><font point-size='9'>0</font>> shape = doublecircle ]
+    {{ rank = sink 0 }}
+}}
+""".encode()
+
+
 # The help of each command line of revroute that asks for it.
 HELP = {"--help": COMMANDS, "help": COMMANDS, "run --help": RUN, "serve --help": RUN, "help run": RUN, "play --help": PLAY, "help play": PLAY}
 

@@ -6,6 +6,7 @@ the destination. The order of pushes follows from the new hops. Every answer tha
 import collections
 import heapq
 import json
+import urllib.parse
 
 # The answers to a line without a request.
 NO_REQUEST = {'refused 1': 'no JSON', 'refused 2': 'no request'}
@@ -13,6 +14,9 @@ NODES = 256
 TURNS = 4096
 # After each of so many lines comes the whole state.
 LINES_BETWEEN_STATES = 256
+# The comments that a page has, and the characters that stay as they are in them.
+KEPT_COMMENTS = (b'# places ', b'# names ')
+PLAIN = ''.join(chr(it) for it in range(32, 127) if chr(it) not in '%<')
 
 
 class Network:
@@ -186,9 +190,18 @@ def texts(links):
     return [f'{tail}>{head}' for tail, head in links]
 
 
+def is_comment(line):
+    return line.lstrip(b' \t\r').startswith(b'#')
+
+
+def without_comments(data):
+    """An input with blank lines in place of its comments, so the other lines keep their numbers."""
+    return b'\n'.join(b'' if is_comment(line) else line for line in data.split(b'\n'))
+
+
 def request_lines(data):
-    """The lines of an input that are not blank, each with its number."""
-    return [(number, line) for number, line in enumerate(data.split(b'\n'), 1) if line.strip(b' \t\r')]
+    """The lines of an input that are neither blank nor comments, each with its number."""
+    return [(number, line) for number, line in enumerate(without_comments(data).split(b'\n'), 1) if line.strip(b' \t\r')]
 
 
 def asked(request):
@@ -274,12 +287,14 @@ class Story:
         for number, line in enumerate(data.split(b'\n'), 1):
             if number in given:
                 out += self.block(number, line, *given[number])
+            if line.startswith(KEPT_COMMENTS):
+                out.append(urllib.parse.quote(line, safe=PLAIN))
             if number % LINES_BETWEEN_STATES == 0 and self.network and self.network.nodes <= NODES:
                 out += ['state', *state_of(self.network)]
         self.text = ''.join(line + '\n' for line in out)
 
     def block(self, number, line, answer, in_json):
-        """The lines of the story for a line that is not blank."""
+        """The lines of the story for a request."""
         out = [f'line {number}', answer]
         if answer in NO_REQUEST:
             return out

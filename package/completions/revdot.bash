@@ -1,5 +1,9 @@
 # Completions of revdot for bash.
 _revdot() {
-    mapfile -t COMPREPLY < <(compgen -W '--ways --turns --page --help --version' -- "${COMP_WORDS[COMP_CWORD]}")
+    local words='--ways --turns --rankdir --page --help --version'
+    if [ "${COMP_WORDS[COMP_CWORD - 1]}" = --rankdir ]; then
+        words='TB LR BT RL'
+    fi
+    mapfile -t COMPREPLY < <(compgen -W "$words" -- "${COMP_WORDS[COMP_CWORD]}")
 }
 complete -F _revdot revdot

@@ -159,8 +159,10 @@ const acts = {
   pace: wait => wait
 };
 
-// What a key does: nothing where it is typed or scrolls a text, or where it is a letter and these are turned off.
-function actionOf({key, target, shiftKey, ctrlKey, metaKey, altKey}) {
+// What a key does: nothing where it is typed or scrolls a text, or where it is a letter and these are turned off. A
+// dialog that was closed has the focus until the browser draws the page again. Then the key acts on the page.
+function actionOf({key, target: focused, shiftKey, ctrlKey, metaKey, altKey}) {
+  const target = focused.closest('dialog:not([open])') ? document.body : focused;
   if (altKey || target.closest('dialog, select, textarea, input:not([type=range])')) return null;
   // On a Mac the key Cmd goes with letters, as Ctrl does elsewhere.
   if (ctrlKey || metaKey && isLetter(key)) return controlled[shiftKey && isLetter(key) ? key.toUpperCase() : key];

@@ -1,6 +1,7 @@
-// What a page knows beside its story, where the lab has put that there: the text with requests, one a line. Blank lines
-// and comments are none. Comments may say where nodes are and what they are called: for the place of a request from
-// which on a network is laid out, the places of its nodes, and the names of those that have one.
+// What a page knows beside its story. In a page of the lab this is the text with requests, one a line; blank lines and
+// comments are none. In a page of revdot it is comments alone, which its story has percent-encoded. Comments may say
+// where nodes are and what they are called: for the place of a request from which on a network is laid out, the places
+// of its nodes, and the names of those that have one.
 
 const PLACES = '# places ', NAMES = '# names ';
 
@@ -33,7 +34,17 @@ function textOf(lines, places, names) {
   return [...lines, ...comment(PLACES, places), ...comment(NAMES, names)].map(line => line + NL).join('');
 }
 
-const givenText = by('given') ? JSON.parse(by('given').textContent) : '', given = readText(givenText);
+// The comments of a story. One that is no text is left out.
+function commentsOf(story) {
+  return [...story.matchAll(/^#.*/gm)].map(([comment]) => {
+    try {
+      return decodeURIComponent(comment);
+    } catch { return ''; }
+  });
+}
+
+const givenText = by('given') ? JSON.parse(by('given').textContent) : commentsOf(by('story').textContent).join(NL),
+      given = readText(givenText);
 
 // The places and the names of the nodes of a drawing, if they are known.
 const placesIn = (places, view) =>

@@ -13,24 +13,27 @@ use Rattle.revdot.specs.Drawings.{IsDrawing, IsPictureOf}
 use Rattle.revdot.specs.Graphs.{graph_text}
 use Rattle.revdot.specs.Settled.{IsGraphOf, IsWaysGraphOf, settled_node, settled_link, way_link}
 use Rattle.revdot.specs.Strips.{IsNext, IsStripOf, AreAllTurns, AreTurns, after_turn, after_turns, beginning, last_label, most_turns, turns_text}
+use Rattle.revdot.specs.Comments.{without_comments}
+use Rattle.revdot.specs.declared.graphs.Direction.{Direction}
 use Rattle.revdot.specs.declared.graphs.Label.{Label}
 use Rattle.revdot.specs.declared.graphs.Label.TheVariants.{Plain}
 use Rattle.revdot.specs.declared.drawing.Picture.{Picture}
 use Rattle.revdot.specs.declared.drawing.Picture.TheVariants.{Network, Ways, Turns}
 
-graph_unique : (said : Label) (s : State) (a b : List ℕ) → IsGraphOf said s a → IsGraphOf said s b → a ≡ b
-graph_unique said s a b p q =
+graph_unique : (towards : Direction) (said : Label) (s : State) (a b : List ℕ) → IsGraphOf towards said s a
+    → IsGraphOf towards said s b → a ≡ b
+graph_unique towards said s a b p q =
     let hops : p.hops ≡ q.hops = hops_unique s s.nodes p.hops q.hops p.are_hops q.are_hops in
     p.text
-    ∙ (ap (λ (hs : List Hop). graph_text said s.dest (map (settled_node s.counts hs) (range_with_len 0 s.nodes)) (map (settled_link hs) s.links)) hops
+    ∙ (ap (λ (hs : List Hop). graph_text towards said s.dest (map (settled_node s.counts hs) (range_with_len 0 s.nodes)) (map (settled_link hs) s.links)) hops
     ∙ sym q.text)
 
-ways_graph_unique : (s : State) (a b : List ℕ) → IsWaysGraphOf s a → IsWaysGraphOf s b → a ≡ b
-ways_graph_unique s a b p q =
+ways_graph_unique : (towards : Direction) (s : State) (a b : List ℕ) → IsWaysGraphOf towards s a → IsWaysGraphOf towards s b → a ≡ b
+ways_graph_unique towards s a b p q =
     let hops : p.hops ≡ q.hops = hops_unique s s.nodes p.hops q.hops p.are_hops q.are_hops in
     let table : p.table ≡ q.table = ways_below_unique s s.nodes p.table q.table p.are_ways q.are_ways in
     let text = λ (hs : List Hop) (ws : List (List ℕ)).
-    graph_text Plain s.dest (map (settled_node s.counts hs) (range_with_len 0 s.nodes)) (map (way_link hs ws) s.links) in
+    graph_text towards Plain s.dest (map (settled_node s.counts hs) (range_with_len 0 s.nodes)) (map (way_link hs ws) s.links) in
     let texts : text p.hops p.table ≡ text q.hops q.table = λ i. text (hops i) (table i) in
     p.text ∙ (texts ∙ sym q.text)
 
@@ -81,22 +84,24 @@ pub all_turns_unique : (most n d : ℕ) (m : Moment) (xs ys : List ℕ) → AreA
 all_turns_unique most n d m xs ys p q = turns_unique n d most m xs ys p.turns q.turns (record { few = p.few; all = p.all })
     (record { few = q.few; all = q.all })
 
-strip_unique : (s : State) (a b : List ℕ) → IsStripOf s a → IsStripOf s b → a ≡ b
-strip_unique s a b p q =
+strip_unique : (towards : Direction) (s : State) (a b : List ℕ) → IsStripOf towards s a → IsStripOf towards s b → a ≡ b
+strip_unique towards s a b p q =
     let turns : p.turns ≡ q.turns = all_turns_unique most_turns s.nodes s.dest (beginning s) p.turns q.turns p.are_all q.are_all in
-    let last : p.last ≡ q.last = graph_unique (last_label (sum s.counts - most_turns)) s p.last q.last p.settled q.settled in
-    let texts : turns_text s (beginning s) 1 p.turns ++ p.last ≡ turns_text s (beginning s) 1 q.turns ++ q.last =
-    (λ i. turns_text s (beginning s) 1 (turns i) ++ last i) in
+    let last : p.last ≡ q.last = graph_unique towards (last_label (sum s.counts - most_turns)) s p.last q.last p.settled q.settled in
+    let texts : turns_text towards s (beginning s) 1 p.turns ++ p.last ≡ turns_text towards s (beginning s) 1 q.turns ++ q.last =
+    (λ i. turns_text towards s (beginning s) 1 (turns i) ++ last i) in
     p.text ∙ (texts ∙ sym q.text)
 
-picture_unique : (picture : Picture) (last : Option State) (a b : List ℕ) → IsPictureOf picture last a → IsPictureOf picture last b → a ≡ b
-picture_unique picture None a b p q = p ∙ sym q
-picture_unique Network (Some s) a b p q = graph_unique Plain s a b p q
-picture_unique Ways (Some s) a b p q = ways_graph_unique s a b p q
-picture_unique Turns (Some s) a b p q = strip_unique s a b p q
+picture_unique : (picture : Picture) (towards : Direction) (last : Option State) (a b : List ℕ) → IsPictureOf picture towards last a
+    → IsPictureOf picture towards last b → a ≡ b
+picture_unique picture towards None a b p q = p ∙ sym q
+picture_unique Network towards (Some s) a b p q = graph_unique towards Plain s a b p q
+picture_unique Ways towards (Some s) a b p q = ways_graph_unique towards s a b p q
+picture_unique Turns towards (Some s) a b p q = strip_unique towards s a b p q
 
--- an input has only one picture
-pub drawing_unique : (picture : Picture) (bytes a b : List ℕ) → IsDrawing picture bytes a → IsDrawing picture bytes b → a ≡ b
-drawing_unique picture bytes a b p q =
-    let last : q.last ≡ p.last = (answers_unique None (lines_of bytes) q.is_left.0 p.is_left.0 q.last p.last q.is_left.1 p.is_left.1).1 in
-    picture_unique picture p.last a b p.is_picture (subst (λ (s : Option State). IsPictureOf picture s b) last q.is_picture)
+-- an input has only one picture in a direction
+pub drawing_unique : (picture : Picture) (towards : Direction) (bytes a b : List ℕ) → IsDrawing picture towards bytes a
+    → IsDrawing picture towards bytes b → a ≡ b
+drawing_unique picture towards bytes a b p q =
+    let last : q.last ≡ p.last = (answers_unique None (without_comments (lines_of bytes)) q.is_left.0 p.is_left.0 q.last p.last q.is_left.1 p.is_left.1).1 in
+    picture_unique picture towards p.last a b p.is_picture (subst (λ (s : Option State). IsPictureOf picture towards s b) last q.is_picture)

@@ -18,9 +18,10 @@ use Rattle.fr_route.specs.Telling.{IsLineTold}
 use Rattle.fr_bytes.specs.Lines.{lines_of}
 use Rattle.revdot.specs.Pages.{IsPage}
 use Rattle.revdot.specs.Asked.{asked_text}
+use Rattle.revdot.specs.Comments.{comment_text, is_comment}
 use Rattle.revdot.specs.Changes.{changes_text, listed_line, pushes_line}
 use Rattle.revdot.specs.Stories.{AreBlocks, AreListed, AreSettledLines, AreWaysBefore, IsAnswerLine, IsAnsweredBlock, IsBlock, IsLineSequel, IsMark}
-use Rattle.revdot.specs.Stories.{IsRefusalLine, IsResult, IsRoundStory, IsSequel, IsStep, IsToldRound, IsTurnByTurn, answer_text}
+use Rattle.revdot.specs.Stories.{IsRefusalLine, IsRequestBlock, IsResult, IsRoundStory, IsSequel, IsStep, IsToldRound, IsTurnByTurn, answer_text}
 use Rattle.revdot.specs.Stories.{is_marked, is_told, makes_round, most_told_turns, net_before, net_text, refusal_line, turns_line}
 use Rattle.revdot.specs.Strips.{beginning}
 use Rattle.revdot.proofs.OneDrawing.{all_turns_unique}
@@ -123,9 +124,9 @@ answered_unique s number asked a b p q h k =
     (λ i. answer_text number (one.0 i) ++ (asked_text asked ++ told i)) in
     (h.text ∙ (texts ∙ sym k.text), one.1)
 
-block_unique : (s : Option State) (number : ℕ) (line a b : List ℕ) (p q : Option State) → IsBlock s number line a p
-    → IsBlock s number line b q → (a ≡ b) × (p ≡ q)
-block_unique s number line a b p q h k = of (is_blank line) h k
+request_block_unique : (s : Option State) (number : ℕ) (line a b : List ℕ) (p q : Option State) → IsRequestBlock s number line a p
+    → IsRequestBlock s number line b q → (a ≡ b) × (p ≡ q)
+request_block_unique s number line a b p q h k = of (is_blank line) h k
   where
     IsOf : Bool → List ℕ → Option State → Type 0
     IsOf blank out next = MatchBool blank ((out ≡ []) × (next ≡ s)) (IsAnsweredBlock s number (reading line) out next)
@@ -133,6 +134,17 @@ block_unique s number line a b p q h k = of (is_blank line) h k
     of : (blank : Bool) → IsOf blank a p → IsOf blank b q → (a ≡ b) × (p ≡ q)
     of true h k = (h.0 ∙ sym k.0, h.1 ∙ sym k.1)
     of false h k = answered_unique s number (reading line) a b p q h k
+
+block_unique : (s : Option State) (number : ℕ) (line a b : List ℕ) (p q : Option State) → IsBlock s number line a p
+    → IsBlock s number line b q → (a ≡ b) × (p ≡ q)
+block_unique s number line a b p q h k = of (is_comment line) h k
+  where
+    IsOf : Bool → List ℕ → Option State → Type 0
+    IsOf comment out next = MatchBool comment ((out ≡ comment_text line) × (next ≡ s)) (IsRequestBlock s number line out next)
+
+    of : (comment : Bool) → IsOf comment a p → IsOf comment b q → (a ≡ b) × (p ≡ q)
+    of true h k = (h.0 ∙ sym k.0, h.1 ∙ sym k.1)
+    of false h k = request_block_unique s number line a b p q h k
 
 mark_unique : (number : ℕ) (s : Option State) (a b : List ℕ) → IsMark number s a → IsMark number s b → a ≡ b
 mark_unique number s a b h k = of (is_marked number s) h k

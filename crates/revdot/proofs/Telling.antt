@@ -23,7 +23,7 @@ use Rattle.fr_route.specs.Telling.{IsTold}
 use Rattle.revdot.specs.Asked.{asked_text}
 use Rattle.revdot.specs.Changes.{pushes_line}
 use Rattle.revdot.specs.Stories.{AreBlocks, AreSettledLines, AreWaysBefore, IsAnswerLine, IsAnsweredBlock, IsBlock, IsMark, IsRefusalLine, IsResult}
-use Rattle.revdot.specs.Stories.{IsRoundStory, IsSequel, IsStep, IsStory, IsTurnByTurn, answer_text, is_told, makes_round}
+use Rattle.revdot.specs.Stories.{IsRequestBlock, IsRoundStory, IsSequel, IsStep, IsStory, IsTurnByTurn, answer_text, is_told, makes_round}
 use Rattle.revdot.specs.Stories.{most_told_turns, net_before, net_text, refusal_line, turns_line}
 use Rattle.revdot.specs.Strips.{AreAllTurns, beginning}
 use Rattle.fr_route.proofs.Determined.{asked_not_refused, not_both}
@@ -227,7 +227,7 @@ refused_told s next last number request answer rerouted text old one two new (in
 
 -- the answer to a line that is not a request
 pub unread_told : (s : Option State) (fault : LineFault) (why number : ℕ) (line : List ℕ) → is_blank line ≡ false → reading line ≡ Err fault
-    → IsLineAnswer s (Err fault) (refusal_text why) s → IsBlock s number line (answer_text number (refusal_text why)) s
+    → IsLineAnswer s (Err fault) (refusal_text why) s → IsRequestBlock s number line (answer_text number (refusal_text why)) s
 unread_told s fault why number line asks reads is_answer = rw (asks, reads) record {
   answer = refusal_text why;
   is_answer = is_answer;

@@ -13,6 +13,7 @@ use Rattle.fr_core.specs.Legal.{NoneCanTurn}
 use Rattle.fr_route.specs.States.{State}
 use Rattle.revdot.specs.Replays.{IsReplay, moment_of}
 use Rattle.revdot.specs.Strips.{beginning, first_link, after_turn, after_turns, IsNext, AreAllTurns, AreTurns, turn_text, turns_text}
+use Rattle.revdot.specs.declared.graphs.Direction.{Direction}
 use Rattle.revdot.specs.declared.turns.Replay.{Replay}
 
 -- these nodes have turned in the round
@@ -23,10 +24,10 @@ pub record HaveTurned (s : State) (number : ℕ) (turns : List ℕ) (replay : Re
   pub counted : length turns ≡ number
 
 -- the same, with each turn drawn
-pub record HasTurned (s : State) (number : ℕ) (replay : Replay) (old new : List ℕ) : Type 0 where
+pub record HasTurned (towards : Direction) (s : State) (number : ℕ) (replay : Replay) (old new : List ℕ) : Type 0 where
   pub turns : List ℕ
   pub have : HaveTurned s number turns replay
-  pub text : new ≡ old ++ turns_text s (beginning s) 1 turns
+  pub text : new ≡ old ++ turns_text towards s (beginning s) 1 turns
 
 turns_more : (n d : ℕ) (m : Moment) (xs : List ℕ) (x : ℕ) → AreTurns n d m xs → IsNext n d (after_turns m xs) x → AreTurns n d m (xs ++ x ∷ [])
 turns_more n d m [] x are next = (next, tt)
@@ -36,14 +37,14 @@ after_more : (m : Moment) (xs : List ℕ) (x : ℕ) → after_turns m (xs ++ x �
 after_more m [] x = refl
 after_more m (y ∷ ys) x = after_more (after_turn m y) ys x
 
-text_more : (s : State) (m : Moment) (k : ℕ) (xs : List ℕ) (x : ℕ)
-    → turns_text s m k (xs ++ x ∷ []) ≡ turns_text s m k xs ++ turn_text s (after_turns m xs) (k + length xs) x
-text_more s m k [] x = append-nil (turn_text s m k x) ∙ ap (λ (j : ℕ). turn_text s m j x) (omega arith)
-text_more s m k (y ∷ ys) x =
+text_more : (towards : Direction) (s : State) (m : Moment) (k : ℕ) (xs : List ℕ) (x : ℕ)
+    → turns_text towards s m k (xs ++ x ∷ []) ≡ turns_text towards s m k xs ++ turn_text towards s (after_turns m xs) (k + length xs) x
+text_more towards s m k [] x = append-nil (turn_text towards s m k x) ∙ ap (λ (j : ℕ). turn_text towards s m j x) (omega arith)
+text_more towards s m k (y ∷ ys) x =
     let later : k + 1 + length ys ≡ k + length (y ∷ ys) = omega arith in
-    ap (λ (t : List ℕ). turn_text s m k y ++ t) (text_more s (after_turn m y) (k + 1) ys x
-    ∙ ap (λ (j : ℕ). turns_text s (after_turn m y) (k + 1) ys ++ turn_text s (after_turns (after_turn m y) ys) j x) later)
-    ∙ sym (append_assoc (turn_text s m k y) (turns_text s (after_turn m y) (k + 1) ys) (turn_text s (after_turns (after_turn m y) ys) (k + length (y ∷ ys)) x))
+    ap (λ (t : List ℕ). turn_text towards s m k y ++ t) (text_more towards s (after_turn m y) (k + 1) ys x
+    ∙ ap (λ (j : ℕ). turns_text towards s (after_turn m y) (k + 1) ys ++ turn_text towards s (after_turns (after_turn m y) ys) j x) later)
+    ∙ sym (append_assoc (turn_text towards s m k y) (turns_text towards s (after_turn m y) (k + 1) ys) (turn_text towards s (after_turns (after_turn m y) ys) (k + length (y ∷ ys)) x))
 
 turned-below : (n x : ℕ) (l : ℕ × ℕ) → (l.0 < n) × (l.1 < n) → ((turned_link x l).0 < n) × ((turned_link x l).1 < n)
 turned-below n x l h =
@@ -80,8 +81,9 @@ none_turned s replay is first = record {
   counted = refl;
 }
 
-pub at_start : (s : State) (replay : Replay) (old : List ℕ) → IsReplay s replay → moment_of replay ≡ beginning s → HasTurned s 0 replay old old
-at_start s replay old is first = record {
+pub at_start : (towards : Direction) (s : State) (replay : Replay) (old : List ℕ) → IsReplay s replay → moment_of replay ≡ beginning s
+    → HasTurned towards s 0 replay old old
+at_start towards s replay old is first = record {
   turns = [];
   have = none_turned s replay is first;
   text = sym (append-nil old);
@@ -100,19 +102,19 @@ module _ (s : State) (number : ℕ) (replay after : Replay) (x : ℕ) (next : Is
   }
 
   -- it is drawn, too
-  pub one_turn_more : (old new more : List ℕ) → HasTurned s number replay old new
-      → more ≡ new ++ turn_text s (moment_of replay) (number + 1) x → HasTurned s (number + 1) after old more
-  one_turn_more old new more h text = record {
+  pub one_turn_more : (towards : Direction) (old new more : List ℕ) → HasTurned towards s number replay old new
+      → more ≡ new ++ turn_text towards s (moment_of replay) (number + 1) x → HasTurned towards s (number + 1) after old more
+  one_turn_more towards old new more h text = record {
     turns = h.turns ++ x ∷ [];
     have = one_more_turned h.turns h.have;
     text =
         let place : 1 + length h.turns ≡ number + 1 = let counted = h.have.counted in omega arith in
-        let last : turn_text s (after_turns (beginning s) h.turns) (1 + length h.turns) x ≡ turn_text s (moment_of replay) (number + 1) x =
-        ap (λ (m : Moment). turn_text s m (1 + length h.turns) x) h.have.now ∙ ap (λ (k : ℕ). turn_text s (moment_of replay) k x) place in
-        text ∙ (ap (λ (t : List ℕ). t ++ turn_text s (moment_of replay) (number + 1) x) h.text
-        ∙ (append_assoc old (turns_text s (beginning s) 1 h.turns) (turn_text s (moment_of replay) (number + 1) x)
-        ∙ ap (λ (t : List ℕ). old ++ t) (ap (λ (t : List ℕ). turns_text s (beginning s) 1 h.turns ++ t) (sym last)
-        ∙ sym (text_more s (beginning s) 1 h.turns x))));
+        let last : turn_text towards s (after_turns (beginning s) h.turns) (1 + length h.turns) x ≡ turn_text towards s (moment_of replay) (number + 1) x =
+        ap (λ (m : Moment). turn_text towards s m (1 + length h.turns) x) h.have.now ∙ ap (λ (k : ℕ). turn_text towards s (moment_of replay) k x) place in
+        text ∙ (ap (λ (t : List ℕ). t ++ turn_text towards s (moment_of replay) (number + 1) x) h.text
+        ∙ (append_assoc old (turns_text towards s (beginning s) 1 h.turns) (turn_text towards s (moment_of replay) (number + 1) x)
+        ∙ ap (λ (t : List ℕ). old ++ t) (ap (λ (t : List ℕ). turns_text towards s (beginning s) 1 h.turns ++ t) (sym last)
+        ∙ sym (text_more towards s (beginning s) 1 h.turns x))));
   }
 
 -- no turn is left, or the limit is reached

@@ -1,6 +1,8 @@
 -- Graphs in the DOT language of Graphviz, line by line. The styles are this project's own.
 use Rattle.std.specs.Prelude.{ℕ, List, [], ◌++◌, Bool, true, false, codes, decimal}
 use Rattle.std.specs.List.{flat_map}
+use Rattle.revdot.specs.declared.graphs.Direction.{Direction}
+use Rattle.revdot.specs.declared.graphs.Direction.TheVariants as to
 use Rattle.revdot.specs.declared.graphs.NodeStyle.{NodeStyle}
 use Rattle.revdot.specs.declared.graphs.NodeStyle.TheVariants as node
 use Rattle.revdot.specs.declared.graphs.LinkStyle.{LinkStyle}
@@ -13,6 +15,13 @@ use Rattle.revdot.specs.declared.graphs.Label.TheVariants as label
 -- the attributes of all nodes and links
 unfoldable pub opening : List ℕ
 opening = codes "digraph network {\n    graph [ nodesep = 0.4 ranksep = 0.4 fontname = Helvetica ]\n    node [ shape = circle fixedsize = true width = 0.55 fontname = Helvetica style = filled fillcolor = white ]\n    edge [ color = gray50 arrowsize = 0.8 ]\n"
+
+-- the line for a direction, by the names of Graphviz: without one, it lays a graph out from top to bottom
+abbrev pub direction_text : Direction → List ℕ
+direction_text to.TopToBottom = []
+direction_text to.LeftToRight = codes "    rankdir = LR\n"
+direction_text to.BottomToTop = codes "    rankdir = BT\n"
+direction_text to.RightToLeft = codes "    rankdir = RL\n"
 
 -- the line below a graph
 abbrev pub title_text : Label → List ℕ
@@ -42,7 +51,7 @@ node_line m = codes "    "
     ++ (decimal m.node ++
     (codes " [ label = <" ++ (label_text m.node m.count ++ (codes ">" ++ (node_style_text m.style ++ codes " ]\n")))))
 
--- the destination is laid out below all other nodes
+-- the destination is laid out behind all other nodes, in the direction of the graph
 abbrev pub lowest_line : ℕ → List ℕ
 lowest_line d = codes "    { rank = sink " ++ (decimal d ++ codes " }\n")
 
@@ -57,20 +66,20 @@ link_style_text link.WayToHop = codes " color = black penwidth = 0.6 arrowhead =
 link_style_text link.FirstWay = codes " color = black penwidth = 2.5"
 link_style_text link.FirstWayToHop = codes " color = black penwidth = 2.5 arrowhead = empty"
 
--- an arrow that points up
+-- an arrow that points back
 abbrev pub back_text : Bool → List ℕ
 back_text true = codes " dir = back"
 back_text false = []
 
--- a link from its upper end to its lower end
+-- a link, laid out from its tail to its head
 abbrev pub link_line : DrawnLink → List ℕ
 link_line m =
     codes "    " ++ (decimal m.tail
     ++ (codes " -> " ++ (decimal m.head
     ++ (codes " [" ++ (back_text m.back ++ (link_style_text m.style ++ codes " ]\n"))))))
 
--- a graph with this destination, these nodes and these links
-abbrev pub graph_text : Label → ℕ → List DrawnNode → List DrawnLink → List ℕ
-graph_text said d nodes links =
-    opening ++ (title_text said
-    ++ (flat_map node_line nodes ++ (lowest_line d ++ (flat_map link_line links ++ codes "}\n"))))
+-- a graph in this direction, with this destination, these nodes and these links
+abbrev pub graph_text : Direction → Label → ℕ → List DrawnNode → List DrawnLink → List ℕ
+graph_text towards said d nodes links =
+    opening ++ (direction_text towards ++ (title_text said
+    ++ (flat_map node_line nodes ++ (lowest_line d ++ (flat_map link_line links ++ codes "}\n")))))

@@ -1,6 +1,7 @@
 pub mod Graphs
 pub mod Settled
 pub mod Strips
+pub mod Comments
 pub mod Drawings
 pub mod Ends
 pub mod Asked

@@ -9,6 +9,7 @@ use Rattle.fr_tables.specs.declared.hop.Hop.{Hop}
 use Rattle.fr_tables.specs.declared.hop.Hop.TheVariants.{Here, To, CutOff}
 use Rattle.fr_ways.specs.Ways.{ways}
 use Rattle.revdot.specs.Graphs.{graph_text}
+use Rattle.revdot.specs.declared.graphs.Direction.{Direction}
 use Rattle.revdot.specs.declared.graphs.Label.{Label}
 use Rattle.revdot.specs.declared.graphs.Label.TheVariants.{Plain}
 use Rattle.revdot.specs.declared.graphs.NodeStyle.{NodeStyle}
@@ -45,11 +46,11 @@ settled_link hops l = record {
   back = false;
 }
 
--- the graph of a state with this text below it: each node with its settled count, and each link
-pub record IsGraphOf (said : Label) (s : State) (out : List ℕ) : Type 0 where
+-- the graph of a state in this direction, with this text below it: each node with its settled count, and each link
+pub record IsGraphOf (towards : Direction) (said : Label) (s : State) (out : List ℕ) : Type 0 where
   pub hops : List Hop
   pub are_hops : AreHops s s.nodes hops
-  pub text : out ≡ graph_text said s.dest (map (settled_node s.counts hops) (range_with_len 0 s.nodes))
+  pub text : out ≡ graph_text towards said s.dest (map (settled_node s.counts hops) (range_with_len 0 s.nodes))
       (map (settled_link hops) s.links)
 
 -- whether this is the first way
@@ -75,11 +76,11 @@ way_link hops table l = record {
   back = false;
 }
 
--- the graph of a state that shows which way of each node is the first
-pub record IsWaysGraphOf (s : State) (out : List ℕ) : Type 0 where
+-- the graph of a state in this direction that shows which way of each node is the first
+pub record IsWaysGraphOf (towards : Direction) (s : State) (out : List ℕ) : Type 0 where
   pub hops : List Hop
   pub are_hops : AreHops s s.nodes hops
   pub table : List (List ℕ)
   pub are_ways : AreAllWays s table
-  pub text : out ≡ graph_text Plain s.dest (map (settled_node s.counts hops) (range_with_len 0 s.nodes))
+  pub text : out ≡ graph_text towards Plain s.dest (map (settled_node s.counts hops) (range_with_len 0 s.nodes))
       (map (way_link hops table) s.links)

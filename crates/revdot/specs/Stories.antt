@@ -19,6 +19,7 @@ use Rattle.fr_route.specs.Telling.{IsLineTold}
 use Rattle.fr_bytes.specs.Lines.{lines_of}
 use Rattle.fr_tables.specs.declared.hop.Hop.{Hop}
 use Rattle.revdot.specs.Asked.{asked_text}
+use Rattle.revdot.specs.Comments.{comment_text, is_comment}
 use Rattle.revdot.specs.Changes.{LinksFollow, changes_text, listed_line, pushes_line}
 use Rattle.revdot.specs.Strips.{AreAllTurns, BeginsTheRound, beginning}
 
@@ -156,10 +157,15 @@ pub record IsAnsweredBlock (s : Option State) (number : ℕ) (asked : Result Pla
   pub is_sequel : IsLineSequel s number asked next rerouted told
   pub text : block ≡ answer_text number answer ++ (asked_text asked ++ told)
 
--- the story of a line, and the state after it: nothing for a blank line
-abbrev pub IsBlock : Option State → ℕ → List ℕ → List ℕ → Option State → Type 0
-IsBlock s number line block next = MatchBool (is_blank line) ((block ≡ [])
+-- the story of a line that is not a comment, and the state after it: nothing for a blank line
+abbrev pub IsRequestBlock : Option State → ℕ → List ℕ → List ℕ → Option State → Type 0
+IsRequestBlock s number line block next = MatchBool (is_blank line) ((block ≡ [])
     × (next ≡ s)) (IsAnsweredBlock s number (reading line) block next)
+
+-- the story of a line, and the state after it: a comment has no answer and changes nothing
+abbrev pub IsBlock : Option State → ℕ → List ℕ → List ℕ → Option State → Type 0
+IsBlock s number line block next = MatchBool (is_comment line) ((block ≡ comment_text line)
+    × (next ≡ s)) (IsRequestBlock s number line block next)
 
 -- whether a whole state follows a line with this number
 abbrev pub is_marked : ℕ → Option State → Bool

@@ -9,6 +9,7 @@ use Rattle.fr_core.specs.declared.entry.Reply.TheVariants.{Turned}
 use Rattle.fr_route.specs.States.{IsRound, State}
 use Rattle.revdot.specs.Graphs.{graph_text}
 use Rattle.revdot.specs.Settled.{IsGraphOf}
+use Rattle.revdot.specs.declared.graphs.Direction.{Direction}
 use Rattle.revdot.specs.declared.graphs.Label.{Label}
 use Rattle.revdot.specs.declared.graphs.Label.TheVariants as label
 use Rattle.revdot.specs.declared.graphs.NodeStyle.{NodeStyle}
@@ -73,15 +74,15 @@ turn_link x p = record {
 }
 
 -- the graph of turn k, in which x turns
-abbrev pub turn_text : State → Moment → ℕ → ℕ → List ℕ
-turn_text s m k x =
-    graph_text (label.Turn (record { turn = k; node = x })) s.dest
+abbrev pub turn_text : Direction → State → Moment → ℕ → ℕ → List ℕ
+turn_text towards s m k x =
+    graph_text towards (label.Turn (record { turn = k; node = x })) s.dest
     (map (turn_node s.dest m.counts x) (range_with_len 0 s.nodes)) (map (turn_link x) (zip s.links m.links))
 
 -- a graph for each of these turns, numbered from k
-abbrev pub turns_text : State → Moment → ℕ → List ℕ → List ℕ
-turns_text s m k [] = []
-turns_text s m k (x ∷ xs) = turn_text s m k x ++ turns_text s (after_turn m x) (k + 1) xs
+abbrev pub turns_text : Direction → State → Moment → ℕ → List ℕ → List ℕ
+turns_text towards s m k [] = []
+turns_text towards s m k (x ∷ xs) = turn_text towards s m k x ++ turns_text towards s (after_turn m x) (k + 1) xs
 
 -- the replay begins with the first links of any round that led to the state
 abbrev pub BeginsTheRound : State → Type 0
@@ -92,11 +93,11 @@ BeginsTheRound s = (first : List (ℕ × ℕ)) → IsNet s.nodes first → s.des
 abbrev pub last_label : ℕ → Label
 last_label turns = if turns == 0 then label.Plain else label.LeftOut turns
 
--- the graphs of the turns of the last round, and then the graph of the state
-pub record IsStripOf (s : State) (out : List ℕ) : Type 0 where
+-- the graphs of the turns of the last round, and then the graph of the state, all in this direction
+pub record IsStripOf (towards : Direction) (s : State) (out : List ℕ) : Type 0 where
   pub begins : BeginsTheRound s
   pub turns : List ℕ
   pub are_all : AreAllTurns most_turns s.nodes s.dest (beginning s) turns
   pub last : List ℕ
-  pub settled : IsGraphOf (last_label (sum s.counts - most_turns)) s last
-  pub text : out ≡ turns_text s (beginning s) 1 turns ++ last
+  pub settled : IsGraphOf towards (last_label (sum s.counts - most_turns)) s last
+  pub text : out ≡ turns_text towards s (beginning s) 1 turns ++ last

@@ -2,13 +2,15 @@
 
 ghost use Rattle.std.specs.Prelude.{◌≡◌, ◌∷◌, [], ℕ, IfOk, List, OnOk};
 ghost use Rattle.fr_route.specs.Answers.{AreAnswers};
+ghost use Rattle.revdot.specs.Comments.{without_comments};
 ghost use Rattle.revdot.specs.Drawings.{IsLeftBy};
 
+use crate::comments::is_comment;
 use fr_bytes::Lines;
 use fr_route::Session;
 use std::alloc::{AllocError, Global};
 
-/// A session that has answered each line of the input. It starts no thread.
+/// A session that has answered each line of the input that is not a comment. It starts no thread.
 pub fn session_after(alloc: Global, input: &[u8]) -> Result<Session, AllocError>
     ensures { IfOk result (IsLeftBy input.now) }
 {
@@ -19,10 +21,14 @@ pub fn session_after(alloc: Global, input: &[u8]) -> Result<Session, AllocError>
     Ok(session)
 }
 
-/// Answers a line in a session, and drops the answer.
+/// Answers a line in a session, and drops the answer. A comment has none.
 fn answer_line(alloc: Global, session: &mut Session, line: &[u8]) -> Result<(), AllocError>
-    ensures { OnOk result ((answer : List ℕ) × AreAnswers session.old (line.now ∷ []) answer session.new) }
+    ensures { OnOk result ((answer : List ℕ)
+        × AreAnswers session.old (without_comments (line.now ∷ [])) answer session.new) }
 {
+    if is_comment(line) {
+        return Ok(());
+    }
     match session.answer_line_alone(alloc, line) {
         Ok(_answer) => Ok(()),
         Err(_) => Err(AllocError),

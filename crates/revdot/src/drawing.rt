@@ -6,7 +6,7 @@ ghost use Rattle.revdot.specs.Drawings.{IsDrawing, IsPictureOf};
 ghost use Rattle.revdot.specs.Written.{WritesText, IsTextFault};
 
 use crate::answered_session::session_after;
-use crate::graphs::Label;
+use crate::graphs::{Direction, Label};
 use crate::settled::{push_settled, push_settled_ways};
 use crate::strips::push_strip;
 use fr_bytes::{RunFault, read_input, write_out};
@@ -27,44 +27,55 @@ pub enum Picture {
 
 /// Reads the whole input, answers its lines in a session, writes the picture of the resulting network (nothing without
 /// a network), and flushes once. It reads at most one byte more than the limit of 16,777,216 bytes. If it fails with
-/// any fault but `Write`, it has written nothing.
+/// any fault but `Write`, it has written nothing. Comments have no answer.
 pub fn draw<R: Read, W: Write>(
     alloc: Global,
     reader: &mut R,
     writer: &mut W,
     picture: Picture,
+    direction: Direction,
 ) -> Result<(), RunFault>
-    ensures ok { OnOk result (WritesText (IsDrawing picture) (R.remaining reader.old) (R.remaining reader.new)
+    ensures ok { OnOk result (WritesText (IsDrawing picture direction) (R.remaining reader.old) (R.remaining reader.new)
         (W.contents writer.old) (W.contents writer.new)) }
     ensures limit { ReadsAtMostOneTooMany (R.remaining reader.old) (R.remaining reader.new) }
-    ensures fault { IfErr result (IsTextFault (IsDrawing picture) (R.remaining reader.old) (R.remaining reader.new)
-        (W.contents writer.old) (W.contents writer.new)) }
+    ensures fault { IfErr result (IsTextFault (IsDrawing picture direction) (R.remaining reader.old)
+        (R.remaining reader.new) (W.contents writer.old) (W.contents writer.new)) }
 {
     let input = read_input(alloc, reader)?;
-    let text = picture_of_input(alloc, &input, picture)?;
+    let text = picture_of_input(alloc, &input, picture, direction)?;
     write_out(writer, text.as_bytes())
 }
 
 /// The picture of the network that an input leaves.
-fn picture_of_input(alloc: Global, input: &[u8], picture: Picture) -> Result<String, AllocError>
-    ensures { IfOk result (λ text. IsDrawing picture input.now (string_bytes text)) }
+fn picture_of_input(
+    alloc: Global,
+    input: &[u8],
+    picture: Picture,
+    direction: Direction,
+) -> Result<String, AllocError>
+    ensures { IfOk result (λ text. IsDrawing picture direction input.now (string_bytes text)) }
 {
     let session = session_after(alloc, input)?;
-    picture_of(alloc, &session, picture)
+    picture_of(alloc, &session, picture, direction)
 }
 
 /// The picture of a session's network.
-fn picture_of(alloc: Global, session: &Session, picture: Picture) -> Result<String, AllocError>
-    ensures { IfOk result (λ text. IsPictureOf picture session.now (string_bytes text)) }
+fn picture_of(
+    alloc: Global,
+    session: &Session,
+    picture: Picture,
+    direction: Direction,
+) -> Result<String, AllocError>
+    ensures { IfOk result (λ text. IsPictureOf picture direction session.now (string_bytes text)) }
 {
     let mut text = String::new(alloc);
     let Some(router) = session.router() else {
         return Ok(text);
     };
     match picture {
-        Picture::Network => push_settled(&mut text, alloc, router, Label::Plain)?,
-        Picture::Ways => push_settled_ways(&mut text, alloc, router)?,
-        Picture::Turns => push_strip(&mut text, alloc, router)?,
+        Picture::Network => push_settled(&mut text, alloc, router, direction, Label::Plain)?,
+        Picture::Ways => push_settled_ways(&mut text, alloc, router, direction)?,
+        Picture::Turns => push_strip(&mut text, alloc, router, direction)?,
     }
     Ok(text)
 }

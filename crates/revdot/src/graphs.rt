@@ -3,10 +3,23 @@
 ghost use Rattle.std.specs.Prelude.{◌≡◌, ◌++◌, OnOk, string_bytes};
 ghost use Rattle.std.specs.List.{flat_map};
 ghost use Rattle.revdot.specs.Graphs.{opening, node_style_text, node_line, label_text, small, lowest_line};
-ghost use Rattle.revdot.specs.Graphs.{link_style_text, back_text, link_line, title_text, graph_text};
+ghost use Rattle.revdot.specs.Graphs.{direction_text, link_style_text, back_text, link_line, title_text, graph_text};
 
 use std::alloc::AllocError;
 use std::fmt::Write;
+
+/// Where the links of a settled network lead in a drawing: to the destination.
+#[derive(Clone, Copy)]
+pub enum Direction {
+    /// Down, as Graphviz draws if nobody says otherwise.
+    TopToBottom,
+    /// To the right.
+    LeftToRight,
+    /// Up.
+    BottomToTop,
+    /// To the left.
+    RightToLeft,
+}
 
 /// How a node is drawn.
 #[derive(Clone, Copy)]
@@ -53,16 +66,16 @@ pub struct DrawnNode {
     pub style: NodeStyle,
 }
 
-/// A link of a graph. It is drawn from its tail down to its head.
+/// A link of a graph. It is laid out from its tail to its head.
 #[derive(Clone, Copy)]
 pub struct DrawnLink {
-    /// The upper end.
+    /// The end that is laid out first.
     pub tail: u32,
-    /// The lower end.
+    /// The other end.
     pub head: u32,
     /// How it is drawn.
     pub style: LinkStyle,
-    /// Whether the arrow points up, to the tail.
+    /// Whether the arrow points back, to the tail.
     pub back: bool,
 }
 
@@ -89,14 +102,17 @@ pub struct Title {
 /// Appends a graph.
 pub fn push_graph(
     text: &mut String,
+    direction: Direction,
     label: Label,
     dest: u32,
     nodes: &[DrawnNode],
     links: &[DrawnLink],
 ) -> Result<(), AllocError>
-    ensures { OnOk result (string_bytes text.new ≡ string_bytes text.old ++ graph_text label dest nodes.now links.now) }
+    ensures { OnOk result
+        (string_bytes text.new ≡ string_bytes text.old ++ graph_text direction label dest nodes.now links.now) }
 {
     text.push_str(opening_text())?;
+    text.push_str(line_of_direction(direction))?;
     push_title(text, label)?;
     push_nodes(text, nodes)?;
     push_lowest(text, dest)?;
@@ -113,6 +129,18 @@ fn opening_text() -> &'static str
     node [ shape = circle fixedsize = true width = 0.55 fontname = Helvetica style = filled fillcolor = white ]
     edge [ color = gray50 arrowsize = 0.8 ]
 "
+}
+
+/// The line that says in which direction a graph is laid out, by the names of Graphviz.
+fn line_of_direction(direction: Direction) -> &'static str
+    ensures { result.now ≡ direction_text direction }
+{
+    match direction {
+        Direction::TopToBottom => "",
+        Direction::LeftToRight => "    rankdir = LR\n",
+        Direction::BottomToTop => "    rankdir = BT\n",
+        Direction::RightToLeft => "    rankdir = RL\n",
+    }
 }
 
 fn push_title(text: &mut String, label: Label) -> Result<(), AllocError>
@@ -175,7 +203,7 @@ fn style_of_node(style: NodeStyle) -> &'static str
     }
 }
 
-/// The line that places the destination below all other nodes.
+/// The line that places the destination behind all other nodes.
 fn push_lowest(text: &mut String, dest: u32) -> Result<(), AllocError>
     ensures { OnOk result (string_bytes text.new ≡ string_bytes text.old ++ lowest_line dest) }
 {

@@ -5,7 +5,7 @@ ghost use Rattle.std.specs.List.{range_with_len};
 ghost use Rattle.revdot.specs.Settled.{node_style, link_style, settled_node, settled_link, IsGraphOf};
 ghost use Rattle.revdot.specs.Settled.{is_first as is_first_of, way_link, way_style, IsWaysGraphOf};
 
-use crate::graphs::{DrawnLink, DrawnNode, Label, LinkStyle, NodeStyle, push_graph};
+use crate::graphs::{Direction, DrawnLink, DrawnNode, Label, LinkStyle, NodeStyle, push_graph};
 use fr_route::{Hop, Router};
 use fr_ways::WayTable;
 use std::alloc::{AllocError, Global};
@@ -15,15 +15,16 @@ pub fn push_settled(
     text: &mut String,
     alloc: Global,
     router: &Router,
+    direction: Direction,
     label: Label,
 ) -> Result<(), AllocError>
-    ensures { OnOk result ((graph : List ℕ) × IsGraphOf label router.now graph
+    ensures { OnOk result ((graph : List ℕ) × IsGraphOf direction label router.now graph
         × (string_bytes text.new ≡ string_bytes text.old ++ graph)) }
 {
     let hops = router.hops();
     let nodes = settled_nodes(alloc, router, hops)?;
     let links = settled_links(alloc, router, hops)?;
-    push_graph(text, label, router.dest(), &nodes, &links)
+    push_graph(text, direction, label, router.dest(), &nodes, &links)
 }
 
 /// Appends the graph of a settled network that shows which way of each node is the first.
@@ -31,15 +32,16 @@ pub fn push_settled_ways(
     text: &mut String,
     alloc: Global,
     router: &Router,
+    direction: Direction,
 ) -> Result<(), AllocError>
-    ensures { OnOk result ((graph : List ℕ) × IsWaysGraphOf router.now graph
+    ensures { OnOk result ((graph : List ℕ) × IsWaysGraphOf direction router.now graph
         × (string_bytes text.new ≡ string_bytes text.old ++ graph)) }
 {
     let hops = router.hops();
     let table = router.all_ways(alloc)?;
     let nodes = settled_nodes(alloc, router, hops)?;
     let links = way_links(alloc, router, hops, &table)?;
-    push_graph(text, Label::Plain, router.dest(), &nodes, &links)
+    push_graph(text, direction, Label::Plain, router.dest(), &nodes, &links)
 }
 
 /// The nodes, in order.

@@ -6,11 +6,13 @@ ghost use Rattle.fr_requests.specs.Requests.{plain, reading};
 ghost use Rattle.fr_route.specs.Json.{EndsHere, IsJsonLineAnswer};
 ghost use Rattle.fr_route.specs.Refusals.{number_of};
 ghost use Rattle.fr_route.specs.Texts.{refusal_text};
-ghost use Rattle.revdot.specs.Stories.{IsAnsweredBlock, IsBlock, IsMark, IsStep, IsStory, answer_text, refusal_line};
+ghost use Rattle.revdot.specs.Stories.{IsAnsweredBlock, IsBlock, IsMark, IsRequestBlock, IsStep, IsStory, answer_text};
+ghost use Rattle.revdot.specs.Stories.{refusal_line};
 ghost use Rattle.revdot.specs.Stories.{makes_round as makes_round_of};
 ghost use Rattle.revdot.specs.Stories.{AreWaysBefore, is_marked as is_marked_at, net_before as net_before_of};
 
 use crate::asked::push_asked;
+use crate::comments::{is_comment, push_comment};
 use crate::rounds::{is_told, push_round, push_settled_lines};
 use fr_bytes::Lines;
 use fr_graph::Net;
@@ -79,7 +81,7 @@ fn is_marked(session: &Session, number: u64) -> bool
     }
 }
 
-/// Appends the story of a line: nothing if the line is blank.
+/// Appends the story of a line. A comment has no answer.
 fn push_line(
     story: &mut String,
     alloc: Global,
@@ -88,6 +90,23 @@ fn push_line(
     line: &[u8],
 ) -> Result<(), AllocError>
     ensures { OnOk result ((block : List ℕ) × IsBlock session.old number line.now block session.new
+        × (string_bytes story.new ≡ string_bytes story.old ++ block)) }
+{
+    if is_comment(line) {
+        return push_comment(story, line);
+    }
+    push_request_line(story, alloc, session, number, line)
+}
+
+/// Appends the story of a line that is not a comment: nothing if the line is blank.
+fn push_request_line(
+    story: &mut String,
+    alloc: Global,
+    session: &mut Session,
+    number: u64,
+    line: &[u8],
+) -> Result<(), AllocError>
+    ensures { OnOk result ((block : List ℕ) × IsRequestBlock session.old number line.now block session.new
         × (string_bytes story.new ≡ string_bytes story.old ++ block)) }
 {
     if is_blank(line) {

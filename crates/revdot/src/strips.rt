@@ -6,7 +6,9 @@ ghost use Rattle.revdot.specs.Replays.{IsReplay, moment_of};
 ghost use Rattle.revdot.specs.Strips.{IsStripOf, AreAllTurns, most_turns, beginning, last_label, turn_style};
 ghost use Rattle.revdot.specs.Strips.{turn_node as turn_node_of, turn_link, turn_text, turns_text};
 
-use crate::graphs::{DrawnLink, DrawnNode, Label, LinkStyle, NodeStyle, Title, push_graph};
+use crate::graphs::{
+    Direction, DrawnLink, DrawnNode, Label, LinkStyle, NodeStyle, Title, push_graph,
+};
 use crate::settled::push_settled;
 use crate::turns::Replay;
 use fr_route::Router;
@@ -17,14 +19,19 @@ const MAX_TURNS: u32 = 1_000;
 
 /// Appends a graph for each turn of the last round, and then one of the settled network. The text below that says how
 /// many turns are left out.
-pub fn push_strip(text: &mut String, alloc: Global, router: &Router) -> Result<(), AllocError>
-    ensures { OnOk result ((strip : List ℕ) × IsStripOf router.now strip
+pub fn push_strip(
+    text: &mut String,
+    alloc: Global,
+    router: &Router,
+    direction: Direction,
+) -> Result<(), AllocError>
+    ensures { OnOk result ((strip : List ℕ) × IsStripOf direction router.now strip
         × (string_bytes text.new ≡ string_bytes text.old ++ strip)) }
 {
-    push_turns(text, alloc, router)?;
+    push_turns(text, alloc, router, direction)?;
     let turned = router.report().turned;
     let label = label_at_end(turned.saturating_sub(MAX_TURNS as u64));
-    push_settled(text, alloc, router, label)
+    push_settled(text, alloc, router, direction, label)
 }
 
 /// The text below the last graph, where so many turns have no graph.
@@ -39,10 +46,16 @@ fn label_at_end(turns: u64) -> Label
 }
 
 /// Appends a graph for each turn of the last round.
-fn push_turns(text: &mut String, alloc: Global, router: &Router) -> Result<(), AllocError>
+fn push_turns(
+    text: &mut String,
+    alloc: Global,
+    router: &Router,
+    direction: Direction,
+) -> Result<(), AllocError>
     ensures { OnOk result ((turns : List ℕ)
         × AreAllTurns most_turns router.now.nodes router.now.dest (beginning router.now) turns
-        × (string_bytes text.new ≡ string_bytes text.old ++ turns_text router.now (beginning router.now) 1 turns)) }
+        × (string_bytes text.new
+        ≡ string_bytes text.old ++ turns_text direction router.now (beginning router.now) 1 turns)) }
 {
     let mut replay = Replay::begin(alloc, router)?;
     for turn in 0..MAX_TURNS {
@@ -53,7 +66,7 @@ fn push_turns(text: &mut String, alloc: Global, router: &Router) -> Result<(), A
             turn: turn + 1,
             node,
         };
-        push_turn(text, alloc, router, &replay, title)?;
+        push_turn(text, alloc, router, direction, &replay, title)?;
         replay.turn(node);
     }
     Ok(())
@@ -64,13 +77,14 @@ fn push_turn(
     text: &mut String,
     alloc: Global,
     router: &Router,
+    direction: Direction,
     replay: &Replay,
     title: Title,
 ) -> Result<(), AllocError>
     requires { IsReplay router.now replay.now }
     ensures { OnOk result
         (string_bytes text.new
-        ≡ string_bytes text.old ++ turn_text router.now (moment_of replay.now) title.turn title.node) }
+        ≡ string_bytes text.old ++ turn_text direction router.now (moment_of replay.now) title.turn title.node) }
 {
     let x = title.node;
     let nodes = turn_nodes(
@@ -81,7 +95,14 @@ fn push_turn(
         x,
     )?;
     let links = turn_links(alloc, &replay.settled, &replay.links, x)?;
-    push_graph(text, Label::Turn(title), router.dest(), &nodes, &links)
+    push_graph(
+        text,
+        direction,
+        Label::Turn(title),
+        router.dest(),
+        &nodes,
+        &links,
+    )
 }
 
 /// The nodes at the turn of `x`.

@@ -235,9 +235,10 @@ function mark(element, attributes) {
     } else if (element.getAttribute(key) !== String(value)) element.setAttribute(key, value);
   }
 }
-// What a page knows beside its story, where the lab has put that there: the text with requests, one a line. Blank lines
-// and comments are none. Comments may say where nodes are and what they are called: for the place of a request from
-// which on a network is laid out, the places of its nodes, and the names of those that have one.
+// What a page knows beside its story. In a page of the lab this is the text with requests, one a line; blank lines and
+// comments are none. In a page of revdot it is comments alone, which its story has percent-encoded. Comments may say
+// where nodes are and what they are called: for the place of a request from which on a network is laid out, the places
+// of its nodes, and the names of those that have one.
 
 const PLACES = '# places ', NAMES = '# names ';
 
@@ -270,7 +271,17 @@ function textOf(lines, places, names) {
   return [...lines, ...comment(PLACES, places), ...comment(NAMES, names)].map(line => line + NL).join('');
 }
 
-const givenText = by('given') ? JSON.parse(by('given').textContent) : '', given = readText(givenText);
+// The comments of a story. One that is no text is left out.
+function commentsOf(story) {
+  return [...story.matchAll(/^#.*/gm)].map(([comment]) => {
+    try {
+      return decodeURIComponent(comment);
+    } catch { return ''; }
+  });
+}
+
+const givenText = by('given') ? JSON.parse(by('given').textContent) : commentsOf(by('story').textContent).join(NL),
+      given = readText(givenText);
 
 // The places and the names of the nodes of a drawing, if they are known.
 const placesIn = (places, view) =>
@@ -1563,8 +1574,10 @@ const acts = {
   pace: wait => wait
 };
 
-// What a key does: nothing where it is typed or scrolls a text, or where it is a letter and these are turned off.
-function actionOf({key, target, shiftKey, ctrlKey, metaKey, altKey}) {
+// What a key does: nothing where it is typed or scrolls a text, or where it is a letter and these are turned off. A
+// dialog that was closed has the focus until the browser draws the page again. Then the key acts on the page.
+function actionOf({key, target: focused, shiftKey, ctrlKey, metaKey, altKey}) {
+  const target = focused.closest('dialog:not([open])') ? document.body : focused;
   if (altKey || target.closest('dialog, select, textarea, input:not([type=range])')) return null;
   // On a Mac the key Cmd goes with letters, as Ctrl does elsewhere.
   if (ctrlKey || metaKey && isLetter(key)) return controlled[shiftKey && isLetter(key) ? key.toUpperCase() : key];

@@ -4,7 +4,7 @@ use Rattle.fr_requests.specs.declared.requests.LineFault.TheVariants.{NotJson, N
 use Rattle.fr_route.specs.Texts.{refusal_text}
 use Rattle.revdot.specs.Stories.{answer_text}
 use Rattle.revdot.proofs.Telling.{unread_told}
-use Rattle.revdot.proofs.story.push_line.Goals as goal
+use Rattle.revdot.proofs.story.push_request_line.Goals as goal
 
 pub returns-in-Err-NotJson : goal.returns-in-Err-NotJson
 returns-in-Err-NotJson c =
