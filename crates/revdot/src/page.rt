@@ -12,7 +12,8 @@ use std::io::{Read, Write};
 
 /// Reads the whole input, answers its lines in a session, writes the page of the input (its story between the two parts
 /// of the viewer), and flushes once. It reads at most one byte more than the limit of 16,777,216 bytes. If it fails
-/// with any fault but `Write`, it has written nothing.
+/// with any fault but `Write`, it has written nothing. Comments have no answer. Those that say where nodes are or what
+/// they are called are in the story.
 ///
 /// The whole text is made before any of it is written. On a network of at most 256 nodes the first 4,096 turns of each
 /// round are made again, one by one; each takes time linear in the nodes and links. Of a round on a larger network the
