@@ -22,7 +22,7 @@ use Rattle.fr_node.specs.declared.message.Message.{Message}
 use Rattle.fr_node.specs.declared.node.Node.{Node}
 use Rattle.fr_node.specs.declared.own.Own.{Own}
 use Rattle.fr_laws.specs.Announcements.{ActingIsACall, AreListedOnce, HearingIsACall, IsAsSaid, IsCall, KnowingIsACall}
-use Rattle.fr_laws.specs.Announcements.{RepeatingIsACall, SayingIsACall, TickingIsACall, WritingIsACall}
+use Rattle.fr_laws.specs.Announcements.{LinksStayAsSaid, RepeatingIsACall, SayingIsACall, TickingIsACall, WritingIsACall}
 
 -- the same links are known
 alike : (ls ks : List Link) (w : ℕ) → ks ≡ ls → (link_to ks w).up ≡ (link_to ls w).up
@@ -99,30 +99,39 @@ module _ (ls : List Link) (w : ℕ) (stranger : ¬ IsKnown ls w) where
       (omega (arith, place_there w stranger, ap {B = ℕ} (λ (b : Bool). cond b 0 1) (eq-eqb w w refl)))))
       (cases_lt i (length ls))
 
-  knowing_up : (v : ℕ) → (link_to (ls ++ record unknown { neighbour = w } ∷ []) v).up ≡ (link_to ls v).up
-  knowing_up v = ⊎_elim
-      (λ known. ap (λ (l : Link). l.up) (ap (λ (k : ℕ). get_or (ls ++ record unknown { neighbour = w } ∷ []) k unknown)
-      (place_before v known)
-      ∙ get_or_append_left ls (record unknown { neighbour = w } ∷ []) unknown (place_of ls v) known))
-      (λ past. new_down (λ known. omega (arith, known, past))
-      ∙ sym (ap (λ (l : Link). l.up) (get_or_past ls (place_of ls v) unknown past)))
-      (cases_lt (place_of ls v) (length ls))
-    where
-      at : (k : ℕ) (l : Link) → get_or (ls ++ record unknown { neighbour = w } ∷ []) k unknown ≡ l → l.up ≡ false
-          → place_of (ls ++ record unknown { neighbour = w } ∷ []) v ≡ k
-          → (link_to (ls ++ record unknown { neighbour = w } ∷ []) v).up ≡ false
-      at k l is down e = ap (λ (l : Link). l.up)
-          (ap (λ (j : ℕ). get_or (ls ++ record unknown { neighbour = w } ∷ []) j unknown) e ∙ is) ∙ down
+  -- what is false of a link of which nothing is known
+  module _ (of : Link → Bool) (fresh : of unknown ≡ false) (named : of (record unknown { neighbour = w }) ≡ false) where
+    knowing_keeps : (v : ℕ) → of (link_to (ls ++ record unknown { neighbour = w } ∷ []) v) ≡ of (link_to ls v)
+    knowing_keeps v = ⊎_elim
+        (λ known. ap of (ap (λ (k : ℕ). get_or (ls ++ record unknown { neighbour = w } ∷ []) k unknown)
+        (place_before v known)
+        ∙ get_or_append_left ls (record unknown { neighbour = w } ∷ []) unknown (place_of ls v) known))
+        (λ past. not_new (λ known. omega (arith, known, past))
+        ∙ sym (ap of (get_or_past ls (place_of ls v) unknown past) ∙ fresh))
+        (cases_lt (place_of ls v) (length ls))
+      where
+        at : (k : ℕ) (l : Link) → get_or (ls ++ record unknown { neighbour = w } ∷ []) k unknown ≡ l → of l ≡ false
+            → place_of (ls ++ record unknown { neighbour = w } ∷ []) v ≡ k
+            → of (link_to (ls ++ record unknown { neighbour = w } ∷ []) v) ≡ false
+        at k l is absent e = ap of (ap (λ (j : ℕ). get_or (ls ++ record unknown { neighbour = w } ∷ []) j unknown) e ∙ is)
+            ∙ absent
 
-      new_down : ¬ (place_of ls v < length ls) → (link_to (ls ++ record unknown { neighbour = w } ∷ []) v).up ≡ false
-      new_down out = ⊎_elim
-          (λ e. at (length ls) (record unknown { neighbour = w })
-          (get_or-append_seam ls (record unknown { neighbour = w }) [] unknown) refl
-          (omega (arith, place_there v out, ap {B = ℕ} (λ (b : Bool). cond b 0 1) (eq-eqb w v e))))
-          (λ other. at (length ls + 1) unknown
-          (get_or_past (ls ++ record unknown { neighbour = w } ∷ []) (length ls + 1) unknown (omega (arith, long))) refl
-          (omega (arith, place_there v out, ap {B = ℕ} (λ (b : Bool). cond b 0 1) (ne_eqb w v other))))
-          (cases_eq w v)
+        not_new : ¬ (place_of ls v < length ls) → of (link_to (ls ++ record unknown { neighbour = w } ∷ []) v) ≡ false
+        not_new out = ⊎_elim
+            (λ e. at (length ls) (record unknown { neighbour = w })
+            (get_or-append_seam ls (record unknown { neighbour = w }) [] unknown) named
+            (omega (arith, place_there v out, ap {B = ℕ} (λ (b : Bool). cond b 0 1) (eq-eqb w v e))))
+            (λ other. at (length ls + 1) unknown
+            (get_or_past (ls ++ record unknown { neighbour = w } ∷ []) (length ls + 1) unknown (omega (arith, long)))
+            fresh
+            (omega (arith, place_there v out, ap {B = ℕ} (λ (b : Bool). cond b 0 1) (ne_eqb w v other))))
+            (cases_eq w v)
+
+  knowing_up : (v : ℕ) → (link_to (ls ++ record unknown { neighbour = w } ∷ []) v).up ≡ (link_to ls v).up
+  knowing_up = knowing_keeps (λ l. l.up) refl refl
+
+  knowing_carrier : (v : ℕ) → (link_to (ls ++ record unknown { neighbour = w } ∷ []) v).carrier ≡ (link_to ls v).carrier
+  knowing_carrier = knowing_keeps (λ l. l.carrier) refl refl
 
 pub taking_is_a_call : (m : Message) (old new : Node) → IsAsSaid old m.from
     → Hears old.own m old.links.items new.links.items → IsAfterEvent (m ∷ []) old new → IsCall (m ∷ []) old new
@@ -256,3 +265,63 @@ ticking_is_a_call patience old new ticked none rest = only_links old new (stamp_
     (neighbours_ticked patience old.links.items)))
     (λ w. ap (λ ls. (link_to ls w).up) ticked ∙ ticking_up patience old.links.items none w)
     (steps_ticked patience old new (ap (λ (n : Node). n.own) rest) ticked)
+
+-- the link to w counts as up exactly if the caller has said so
+AsSaid : List Link → ℕ → Type 0
+AsSaid ls w = (link_to ls w).up ≡ (link_to ls w).carrier
+
+equal_said : (ls ks : List Link) (w : ℕ) → link_to ks w ≡ link_to ls w → AsSaid ls w → AsSaid ks w
+unfolding AsSaid
+equal_said ls ks w e = subst (λ (l : Link). l.up ≡ l.carrier) (sym e)
+
+hearing_said : (own : Own) (m : Message) (ls ks : List Link) → Hears own m ls ks → (w : ℕ) → AsSaid ls w → AsSaid ks w
+unfolding AsSaid
+hearing_said own m ls ks h w was = ⊎_elim
+    (λ here. subst (AsSaid ks) (sym here) (at_from (subst (AsSaid ls) here was)))
+    (λ other. equal_said ls ks w (h.others w other) was)
+    (cases_eq w m.from)
+  where
+    at_from : AsSaid ls m.from → AsSaid ks m.from
+    at_from said = ⊎_elim
+        (λ taken. let is = h.taken taken in ⊎_elim
+        (λ both. (is.both_ways both).0 ∙ sym is.carrier)
+        (λ one. is.one_way one ∙ said ∙ sym is.carrier)
+        (cases_eq m.echo own.boot))
+        (λ none. equal_said ls ks m.from (ap (λ (js : List Link). link_to js m.from) (h.ignored none)) said)
+        (taken_or_not own m ls)
+
+saying_said : (v : ℕ) (m : Message) (ls ks : List Link) → Says v m ls ks → (w : ℕ) → AsSaid ls w → AsSaid ks w
+unfolding AsSaid
+saying_said v m ls ks says w was = ⊎_elim
+    (λ here. subst (AsSaid ks) (sym here)
+    (subst (λ (l : Link). l.up ≡ l.carrier) (sym says.itself) (subst (AsSaid ls) here was)))
+    (λ other. equal_said ls ks w (says.others w other) was)
+    (cases_eq w v)
+
+setting_said : (v : ℕ) (up : Bool) (ls ks : List Link) → SetsUp v up ls ks → (w : ℕ) → AsSaid ls w → AsSaid ks w
+unfolding AsSaid
+setting_said v up ls ks sets w was = ⊎_elim
+    (λ here. ⊎_elim
+    (λ known. subst (AsSaid ks) (sym here) (subst (λ (l : Link). l.up ≡ l.carrier) (sym (sets.itself known)) refl))
+    (λ past. equal_said ls ks w
+    (ap (λ (js : List Link). link_to js w) (sets.stranger (λ known. omega (arith, past, known)))) was)
+    (cases_lt (place_of ls v) (length ls)))
+    (λ other. equal_said ls ks w (sets.others w other) was)
+    (cases_eq w v)
+
+pub links_stay_as_said : LinksStayAsSaid
+unfolding AsSaid
+links_stay_as_said n k w (inl kept) was =
+    equal_said n.links.items k.links.items w (ap (λ (ls : List Link). link_to ls w) kept) was
+links_stay_as_said n k w (inr (inl (v, m, says))) was = saying_said v m n.links.items k.links.items says w was
+links_stay_as_said n k w (inr (inr (inl (v, stranger, more)))) was = ap (λ (ls : List Link). (link_to ls w).up) more
+    ∙ knowing_up n.links.items v stranger w ∙ was
+    ∙ sym (ap (λ (ls : List Link). (link_to ls w).carrier) more ∙ knowing_carrier n.links.items v stranger w)
+links_stay_as_said n k w (inr (inr (inr (inl (patience, ticked, none))))) was =
+    ap (λ (ls : List Link). (link_to ls w).up) ticked ∙ ticking_up patience n.links.items none w ∙ was
+    ∙ sym (ap (λ (ls : List Link). (link_to ls w).carrier) ticked
+    ∙ ap (λ (l : Link). l.carrier) (link_to-ticked patience n.links.items w))
+links_stay_as_said n k w (inr (inr (inr (inr (inl (m, hears)))))) was =
+    hearing_said n.own m n.links.items k.links.items hears w was
+links_stay_as_said n k w (inr (inr (inr (inr (inr (v, up, sets)))))) was =
+    setting_said v up n.links.items k.links.items sets w was

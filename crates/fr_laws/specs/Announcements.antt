@@ -18,7 +18,7 @@ use Rattle.fr_core.specs.declared.entry.Reply.TheVariants.{Turned}
 use Rattle.fr_node.specs.Arrivals.{IsLinkedTo, IsQuiet}
 use Rattle.fr_node.specs.Events.{IsAfterEvent, SaysTo}
 use Rattle.fr_node.specs.Histories.{IsHistory}
-use Rattle.fr_node.specs.Links.{Hears, IsKnown, IsTaken, SetsUp, after_tick, is_lost, link_to, place_of, unknown}
+use Rattle.fr_node.specs.Links.{Hears, IsKnown, IsTaken, Says, SetsUp, after_tick, is_lost, link_to, place_of, unknown}
 use Rattle.fr_node.specs.Nodes.{IsMessageTo, Steps}
 use Rattle.fr_node.specs.Policies.{Acts}
 use Rattle.fr_node.specs.Routers.{IsBelow}
@@ -176,9 +176,25 @@ SomeRouterAnnounces = (alloc : Global) → (n d : ℕ) × (first : List (ℕ × 
 
 -- The running code: by what each call of a node ensures, it is a call of these laws while no link goes up or down
 
--- the link to w counts as up exactly if the caller has said that it is up. So it is until a tick ends that
+-- the link to w counts as up exactly if the caller has said that it is up
 abbrev pub IsAsSaid : Node → ℕ → Type 0
 IsAsSaid n w = (link_to n.links.items w).up ≡ (link_to n.links.items w).carrier
+
+-- node n has become k by a call that loses no link: one that keeps all links, `say`, `know`, a `tick` that ends for no
+-- link that it counts as up, `hear`, `link_up` or `link_down`
+abbrev pub IsCallWithoutLoss : Node → Node → Type 0
+IsCallWithoutLoss n k = (k.links.items ≡ n.links.items)
+    ⊎ ((v : ℕ) × (m : Message) × Says v m n.links.items k.links.items)
+    ⊎ ((v : ℕ) × (¬ IsKnown n.links.items v)
+    × (k.links.items ≡ n.links.items ++ record unknown { neighbour = v } ∷ []))
+    ⊎ ((patience : ℕ) × (k.links.items ≡ map (after_tick patience) n.links.items)
+    × (list_any (is_lost patience) n.links.items ≡ false))
+    ⊎ ((m : Message) × Hears n.own m n.links.items k.links.items)
+    ⊎ ((v : ℕ) × (up : Bool) × SetsUp v up n.links.items k.links.items)
+
+-- so links stay as the caller has said until a tick loses one. A node that starts has no links
+abbrev pub LinksStayAsSaid : Type 0
+LinksStayAsSaid = (n k : Node) (w : ℕ) → IsCallWithoutLoss n k → IsAsSaid n w → IsAsSaid k w
 
 -- `hear` is such a call, in which the node hears one message over a link that is as the caller has said. If it does not
 -- take the message, nothing changes

@@ -5,7 +5,7 @@ ghost use Rattle.fr_laws.specs.Announcements.{AnnouncementsAreARun, HeightsFollo
 ghost use Rattle.fr_laws.specs.Announcements.{EachAnnouncesFew, AllAnnounceFew, QuietRoutersAreSettled};
 ghost use Rattle.fr_laws.specs.Announcements.{SomeRouterAnnounces};
 ghost use Rattle.fr_laws.specs.Announcements.{ActingIsACall, HearingIsACall, KnowingIsACall, RepeatingIsACall};
-ghost use Rattle.fr_laws.specs.Announcements.{SayingIsACall, TickingIsACall, WritingIsACall};
+ghost use Rattle.fr_laws.specs.Announcements.{LinksStayAsSaid, SayingIsACall, TickingIsACall, WritingIsACall};
 
 /// In a network of routers with `Rise::Full` that stays as it is, the announcements are a run of full reversal,
 /// whatever messages are lost, delayed, repeated and overtaken. Suppose that each router is connected to the one
@@ -22,11 +22,13 @@ pub fn announcements_law()
     ensures possible { SomeRouterAnnounces }
 {}
 
-/// While no link goes up or down and no router restarts, each call of a `Node` is a step of these laws.
+/// While no link goes up or down and no router restarts, each call of a `Node` is a step of these laws. A message is heard
+/// over a link that is as the caller has said: so each link is until a tick loses one.
 pub fn calls_law()
     ensures hear { HearingIsACall }
     ensures act { ActingIsACall }
     ensures tick { TickingIsACall }
+    ensures as_said { LinksStayAsSaid }
     ensures repeat { RepeatingIsACall }
     ensures write { WritingIsACall }
     ensures say { SayingIsACall }
