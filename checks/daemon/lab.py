@@ -26,6 +26,8 @@ ADDRESSES = {it: (f"10.0.{it}.1", f"fd00:{it}::1") for it in ROUTERS}
 PREFIXES = [f"10.0.{it}.0/24" for it in ROUTERS] + [f"fd00:{it}::/48" for it in ROUTERS]
 # A busy machine may take long for what takes milliseconds on an idle one.
 SECONDS, SECONDS_IN_ALL, DEAD = 30, 200, 4
+# It takes some milliseconds where processors are free.
+MOST_TO_SERVE = 2
 MINE, RESTARTS = "77", 3
 
 
@@ -153,8 +155,10 @@ def killed_process():
         said = "router 3 is down: nothing is heard from it"
         expect(soon(lambda: events(1).count(said) >= count, SECONDS + DEAD), events(1))
         expect(all_arrive(1, 2), "routers 1 and 2 do not reach each other")
+        expect(soon(lambda: not arrives(1, 3, 0)), "router 3 is still served, though its process was killed")
         took.append(expect(seconds_to_serve(1, 3, lambda: done("start", 3)), "router 3 is not served after a start"))
         expect(soon(lambda: all_arrive(*ROUTERS)), "not all arrive after a process was started again")
+    expect(statistics.median(took) < MOST_TO_SERVE, f"router 3 is served {took} seconds after it was started")
     return statistics.median(took)
 
 
