@@ -51,7 +51,14 @@ struct KeyConfig {
 #[derive(Deserialize)]
 #[serde(deny_unknown_fields)]
 struct InterfaceConfig {
+    #[serde(default = "default_cost")]
     cost: u32,
+    #[serde(default)]
+    lan: bool,
+}
+
+fn default_cost() -> u32 {
+    1
 }
 
 fn default_hello() -> f64 {
@@ -214,6 +221,12 @@ impl Config {
                 .interface
                 .iter()
                 .map(|(name, it)| (name.clone(), it.cost))
+                .collect(),
+            lans: self
+                .interface
+                .iter()
+                .filter(|(_, it)| it.lan)
+                .map(|(name, _)| name.clone())
                 .collect(),
         })
     }

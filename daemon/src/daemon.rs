@@ -264,7 +264,7 @@ impl Daemon {
             self.open_port(it);
         }
         self.machine
-            .device_is(it.index, &it.name, it.has_carrier, now);
+            .device_is(it.index, &it.name, it.mac, it.has_carrier, now);
     }
 
     fn open_port(&mut self, it: &DeviceNews) {
@@ -403,14 +403,14 @@ impl Daemon {
             None => {
                 // There was too much news to keep, so each carrier may have been lost for a moment.
                 let now = self.now();
-                let used: Vec<(u32, String)> = self
+                let used: Vec<_> = self
                     .machine
                     .devices
                     .iter()
-                    .map(|(index, it)| (*index, it.name.clone()))
+                    .map(|(index, it)| (*index, it.name.clone(), it.mac))
                     .collect();
-                for (index, name) in used {
-                    self.machine.device_is(index, &name, false, now);
+                for (index, name, mac) in used {
+                    self.machine.device_is(index, &name, mac, false, now);
                 }
                 self.list_devices();
             }

@@ -12,8 +12,10 @@
 //!          20 to 27  a random number of its process
 //!          28 to 35  the number of the datagram: of hellos on one device, with a random number of that device in the
 //!                    upper half; or of news to one neighbour
-//! hello    36..      for each router that the sender hears on this link: its number (4), its session (8) and the
-//!                    random number of its process (8)
+//! hello    36 to 41  the hardware address of the sender's device, by which its packets are known; 0 if it has none
+//!          42 to 43  how many routers the sender hears on this link
+//!          44..      for each of them: its number (4), its session (8) and the random number of its process (8); and then
+//!                    the same for routers that it does not hear, if another one with that number says hello here
 //! news     36 to 39  the router that it is for
 //!          40 to 55  the session and the random number of that router
 //!          56 to 63  the greatest number of its news that arrived
@@ -25,7 +27,7 @@
 //! ```
 
 use crate::prefix::Prefix;
-use hmac::{Hmac, Mac};
+use hmac::{Hmac, Mac as _};
 use revroute::MESSAGE_LENGTH;
 use sha2::Sha256;
 use std::net::{IpAddr, Ipv4Addr, Ipv6Addr};
@@ -37,6 +39,7 @@ const LETTERS: [u8; 3] = *b"RRD";
 const HELLO: u8 = 1;
 const NEWS: u8 = 2;
 const HEAD: usize = 36;
+const HELLO_HEAD: usize = 44;
 const NEWS_HEAD: usize = 72;
 const HEARD: usize = 20;
 const SEAL: usize = 16;
@@ -48,7 +51,10 @@ const HAS_LEFT: u8 = 4;
 const IS_ALIVE: u8 = 8;
 const HOLD_UNIT: u64 = 10;
 /// The most routers that a hello lists. No link has more.
-pub const MOST_HEARD: usize = (MOST_BYTES - HEAD - SEAL) / HEARD;
+pub const MOST_HEARD: usize = (MOST_BYTES - HELLO_HEAD - SEAL) / HEARD;
+
+/// A hardware address of Ethernet.
+pub type Mac = [u8; 6];
 
 /// A key, by which routers know that a datagram is from one of them.
 #[derive(Clone, PartialEq, Eq)]
@@ -118,9 +124,18 @@ pub enum Says<'a> {
     Left,
 }
 
+/// What a hello has besides its head.
+#[derive(Debug, PartialEq, Eq)]
+pub struct Hello {
+    pub mac: Option<Mac>,
+    pub heard: Vec<Heard>,
+    /// Routers that are known by numbers with which others say hello.
+    pub known: Vec<Heard>,
+}
+
 #[derive(Debug, PartialEq, Eq)]
 pub enum Body<'a> {
-    Hello(Vec<Heard>),
+    Hello(Hello),
     News(Address, Vec<Record<'a>>),
 }
 
@@ -145,7 +160,7 @@ pub fn read<'a>(data: &'a [u8], keys: &Keys) -> Option<(Head, Body<'a>)> {
         hold: Duration::from_millis(u64::from(hold) * HOLD_UNIT),
     };
     let body = match data[3] {
-        HELLO => Body::Hello(heard_in(data.get(HEAD..)?)?),
+        HELLO => Body::Hello(hello_in(data)?),
         NEWS => {
             let address = Address {
                 to: Heard {
@@ -190,6 +205,17 @@ fn made_seal(key: &Key, content: &[u8]) -> Option<Hmac<Sha256>> {
 
 fn array<const N: usize>(data: &[u8], at: usize) -> Option<[u8; N]> {
     data.get(at..at + N)?.try_into().ok()
+}
+
+fn hello_in(data: &[u8]) -> Option<Hello> {
+    let mac = Some(array(data, HEAD)?).filter(|it| *it != Mac::default());
+    let count = usize::from(u16::from_be_bytes(array(data, HEAD + 6)?));
+    let (heard, known) = split(data.get(HELLO_HEAD..)?, count * HEARD)?;
+    Some(Hello {
+        mac,
+        heard: heard_in(heard)?,
+        known: heard_in(known)?,
+    })
 }
 
 fn heard_in(data: &[u8]) -> Option<Vec<Heard>> {
@@ -256,9 +282,12 @@ fn address_of(bytes: &[u8], is_ipv6: bool) -> Option<IpAddr> {
 }
 
 /// A hello, as bytes.
-pub fn hello(head: Head, heard: impl Iterator<Item = Heard>, keys: &Keys) -> Vec<u8> {
+pub fn hello(head: Head, said: &Hello, keys: &Keys) -> Vec<u8> {
+    let heard = &said.heard[..said.heard.len().min(MOST_HEARD)];
     let mut data = begun(HELLO, 0, head, keys);
-    for it in heard.take(MOST_HEARD) {
+    data.extend_from_slice(&said.mac.unwrap_or_default());
+    data.extend_from_slice(&(heard.len() as u16).to_be_bytes());
+    for it in heard.iter().chain(&said.known).take(MOST_HEARD) {
         data.extend_from_slice(&it.router.to_be_bytes());
         data.extend_from_slice(&it.session.to_be_bytes());
         data.extend_from_slice(&it.process.to_be_bytes());
@@ -395,6 +424,14 @@ mod tests {
         hold: Duration::from_millis(4000),
     };
 
+    fn said(heard: &[Heard]) -> Hello {
+        Hello {
+            mac: Some([2, 0, 0, 0, 0, 7]),
+            heard: heard.to_vec(),
+            known: heard[..heard.len().min(1)].to_vec(),
+        }
+    }
+
     fn key(number: u8, secret: &str) -> Key {
         Key {
             number,
@@ -437,11 +474,9 @@ mod tests {
             },
         ];
         for keys in [vec![], vec![key(1, "one"), key(2, "two")]] {
-            let data = hello(HEAD_OF_ALL, heard.into_iter(), &keys);
-            assert_eq!(
-                read(&data, &keys),
-                Some((HEAD_OF_ALL, Body::Hello(heard.to_vec())))
-            );
+            let said = said(&heard);
+            let data = hello(HEAD_OF_ALL, &said, &keys);
+            assert_eq!(read(&data, &keys), Some((HEAD_OF_ALL, Body::Hello(said))));
             assert_eq!(receiver(&data), None);
         }
     }
@@ -501,23 +536,20 @@ mod tests {
             });
         }
         assert!(news.sealed(false, &[key(1, "one")]).len() <= MOST_BYTES);
-        let most = hello(
-            HEAD_OF_ALL,
-            (0..1000).map(|it| Heard {
-                router: it,
-                session: 1,
-                process: 5,
-            }),
-            &[key(1, "one")],
-        );
+        let one = Heard {
+            router: 1,
+            session: 1,
+            process: 5,
+        };
+        let most = hello(HEAD_OF_ALL, &said(&[one; 1000]), &[key(1, "one")]);
         assert!(most.len() <= MOST_BYTES);
     }
 
     #[test]
     fn only_what_has_a_right_seal_is_read() {
         let (one, two) = (key(1, "one"), key(2, "two"));
-        let data = hello(HEAD_OF_ALL, [].into_iter(), std::slice::from_ref(&one));
-        let open = hello(HEAD_OF_ALL, [].into_iter(), &[]);
+        let data = hello(HEAD_OF_ALL, &said(&[]), std::slice::from_ref(&one));
+        let open = hello(HEAD_OF_ALL, &said(&[]), &[]);
         assert!(
             read(&data, &[two.clone(), one.clone()]).is_some(),
             "while keys are changed"

@@ -1,6 +1,6 @@
 //! What a machine does with a datagram.
 
-use crate::datagram::{self, Address, Body, Head, Heard, Record, Says};
+use crate::datagram::{self, Address, Body, Head, Heard, Hello, Mac, Record, Says};
 use crate::destination::Becomes;
 use crate::kernel::{Kernel, Write};
 use crate::machine::{HOLD, MOST_NEIGHBOURS, Machine};
@@ -54,7 +54,7 @@ impl<K: Kernel> Machine<K> {
             return false;
         }
         match body {
-            Body::Hello(heard) => self.take_hello(device, source, head, &heard, now),
+            Body::Hello(said) => self.take_hello(device, source, head, &said, now),
             Body::News(address, records) => {
                 self.take_news(device, source, head, (address, &records), now)
             }
@@ -120,23 +120,32 @@ impl<K: Kernel> Machine<K> {
         device: u32,
         source: Ipv6Addr,
         head: Head,
-        heard: &[Heard],
+        said: &Hello,
         now: Duration,
     ) -> bool {
-        if !self.is_new_hello(head, device) || !self.is_place(head.from, device, source, now) {
+        if !self.is_new_hello(head, device)
+            || !self.is_place(head.from, device, (source, said.mac), now)
+        {
             return false;
         }
         let me = self.as_heard();
-        let told = heard.iter().find(|it| it.router == me.router);
+        let mut told = said.heard.iter().chain(&said.known);
+        let told = told.find(|it| it.router == me.router);
         // A later session, or another process with this one: a boot number that did not grow.
         let is_later =
             |it: &&Heard| it.session > me.session || it.session == me.session && **it != me;
         if let Some(it) = told.filter(is_later) {
             self.later_session = Some(it.session);
         }
-        let hears_me = told == Some(&me);
+        let (hears_me, mac) = (said.heard.contains(&me), said.mac);
+        if self.is_lan(device) && self.link(head.from, device).and_then(|it| it.mac) != mac {
+            self.take_down_link(head.from, device, "it has another hardware address", now);
+        }
         if let Some(it) = self.neighbours.get_mut(&head.from) {
             it.hellos.note(head.number, device);
+            if let Some(link) = it.links.get_mut(&device) {
+                link.mac = mac;
+            }
         }
         self.hear_from(head, device, hears_me, now);
         true
@@ -167,33 +176,20 @@ impl<K: Kernel> Machine<K> {
         self.neighbours.get(&number)?.links.get(&device)
     }
 
-    /// Makes a link to a neighbour, unless it is there. Gates are by device, so a device has one neighbour: `false` if it
-    /// has another one.
-    fn is_place(&mut self, number: u32, device: u32, source: Ipv6Addr, now: Duration) -> bool {
-        let others = self.neighbours.iter().filter(|(it, _)| **it != number);
-        // One that was silent for a long time has noticed that it is not heard.
-        let is_there = |it: &Adjacency| now < it.until + HOLD;
-        if let Some((other, _)) = others
-            .clone()
-            .find(|(_, it)| it.links.get(&device).is_some_and(is_there))
-        {
-            let name = self.name_of(device);
-            let text = format!(
-                "router {number} is refused on {name}, where router {other} is: one neighbour on a device"
-            );
-            self.journal.add_rarely(text, now);
+    /// Makes a link to a neighbour, unless it is there. `false` if another one has its place.
+    fn is_place(
+        &mut self,
+        number: u32,
+        device: u32,
+        at: (Ipv6Addr, Option<Mac>),
+        now: Duration,
+    ) -> bool {
+        if !self.is_alone(number, device, at, now) {
             return false;
-        }
-        let former: Vec<u32> = others
-            .filter(|(_, it)| it.links.contains_key(&device))
-            .map(|(it, _)| *it)
-            .collect();
-        for it in former {
-            self.remove_link(it, device, "another router has its place", now);
         }
         if self
             .link(number, device)
-            .is_some_and(|it| it.address != source)
+            .is_some_and(|it| it.address != at.0)
         {
             self.remove_link(number, device, "it has another address", now);
         }
@@ -202,7 +198,49 @@ impl<K: Kernel> Machine<K> {
         };
         it.links
             .entry(device)
-            .or_insert_with(|| Adjacency::new(source));
+            .or_insert_with(|| Adjacency::new(at.0));
+        true
+    }
+
+    /// Whether no other neighbour is on a device, or on one for several none that is at the same addresses: it may be the
+    /// same router, which is known by another number. One that was there gives up its place after a long silence.
+    fn is_alone(
+        &mut self,
+        number: u32,
+        device: u32,
+        (source, mac): (Ipv6Addr, Option<Mac>),
+        now: Duration,
+    ) -> bool {
+        let is_lan = self.is_lan(device);
+        let is_same = |it: &Adjacency| it.address == source || it.mac.is_some() && it.mac == mac;
+        let is_rival = |it: &Adjacency| !is_lan || is_same(it);
+        // One that was silent for a long time has noticed that it is not heard.
+        let is_there = |it: &Adjacency| now < it.until + HOLD;
+        let rivals: Vec<(u32, bool)> = self
+            .neighbours
+            .iter()
+            .filter(|(it, _)| **it != number)
+            .filter_map(|(other, it)| Some((*other, it.links.get(&device)?)))
+            .filter(|(_, it)| is_rival(it))
+            .map(|(other, it)| (other, is_there(it)))
+            .collect();
+        let name = self.name_of(device);
+        if let Some((other, _)) = rivals.iter().find(|it| it.1) {
+            let text = if is_lan {
+                format!(
+                    "router {number} is refused on {name}, where router {other} has the same address"
+                )
+            } else {
+                format!(
+                    "router {number} is refused on {name}, where router {other} is. `lan = true` in [interface.{name}] lets in several"
+                )
+            };
+            self.journal.add_rarely(text, now);
+            return false;
+        }
+        for (other, _) in rivals {
+            self.remove_link(other, device, "another router has its place", now);
+        }
         true
     }
 
@@ -245,9 +283,12 @@ impl<K: Kernel> Machine<K> {
 
     /// Takes a link up, if the kernel takes its nexthop object. Otherwise the next hello tries again.
     fn take_up_link(&mut self, number: u32, device: u32, now: Duration) {
-        let Some(address) = self.link(number, device).map(|it| it.address) else {
+        let Some((address, mac)) = self.link(number, device).map(|it| (it.address, it.mac)) else {
             return;
         };
+        if self.is_lan(device) && !self.prepare_sender(device, number, mac, now) {
+            return;
+        }
         let hop = self.next_hop();
         if let Some(Err(why)) = self
             .write(&[Write::AddHop {

@@ -30,6 +30,7 @@ const LONG: u64 = 1_000_000;
 /// The parts of a datagram, as datagram.rs has them.
 const HELLO: u8 = 1;
 const HEAD: usize = 36;
+const HELLO_HEAD: usize = 44;
 const NEWS_HEAD: usize = 72;
 const HEARD: usize = 20;
 const SEAL: usize = 16;
@@ -155,8 +156,8 @@ fn told(router: u32, dice: &mut Dice) -> Settings {
 fn started(router: u32, session: u64, now: Duration, dice: &mut Dice) -> Machine<Willing> {
     let mut it =
         Machine::new(told(router, dice), session, Willing, now).expect("nothing is refused");
-    it.device_is(DEVICE, "eth1", true, now);
-    it.device_is(OTHER_DEVICE, "eth2", true, now);
+    it.device_is(DEVICE, "eth1", None, true, now);
+    it.device_is(OTHER_DEVICE, "eth2", None, true, now);
     it
 }
 
@@ -350,7 +351,7 @@ fn entries(data: &[u8]) -> Vec<std::ops::Range<usize>> {
     let (mut all, mut at) = (
         Vec::new(),
         if data.get(3) == Some(&HELLO) {
-            HEAD
+            HELLO_HEAD
         } else {
             NEWS_HEAD
         },

@@ -4,8 +4,13 @@
 //! routes there: one with the greatest metric that drops, and a route `throw` before it while the gate is open, which
 //! sends the look-up on to the next rule. So to close a gate is to delete a route, which needs no memory.
 //!
+//! Where several routers are on one device, each has a table of gates of its own. What it sends is known by its hardware
+//! address: a map of nftables marks the packet with the number of the table, and a rule looks up in that. What has no
+//! mark comes to the table of the device, which then lets nothing in.
+//!
 //! The ways to a prefix are routes over nexthop objects, by rising metric. Below them is a route that drops.
 
+use crate::datagram::Mac;
 use crate::prefix::Prefix;
 use std::fmt;
 use std::net::Ipv6Addr;
@@ -59,6 +64,37 @@ pub enum Write {
         device: String,
         is_ipv6: bool,
     },
+    /// What the rule of a sender's table lets in goes past the rule of the device.
+    AddSkip {
+        table: u32,
+        device: String,
+        is_ipv6: bool,
+    },
+    RemoveSkip {
+        table: u32,
+        device: String,
+        is_ipv6: bool,
+    },
+    /// The rule to which that goes, which does nothing.
+    AddEnd {
+        is_ipv6: bool,
+    },
+    RemoveEnd {
+        is_ipv6: bool,
+    },
+    /// The map of senders, without senders. What was there before is removed.
+    AddSenders,
+    RemoveSenders,
+    /// Packets that come in by a device from a hardware address are for this table of gates.
+    AddSender {
+        table: u32,
+        device: u32,
+        mac: Mac,
+    },
+    RemoveSender {
+        device: u32,
+        mac: Mac,
+    },
     /// The nexthop object of a neighbour on a link.
     AddHop {
         hop: u32,
@@ -94,6 +130,17 @@ impl fmt::Display for Refusal {
 }
 
 impl Write {
+    /// Whether it is a line for the map of senders, and not for routes and rules.
+    pub fn is_of_senders(&self) -> bool {
+        matches!(
+            self,
+            Write::AddSenders
+                | Write::RemoveSenders
+                | Write::AddSender { .. }
+                | Write::RemoveSender { .. }
+        )
+    }
+
     /// Whether this error means that nothing was left to be done.
     pub fn is_done_by(&self, error: i32) -> bool {
         match self {
@@ -102,14 +149,24 @@ impl Write {
             | Write::Close { .. }
             | Write::Release { .. }
             | Write::RemoveRule { .. }
+            | Write::RemoveSkip { .. }
+            | Write::RemoveEnd { .. }
+            | Write::RemoveSenders
+            | Write::RemoveSender { .. }
             | Write::RemoveHop { .. }
             | Write::RemoveWay { .. } => matches!(error, libc::ESRCH | libc::ENOENT),
             // All that has the daemon's protocol number is the daemon's, so what is there is what is wanted.
             Write::Shut { .. }
             | Write::Open { .. }
             | Write::Hold { .. }
-            | Write::AddRule { .. } => error == libc::EEXIST,
-            Write::AddLast { .. } | Write::AddHop { .. } | Write::AddWay { .. } => false,
+            | Write::AddRule { .. }
+            | Write::AddSkip { .. }
+            | Write::AddEnd { .. } => error == libc::EEXIST,
+            Write::AddLast { .. }
+            | Write::AddSenders
+            | Write::AddSender { .. }
+            | Write::AddHop { .. }
+            | Write::AddWay { .. } => false,
         }
     }
 }

@@ -1,6 +1,6 @@
 //! The state of the daemon, without sockets and clocks: events come in, lines for the kernel and datagrams go out.
 
-use crate::datagram::Key;
+use crate::datagram::{Key, Mac};
 use crate::destination::{Becomes, Destination, Link};
 use crate::journal::Journal;
 use crate::kernel::{Kernel, Refusal, Write};
@@ -16,6 +16,9 @@ use std::time::Duration;
 pub const MAIN: u32 = 254;
 /// The table of gates of a device has this number and that of the device together.
 pub const GATES: u32 = 0x4d00_0000;
+/// Where a device has several neighbours, each has a table of gates. Their numbers are those after this one, which no table
+/// of a device has. What the neighbour sends is marked by the number of its table.
+pub const SENDERS: u32 = 0xd000_0000;
 /// Nexthop objects have the numbers after this one.
 pub const HOPS: u32 = 0x4d00_0000;
 /// The most prefixes and neighbours that a router takes up. What comes beyond is refused, so no datagram can take all
@@ -47,11 +50,16 @@ pub struct Settings {
     pub announce: BTreeSet<Prefix>,
     /// The costs of links by the name of the device, where they are not 1.
     pub costs: BTreeMap<String, u32>,
+    /// The devices with several neighbours, by their names.
+    pub lans: BTreeSet<String>,
 }
 
 /// A device over which there may be neighbours.
 pub struct Device {
     pub name: String,
+    pub mac: Option<Mac>,
+    /// Whether there may be several neighbours. Then the gates of the device stay closed, and each neighbour has its own.
+    pub is_lan: bool,
     pub has_carrier: bool,
     /// Whether the kernel drops what comes in and is not let in. Nothing is said over the device before.
     pub is_ready: bool,
@@ -75,6 +83,16 @@ pub enum Hold {
     Unknown,
 }
 
+/// The gates for what one of several neighbours sends over a device.
+pub struct Sender {
+    pub table: u32,
+    /// The hardware address for which the map may have an entry that leads to this table.
+    pub mac: Option<Mac>,
+    /// Whether it has that entry, which was written last.
+    pub is_ready: bool,
+    pub hold: Hold,
+}
+
 /// A device that this process does not use any more, or an earlier one had.
 pub struct Former {
     pub until: Duration,
@@ -90,6 +108,10 @@ pub struct Machine<K> {
     pub kernel: K,
     pub journal: Journal,
     pub devices: BTreeMap<u32, Device>,
+    /// The neighbours on devices that have several, by the device and the number of the router.
+    pub senders: BTreeMap<(u32, u32), Sender>,
+    /// Whether the kernel has the map of senders.
+    pub has_senders: bool,
     pub neighbours: BTreeMap<u32, Neighbour>,
     pub destinations: BTreeMap<Prefix, Destination>,
     /// The destinations whose tables may have to be written.
@@ -109,6 +131,7 @@ pub struct Machine<K> {
     /// How many nodes this process has started.
     starts: u32,
     last_hop: u32,
+    last_sender: u32,
 }
 
 /// What has happened how often.
@@ -140,6 +163,8 @@ impl<K: Kernel> Machine<K> {
             kernel,
             journal: Journal::default(),
             devices: BTreeMap::new(),
+            senders: BTreeMap::new(),
+            has_senders: false,
             neighbours: BTreeMap::new(),
             destinations: BTreeMap::new(),
             changed: BTreeSet::new(),
@@ -152,6 +177,7 @@ impl<K: Kernel> Machine<K> {
             counts: Counts::default(),
             starts: 0,
             last_hop: HOPS,
+            last_sender: SENDERS,
             settings,
         };
         for prefix in machine.settings.announce.clone() {
@@ -234,9 +260,19 @@ impl<K: Kernel> Machine<K> {
     }
 
     /// A device is there, with its carrier or without.
-    pub fn device_is(&mut self, index: u32, name: &str, has_carrier: bool, now: Duration) {
+    pub fn device_is(
+        &mut self,
+        index: u32,
+        name: &str,
+        mac: Option<Mac>,
+        has_carrier: bool,
+        now: Duration,
+    ) {
+        let is_lan = self.settings.lans.contains(name);
         let it = self.devices.entry(index).or_insert_with(|| Device {
             name: name.into(),
+            mac,
+            is_lan,
             has_carrier: false,
             is_ready: false,
             hold: Hold::Unknown,
@@ -244,10 +280,13 @@ impl<K: Kernel> Machine<K> {
             next_hello: now,
             outdated: BTreeSet::new(),
         });
-        if it.name != name {
+        if it.mac != mac {
+            (it.mac, it.next_hello) = (mac, now);
+        }
+        if it.name != name || it.is_lan != is_lan {
             // The rule has the name of the device.
             self.device_is_gone(index, now);
-            return self.device_is(index, name, has_carrier, now);
+            return self.device_is(index, name, mac, has_carrier, now);
         }
         if it.has_carrier != has_carrier {
             it.has_carrier = has_carrier;
@@ -309,6 +348,15 @@ impl<K: Kernel> Machine<K> {
             self.last_hop + 1
         };
         self.last_hop
+    }
+
+    pub fn next_sender(&mut self) -> u32 {
+        self.last_sender += 1;
+        self.last_sender
+    }
+
+    pub fn is_lan(&self, device: u32) -> bool {
+        self.devices.get(&device).is_some_and(|it| it.is_lan)
     }
 
     pub fn say_hello_soon(&mut self, device: u32, now: Duration) {

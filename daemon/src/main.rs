@@ -17,6 +17,7 @@ mod neighbour;
 mod netlink;
 mod news;
 mod prefix;
+mod senders;
 mod speaking;
 mod system;
 #[cfg(test)]

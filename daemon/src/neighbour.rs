@@ -1,6 +1,6 @@
 //! A neighbour, and the links to it.
 
-use crate::datagram::Heard;
+use crate::datagram::{Heard, Mac};
 use crate::news::News;
 use std::collections::BTreeMap;
 use std::net::Ipv6Addr;
@@ -9,6 +9,8 @@ use std::time::Duration;
 /// One link to a neighbour. Two routers may have several.
 pub struct Adjacency {
     pub address: Ipv6Addr,
+    /// The hardware address of the neighbour's device, as its hellos have it.
+    pub mac: Option<Mac>,
     /// The neighbour is gone if nothing is heard until then.
     pub until: Duration,
     pub is_heard: bool,
@@ -24,6 +26,7 @@ impl Adjacency {
     pub fn new(address: Ipv6Addr) -> Adjacency {
         Adjacency {
             address,
+            mac: None,
             until: Duration::ZERO,
             is_heard: false,
             hears_me: false,

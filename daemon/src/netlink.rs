@@ -3,9 +3,11 @@
 //! The messages are written here, byte by byte: the crates of Debian know no nexthop objects, and refuse what later
 //! kernels add to the lists that are read here.
 
+use crate::datagram::Mac;
 use crate::kernel::{Kernel, Refusal, Write};
-use crate::machine::GATES;
+use crate::machine::{GATES, SENDERS};
 use crate::prefix::Prefix;
+use crate::senders;
 use netlink_sys::{Socket, SocketAddr};
 use socket2::SockRef;
 use std::collections::BTreeSet;
@@ -26,14 +28,20 @@ const OPEN: u32 = 1;
 const HELD: u32 = 4_100_000;
 /// The preference of the rules for gates: before all but the table of local addresses, unless somebody chose less.
 const RULE: u32 = 77;
+/// Those for senders come before them: to look up in the table of a sender, and then to go past the rule of its device.
+const SENDER_RULE: u32 = 75;
+const SKIP_RULE: u32 = 76;
+const END_RULE: u32 = 78;
 
 const REQUEST: u16 = 1;
-const ACK: u16 = 4;
+pub const ACK: u16 = 4;
 const REPLACE: u16 = 0x100;
-const EXCLUSIVE: u16 = 0x200;
-const CREATE: u16 = 0x400;
+pub const EXCLUSIVE: u16 = 0x200;
+pub const CREATE: u16 = 0x400;
 const DUMP: u16 = 0x300;
 const TO_TABLE: u8 = 1;
+const GO_TO: u8 = 2;
+const DO_NOTHING: u8 = 3;
 const NHA_ID: u16 = 1;
 const NHA_OIF: u16 = 5;
 const NHA_GATEWAY: u16 = 6;
@@ -42,8 +50,11 @@ const RTM_DELNEXTHOP: u16 = 105;
 const RTM_GETNEXTHOP: u16 = 106;
 const RTA_NH_ID: u16 = 30;
 const FRA_IIFNAME: u16 = 3;
+const FRA_GOTO: u16 = 4;
 const FRA_PRIORITY: u16 = 6;
+const FRA_FWMARK: u16 = 10;
 const FRA_TABLE: u16 = 15;
+const FRA_FWMASK: u16 = 16;
 const FRA_PROTOCOL: u16 = 21;
 const HEADER: usize = 16;
 /// How many lines go out in one datagram, so that their acknowledgements fit into the buffer of the socket.
@@ -58,10 +69,14 @@ pub struct DeviceNews {
     pub name: String,
     pub has_carrier: bool,
     pub is_gone: bool,
+    /// Its hardware address, if it is one of Ethernet.
+    pub mac: Option<Mac>,
 }
 
 pub struct Netlink {
     socket: Socket,
+    /// To netfilter, once it is needed.
+    filter: Option<Socket>,
     number: u32,
     buffer: Vec<u8>,
 }
@@ -71,10 +86,17 @@ fn refusal(error: &std::io::Error) -> Refusal {
 }
 
 /// A message that is being written.
-struct Message(Vec<u8>);
+pub struct Message(Vec<u8>);
+
+pub fn push_attribute(data: &mut Vec<u8>, kind: u16, value: &[u8]) {
+    data.extend_from_slice(&(4 + value.len() as u16).to_ne_bytes());
+    data.extend_from_slice(&kind.to_ne_bytes());
+    data.extend_from_slice(value);
+    data.resize(data.len().next_multiple_of(4), 0);
+}
 
 impl Message {
-    fn new(kind: u16, flags: u16, number: u32) -> Message {
+    pub fn new(kind: u16, flags: u16, number: u32) -> Message {
         let mut data = Vec::with_capacity(128);
         data.extend_from_slice(&[0; 4]);
         data.extend_from_slice(&kind.to_ne_bytes());
@@ -84,17 +106,13 @@ impl Message {
         Message(data)
     }
 
-    fn bytes(mut self, bytes: &[u8]) -> Message {
+    pub fn bytes(mut self, bytes: &[u8]) -> Message {
         self.0.extend_from_slice(bytes);
         self
     }
 
     fn attribute(mut self, kind: u16, value: &[u8]) -> Message {
-        self.0
-            .extend_from_slice(&(4 + value.len() as u16).to_ne_bytes());
-        self.0.extend_from_slice(&kind.to_ne_bytes());
-        self.0.extend_from_slice(value);
-        self.0.resize(self.0.len().next_multiple_of(4), 0);
+        push_attribute(&mut self.0, kind, value);
         self
     }
 
@@ -102,7 +120,7 @@ impl Message {
         self.attribute(kind, &value.to_ne_bytes())
     }
 
-    fn ended(mut self) -> Vec<u8> {
+    pub fn ended(mut self) -> Vec<u8> {
         let length = self.0.len() as u32;
         self.0[..4].copy_from_slice(&length.to_ne_bytes());
         self.0
@@ -168,21 +186,59 @@ impl Route {
     }
 }
 
-fn rule(table: u32, device: &str, is_ipv6: bool, is_new: bool, number: u32) -> Vec<u8> {
-    let (kind, flags) = if is_new {
-        (libc::RTM_NEWRULE, CREATE | EXCLUSIVE)
-    } else {
-        (libc::RTM_DELRULE, 0)
-    };
-    let mut name = device.as_bytes().to_vec();
-    name.push(0);
-    Message::new(kind, flags | ACK, number)
-        .bytes(&[family(is_ipv6), 0, 0, 0, 0, 0, 0, TO_TABLE, 0, 0, 0, 0])
-        .word(FRA_TABLE, table)
-        .word(FRA_PRIORITY, RULE)
-        .attribute(FRA_IIFNAME, &name)
-        .attribute(FRA_PROTOCOL, &[PROTOCOL])
-        .ended()
+/// What a rule does.
+enum Rule<'a> {
+    /// Looks up in a table what comes in by a device, if it has the mark of this table and that is one of a sender.
+    Gates(u32, &'a str),
+    /// Goes past the rule of the device, if that is what the table of the sender lets in.
+    Skip(u32, &'a str),
+    End,
+}
+
+impl Rule<'_> {
+    fn message(&self, is_ipv6: bool, is_new: bool, number: u32) -> Vec<u8> {
+        let (kind, flags) = if is_new {
+            (libc::RTM_NEWRULE, CREATE | EXCLUSIVE)
+        } else {
+            (libc::RTM_DELRULE, 0)
+        };
+        let action = match self {
+            Rule::Gates(..) => TO_TABLE,
+            Rule::Skip(..) => GO_TO,
+            Rule::End => DO_NOTHING,
+        };
+        let mut it = Message::new(kind, flags | ACK, number).bytes(&[
+            family(is_ipv6),
+            0,
+            0,
+            0,
+            0,
+            0,
+            0,
+            action,
+            0,
+            0,
+            0,
+            0,
+        ]);
+        it = match *self {
+            Rule::Gates(table, _) if table > SENDERS => {
+                it.word(FRA_TABLE, table).word(FRA_PRIORITY, SENDER_RULE)
+            }
+            Rule::Gates(table, _) => it.word(FRA_TABLE, table).word(FRA_PRIORITY, RULE),
+            Rule::Skip(..) => it.word(FRA_GOTO, END_RULE).word(FRA_PRIORITY, SKIP_RULE),
+            Rule::End => it.word(FRA_PRIORITY, END_RULE),
+        };
+        if let Rule::Gates(table, device) | Rule::Skip(table, device) = *self {
+            let mut name = device.as_bytes().to_vec();
+            name.push(0);
+            it = it.attribute(FRA_IIFNAME, &name);
+            if table > SENDERS {
+                it = it.word(FRA_FWMARK, table).word(FRA_FWMASK, u32::MAX);
+            }
+        }
+        it.attribute(FRA_PROTOCOL, &[PROTOCOL]).ended()
+    }
 }
 
 fn all(is_ipv6: bool) -> Option<Prefix> {
@@ -240,12 +296,28 @@ fn message(line: &Write, number: u32) -> Option<Vec<u8>> {
             table,
             ref device,
             is_ipv6,
-        } => rule(table, device, is_ipv6, true, number),
+        } => Rule::Gates(table, device).message(is_ipv6, true, number),
         Write::RemoveRule {
             table,
             ref device,
             is_ipv6,
-        } => rule(table, device, is_ipv6, false, number),
+        } => Rule::Gates(table, device).message(is_ipv6, false, number),
+        Write::AddSkip {
+            table,
+            ref device,
+            is_ipv6,
+        } => Rule::Skip(table, device).message(is_ipv6, true, number),
+        Write::RemoveSkip {
+            table,
+            ref device,
+            is_ipv6,
+        } => Rule::Skip(table, device).message(is_ipv6, false, number),
+        Write::AddEnd { is_ipv6 } => Rule::End.message(is_ipv6, true, number),
+        Write::RemoveEnd { is_ipv6 } => Rule::End.message(is_ipv6, false, number),
+        Write::AddSenders
+        | Write::RemoveSenders
+        | Write::AddSender { .. }
+        | Write::RemoveSender { .. } => return None,
         Write::AddHop {
             hop,
             device,
@@ -278,16 +350,31 @@ fn message(line: &Write, number: u32) -> Option<Vec<u8>> {
     })
 }
 
+fn opened(protocol: isize) -> std::io::Result<Socket> {
+    let mut socket = Socket::new(protocol)?;
+    socket.bind(&SocketAddr::new(0, 0))?;
+    // Acknowledgements without the request in them are shorter. An old kernel sends long ones.
+    let _ = socket.set_cap_ack(true);
+    // An acknowledgement that does not come is a refusal of all that was sent.
+    SockRef::from(&socket).set_read_timeout(Some(LONGEST_WAIT))?;
+    Ok(socket)
+}
+
+fn receive(socket: &Socket, buffer: &mut Vec<u8>) -> std::io::Result<()> {
+    buffer.clear();
+    loop {
+        match socket.recv(buffer, 0) {
+            Err(error) if error.kind() == std::io::ErrorKind::Interrupted => (),
+            other => return other.map(drop),
+        }
+    }
+}
+
 impl Netlink {
     pub fn new() -> std::io::Result<Netlink> {
-        let mut socket = Socket::new(libc::NETLINK_ROUTE as isize)?;
-        socket.bind(&SocketAddr::new(0, 0))?;
-        // Acknowledgements without the request in them are shorter. An old kernel sends long ones.
-        let _ = socket.set_cap_ack(true);
-        // An acknowledgement that does not come is a refusal of all that was sent.
-        SockRef::from(&socket).set_read_timeout(Some(LONGEST_WAIT))?;
         Ok(Netlink {
-            socket,
+            socket: opened(libc::NETLINK_ROUTE as isize)?,
+            filter: None,
             number: 0,
             buffer: Vec::with_capacity(BUFFER),
         })
@@ -298,7 +385,7 @@ impl Netlink {
         self.socket.send(&messages.concat(), 0)?;
         let (mut errors, mut left) = (vec![None; messages.len()], messages.len());
         while left > 0 {
-            self.receive()?;
+            receive(&self.socket, &mut self.buffer)?;
             for (kind, number, body) in Parts(&self.buffer) {
                 let place = errors.get_mut(number.wrapping_sub(first) as usize);
                 if let (true, Some(place @ None)) = (kind == libc::NLMSG_ERROR as u16, place) {
@@ -313,13 +400,69 @@ impl Netlink {
             .collect())
     }
 
-    fn receive(&mut self) -> std::io::Result<()> {
-        self.buffer.clear();
+    /// Sends messages about the map of senders, and returns the first error, or 0 once the last message is acknowledged.
+    fn filtered(&mut self, data: &[u8], last: u32) -> std::io::Result<i32> {
+        if self.filter.is_none() {
+            self.filter = Some(opened(libc::NETLINK_NETFILTER as isize)?);
+        }
+        let Some(socket) = &self.filter else {
+            return Ok(libc::EIO);
+        };
+        let first = self.number;
+        self.number = last.wrapping_add(1);
+        socket.send(data, 0)?;
         loop {
-            match self.socket.recv(&mut self.buffer, 0) {
-                Err(error) if error.kind() == std::io::ErrorKind::Interrupted => (),
-                other => return other.map(drop),
+            receive(socket, &mut self.buffer)?;
+            for (kind, number, body) in Parts(&self.buffer) {
+                let is_one = number.wrapping_sub(first) <= last.wrapping_sub(first);
+                let error = -number_at(body);
+                if kind == libc::NLMSG_ERROR as u16 && is_one && (error != 0 || number == last) {
+                    return Ok(error);
+                }
             }
+        }
+    }
+
+    /// Whether there is a map of senders.
+    fn has_senders(&mut self) -> bool {
+        let number = self.number.wrapping_add(1);
+        self.number = number;
+        self.filtered(&senders::question(number), number)
+            .is_ok_and(|it| it == 0)
+    }
+
+    fn write_sender(&mut self, line: &Write) -> Result<(), Refusal> {
+        self.number = self.number.wrapping_add(1);
+        let (data, last) = senders::batch(line, self.number).ok_or(Refusal(libc::EINVAL))?;
+        match self.filtered(&data, last) {
+            Ok(error) if error == 0 || line.is_done_by(error) => Ok(()),
+            Ok(error) => Err(Refusal(error)),
+            Err(error) => Err(refusal(&error)),
+        }
+    }
+
+    fn write_routes(&mut self, lines: &[Write]) -> Vec<Result<(), Refusal>> {
+        let first = self.number.wrapping_add(1);
+        self.number = self.number.wrapping_add(lines.len() as u32);
+        let number = |at: usize| first.wrapping_add(at as u32);
+        let messages: Vec<Vec<u8>> = lines
+            .iter()
+            .enumerate()
+            .map(|(at, it)| message(it, number(at)).unwrap_or_default())
+            .collect();
+        match self.send_all(&messages, first) {
+            Ok(errors) => {
+                let results = lines.iter().zip(errors).map(|(line, error)| {
+                    if error == 0 || line.is_done_by(error) {
+                        Ok(())
+                    } else {
+                        Err(Refusal(error))
+                    }
+                });
+                results.collect()
+            }
+            // Nothing is known of what was done.
+            Err(error) => lines.iter().map(|_| Err(refusal(&error))).collect(),
         }
     }
 
@@ -335,7 +478,7 @@ impl Netlink {
         self.socket
             .send(&Message::new(kind, DUMP, number).bytes(head).ended(), 0)?;
         loop {
-            self.receive()?;
+            receive(&self.socket, &mut self.buffer)?;
             for (kind, count, body) in Parts(&self.buffer) {
                 if count != number {
                     continue;
@@ -377,25 +520,13 @@ impl Netlink {
 impl Kernel for Netlink {
     fn write(&mut self, lines: &[Write]) -> Vec<Result<(), Refusal>> {
         let mut results = Vec::with_capacity(lines.len());
-        for part in lines.chunks(MOST_LINES) {
-            let first = self.number.wrapping_add(1);
-            self.number = self.number.wrapping_add(part.len() as u32);
-            let number = |at: usize| first.wrapping_add(at as u32);
-            let messages: Vec<Vec<u8>> = part
-                .iter()
-                .enumerate()
-                .map(|(at, it)| message(it, number(at)).unwrap_or_default())
-                .collect();
-            match self.send_all(&messages, first) {
-                Ok(errors) => results.extend(part.iter().zip(errors).map(|(line, error)| {
-                    if error == 0 || line.is_done_by(error) {
-                        Ok(())
-                    } else {
-                        Err(Refusal(error))
-                    }
-                })),
-                // Nothing is known of what was done.
-                Err(error) => results.extend(part.iter().map(|_| Err(refusal(&error)))),
+        for some in lines.chunk_by(|one, next| one.is_of_senders() == next.is_of_senders()) {
+            if some[0].is_of_senders() {
+                results.extend(some.iter().map(|it| self.write_sender(it)));
+            } else {
+                for part in some.chunks(MOST_LINES) {
+                    results.extend(self.write_routes(part));
+                }
             }
         }
         results
@@ -417,6 +548,9 @@ impl Kernel for Netlink {
         self.listed(RTM_GETNEXTHOP, &[0; 8], |body| hops.extend(hop_left(body)))
             .map_err(|it| refusal(&it))?;
         left.extend(hops.into_iter().map(|hop| Write::RemoveHop { hop }));
+        if self.has_senders() {
+            left.push(Write::RemoveSenders);
+        }
         Ok(left)
     }
 }
@@ -454,8 +588,19 @@ fn rule_left(body: &[u8], is_ipv6: bool) -> Option<Write> {
     if parts.value(FRA_PROTOCOL)? != [PROTOCOL] {
         return None;
     }
+    let action = *body.get(7)?;
+    if action == DO_NOTHING {
+        return Some(Write::RemoveEnd { is_ipv6 });
+    }
     let name = parts.value(FRA_IIFNAME)?;
     let device = String::from_utf8_lossy(name.strip_suffix(&[0]).unwrap_or(name)).into_owned();
+    if action == GO_TO {
+        return Some(Write::RemoveSkip {
+            table: parts.word(FRA_FWMARK)?,
+            device,
+            is_ipv6,
+        });
+    }
     let table = parts.word(FRA_TABLE).filter(|it| *it >= GATES)?;
     Some(Write::RemoveRule {
         table,
@@ -472,12 +617,18 @@ fn device_in(body: &[u8], is_gone: bool) -> Option<DeviceNews> {
     let (index, flags) = (word_at(body, 4)?, word_at(body, 8)?);
     let name = Attributes(body.get(16..)?).value(libc::IFLA_IFNAME)?;
     let name = String::from_utf8_lossy(name.strip_suffix(&[0]).unwrap_or(name)).into_owned();
+    let is_ethernet = body.get(2..4)? == libc::ARPHRD_ETHER.to_ne_bytes();
+    let mac = Attributes(body.get(16..)?)
+        .value(libc::IFLA_ADDRESS)
+        .filter(|_| is_ethernet)
+        .and_then(|it| it.try_into().ok());
     let has_carrier = flags & libc::IFF_RUNNING as u32 != 0 && flags & libc::IFF_UP as u32 != 0;
     Some(DeviceNews {
         index,
         name,
         has_carrier: has_carrier && !is_gone,
         is_gone,
+        mac,
     })
 }
 

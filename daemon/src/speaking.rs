@@ -1,6 +1,6 @@
 //! What a machine says to its neighbours.
 
-use crate::datagram::{self, Address, Head, News, Record, Says};
+use crate::datagram::{self, Address, Head, Hello, News, Record, Says};
 use crate::kernel::Kernel;
 use crate::machine::Machine;
 use crate::neighbour::Neighbour;
@@ -46,14 +46,19 @@ impl<K: Kernel> Machine<K> {
         };
         device.hello += 1;
         device.next_hello = now + self.settings.hello;
-        let number = device.hello;
+        let (number, mac) = (device.hello, device.mac);
         let outdated = std::mem::take(&mut device.outdated);
         let is_heard = |it: &Neighbour| it.links.get(&index).is_some_and(|it| it.is_heard);
-        let is_told =
-            |(number, it): &(&u32, &Neighbour)| is_heard(it) || outdated.contains(*number);
-        let some = self.neighbours.iter().filter(is_told);
-        let heard = some.map(|(number, it)| it.heard(*number));
-        let data = datagram::hello(self.head(number), heard, &self.settings.keys);
+        let (mut heard, mut known) = (Vec::new(), Vec::new());
+        for (number, it) in &self.neighbours {
+            if is_heard(it) {
+                heard.push(it.heard(*number));
+            } else if outdated.contains(number) {
+                known.push(it.heard(*number));
+            }
+        }
+        let said = Hello { mac, heard, known };
+        let data = datagram::hello(self.head(number), &said, &self.settings.keys);
         self.send(index, data);
     }
 

@@ -1,8 +1,9 @@
 //! Machines in a network in memory, which loses, repeats and reorders datagrams. After each line that is written to a
 //! kernel, the tables of all kernels must have no loop.
 
+use crate::datagram::Mac;
 use crate::kernel::{Kernel, Refusal, Write};
-use crate::machine::{GATES, LONGEST_DEAD, Machine, Settings};
+use crate::machine::{GATES, LONGEST_DEAD, Machine, SENDERS, Settings};
 use crate::prefix::Prefix;
 use std::cell::RefCell;
 use std::collections::{BTreeMap, BTreeSet};
@@ -36,6 +37,10 @@ struct Tables {
     open: BTreeSet<(u32, Prefix)>,
     hold: BTreeSet<(u32, bool)>,
     rules: BTreeSet<(u32, String, bool)>,
+    skips: BTreeSet<(u32, String, bool)>,
+    end: BTreeSet<bool>,
+    /// The tables of gates of senders, by the device and the hardware address.
+    senders: Option<BTreeMap<(u32, Mac), u32>>,
     hops: BTreeMap<u32, (u32, Ipv6Addr)>,
     ways: BTreeMap<(Prefix, u32), u32>,
     without_carrier: BTreeSet<u32>,
@@ -48,8 +53,8 @@ struct World {
     own: BTreeMap<u32, BTreeSet<Prefix>>,
     /// The default route of each router, which somebody else has made: the device.
     defaults: BTreeMap<u32, u32>,
-    /// The other end of each device: a router and its device.
-    ends: BTreeMap<(u32, u32), (u32, u32)>,
+    /// The other ends of each device: a router and its device. A device of a LAN has several.
+    ends: BTreeMap<(u32, u32), Vec<(u32, u32)>>,
     dice: Dice,
     refused_percent: u64,
     checks: u64,
@@ -59,6 +64,10 @@ struct World {
 
 fn address(router: u32, device: u32) -> Ipv6Addr {
     Ipv6Addr::new(0xfe80, 0, 0, 0, 0, 0, router as u16 + 1, device as u16)
+}
+
+fn mac(router: u32, device: u32) -> Mac {
+    [2, 0, 0, router as u8, 0, device as u8]
 }
 
 fn contains(prefix: &Prefix, address: IpAddr) -> bool {
@@ -112,6 +121,31 @@ impl Tables {
                 device,
                 is_ipv6,
             } => gone(self.rules.remove(&(table, device, is_ipv6))),
+            Write::AddSkip {
+                table,
+                device,
+                is_ipv6,
+            } => there(self.skips.insert((table, device, is_ipv6))),
+            Write::RemoveSkip {
+                table,
+                device,
+                is_ipv6,
+            } => gone(self.skips.remove(&(table, device, is_ipv6))),
+            Write::AddEnd { is_ipv6 } => there(self.end.insert(is_ipv6)),
+            Write::RemoveEnd { is_ipv6 } => gone(self.end.remove(&is_ipv6)),
+            Write::AddSenders => {
+                self.senders = Some(BTreeMap::new());
+                Ok(())
+            }
+            Write::RemoveSenders => gone(self.senders.take().is_some()),
+            Write::AddSender { table, device, mac } => match &mut self.senders {
+                Some(it) => there(it.insert((device, mac), table).is_none()),
+                None => Err(libc::ENOENT),
+            },
+            Write::RemoveSender { device, mac } => {
+                let it = self.senders.as_mut();
+                gone(it.is_some_and(|it| it.remove(&(device, mac)).is_some()))
+            }
             Write::AddHop {
                 hop,
                 device,
@@ -162,16 +196,24 @@ impl Tables {
         }
     }
 
-    /// Whether a packet to an address that comes in by a device is let in.
-    fn lets_in(&self, device: u32, to: IpAddr) -> bool {
-        let table = GATES + device;
-        if !self
-            .rules
-            .iter()
-            .any(|it| it.0 == table && it.2 == to.is_ipv6())
-        {
-            return true;
+    /// Whether a packet to an address is let in, that comes in by a device from a hardware address.
+    fn lets_in(&self, device: u32, from: Mac, to: IpAddr) -> bool {
+        let mark = self.senders.as_ref().and_then(|it| it.get(&(device, from)));
+        if let Some(mark) = mark {
+            let rule = (*mark, format!("eth{device}"), to.is_ipv6());
+            if self.rules.contains(&rule) && !self.table_lets_in(*mark, to) {
+                return false;
+            }
+            if self.skips.contains(&rule) && self.end.contains(&to.is_ipv6()) {
+                return true;
+            }
         }
+        let table = GATES + device;
+        let is_rule = |it: &&(u32, String, bool)| it.0 == table && it.2 == to.is_ipv6();
+        !self.rules.iter().any(|it| is_rule(&it)) || self.table_lets_in(table, to)
+    }
+
+    fn table_lets_in(&self, table: u32, to: IpAddr) -> bool {
         let here = |all: &BTreeSet<(u32, Prefix)>| {
             longest(all.iter().filter(|it| it.0 == table).map(|it| &it.1), to)
         };
@@ -194,24 +236,33 @@ impl World {
     fn used(&self, router: u32, to: IpAddr) -> Vec<(u32, bool)> {
         let it = &self.tables[&router];
         let own = &self.own[&router];
-        let devices: Vec<(u32, bool)> = match longest(it.last.iter().chain(own), to) {
+        let devices: Vec<(u32, Option<Ipv6Addr>)> = match longest(it.last.iter().chain(own), to) {
             Some(prefix) if own.contains(&prefix) => Vec::new(),
             Some(prefix) => {
                 let ways = it.ways.iter().filter(|((at, _), _)| *at == prefix);
-                ways.map(|(_, hop)| (it.hops[hop].0, true)).collect()
+                ways.map(|(_, hop)| (it.hops[hop].0, Some(it.hops[hop].1)))
+                    .collect()
             }
             None => self
                 .defaults
                 .get(&router)
-                .map(|device| (*device, false))
+                .map(|device| (*device, None))
                 .into_iter()
                 .collect(),
         };
-        let ends = devices
-            .into_iter()
-            .filter_map(|(device, is_way)| Some((*self.ends.get(&(router, device))?, is_way)));
-        ends.filter(|((other, at), _)| self.tables[other].lets_in(*at, to))
-            .map(|((other, _), is_way)| (other, is_way))
+        let mut used = Vec::new();
+        for (device, gateway) in devices {
+            let ends = self.ends.get(&(router, device)).into_iter().flatten();
+            let is_one = |it: &&(u32, u32)| gateway.is_none_or(|to| to == address(it.0, it.1));
+            used.extend(
+                ends.copied()
+                    .find(|it| is_one(&it))
+                    .map(|it| (it, device, gateway)),
+            );
+        }
+        used.into_iter()
+            .filter(|((other, at), by, _)| self.tables[other].lets_in(*at, mac(router, *by), to))
+            .map(|((other, _), _, gateway)| (other, gateway.is_some()))
             .collect()
     }
 
@@ -321,6 +372,22 @@ impl Kernel for Handle {
             table: *table,
             is_ipv6: *is_ipv6,
         }));
+        left.extend(it.senders.iter().map(|_| Write::RemoveSenders));
+        left.extend(
+            it.end
+                .iter()
+                .map(|is_ipv6| Write::RemoveEnd { is_ipv6: *is_ipv6 }),
+        );
+        left.extend(
+            it.skips
+                .iter()
+                .cloned()
+                .map(|(table, device, is_ipv6)| Write::RemoveSkip {
+                    table,
+                    device,
+                    is_ipv6,
+                }),
+        );
         left.extend(
             it.rules
                 .iter()
@@ -348,8 +415,12 @@ struct Lab {
     sessions: BTreeMap<u32, u64>,
     announced: BTreeMap<u32, BTreeSet<Prefix>>,
     links: Vec<((u32, u32), (u32, u32))>,
+    /// Devices of several routers that are on one LAN.
+    lans: Vec<Vec<(u32, u32)>>,
     /// Devices over which nothing goes out.
     cut: BTreeSet<(u32, u32)>,
+    /// The same from one device to another one of a LAN.
+    apart: BTreeSet<((u32, u32), (u32, u32))>,
     way: Vec<Datagram>,
     now: Duration,
     dice: Dice,
@@ -373,6 +444,7 @@ pub fn settings(router: u32, announce: BTreeSet<Prefix>, forget: Duration) -> Se
         keys: Vec::new(),
         announce,
         costs: BTreeMap::new(),
+        lans: BTreeSet::new(),
     }
 }
 
@@ -382,6 +454,10 @@ fn prefix(text: &str) -> Prefix {
 
 impl Lab {
     fn new(links: &[(u32, u32)], seed: u64) -> Lab {
+        Lab::with_lans(links, &[], seed)
+    }
+
+    fn with_lans(links: &[(u32, u32)], lans: &[&[u32]], seed: u64) -> Lab {
         let mut counts: BTreeMap<u32, u32> = BTreeMap::new();
         let mut device = |router: u32| {
             let count = counts.entry(router).or_default();
@@ -392,10 +468,18 @@ impl Lab {
             .iter()
             .map(|(u, v)| (device(*u), device(*v)))
             .collect();
-        let ends = links
+        let lans: Vec<Vec<(u32, u32)>> = lans
             .iter()
-            .flat_map(|(u, v)| [(*u, *v), (*v, *u)])
+            .map(|all| all.iter().map(|it| device(*it)).collect())
             .collect();
+        let mut ends: BTreeMap<_, Vec<_>> = BTreeMap::new();
+        let pairs = links.iter().map(|(u, v)| vec![*u, *v]);
+        for all in pairs.chain(lans.iter().cloned()) {
+            for it in &all {
+                let others = all.iter().filter(|other| *other != it);
+                ends.entry(*it).or_default().extend(others.copied());
+            }
+        }
         let routers: BTreeSet<u32> = counts.keys().copied().collect();
         let world = World {
             tables: routers.iter().map(|it| (*it, Tables::default())).collect(),
@@ -416,7 +500,9 @@ impl Lab {
                 .map(|it| (*it, BTreeSet::from([own(*it)])))
                 .collect(),
             links,
+            lans,
             cut: BTreeSet::new(),
+            apart: BTreeSet::new(),
             way: Vec::new(),
             now: Duration::from_secs(1),
             dice: Dice(seed),
@@ -454,7 +540,7 @@ impl Lab {
         );
         self.world.borrow_mut().lines.push(told);
         let percent = std::mem::take(&mut self.world.borrow_mut().refused_percent);
-        let mut set = settings(router, self.announced[&router].clone(), self.forget);
+        let mut set = self.settings(router);
         (self.neglects)(&mut set);
         set.router = self.doubles.get(&router).copied().unwrap_or(set.router);
         let mut machine = Machine::new(set, session, kernel, self.now).expect("nothing is refused");
@@ -467,15 +553,24 @@ impl Lab {
             let has_carrier = !self.world.borrow().tables[&at]
                 .without_carrier
                 .contains(&device);
-            machine.device_is(device, &format!("eth{device}"), has_carrier, self.now);
+            let (name, mac) = (format!("eth{device}"), Some(mac(at, device)));
+            machine.device_is(device, &name, mac, has_carrier, self.now);
         }
         self.machines.insert(router, machine);
     }
 
+    fn settings(&self, router: u32) -> Settings {
+        let lans = self.lans.iter().flatten().filter(|it| it.0 == router);
+        Settings {
+            lans: lans.map(|it| format!("eth{}", it.1)).collect(),
+            ..settings(router, self.announced[&router].clone(), self.forget)
+        }
+    }
+
     fn devices(&self, router: u32) -> Vec<(u32, u32)> {
-        self.links
-            .iter()
-            .flat_map(|(u, v)| [*u, *v])
+        let links = self.links.iter().flat_map(|(u, v)| [*u, *v]);
+        links
+            .chain(self.lans.iter().flatten().copied())
             .filter(|it| it.0 == router)
             .collect()
     }
@@ -512,7 +607,7 @@ impl Lab {
     }
 
     fn deliver(&mut self, it: &Datagram) {
-        if self.cut.contains(&it.from) {
+        if self.cut.contains(&it.from) || self.apart.contains(&(it.from, it.to)) {
             return;
         }
         if let Some(machine) = self.machines.get_mut(&it.to.0) {
@@ -527,13 +622,15 @@ impl Lab {
         machine.turn(self.now);
         for (device, data) in std::mem::take(&mut machine.outbox) {
             self.sent += 1;
-            let to = self.world.borrow().ends[&(router, device)];
-            if !self.dice.chance(self.lost_percent) {
-                self.way.push(Datagram {
-                    from: (router, device),
-                    to,
-                    data,
-                });
+            let ends = self.world.borrow().ends[&(router, device)].clone();
+            for to in ends {
+                if !self.dice.chance(self.lost_percent) {
+                    self.way.push(Datagram {
+                        from: (router, device),
+                        to,
+                        data: data.clone(),
+                    });
+                }
             }
         }
         if let Some(later) = machine.later_session {
@@ -545,7 +642,11 @@ impl Lab {
     /// Cuts a link in both directions, or one of them, or all but the datagrams; or joins it again.
     fn set_link(&mut self, at: usize, is_up: bool, has_carrier: bool) {
         let (u, v) = self.links[at];
-        for it in [u, v] {
+        self.set_ends(&[u, v], is_up, has_carrier);
+    }
+
+    fn set_ends(&mut self, ends: &[(u32, u32)], is_up: bool, has_carrier: bool) {
+        for it in ends.iter().copied() {
             if is_up {
                 self.cut.remove(&it);
             } else {
@@ -560,12 +661,8 @@ impl Lab {
             }
             drop(world);
             if let Some(machine) = self.machines.get_mut(&it.0) {
-                machine.device_is(
-                    it.1,
-                    &format!("eth{}", it.1),
-                    is_up || has_carrier,
-                    self.now,
-                );
+                let (name, mac) = (format!("eth{}", it.1), Some(mac(it.0, it.1)));
+                machine.device_is(it.1, &name, mac, is_up || has_carrier, self.now);
             }
         }
     }
@@ -579,10 +676,25 @@ impl Lab {
         }
         self.world.borrow_mut().own.insert(router, all.clone());
         self.world.borrow_mut().check(Some(prefix));
-        let mut set = settings(router, all.clone(), self.forget);
+        let mut set = self.settings(router);
         set.router = self.doubles.get(&router).copied().unwrap_or(router);
         if let Some(machine) = self.machines.get_mut(&router) {
             machine.configure(set, self.now);
+        }
+    }
+
+    /// Two routers on a LAN do not hear each other, or do again.
+    fn set_apart(&mut self, lan: usize, (u, v): (u32, u32), is_apart: bool) {
+        let at = |router: u32| {
+            let mut all = self.lans[lan].iter().copied();
+            all.find(|it| it.0 == router).unwrap()
+        };
+        for it in [(at(u), at(v)), (at(v), at(u))] {
+            if is_apart {
+                self.apart.insert(it);
+            } else {
+                self.apart.remove(&it);
+            }
         }
     }
 
@@ -848,6 +960,74 @@ fn two_links_between_two_routers_are_one_way() {
 }
 
 #[test]
+fn routers_on_one_lan_reach_each_other_also_over_each_other() {
+    let mut lab = Lab::with_lans(&[], &[&[0, 1, 2, 3]], 17);
+    lab.start_all();
+    lab.run(seconds(1));
+    lab.expect_all_arrive();
+    assert_eq!(lab.path(0, own(1).address()), [0, 1]);
+    // two of them do not hear each other any more, and all they hear comes by one device
+    lab.set_apart(0, (0, 1), true);
+    lab.run(seconds(6));
+    lab.expect_all_arrive();
+    assert_eq!(lab.path(0, own(1).address()).len(), 3);
+    lab.set_apart(0, (0, 1), false);
+    lab.run(seconds(2));
+    assert_eq!(lab.path(0, own(1).address()), [0, 1]);
+    lab.start(2);
+    lab.run(seconds(1));
+    lab.expect_all_arrive();
+}
+
+#[test]
+fn a_hardware_address_may_change_and_is_that_of_one_neighbour() {
+    let mut lab = Lab::with_lans(&[], &[&[0, 1, 2]], 18);
+    lab.start_all();
+    lab.run(seconds(1));
+    let (now, device) = (lab.now, lab.lans[0][1].1);
+    let name = format!("eth{device}");
+    let machine = lab.machines.get_mut(&1).unwrap();
+    machine.device_is(device, &name, Some(mac(2, device)), true, now);
+    lab.run(seconds(6));
+    let text = "router 1 is refused on eth1, where router 2 has the same address";
+    let has_said = |it: &Machine<Handle>| it.journal.after(0).any(|it| it.text == text);
+    assert!(has_said(&lab.machines[&0]));
+    assert!(!lab.arrives(1, 0) && lab.arrives(2, 0));
+    let (now, machine) = (lab.now, lab.machines.get_mut(&1).unwrap());
+    machine.device_is(device, &name, Some(mac(1, device)), true, now);
+    lab.run(seconds(2));
+    lab.expect_all_arrive();
+}
+
+#[test]
+fn what_a_process_left_of_a_lan_is_removed() {
+    let mut lab = Lab::with_lans(&[(0, 1)], &[&[0, 1, 2]], 19);
+    lab.start_all();
+    lab.run(seconds(1));
+    let gates = |lab: &Lab| {
+        let world = lab.world.borrow();
+        let it = &world.tables[&0];
+        let rules = it.rules.iter().filter(|it| it.0 > SENDERS).count();
+        (it.senders.clone().map(|it| it.len()), rules, it.skips.len())
+    };
+    assert_eq!(gates(&lab), (Some(2), 4, 4));
+    let now = lab.now;
+    assert!(lab.machines.get_mut(&0).unwrap().empty(now));
+    assert_eq!(gates(&lab).0, None);
+    assert!(lab.world.borrow().tables[&0].open.is_empty());
+    lab.machines.remove(&0);
+    lab.lans[0].remove(0);
+    lab.start(0);
+    assert_eq!(gates(&lab), (None, 0, 0));
+    lab.run(seconds(90));
+    assert_eq!(
+        lab.world.borrow().tables[&0].rules.len(),
+        2,
+        "those of the link"
+    );
+}
+
+#[test]
 fn two_routers_with_one_number_make_no_loop_and_say_so() {
     // routers 0 and 4 of the ring run as number 0
     let mut lab = Lab::new(&RING, 8);
@@ -912,20 +1092,21 @@ fn a_boot_number_that_goes_back_is_noticed() {
     lab.expect_all_arrive();
 }
 
+const LINKS: [(u32, u32); 8] = [
+    (0, 1),
+    (1, 2),
+    (2, 3),
+    (3, 4),
+    (4, 0),
+    (0, 2),
+    (1, 3),
+    (0, 1),
+];
+const LANS: [&[u32]; 2] = [&[0, 1, 2, 3, 4], &[1, 3, 4]];
+
 /// One storm: links that are cut and joined, processes that are killed and started again, prefixes that come and go, writes
 /// that are refused, while datagrams are lost, repeated and reordered, and each router has a default route.
-fn storm(seed: u64) -> u64 {
-    let links = [
-        (0, 1),
-        (1, 2),
-        (2, 3),
-        (3, 4),
-        (4, 0),
-        (0, 2),
-        (1, 3),
-        (0, 1),
-    ];
-    let mut lab = Lab::new(&links, seed);
+fn storm(mut lab: Lab) -> u64 {
     for router in lab.routers() {
         let devices = lab.devices(router);
         let at = lab.dice.below(devices.len() as u64) as usize;
@@ -939,12 +1120,14 @@ fn storm(seed: u64) -> u64 {
     lab.world.borrow_mut().refused_percent = 3;
     let others = ["10.0.0.0/8", "10.0.2.0/25", "0.0.0.0/0", "10.0.1.128/26"].map(prefix);
     for _ in 0..40 {
-        let (router, link) = (lab.dice.below(5) as u32, lab.dice.below(8) as usize);
+        let router = lab.dice.below(5) as u32;
         let one = others[lab.dice.below(4) as usize];
         match lab.dice.below(12) {
-            0..=2 => lab.set_link(link, false, false),
-            3 => lab.set_link(link, false, true),
-            4..=6 => lab.set_link(link, true, true),
+            0..=6 if !lab.lans.is_empty() && lab.dice.chance(70) => some_of_a_lan(&mut lab),
+            what @ 0..=6 if !lab.links.is_empty() => {
+                let link = lab.dice.below(lab.links.len() as u64) as usize;
+                lab.set_link(link, what > 3, what > 2);
+            }
             7 => drop(lab.machines.remove(&router)),
             8 => lab.start(router),
             9 => {
@@ -967,10 +1150,32 @@ fn storm(seed: u64) -> u64 {
     lab.world.borrow().checks
 }
 
+/// On one LAN two routers do not hear each other any more, or a router loses its carrier, or what was lost is there again.
+fn some_of_a_lan(lab: &mut Lab) {
+    let lan = lab.dice.below(lab.lans.len() as u64) as usize;
+    let ends = lab.lans[lan].clone();
+    let one_of = |dice: &mut Dice| ends[dice.below(ends.len() as u64) as usize];
+    let (u, v, is_up) = (
+        one_of(&mut lab.dice),
+        one_of(&mut lab.dice),
+        lab.dice.chance(40),
+    );
+    if lab.dice.chance(70) {
+        lab.set_apart(lan, (u.0, v.0), !is_up);
+    } else {
+        lab.set_ends(&[u], is_up, false);
+    }
+}
+
 /// No more is lost. After some time all routers reach each other.
 fn calm_down(lab: &mut Lab) {
     (lab.lost_percent, lab.late_percent) = (0, 0);
     lab.world.borrow_mut().refused_percent = 0;
+    lab.apart.clear();
+    for ends in lab.lans.clone() {
+        lab.set_ends(&ends, false, false);
+        lab.set_ends(&ends, true, false);
+    }
     for at in 0..lab.links.len() {
         lab.set_link(at, false, false);
         lab.set_link(at, true, false);
@@ -997,7 +1202,16 @@ fn storms() -> u64 {
 fn no_storm_makes_a_loop() {
     for seed in 0..storms() {
         println!("seed {seed}");
-        let checks = storm(seed);
+        let checks = storm(Lab::new(&LINKS, seed));
+        assert!(checks > 100, "{checks}");
+    }
+}
+
+#[test]
+fn no_storm_on_lans_makes_a_loop() {
+    for seed in 0..storms() {
+        println!("seed {seed}");
+        let checks = storm(Lab::with_lans(&[(0, 2)], &LANS, seed));
         assert!(checks > 100, "{checks}");
     }
 }

@@ -29,6 +29,8 @@ pub struct Interface {
     pub gates: bool,
     /// Everything that comes in is dropped, as after a start.
     pub held: bool,
+    /// It may have several neighbours, each with gates of its own.
+    pub lan: bool,
 }
 
 #[derive(Serialize, Deserialize)]
@@ -93,7 +95,8 @@ impl<K: Kernel> Machine<K> {
             name: it.name.clone(),
             carrier: it.has_carrier,
             gates: it.is_ready,
-            held: it.hold != crate::machine::Hold::Open,
+            held: it.hold != crate::machine::Hold::Open && !it.is_lan,
+            lan: it.is_lan,
         };
         self.devices.values().map(view).collect()
     }
@@ -136,12 +139,21 @@ impl<K: Kernel> Machine<K> {
                     .unwrap_or_default(),
                 gates: it
                     .open_gates()
-                    .map(|table| self.name_of(table - GATES).to_string())
+                    .map(|table| self.name_of_gates(table))
                     .collect(),
                 written: it.is_written,
                 seconds: now.saturating_sub(it.since).as_secs_f64(),
             };
         self.destinations.iter().map(view).collect()
+    }
+
+    /// The device of a table of gates, and the neighbour if the device has several.
+    fn name_of_gates(&self, table: u32) -> String {
+        let sender = self.senders.iter().find(|(_, it)| it.table == table);
+        match sender {
+            Some(((device, router), _)) => format!("{}:{router}", self.name_of(*device)),
+            None => self.name_of(table.wrapping_sub(GATES)).into(),
+        }
     }
 
     /// Counters, in the text form of Prometheus.
@@ -237,6 +249,7 @@ pub fn status_text(it: &Status) -> String {
             (false, _, _) => "no carrier",
             (_, false, _) => "not used: the kernel refuses its gates",
             (_, _, true) => "waits for the list of a neighbour; drops what comes in",
+            _ if it.lan => "used for several neighbours",
             _ => "used",
         };
         text += &format!("interface {}: {state}\n", it.name);

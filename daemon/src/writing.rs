@@ -1,8 +1,9 @@
 //! What a machine writes to the kernel, and in which order.
 
+use crate::datagram::Mac;
 use crate::destination::{Becomes, Destination, Plan, WayWrite};
 use crate::kernel::{Batch, Kernel, Refusal, Write};
-use crate::machine::{Device, Former, GATES, HOLD, Hold, MAIN, Machine};
+use crate::machine::{Former, GATES, HOLD, Hold, MAIN, Machine, SENDERS, Sender};
 use crate::neighbour::Neighbour;
 use crate::prefix::Prefix;
 use std::collections::{BTreeMap, BTreeSet};
@@ -20,24 +21,32 @@ const LATER: Refusal = Refusal(libc::EAGAIN);
 pub fn clear(kernel: &mut impl Kernel, now: Duration) -> Result<Vec<Former>, Refusal> {
     let left = kernel.left_behind()?;
     let tables: BTreeSet<u32> = left.iter().filter_map(gates_of_rule).collect();
-    let (mut holds, mut closes, mut ways, mut rest) =
-        (Vec::new(), Vec::new(), Vec::new(), Vec::new());
+    let (mut holds, mut closes, mut ways, mut senders, mut rest) =
+        (Vec::new(), Vec::new(), Vec::new(), Vec::new(), Vec::new());
     let mut former: BTreeMap<u32, Vec<Write>> = BTreeMap::new();
     for table in tables {
-        let lines = [false, true].map(|is_ipv6| Write::Release { table, is_ipv6 });
-        holds.extend([false, true].map(|is_ipv6| Write::Hold { table, is_ipv6 }));
-        former.insert(table, lines.into());
+        holds.extend(both(|is_ipv6| Write::Hold { table, is_ipv6 }));
+        let releases = both(|is_ipv6| Write::Release { table, is_ipv6 });
+        // What a sender sends comes to the table of its device, once it is not marked any more.
+        if table > SENDERS {
+            rest.extend(releases);
+        } else {
+            former.insert(table, releases.collect());
+        }
     }
     for line in left {
         match &line {
             Write::Close { .. } => closes.push(line),
             Write::RemoveWay { .. } => ways.push(line),
+            Write::RemoveSenders => senders.push(line),
+            Write::RemoveRule { table, .. } if *table > SENDERS => rest.insert(0, line),
+            Write::RemoveSkip { .. } => rest.insert(0, line),
             Write::RemoveRule { table, .. } => former.entry(*table).or_default().insert(0, line),
             Write::Release { table, .. } if former.contains_key(table) => (),
             _ => rest.push(line),
         }
     }
-    for lines in [holds, closes, ways, rest] {
+    for lines in [holds, closes, ways, senders, rest] {
         kernel
             .write(&lines)
             .into_iter()
@@ -142,8 +151,8 @@ impl<K: Kernel> Machine<K> {
                 refused.insert(prefix, LATER);
                 continue;
             }
-            let tables: Vec<u32> = self.devices.keys().map(|it| GATES + it).collect();
-            let mut lines: Vec<Write> = tables
+            let mut lines: Vec<Write> = self
+                .all_gates()
                 .into_iter()
                 .map(|table| Write::RemoveShut { table, prefix })
                 .collect();
@@ -177,12 +186,7 @@ impl<K: Kernel> Machine<K> {
             return;
         };
         let table = GATES + index;
-        let mut lines: Vec<Write> = both(|is_ipv6| Write::Hold { table, is_ipv6 }).collect();
-        let known = self.destinations.iter().filter(|(_, it)| it.is_prepared);
-        lines.extend(known.map(|(prefix, _)| Write::Shut {
-            table,
-            prefix: *prefix,
-        }));
+        let mut lines = self.closed_gates(table);
         lines.extend(both(|is_ipv6| Write::AddRule {
             table,
             device: name.clone(),
@@ -207,69 +211,204 @@ impl<K: Kernel> Machine<K> {
         self.former.retain(|it| it.table != table);
     }
 
-    /// Whether the neighbour on a device is up, and has named all prefixes that it knows.
+    /// The lines that make a table of gates in which all is closed.
+    fn closed_gates(&self, table: u32) -> Vec<Write> {
+        let mut lines: Vec<Write> = both(|is_ipv6| Write::Hold { table, is_ipv6 }).collect();
+        let known = self.destinations.iter().filter(|(_, it)| it.is_prepared);
+        lines.extend(known.map(|(prefix, _)| Write::Shut {
+            table,
+            prefix: *prefix,
+        }));
+        lines
+    }
+
+    /// All tables of gates, also those that the kernel may not have.
+    fn all_gates(&self) -> Vec<u32> {
+        let devices = self.devices.keys().map(|it| GATES + it);
+        devices
+            .chain(self.senders.values().map(|it| it.table))
+            .collect()
+    }
+
+    /// Makes gates for what a neighbour sends over a device that has several, unless they are there. Returns whether they are.
+    pub fn prepare_sender(
+        &mut self,
+        device: u32,
+        router: u32,
+        mac: Option<Mac>,
+        now: Duration,
+    ) -> bool {
+        let Some(mac) = mac else { return false };
+        let one = (device, router);
+        if self
+            .senders
+            .get(&one)
+            .is_some_and(|it| it.is_ready && it.mac == Some(mac))
+        {
+            return true;
+        }
+        let written = self.write_sender(one, mac);
+        if let Err(why) = written {
+            let name = self.name_of(device);
+            let text = format!("the kernel refuses the gates of {name} for router {router}: {why}");
+            self.journal.add_rarely(text, now);
+        }
+        written.is_ok()
+    }
+
+    fn is_up_on(&self, router: u32, device: u32) -> bool {
+        let it = self.neighbours.get(&router);
+        it.and_then(|it| it.links.get(&device))
+            .is_some_and(|it| it.is_up)
+    }
+
+    /// Writes the gates of a sender, closed, and then has the kernel mark what it sends.
+    fn write_sender(&mut self, one: (u32, u32), mac: Mac) -> Result<(), Refusal> {
+        let (device, name) = (one.0, self.name_of(one.0).to_string());
+        if !self.has_senders {
+            all_done(self.write(&[Write::AddSenders]))?;
+            self.has_senders = true;
+        }
+        let fresh = self.senders.get(&one).map(|it| it.table);
+        let table = fresh.unwrap_or_else(|| self.next_sender());
+        let it = self.senders.entry(one).or_insert(Sender {
+            table,
+            mac: None,
+            is_ready: false,
+            hold: Hold::Unknown,
+        });
+        it.is_ready = false;
+        // An entry may be there that was not acknowledged, or that of a router which was known by another number.
+        for mac in it.mac.into_iter().chain([mac]).collect::<BTreeSet<Mac>>() {
+            all_done(self.write(&[Write::RemoveSender { device, mac }]))?;
+            let has_it =
+                |(at, it): &(&(u32, u32), &mut Sender)| at.0 == device && it.mac == Some(mac);
+            for (_, it) in self.senders.iter_mut().filter(has_it) {
+                (it.mac, it.is_ready) = (None, false);
+            }
+        }
+        let mut lines = self.closed_gates(table);
+        lines.extend(both(|is_ipv6| Write::AddEnd { is_ipv6 }));
+        let device_of = || name.clone();
+        lines.extend(both(|is_ipv6| Write::AddSkip {
+            table,
+            device: device_of(),
+            is_ipv6,
+        }));
+        lines.extend(both(|is_ipv6| Write::AddRule {
+            table,
+            device: device_of(),
+            is_ipv6,
+        }));
+        all_done(self.write(&lines))?;
+        if let Some(it) = self.senders.get_mut(&one) {
+            (it.mac, it.hold) = (Some(mac), Hold::Held);
+        }
+        let written = all_done(self.write(&[Write::AddSender { table, device, mac }]));
+        if let Some(it) = self.senders.get_mut(&one) {
+            it.is_ready = written.is_ok();
+        }
+        written
+    }
+
+    /// Whether the neighbour on a device is up, and has named all prefixes that it knows. Never, if it has several.
     fn is_told(&self, device: u32) -> bool {
+        if self.is_lan(device) {
+            return false;
+        }
         let is_up = |it: &Neighbour| it.links.get(&device).is_some_and(|link| link.is_up);
         self.neighbours
             .values()
             .any(|it| it.has_told_all && is_up(it))
     }
 
-    /// Drops all that comes in by a device whose neighbour is not up. It may still send to prefixes that this router
-    /// forgets meanwhile. There is no end by time: a router may stand still for as long as it likes.
+    /// The same for one of several neighbours.
+    fn has_sender_told(&self, (device, router): (u32, u32)) -> bool {
+        let it = self.neighbours.get(&router);
+        it.is_some_and(|it| it.has_told_all) && self.is_up_on(router, device)
+    }
+
+    /// All tables of gates that are in use: how each holds, and whether its neighbour has told all.
+    fn holds(&self) -> Vec<(u32, Hold, bool)> {
+        let devices = self.devices.iter().filter(|(_, it)| it.is_ready);
+        let of_devices = devices.map(|(index, it)| (GATES + index, it.hold, self.is_told(*index)));
+        let senders = self.senders.iter();
+        let of_senders = senders.map(|(one, it)| (it.table, it.hold, self.has_sender_told(*one)));
+        of_devices.chain(of_senders).collect()
+    }
+
+    fn set_hold(&mut self, table: u32, hold: Hold) {
+        if let Some(it) = self.senders.values_mut().find(|it| it.table == table) {
+            it.hold = hold;
+        } else if let Some(it) = self.devices.get_mut(&table.wrapping_sub(GATES)) {
+            it.hold = hold;
+        }
+    }
+
+    /// Drops all that comes in from a neighbour that is not up. It may still send to prefixes that this router forgets
+    /// meanwhile. There is no end by time: a router may stand still for as long as it likes.
     fn hold(&mut self) {
-        let is_open = |it: &Device| it.is_ready && it.hold != Hold::Held;
-        let some = self
-            .devices
-            .iter()
-            .filter(|(index, it)| is_open(it) && !self.is_told(**index));
-        for index in some.map(|(index, _)| *index).collect::<Vec<u32>>() {
-            let table = GATES + index;
-            let lines: Vec<Write> = both(|is_ipv6| Write::Hold { table, is_ipv6 }).collect();
-            let is_done = self.write(&lines).iter().all(Result::is_ok);
-            if let Some(it) = self.devices.get_mut(&index) {
-                it.hold = if is_done { Hold::Held } else { Hold::Unknown };
+        for (table, hold, is_told) in self.holds() {
+            if hold == Hold::Held || is_told {
+                continue;
             }
+            let lines: Vec<Write> = both(|is_ipv6| Write::Hold { table, is_ipv6 }).collect();
+            let is_done = all_done(self.write(&lines)).is_ok();
+            self.set_hold(table, if is_done { Hold::Held } else { Hold::Unknown });
         }
     }
 
     /// Whether all that has to be dropped is dropped.
     fn is_held(&self) -> bool {
-        self.devices
-            .iter()
-            .all(|(index, it)| !it.is_ready || it.hold == Hold::Held || self.is_told(*index))
+        let is_well = |(_, hold, is_told): &(u32, Hold, bool)| *hold == Hold::Held || *is_told;
+        self.holds().iter().all(is_well)
     }
 
-    /// Lets in by a device what is not routed by this daemon, once the list of its neighbour has come.
+    /// Lets in what is not routed by this daemon from a neighbour whose list has come.
     pub fn release(&mut self) {
         if !self.unprepared.is_empty() {
             // Packets for these would take a default route.
             return;
         }
-        let held = self
-            .devices
-            .iter()
-            .filter(|(_, it)| it.is_ready && it.hold != Hold::Open);
-        let some = held.filter(|(index, _)| self.is_told(**index));
-        for index in some.map(|(index, _)| *index).collect::<Vec<u32>>() {
-            let table = GATES + index;
-            let lines: Vec<Write> = both(|is_ipv6| Write::Release { table, is_ipv6 }).collect();
-            let is_done = self.write(&lines).iter().all(Result::is_ok);
-            if let Some(it) = self.devices.get_mut(&index) {
-                it.hold = if is_done { Hold::Open } else { Hold::Unknown };
+        for (table, hold, is_told) in self.holds() {
+            if hold == Hold::Open || !is_told {
+                continue;
             }
+            let lines: Vec<Write> = both(|is_ipv6| Write::Release { table, is_ipv6 }).collect();
+            let is_done = all_done(self.write(&lines)).is_ok();
+            self.set_hold(table, if is_done { Hold::Open } else { Hold::Unknown });
         }
     }
 
     /// A device is not used any more. What comes in by it is dropped until its neighbours have noticed that.
     pub fn close_for_good(&mut self, index: u32, name: &str, now: Duration) {
-        let table = GATES + index;
-        let mut lines: Vec<Write> = both(|is_ipv6| Write::RemoveRule {
+        let some = self.senders.keys().filter(|it| it.0 == index);
+        for one in some.copied().collect::<Vec<(u32, u32)>>() {
+            let Some(it) = self.senders.remove(&one) else {
+                continue;
+            };
+            let table = it.table;
+            let entry = it.mac.map(|mac| Write::RemoveSender { device: index, mac });
+            let mut lines: Vec<Write> = entry.into_iter().collect();
+            lines.extend(both(|is_ipv6| Write::RemoveSkip {
+                table,
+                device: name.into(),
+                is_ipv6,
+            }));
+            self.close_table(table, name, lines, now);
+        }
+        self.close_table(GATES + index, name, Vec::new(), now);
+        // No neighbour is there any more, so all gates of the table are closed next.
+        self.changed.extend(self.destinations.keys());
+    }
+
+    /// Has a table of gates drop all, and removes it later, after these lines.
+    fn close_table(&mut self, table: u32, name: &str, mut lines: Vec<Write>, now: Duration) {
+        lines.extend(both(|is_ipv6| Write::RemoveRule {
             table,
             device: name.into(),
             is_ipv6,
-        })
-        .collect();
+        }));
         lines.extend(both(|is_ipv6| Write::Release { table, is_ipv6 }));
         lines.extend(self.destinations.keys().map(|prefix| Write::RemoveShut {
             table,
@@ -277,8 +416,6 @@ impl<K: Kernel> Machine<K> {
         }));
         let holds: Vec<Write> = both(|is_ipv6| Write::Hold { table, is_ipv6 }).collect();
         self.write(&holds);
-        // No neighbour is there any more, so all gates of the table are closed next.
-        self.changed.extend(self.destinations.keys());
         self.former.push(Former {
             until: now + HOLD,
             table,
@@ -368,19 +505,12 @@ impl<K: Kernel> Machine<K> {
                     },
                 );
             }
-            for index in self
-                .devices
-                .iter()
-                .filter(|(_, it)| it.is_ready)
-                .map(|(it, _)| it)
-            {
-                batch.push(
-                    *prefix,
-                    Write::Shut {
-                        table: GATES + index,
-                        prefix: *prefix,
-                    },
-                );
+            for (gates, ..) in self.holds() {
+                let line = Write::Shut {
+                    table: gates,
+                    prefix: *prefix,
+                };
+                batch.push(*prefix, line);
             }
         }
         let mut refused = BTreeMap::new();
@@ -426,7 +556,8 @@ impl<K: Kernel> Machine<K> {
             all.sort_unstable();
             hops.insert(*number, all);
             if it.has_told_all {
-                gates.insert(*number, up.map(|(device, _)| GATES + device).collect());
+                let tables = up.filter_map(|(device, _)| self.gates_of(*device, *number));
+                gates.insert(*number, tables.collect());
             }
         }
         let mut plans = Plans::new();
@@ -482,6 +613,15 @@ impl<K: Kernel> Machine<K> {
             );
         }
         plans
+    }
+
+    /// The table of gates for what a neighbour sends over a device.
+    fn gates_of(&self, device: u32, router: u32) -> Option<u32> {
+        if !self.is_lan(device) {
+            return Some(GATES + device);
+        }
+        let it = self.senders.get(&(device, router));
+        it.filter(|it| it.is_ready).map(|it| it.table)
     }
 
     /// Closes gates. A destination with a gate that stays open is written no further.
@@ -632,8 +772,16 @@ impl<K: Kernel> Machine<K> {
         for hop in hops {
             self.drop_hop(Some(hop));
         }
-        refused.is_empty()
+        if self.has_senders {
+            // What senders send comes to the gates of their devices now, which are closed.
+            self.has_senders = all_done(self.write(&[Write::RemoveSenders])).is_err();
+        }
+        refused.is_empty() && !self.has_senders
     }
+}
+
+fn all_done(results: Vec<Result<(), Refusal>>) -> Result<(), Refusal> {
+    results.into_iter().collect()
 }
 
 /// A destination with a write that was refused is not written any further now.
