@@ -119,7 +119,8 @@ def is_found(check, name, says, words, hangs=False, **how):
 def is_green(check, words, **how):
     """Runs a check without a fault, and prints and returns whether it passes."""
     status, said = ran(words, **how)
-    print(f"{check}: {'NOT ' if status else ''}green without a fault: {said[-300:].strip()}", flush=True)
+    wrong = [it for it in said.splitlines() if "WRONG" in it] if status else []
+    print(f"{check}: {'NOT ' if status else ''}green without a fault: {' '.join(wrong)[:1000] or said[-300:].strip()}", flush=True)
     return not status
 
 

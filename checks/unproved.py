@@ -1,4 +1,4 @@
-"""Builds programs of this repository, or of a copy of it, without a proof: for planted faults, of which the prover refuses some.
+"""Builds programs and static libraries of this repository, or of a copy of it, without a proof: for planted faults, of which the prover refuses some.
 
 The toolchain builds only what it has proved. But rt try compiles a program before any proof, without optimisation and with tests of each access to
 memory. Here it does so with a folder of links to the toolchain, in which the compiler is a script: that keeps the program's module, and then fails, so
