@@ -22,7 +22,7 @@ MOST_ROUTERS, MOST_LINKS = 64, 256
 MOST_ON_A_LINK = 4
 # A router starts this high. So the gateway is below it, whatever their numbers are.
 BEGIN = 64
-# A message of a node (docs/NODES.md, "The form of messages"): who sends it and to whom, its distance, its boot number
+# A message of a node (docs/MESSAGES.md): who sends it and to whom, its distance, its boot number
 # and the receiver's that it knows, the number and the height of its announcement, the number that it has heard, and its
 # stamp.
 FORM = struct.Struct(">4s3I6Q")

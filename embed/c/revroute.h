@@ -680,7 +680,7 @@ uint32_t revroute_way_reader_way(revroute_way_reader *reader, uint32_t node, uin
 void revroute_way_reader_close(revroute_way_reader *reader);
 
 /* Nodes. A node is the state machine of one router, for one destination, in a network without a controller. Each router
- * runs its own, and they exchange messages. docs/NODES.md says what they promise, and has a whole daemon.
+ * runs its own, and they exchange messages. docs/NODES.md says what they promise, and docs/ROUTERS.md has a whole daemon.
  *
  * At no moment do the links that routers use contain a loop, whatever happens to messages, and whichever routers
  * restart. A link is used if the router at one end sends packets over it, and the router at the other end lets them in.
