@@ -27,6 +27,8 @@ const BURST: u64 = 50;
 const MOST_GROWTH: u64 = 8 << 20;
 const FIRST_ROUNDS: u64 = 200;
 const LONG: u64 = 1_000_000;
+/// A text takes much longer than a datagram.
+const MOST_TEXTS: u64 = 200_000;
 /// The parts of a datagram, as datagram.rs has them.
 const HELLO: u8 = 1;
 const HEAD: usize = 36;
@@ -477,7 +479,7 @@ fn hostile_configurations_are_read_or_refused() {
                 forget = 60.0\nceiling = 64\ntable = 254\n[[key]]\nnumber = 1\nsecret = \"0123456789abcdef\"\n\
                 [interface.eth1]\ncost = 3\n";
     let (mut dice, mut refused, mut read) = (dice(), 0, 0);
-    for _ in 0..datagrams() / 20 {
+    for _ in 0..(datagrams() / 20).min(MOST_TEXTS) {
         let (_, held) = taken();
         let mut data = text.as_bytes().to_vec();
         mutate(&mut data, &mut dice);

@@ -15,7 +15,7 @@
 
 use crate::datagram::Mac;
 use crate::kernel::Write;
-use crate::netlink::{CREATE, Message};
+use crate::netlink::{ACK, CREATE, EXCLUSIVE, Message, push_attribute};
 
 const NAME: &[u8] = b"revrouted\0";
 const MAP: &[u8] = b"senders\0";
@@ -59,7 +59,7 @@ struct Nest(Vec<u8>);
 
 impl Nest {
     fn value(mut self, kind: u16, value: &[u8]) -> Nest {
-        crate::netlink::push_attribute(&mut self.0, kind, value);
+        push_attribute(&mut self.0, kind, value);
         self
     }
 
@@ -87,52 +87,45 @@ fn border(kind: u16, number: u32) -> Vec<u8> {
 
 /// Asks whether there is the table. The answer is an acknowledgement, or the error that it is not there.
 pub fn question(number: u32) -> Vec<u8> {
-    part(
-        GET_TABLE,
-        crate::netlink::ACK,
-        number,
-        Nest::default().value(1, NAME),
-    )
+    part(GET_TABLE, ACK, number, Nest::default().value(1, NAME))
 }
 
-/// The batch of a line, and the number of its last message. The others have the numbers before it, from `first` on.
-pub fn batch(line: &Write, first: u32) -> Option<(Vec<u8>, u32)> {
-    let parts: Vec<(u16, u16, Nest)> = match line {
+/// The parts of a line's batch: what each is, its flags and its content.
+fn parts(line: &Write) -> Option<Vec<(u16, u16, Nest)>> {
+    let table = || Nest::default().value(1, NAME);
+    Some(match line {
         Write::AddSenders => vec![
             // To delete a table that is not there is an error, so it is made first.
-            (NEW_TABLE, CREATE, Nest::default().value(1, NAME)),
-            (REMOVE_TABLE, 0, Nest::default().value(1, NAME)),
-            (NEW_TABLE, CREATE, Nest::default().value(1, NAME)),
+            (NEW_TABLE, CREATE, table()),
+            (REMOVE_TABLE, 0, table()),
+            (NEW_TABLE, CREATE, table()),
             (NEW_SET, CREATE, map()),
             (NEW_CHAIN, CREATE, chain()),
             (NEW_RULE, CREATE | APPEND, rule()),
         ],
-        Write::RemoveSenders => vec![(REMOVE_TABLE, 0, Nest::default().value(1, NAME))],
+        Write::RemoveSenders => vec![(REMOVE_TABLE, 0, table())],
         Write::AddSender { table, device, mac } => {
             let mark = Nest::default().value(1, &table.to_ne_bytes());
             let it = Nest::default().nest(1, key(*device, mac)).nest(2, mark);
-            vec![(
-                NEW_ELEMENT,
-                CREATE | crate::netlink::EXCLUSIVE,
-                elements(it),
-            )]
+            vec![(NEW_ELEMENT, CREATE | EXCLUSIVE, elements(it))]
         }
         Write::RemoveSender { device, mac } => {
             let it = Nest::default().nest(1, key(*device, mac));
             vec![(REMOVE_ELEMENT, 0, elements(it))]
         }
         _ => return None,
-    };
+    })
+}
+
+/// The batch of a line, and the number of its last message. The others have the numbers before it, from `first` on.
+pub fn batch(line: &Write, first: u32) -> Option<(Vec<u8>, u32)> {
+    let parts = parts(line)?;
     let last = first.wrapping_add(parts.len() as u32);
     let mut data = border(BATCH_BEGIN, first);
     for (at, (kind, flags, content)) in parts.into_iter().enumerate() {
         let number = first.wrapping_add(1 + at as u32);
         // All is done or nothing, so the acknowledgement of the last one says enough.
-        let ack = if number == last {
-            crate::netlink::ACK
-        } else {
-            0
-        };
+        let ack = if number == last { ACK } else { 0 };
         data.extend(part(kind, flags | ack, number, content));
     }
     data.extend(border(BATCH_END, last.wrapping_add(1)));

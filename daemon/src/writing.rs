@@ -264,13 +264,30 @@ impl<K: Kernel> Machine<K> {
 
     /// Writes the gates of a sender, closed, and then has the kernel mark what it sends.
     fn write_sender(&mut self, one: (u32, u32), mac: Mac) -> Result<(), Refusal> {
-        let (device, name) = (one.0, self.name_of(one.0).to_string());
         if !self.has_senders {
             all_done(self.write(&[Write::AddSenders]))?;
             self.has_senders = true;
         }
-        let fresh = self.senders.get(&one).map(|it| it.table);
-        let table = fresh.unwrap_or_else(|| self.next_sender());
+        let known = self.senders.get(&one).map(|it| it.table);
+        let table = known.unwrap_or_else(|| self.next_sender());
+        self.remove_entries(one, table, mac)?;
+        let mut lines = self.closed_gates(table);
+        lines.extend(sender_rules(table, self.name_of(one.0)));
+        all_done(self.write(&lines))?;
+        if let Some(it) = self.senders.get_mut(&one) {
+            (it.mac, it.hold) = (Some(mac), Hold::Held);
+        }
+        let device = one.0;
+        all_done(self.write(&[Write::AddSender { table, device, mac }]))?;
+        if let Some(it) = self.senders.get_mut(&one) {
+            it.is_ready = true;
+        }
+        Ok(())
+    }
+
+    /// Removes the entry of the map for a hardware address, and the one that a sender has.
+    fn remove_entries(&mut self, one: (u32, u32), table: u32, mac: Mac) -> Result<(), Refusal> {
+        let device = one.0;
         let it = self.senders.entry(one).or_insert(Sender {
             table,
             mac: None,
@@ -279,36 +296,14 @@ impl<K: Kernel> Machine<K> {
         });
         it.is_ready = false;
         // An entry may be there that was not acknowledged, or that of a router which was known by another number.
-        for mac in it.mac.into_iter().chain([mac]).collect::<BTreeSet<Mac>>() {
+        for mac in BTreeSet::from_iter(it.mac.into_iter().chain([mac])) {
             all_done(self.write(&[Write::RemoveSender { device, mac }]))?;
-            let has_it =
-                |(at, it): &(&(u32, u32), &mut Sender)| at.0 == device && it.mac == Some(mac);
-            for (_, it) in self.senders.iter_mut().filter(has_it) {
+            let others = self.senders.iter_mut().filter(|(at, _)| at.0 == device);
+            for (_, it) in others.filter(|(_, it)| it.mac == Some(mac)) {
                 (it.mac, it.is_ready) = (None, false);
             }
         }
-        let mut lines = self.closed_gates(table);
-        lines.extend(both(|is_ipv6| Write::AddEnd { is_ipv6 }));
-        let device_of = || name.clone();
-        lines.extend(both(|is_ipv6| Write::AddSkip {
-            table,
-            device: device_of(),
-            is_ipv6,
-        }));
-        lines.extend(both(|is_ipv6| Write::AddRule {
-            table,
-            device: device_of(),
-            is_ipv6,
-        }));
-        all_done(self.write(&lines))?;
-        if let Some(it) = self.senders.get_mut(&one) {
-            (it.mac, it.hold) = (Some(mac), Hold::Held);
-        }
-        let written = all_done(self.write(&[Write::AddSender { table, device, mac }]));
-        if let Some(it) = self.senders.get_mut(&one) {
-            it.is_ready = written.is_ok();
-        }
-        written
+        Ok(())
     }
 
     /// Whether the neighbour on a device is up, and has named all prefixes that it knows. Never, if it has several.
@@ -778,6 +773,22 @@ impl<K: Kernel> Machine<K> {
         }
         refused.is_empty() && !self.has_senders
     }
+}
+
+/// The rules by which what a sender sends comes to its table, and goes past the rule of its device.
+fn sender_rules(table: u32, name: &str) -> Vec<Write> {
+    let ends = both(|is_ipv6| Write::AddEnd { is_ipv6 });
+    let skips = both(|is_ipv6| Write::AddSkip {
+        table,
+        device: name.into(),
+        is_ipv6,
+    });
+    let rules = both(|is_ipv6| Write::AddRule {
+        table,
+        device: name.into(),
+        is_ipv6,
+    });
+    ends.chain(skips).chain(rules).collect()
 }
 
 fn all_done(results: Vec<Result<(), Refusal>>) -> Result<(), Refusal> {
