@@ -189,7 +189,7 @@ impl Config {
         if self.ceiling == 0 {
             return Err((
                 "ceiling",
-                "`ceiling` is at least the number of routers".into(),
+                "`ceiling` is above the costs of all routes".into(),
             ));
         }
         if self.table == 0 || self.table == 255 || self.table >= crate::machine::GATES {
@@ -352,7 +352,7 @@ mod tests {
             ("dead = 1.5", "`dead` is at least twice"),
             ("dead = 31.0", "at most 30"),
             ("forget = 0.5", "`forget` is from 1"),
-            ("ceiling = 0", "at least the number of routers"),
+            ("ceiling = 0", "above the costs of all routes"),
             ("table = 255", "not a table for ways"),
             ("helo = 1.0", "unknown field `helo`"),
             ("hello = \"1\"", "expected"),

@@ -13,6 +13,8 @@ const MOST_STEPS: usize = 8;
 /// What is known of a neighbour at one destination.
 pub struct Link {
     pub neighbour: u32,
+    /// The cost by which the node knows it.
+    pub cost: u32,
     /// Whether the link is up for the node.
     pub is_up: bool,
     /// The session and the number of the last datagram that told of this destination. 0 if none did.
@@ -93,16 +95,18 @@ impl Destination {
         self.links.iter_mut().find(|it| it.neighbour == neighbour)
     }
 
-    /// Makes a neighbour known. Returns whether there was memory for it. Without it the neighbour is not used here.
-    pub fn know(&mut self, neighbour: u32) -> bool {
+    /// Makes a neighbour known. Returns whether there was memory for it. Without it the neighbour is not used here. A
+    /// neighbour that is known keeps its cost.
+    pub fn know(&mut self, neighbour: u32, cost: u32) -> bool {
         if self.links.iter().any(|it| it.neighbour == neighbour) {
             return true;
         }
-        if self.node.know(neighbour).is_err() {
+        if self.node.know(neighbour, cost).is_err() {
             return false;
         }
         self.links.push(Link {
             neighbour,
+            cost,
             is_up: false,
             session: 0,
             number: 0,

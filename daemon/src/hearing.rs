@@ -65,7 +65,7 @@ impl<K: Kernel> Machine<K> {
         self.devices.get(&device).map_or("?", |it| &it.name)
     }
 
-    /// The cost of a link, by which several links to one neighbour are ordered.
+    /// The cost of a link.
     pub fn cost_of(&self, device: u32) -> u32 {
         self.settings
             .costs
@@ -434,6 +434,7 @@ impl<K: Kernel> Machine<K> {
         message: &[u8],
         now: Duration,
     ) -> Result<(), NotTaken> {
+        let cost = self.cost_to(head.from);
         let Some(it) = self
             .destinations
             .get_mut(&prefix)
@@ -441,7 +442,7 @@ impl<K: Kernel> Machine<K> {
         else {
             return Err(NotTaken);
         };
-        if !it.know(head.from) {
+        if !it.know(head.from, cost) {
             return Err(NotTaken);
         }
         let Some(link) = it.link_to(head.from) else {
@@ -471,6 +472,7 @@ impl<K: Kernel> Machine<K> {
     /// A neighbour has left a prefix, and will forget it. This is acknowledged only once the kernel has no way over it,
     /// and the node knows nothing that would make one.
     fn take_leave(&mut self, head: Head, prefix: Prefix) -> Result<(), NotTaken> {
+        let cost = self.cost_to(head.from);
         let Some(it) = self
             .destinations
             .get_mut(&prefix)
@@ -478,7 +480,7 @@ impl<K: Kernel> Machine<K> {
         else {
             return Ok(());
         };
-        if !it.know(head.from) {
+        if !it.know(head.from, cost) {
             return Err(NotTaken);
         }
         let (is_own, is_busy) = (it.is_own, it.becomes.is_some());

@@ -7,7 +7,7 @@ use crate::kernel::{Kernel, Refusal, Write};
 use crate::neighbour::Neighbour;
 use crate::news::News;
 use crate::prefix::Prefix;
-use revroute::{Node, NodeFault, Policy, Rise};
+use revroute::{Node, Policy, Rise};
 use std::collections::{BTreeMap, BTreeSet};
 use std::hash::{BuildHasher, Hasher, RandomState};
 use std::time::Duration;
@@ -43,6 +43,7 @@ pub struct Settings {
     pub dead: Duration,
     /// How long a prefix is known that nobody announces.
     pub forget: Duration,
+    /// Routes of this cost or more do not count.
     pub ceiling: u32,
     /// The table of the ways.
     pub table: u32,
@@ -196,19 +197,13 @@ impl<K: Kernel> Machine<K> {
         if is_own {
             return Node::gateway(me, boot).ok();
         }
-        let ceiling = self.settings.ceiling;
         let policy = Policy {
-            rise: Rise::Ceiling(ceiling),
-            lower: true,
+            rise: Rise::Top(self.settings.ceiling),
+            lower: false,
             wait: true,
         };
-        // A router that starts high comes down to its distance, so its first ways are the nearest.
-        Node::new(me, boot, ceiling.into(), policy)
-            .or_else(|it| match it {
-                NodeFault::TooHigh => Node::new(me, boot, 0, policy),
-                other => Err(other),
-            })
-            .ok()
+        // The router has no route yet.
+        Node::new(me, boot, u32::MAX.into(), policy).ok()
     }
 
     /// Takes up a prefix that is not known. Returns whether there is space for it.
@@ -224,7 +219,7 @@ impl<K: Kernel> Machine<K> {
             return false;
         };
         let mut it = Destination::new(node, is_own, now);
-        join_all(&mut it, &self.neighbours);
+        join_all(&mut it, &self.neighbours, &self.costs());
         self.destinations.insert(prefix, it);
         self.changed.insert(prefix);
         true
@@ -235,6 +230,7 @@ impl<K: Kernel> Machine<K> {
         let Some(node) = self.node(becomes == Becomes::Own) else {
             return;
         };
+        let costs = self.costs();
         if let Some(it) = self.destinations.get_mut(&prefix) {
             it.node = node;
             it.is_own = becomes == Becomes::Own;
@@ -247,7 +243,7 @@ impl<K: Kernel> Machine<K> {
                 .drain(..)
                 .filter(|link| link.has_left && !it.is_own)
                 .collect();
-            join_all(it, &self.neighbours);
+            join_all(it, &self.neighbours, &costs);
             for before in left {
                 it.set_link(before.neighbour, false);
                 if let Some(link) = it.link_to(before.neighbour) {
@@ -374,12 +370,14 @@ impl<K: Kernel> Machine<K> {
         // ways and gates over one of several links
         self.changed.extend(self.destinations.keys());
         if is_up == it.is_up {
+            self.compare_cost(number);
             return;
         }
         (it.is_up, it.since) = (is_up, now);
         it.was_up |= is_up;
         if is_up {
             self.journal.add(format!("router {number} is up"));
+            self.compare_cost(number);
             self.join(number);
         } else {
             it.news.recall_all();
@@ -392,6 +390,7 @@ impl<K: Kernel> Machine<K> {
 
     /// A neighbour has come up: its link is up at each destination.
     fn join(&mut self, number: u32) {
+        let cost = self.cost_to(number);
         let Some(neighbour) = self.neighbours.get(&number) else {
             return;
         };
@@ -400,7 +399,7 @@ impl<K: Kernel> Machine<K> {
             .values_mut()
             .filter(|it| it.leaves.is_none())
         {
-            if !it.know(number) || it.link_to(number).is_some_and(|it| it.has_left) {
+            if !it.know(number, cost) || it.link_to(number).is_some_and(|it| it.has_left) {
                 continue;
             }
             let session = it.link_to(number).map_or(0, |it| it.session);
@@ -408,6 +407,36 @@ impl<K: Kernel> Machine<K> {
             // says first what it has now: it knows nothing of an earlier session of its own.
             if session == 0 || session == neighbour.session {
                 it.is_written &= !it.set_link(number, true);
+            }
+        }
+    }
+
+    /// What it costs to send a packet to a neighbour: as much as over the cheapest of its links that are up, or of all if
+    /// none is up.
+    pub fn cost_to(&self, number: u32) -> u32 {
+        let Some(it) = self.neighbours.get(&number) else {
+            return 1;
+        };
+        let links = it.links.iter().filter(|(_, link)| link.is_up || !it.is_up);
+        let costs = links.map(|(device, _)| self.cost_of(*device));
+        costs.min().unwrap_or(1)
+    }
+
+    /// The cost of each neighbour.
+    fn costs(&self) -> BTreeMap<u32, u32> {
+        let all = self.neighbours.keys();
+        all.map(|number| (*number, self.cost_to(*number))).collect()
+    }
+
+    /// The cost of a neighbour may have changed. A node keeps the costs that it knows, so each one that knows another cost
+    /// starts again. A gateway sends to no neighbour.
+    fn compare_cost(&mut self, number: u32) {
+        let cost = self.cost_to(number);
+        for (prefix, it) in &mut self.destinations {
+            let is_other = it.link_to(number).is_some_and(|link| link.cost != cost);
+            if is_other && !it.is_own && it.leaves.is_none() && it.becomes.is_none() {
+                it.becomes = Some(Becomes::Other);
+                self.changed.insert(*prefix);
             }
         }
     }
@@ -456,6 +485,9 @@ impl<K: Kernel> Machine<K> {
         }
         for it in self.devices.values_mut() {
             it.next_hello = now;
+        }
+        for number in self.costs().into_keys() {
+            self.compare_cost(number);
         }
         self.changed.extend(self.destinations.keys());
     }
@@ -519,9 +551,14 @@ impl<K: Kernel> Machine<K> {
 
 /// Makes all neighbours known at a destination whose node has just started, so nothing of an earlier session is known
 /// there.
-fn join_all(it: &mut Destination, neighbours: &BTreeMap<u32, Neighbour>) {
+fn join_all(
+    it: &mut Destination,
+    neighbours: &BTreeMap<u32, Neighbour>,
+    costs: &BTreeMap<u32, u32>,
+) {
     for (number, neighbour) in neighbours {
-        if it.know(*number) && neighbour.is_up {
+        let cost = costs.get(number).copied().unwrap_or(1);
+        if it.know(*number, cost) && neighbour.is_up {
             it.set_link(*number, true);
         }
     }

@@ -428,6 +428,8 @@ struct Lab {
     late_percent: u64,
     sent: u64,
     forget: Duration,
+    /// The costs of devices, where they are not 1.
+    costs: BTreeMap<(u32, u32), u32>,
     /// The routers that run with the number of another one.
     doubles: BTreeMap<u32, u32>,
     neglects: fn(&mut Settings),
@@ -510,6 +512,7 @@ impl Lab {
             late_percent: 0,
             sent: 0,
             forget: seconds(30),
+            costs: BTreeMap::new(),
             doubles: BTreeMap::new(),
             neglects: |_| (),
         }
@@ -561,8 +564,12 @@ impl Lab {
 
     fn settings(&self, router: u32) -> Settings {
         let lans = self.lans.iter().flatten().filter(|it| it.0 == router);
+        let costs = self.costs.iter().filter(|(it, _)| it.0 == router);
         Settings {
             lans: lans.map(|it| format!("eth{}", it.1)).collect(),
+            costs: costs
+                .map(|(it, cost)| (format!("eth{}", it.1), *cost))
+                .collect(),
             ..settings(router, self.announced[&router].clone(), self.forget)
         }
     }
@@ -957,6 +964,41 @@ fn two_links_between_two_routers_are_one_way() {
     lab.set_link(1, true, true);
     lab.run(seconds(2));
     lab.expect_all_arrive();
+}
+
+/// The link between routers 0 and 1 is dear for router 0 alone. Then it becomes cheaper than the way round the ring.
+#[test]
+fn routes_have_the_least_costs() {
+    let mut lab = Lab::new(&RING, 8);
+    lab.costs.insert((0, 1), 5);
+    lab.start_all();
+    lab.run(seconds(1));
+    lab.expect_all_arrive();
+    assert_eq!(lab.path(0, own(1).address()), [0, 4, 3, 2, 1]);
+    assert_eq!(lab.path(0, own(2).address()), [0, 4, 3, 2]);
+    assert_eq!(lab.path(1, own(0).address()), [1, 0]);
+    lab.costs.insert((0, 1), 2);
+    let settings = lab.settings(0);
+    let now = lab.now;
+    lab.machines.get_mut(&0).unwrap().configure(settings, now);
+    lab.run(seconds(1));
+    lab.expect_all_arrive();
+    assert_eq!(lab.path(0, own(1).address()), [0, 1]);
+}
+
+#[test]
+fn the_cheapest_of_two_links_counts_while_it_is_up() {
+    let mut lab = Lab::new(&[(0, 1), (0, 1), (1, 2)], 16);
+    lab.costs.extend([((0, 1), 4), ((0, 2), 3)]);
+    lab.start_all();
+    lab.run(seconds(1));
+    for (is_up, cost) in [(true, 3), (false, 4), (true, 3)] {
+        lab.set_link(1, is_up, false);
+        lab.run(seconds(1));
+        lab.expect_all_arrive();
+        let node = &lab.machines[&0].destinations[&own(2)].node;
+        assert_eq!(node.distance(), Some(cost + 1));
+    }
 }
 
 #[test]

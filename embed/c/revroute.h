@@ -702,7 +702,7 @@ void revroute_way_reader_close(revroute_way_reader *reader);
  *     revroute_node node = REVROUTE_NO_NODE;
  *     revroute_policy policy = {REVROUTE_FULL, 0, 1, 1};
  *     if (revroute_node_open(&node, 7, boot, 0, &policy) == REVROUTE_ANSWERED
- *         && revroute_node_know(&node, 8) == REVROUTE_ANSWERED) ..
+ *         && revroute_node_know(&node, 8, 1) == REVROUTE_ANSWERED) ..
  *     revroute_node_link_up(&node, 8);
  *     if (revroute_node_ways(&node, ways, room, &count, &state) == REVROUTE_ANSWERED
  *         && revroute_node_gates(&node, gates, room, &gate_count, &state) == REVROUTE_ANSWERED) ..     (write them)
@@ -738,15 +738,17 @@ typedef enum revroute_rise {
     /* If it has no way: above all neighbours. This is full link reversal. Routers that are cut off from all gateways
      * raise their heights for ever. */
     REVROUTE_FULL = 0,
-    /* The same, but to a ceiling at most, so routers that are cut off from all gateways stop there. The ceiling is at
-     * least the number of routers, and all routers use `lower`: otherwise a router may stay without a way. */
-    REVROUTE_CEILING = 1
+    /* If no neighbour offers its height: at once to UINT32_MAX, the height of a router without a route. A neighbour offers
+     * its own height and the cost of the link together, if that is below `ceiling`. The node comes down to its best offer
+     * once each neighbour at a link that is up is let in. So once all is quiet, routes have the least costs, if these are
+     * below the ceiling, and routers that are cut off from all gateways are silent. Start such nodes at UINT32_MAX. */
+    REVROUTE_TOP = 1
 } revroute_rise;
 
 /* When a node changes its height. No policy can make a loop. `rise` is one of the two kinds, and a call refuses any
- * other number. `ceiling` is the ceiling of REVROUTE_CEILING. If `lower` is not 0, the node lowers its height to its distance once
- * its nearest way stays a way. If `wait` is not 0, it keeps its old height and ways until the neighbours that it lets in
- * have acknowledged a greater height. */
+ * other number. `ceiling` is the ceiling of REVROUTE_TOP. If `lower` is not 0, a node with REVROUTE_FULL lowers its height to
+ * its distance once its nearest way stays a way. If `wait` is not 0, a node keeps its old height and ways until the
+ * neighbours that it lets in have acknowledged a greater height. */
 typedef struct revroute_policy {
     uint32_t rise;
     uint32_t ceiling;
@@ -766,10 +768,11 @@ revroute_status revroute_node_open(revroute_node *node, uint32_t me, uint64_t bo
  * destination may have several gateways. REVROUTE_ANSWERED or REVROUTE_NO_MEMORY. O(1). */
 revroute_status revroute_node_open_gateway(revroute_node *node, uint32_t me, uint64_t boot);
 
-/* Makes a neighbour known. The link to it is down until revroute_node_link_up. A neighbour that is known already stays as
- * it is. REVROUTE_ANSWERED; REVROUTE_REFUSED if it is the router itself, which is tested first; REVROUTE_NO_MEMORY.
- * O(d). */
-revroute_status revroute_node_know(revroute_node *node, uint32_t neighbour);
+/* Makes a neighbour known. `cost` is what it costs this router to send a packet to it: 1 or more, and 1 if you have no other
+ * number. The neighbour may know another cost for the other direction. The link to it is down until
+ * revroute_node_link_up. A neighbour that is known already stays as it is, with its cost. REVROUTE_ANSWERED;
+ * REVROUTE_REFUSED if it is the router itself or the cost is 0, which is tested first; REVROUTE_NO_MEMORY. O(d). */
+revroute_status revroute_node_know(revroute_node *node, uint32_t neighbour, uint32_t cost);
 
 /* Events. The link to a neighbour comes up, or goes down. If the neighbour is not known, no link changes. A link that
  * comes up counts as up until revroute_node_tick ends that. A link that goes down keeps what was heard on it. The
@@ -839,7 +842,7 @@ revroute_status revroute_node_ways(revroute_node *node, uint32_t *ways, size_t r
  * to be dropped. All else is as for revroute_node_ways. O(d). */
 revroute_status revroute_node_gates(revroute_node *node, uint32_t *gates, size_t room, size_t *length, uint64_t *state);
 
-/* Writes to *distance how many links a packet crosses from this router to a gateway, by what it has heard: 0 at a
+/* Writes to *distance the cost of the nearest route from this router to a gateway, by what it has heard: 0 at a
  * gateway. REVROUTE_NO_ROUTE, and *distance is unchanged, if there is no way, or if no way has a distance. O(d). */
 revroute_status revroute_node_distance(revroute_node *node, uint32_t *distance);
 

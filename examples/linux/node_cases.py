@@ -130,7 +130,7 @@ def fewer_neighbours(lab):
     lab.expect_ways("r1", "r3")
     expect(lab.held("r1")[1] <= {"r3"}, f"r1 keeps the gates {lab.held('r1')[1]}")
     lab.routers["r3"].set_device("r0", False)
-    # then r3 has a way to r1, since that has the lower number, and both have acknowledged the ceiling
+    # then r3 has a way to r1, since that has the lower number, and both have acknowledged that there is no route
     lab.settle_without_loop(lambda held: held["r3"] == ({"r1"}, {"r1"}) and held["r1"][1] == {"r3"})
     rules = lambda: {device for _, device, _ in lab.kernels["r1"].rules()}
     expect(soon(lambda: rules() == {"r3"}), f"r1 has rules for {rules()}")

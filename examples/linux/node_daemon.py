@@ -203,8 +203,8 @@ class Link:
 class Router:
     """A node with its kernel and its neighbours."""
 
-    # a router that starts high finds its nearest ways: it comes down to its distance
-    policy = {"height": 64, "ceiling": 64}
+    # each link costs 1, and a route has less than 64
+    policy = {"ceiling": 64}
 
     def __init__(self, options):
         self.me, self.target, self.is_gateway, self.state = options.me, options.target, options.gateway, options.state

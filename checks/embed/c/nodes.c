@@ -20,10 +20,10 @@
 
 #include <revroute.h>
 
-enum { ROUTERS = 6, POOL = 64, STEPS = 60000, SEEDS = 20, FENCED = 1 << 16, UNTOUCHED = 0x5a, NEIGHBOURS = 38, CONTENT = REVROUTE_MESSAGE_LENGTH - 8 };
+enum { ROUTERS = 6, COST = 3, POOL = 64, STEPS = 60000, SEEDS = 20, FENCED = 1 << 16, UNTOUCHED = 0x5a, NEIGHBOURS = 38, CONTENT = REVROUTE_MESSAGE_LENGTH - 8 };
 
 static const revroute_policy policies[] = {
-    {REVROUTE_FULL, 0, 0, 0}, {REVROUTE_FULL, 0, 1, 1}, {REVROUTE_CEILING, ROUTERS, 0, 1}, {REVROUTE_CEILING, ROUTERS, 1, 0}};
+    {REVROUTE_FULL, 0, 0, 0}, {REVROUTE_FULL, 0, 1, 1}, {REVROUTE_TOP, 9, 0, 1}, {REVROUTE_TOP, 9, 1, 0}};
 static uint8_t *place_end;
 static long refusals, told;
 
@@ -38,7 +38,7 @@ static void ask_null(void) {
     uint64_t height = UNTOUCHED, state = UNTOUCHED;
     size_t length = 99;
     memset(message, UNTOUCHED, REVROUTE_MESSAGE_LENGTH);
-    expect(revroute_node_know(&none, 1) == REVROUTE_NO_NETWORK, "no node knows a neighbour");
+    expect(revroute_node_know(&none, 1, 1) == REVROUTE_NO_NETWORK, "no node knows a neighbour");
     expect(revroute_node_link_up(&none, 1) == REVROUTE_NO_NETWORK, "no node has a link up");
     expect(revroute_node_link_down(&none, 1) == REVROUTE_NO_NETWORK, "no node has a link down");
     expect(revroute_node_hear(&none, message, REVROUTE_MESSAGE_LENGTH) == REVROUTE_NO_NETWORK, "no node hears");
@@ -61,10 +61,10 @@ static void ask_null(void) {
 
 /* Calls that take memory, with each allocation refused in turn. Neither the handle nor the node may change. */
 static revroute_status call_poor(revroute_node *node, int call, uint32_t number) {
-    static const revroute_policy policy = {REVROUTE_CEILING, 9, 1, 1};
+    static const revroute_policy policy = {REVROUTE_TOP, 9, 1, 1};
     if (call == 0) return revroute_node_open(node, 1, number, 3, &policy);
     if (call == 1) return revroute_node_open_gateway(node, 1, number);
-    return revroute_node_know(node, number);
+    return revroute_node_know(node, number, 1);
 }
 
 static void make_poor(revroute_node *node, int call, uint32_t number) {
@@ -78,7 +78,9 @@ static void make_poor(revroute_node *node, int call, uint32_t number) {
         if (status == REVROUTE_ANSWERED && !was_refused) return;
         if (status == REVROUTE_ANSWERED) continue;
         expect(status == REVROUTE_NO_MEMORY && was_refused && node->at == was, "a call without memory ends as it cannot end");
-        if (call == 2) expect(revroute_node_know(node, 1) == REVROUTE_REFUSED, "without memory the router is another");
+        if (call < 2) continue;
+        expect(revroute_node_know(node, 1, 1) == REVROUTE_REFUSED, "without memory the router is another");
+        expect(revroute_node_know(node, number, 0) == REVROUTE_REFUSED, "without memory a link is free");
         told++;
     }
 }
@@ -92,7 +94,7 @@ static void link_all(revroute_node *node, int is_gateway) {
     uint64_t state = UNTOUCHED;
     size_t length, gates = is_gateway ? NEIGHBOURS : 0;
     for (uint32_t at = 0; at < NEIGHBOURS; at++) {
-        expect(revroute_node_know(node, neighbour_at(at)) == REVROUTE_ANSWERED, "a known neighbour is refused");
+        expect(revroute_node_know(node, neighbour_at(at), 1) == REVROUTE_ANSWERED, "a known neighbour is refused");
         expect(revroute_node_link_up(node, neighbour_at(at)) == REVROUTE_ANSWERED, "a link does not come up");
         expect(revroute_node_ways(node, list, NEIGHBOURS, &length, &state) == REVROUTE_ANSWERED && !length, "a way has not been heard");
         expect(state == at + 1, "an event has no number");
@@ -143,7 +145,7 @@ static uint64_t confirm(revroute_node *node) {
     return state;
 }
 
-/* Two routers, of which the gateway has number 0. */
+/* Two routers, of which the gateway has number 0. The other one has a link of cost COST. */
 static void open_two(revroute_node *two) {
     expect(revroute_node_open_gateway(&two[0], 0, 1) == REVROUTE_ANSWERED, "there is no gateway");
     expect(revroute_node_open(&two[1], 1, 1, 1, &policies[2]) == REVROUTE_ANSWERED, "there is no router");
@@ -153,7 +155,9 @@ static void open_two(revroute_node *two) {
         expect(revroute_node_say(&two[me], 1 - me, &byte, 1, &length) == REVROUTE_TOO_SHORT && length == REVROUTE_MESSAGE_LENGTH, "a byte is a message");
         uint8_t *message = place_end - REVROUTE_MESSAGE_LENGTH;
         expect(revroute_node_say(&two[me], 1 - me, message, REVROUTE_MESSAGE_LENGTH, &length) == REVROUTE_LINK_DOWN && !length, "a stranger gets a message");
-        expect(revroute_node_know(&two[me], 1 - me) == REVROUTE_ANSWERED, "a neighbour is not known");
+        expect(revroute_node_know(&two[me], 1 - me, 0) == REVROUTE_REFUSED, "a link is free");
+        expect(revroute_node_know(&two[me], 1 - me, me ? COST : 1) == REVROUTE_ANSWERED, "a neighbour is not known");
+        expect(revroute_node_know(&two[me], 1 - me, 1) == REVROUTE_ANSWERED, "a known neighbour is refused");
         length = 99;
         expect(revroute_node_say(&two[me], 1 - me, message, REVROUTE_MESSAGE_LENGTH, &length) == REVROUTE_LINK_DOWN && !length, "a link that is down gets a message");
         expect(revroute_node_link_up(&two[me], 1 - me) == REVROUTE_ANSWERED, "a link does not come up");
@@ -315,7 +319,7 @@ static void start_too_early(revroute_node *gateway) {
     size_t length;
     for (uint64_t boot = 1; boot + 1; boot = boot == 1 ? 9 : boot == 9 ? 8 : UINT64_MAX) {
         expect(revroute_node_open(&router, 1, boot, 1, &policies[2]) == REVROUTE_ANSWERED, "a router does not start");
-        expect(revroute_node_know(&router, 0) == REVROUTE_ANSWERED, "a neighbour is not known");
+        expect(revroute_node_know(&router, 0, COST) == REVROUTE_ANSWERED, "a neighbour is not known");
         expect(revroute_node_say(gateway, 1, message, sizeof message, &length) == REVROUTE_ANSWERED, "a gateway is silent");
         revroute_status heard_as = revroute_node_hear(&router, message, sizeof message);
         expect(heard_as == (boot == 8 ? REVROUTE_LATER_START : REVROUTE_ANSWERED), "a start counts as another");
@@ -340,8 +344,8 @@ static void talk(void) {
     expect(revroute_node_ways(&two[1], ways - 1, 1, &length, &state) == REVROUTE_ANSWERED && length == 1 && ways[-1] == 0, "there is no way");
     expect(revroute_node_gates(&two[0], ways, 0, &length, &state) == REVROUTE_TOO_SHORT && length == 1, "a gate fits where it does not");
     expect(revroute_node_gates(&two[0], ways - 1, 1, &length, &state) == REVROUTE_ANSWERED && length == 1 && ways[-1] == 1, "there is no gate");
-    expect(revroute_node_distance(&two[1], &distance) == REVROUTE_ANSWERED && distance == 1, "the distance is another");
-    expect(revroute_node_height(&two[1], &height) == REVROUTE_ANSWERED && height == 1, "the height is another");
+    expect(revroute_node_distance(&two[1], &distance) == REVROUTE_ANSWERED && distance == COST, "the distance is another");
+    expect(revroute_node_height(&two[1], &height) == REVROUTE_ANSWERED && height == COST, "the height is another");
     expect(revroute_node_distance(&two[0], &distance) == REVROUTE_ANSWERED && distance == 0, "a gateway is far");
     expect(revroute_node_ways(&two[0], ways, 0, &length, &state) == REVROUTE_ANSWERED && !length, "a gateway has a way");
     expect(revroute_node_lets_in(&two[0], 1) == 1 && revroute_node_sends_to(&two[0], 1) == 0, "a gateway is closed");
@@ -448,7 +452,7 @@ static void start(uint32_t me, int is_gateway, const revroute_policy *policy) {
                                         : revroute_node_open(&it->node, me, it->boot, drawn(4), policy);
     expect(status == REVROUTE_ANSWERED, "a router does not start");
     for (uint32_t other = 0; other < ROUTERS; other++)
-        if (other != me) expect(revroute_node_know(&it->node, other) == REVROUTE_ANSWERED, "a neighbour is not known");
+        if (other != me) expect(revroute_node_know(&it->node, other, 1 + drawn(3)) == REVROUTE_ANSWERED, "a neighbour is not known");
 }
 
 static void read_table(router *it) {

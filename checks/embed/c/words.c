@@ -91,7 +91,7 @@ static void pass_null_to_node(void) {
     expect(revroute_node_hear(&node, NULL, 0) == REVROUTE_NO_MESSAGE, "null is a message");
     expect(revroute_node_say(&node, 1, NULL, 0, &length) == REVROUTE_TOO_SHORT && length == REVROUTE_MESSAGE_LENGTH, "a message fits into null");
     expect(revroute_node_ways(&node, NULL, 0, &length, &state) == REVROUTE_ANSWERED && !length && !state, "a gateway has a way");
-    expect(revroute_node_link_up(&node, 1) == REVROUTE_ANSWERED && revroute_node_know(&node, 1) == REVROUTE_ANSWERED, "there is no neighbour");
+    expect(revroute_node_link_up(&node, 1) == REVROUTE_ANSWERED && revroute_node_know(&node, 1, 1) == REVROUTE_ANSWERED, "there is no neighbour");
     expect(revroute_node_gates(&node, NULL, 0, &length, &state) == REVROUTE_ANSWERED && !length && state == 1, "a neighbour is let in");
     revroute_node_close(&node);
     node = REVROUTE_NO_NODE;

@@ -18,7 +18,7 @@ revroute_status engine_links(revroute *, revroute_link *, size_t, size_t *);
 revroute_status engine_move_dest(revroute *, uint32_t, revroute_round *, revroute_refusal *);
 revroute_status engine_nearest(revroute *, uint32_t, uint32_t *, size_t, size_t *);
 revroute_status engine_node_hear(revroute_node *, const uint8_t *, size_t);
-revroute_status engine_node_know(revroute_node *, uint32_t);
+revroute_status engine_node_know(revroute_node *, uint32_t, uint32_t);
 uint32_t engine_node_lets_in(revroute_node *, uint32_t);
 revroute_status engine_node_link_down(revroute_node *, uint32_t);
 revroute_status engine_node_say(revroute_node *, uint32_t, uint8_t *, size_t, size_t *);
@@ -660,13 +660,13 @@ revroute_status revroute_node_written(revroute_node *node, uint64_t state) {
     return engine_node_written(node, state);
 }
 
-revroute_status revroute_node_know(revroute_node *node, uint32_t neighbour) {
+revroute_status revroute_node_know(revroute_node *node, uint32_t neighbour, uint32_t cost) {
     static void *last_node;
     static uint64_t known;
     if (node->at != last_node) known = 0;
     last_node = node->at;
     if (FAULT == a_known_neighbour_told_as_no_memory && neighbour < 64 && known >> neighbour & 1) return REVROUTE_NO_MEMORY;
-    revroute_status status = engine_node_know(node, neighbour);
+    revroute_status status = engine_node_know(node, neighbour, cost);
     if (status == REVROUTE_ANSWERED && neighbour < 64) known |= UINT64_C(1) << neighbour;
     return status;
 }

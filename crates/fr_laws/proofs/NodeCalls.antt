@@ -64,73 +64,77 @@ saying_up w m ls ks says v = ⊎_elim
     (λ other. ap (λ (l : Link). l.up) (says.others v other))
     (cases_eq v w)
 
--- a link to a stranger is added, which is down
-module _ (ls : List Link) (w : ℕ) (stranger : ¬ IsKnown ls w) where
-  long : length (ls ++ record unknown { neighbour = w } ∷ []) ≡ length ls + 1
+-- a new link to router w, which is down
+abbrev added : (w cost : ℕ) → Link
+added w cost = record unknown { neighbour = w; cost = cost }
+
+-- a link to a stranger is added
+module _ (ls : List Link) (w cost : ℕ) (stranger : ¬ IsKnown ls w) where
+  long : length (ls ++ added w cost ∷ []) ≡ length ls + 1
   long = simp length-append (omega arith)
 
-  place : (v : ℕ) → place_of (ls ++ record unknown { neighbour = w } ∷ []) v
+  place : (v : ℕ) → place_of (ls ++ added w cost ∷ []) v
       ≡ cond (eqb (place_of ls v) (length ls)) (length ls + cond (eqb w v) 0 1) (place_of ls v)
-  place v = position_or_len_push (leads_to v) ls (record unknown { neighbour = w })
+  place v = position_or_len_push (leads_to v) ls (added w cost)
 
   place_before : (v : ℕ) → place_of ls v < length ls
-      → place_of (ls ++ record unknown { neighbour = w } ∷ []) v ≡ place_of ls v
+      → place_of (ls ++ added w cost ∷ []) v ≡ place_of ls v
   place_before v known = place v ∙ cond-false _ _ _ (ne_eqb (place_of ls v) (length ls) (λ e. omega (arith, e, known)))
 
   -- what was listed stays where it is, and the new link comes last
   place_there : (v : ℕ) → ¬ (place_of ls v < length ls)
-      → place_of (ls ++ record unknown { neighbour = w } ∷ []) v ≡ length ls + cond (eqb w v) 0 1
+      → place_of (ls ++ added w cost ∷ []) v ≡ length ls + cond (eqb w v) 0 1
   place_there v out = place v ∙ cond-true _ _ _ (eq-eqb (place_of ls v) (length ls) (omega (
     arith,
     prefix_len-le-length (λ (l : Link). not (leads_to v l)) ls,
     ⊎_elim (λ known. absurd (out known)) (λ past. past) (cases_lt (place_of ls v) (length ls)),
   )))
 
-  knowing_once : AreListedOnce ls → AreListedOnce (ls ++ record unknown { neighbour = w } ∷ [])
+  knowing_once : AreListedOnce ls → AreListedOnce (ls ++ added w cost ∷ [])
   knowing_once once i within = ⊎_elim
-      (λ old. subst (λ (l : Link). place_of (ls ++ record unknown { neighbour = w } ∷ []) l.neighbour ≡ i)
-      (sym (get_or_append_left ls (record unknown { neighbour = w } ∷ []) unknown i old))
+      (λ old. subst (λ (l : Link). place_of (ls ++ added w cost ∷ []) l.neighbour ≡ i)
+      (sym (get_or_append_left ls (added w cost ∷ []) unknown i old))
       (place_before (get_or ls i unknown).neighbour (omega (arith, once i old, old)) ∙ once i old))
       (λ past. let here : i ≡ length ls = omega (arith, past, within, long) in
-      subst (λ (k : ℕ). place_of (ls ++ record unknown { neighbour = w } ∷ [])
-      (get_or (ls ++ record unknown { neighbour = w } ∷ []) k unknown).neighbour ≡ k) (sym here)
-      (subst (λ (l : Link). place_of (ls ++ record unknown { neighbour = w } ∷ []) l.neighbour ≡ length ls)
-      (sym (get_or-append_seam ls (record unknown { neighbour = w }) [] unknown))
+      subst (λ (k : ℕ). place_of (ls ++ added w cost ∷ [])
+      (get_or (ls ++ added w cost ∷ []) k unknown).neighbour ≡ k) (sym here)
+      (subst (λ (l : Link). place_of (ls ++ added w cost ∷ []) l.neighbour ≡ length ls)
+      (sym (get_or-append_seam ls (added w cost) [] unknown))
       (omega (arith, place_there w stranger, ap {B = ℕ} (λ (b : Bool). cond b 0 1) (eq-eqb w w refl)))))
       (cases_lt i (length ls))
 
   -- what is false of a link of which nothing is known
-  module _ (of : Link → Bool) (fresh : of unknown ≡ false) (named : of (record unknown { neighbour = w }) ≡ false) where
-    knowing_keeps : (v : ℕ) → of (link_to (ls ++ record unknown { neighbour = w } ∷ []) v) ≡ of (link_to ls v)
+  module _ (of : Link → Bool) (fresh : of unknown ≡ false) (named : of (added w cost) ≡ false) where
+    knowing_keeps : (v : ℕ) → of (link_to (ls ++ added w cost ∷ []) v) ≡ of (link_to ls v)
     knowing_keeps v = ⊎_elim
-        (λ known. ap of (ap (λ (k : ℕ). get_or (ls ++ record unknown { neighbour = w } ∷ []) k unknown)
+        (λ known. ap of (ap (λ (k : ℕ). get_or (ls ++ added w cost ∷ []) k unknown)
         (place_before v known)
-        ∙ get_or_append_left ls (record unknown { neighbour = w } ∷ []) unknown (place_of ls v) known))
+        ∙ get_or_append_left ls (added w cost ∷ []) unknown (place_of ls v) known))
         (λ past. not_new (λ known. omega (arith, known, past))
         ∙ sym (ap of (get_or_past ls (place_of ls v) unknown past) ∙ fresh))
         (cases_lt (place_of ls v) (length ls))
       where
-        at : (k : ℕ) (l : Link) → get_or (ls ++ record unknown { neighbour = w } ∷ []) k unknown ≡ l → of l ≡ false
-            → place_of (ls ++ record unknown { neighbour = w } ∷ []) v ≡ k
-            → of (link_to (ls ++ record unknown { neighbour = w } ∷ []) v) ≡ false
-        at k l is absent e = ap of (ap (λ (j : ℕ). get_or (ls ++ record unknown { neighbour = w } ∷ []) j unknown) e ∙ is)
+        at : (k : ℕ) (l : Link) → get_or (ls ++ added w cost ∷ []) k unknown ≡ l → of l ≡ false
+            → place_of (ls ++ added w cost ∷ []) v ≡ k
+            → of (link_to (ls ++ added w cost ∷ []) v) ≡ false
+        at k l is absent e = ap of (ap (λ (j : ℕ). get_or (ls ++ added w cost ∷ []) j unknown) e ∙ is)
             ∙ absent
 
-        not_new : ¬ (place_of ls v < length ls) → of (link_to (ls ++ record unknown { neighbour = w } ∷ []) v) ≡ false
+        not_new : ¬ (place_of ls v < length ls) → of (link_to (ls ++ added w cost ∷ []) v) ≡ false
         not_new out = ⊎_elim
-            (λ e. at (length ls) (record unknown { neighbour = w })
-            (get_or-append_seam ls (record unknown { neighbour = w }) [] unknown) named
+            (λ e. at (length ls) (added w cost)
+            (get_or-append_seam ls (added w cost) [] unknown) named
             (omega (arith, place_there v out, ap {B = ℕ} (λ (b : Bool). cond b 0 1) (eq-eqb w v e))))
             (λ other. at (length ls + 1) unknown
-            (get_or_past (ls ++ record unknown { neighbour = w } ∷ []) (length ls + 1) unknown (omega (arith, long)))
+            (get_or_past (ls ++ added w cost ∷ []) (length ls + 1) unknown (omega (arith, long)))
             fresh
             (omega (arith, place_there v out, ap {B = ℕ} (λ (b : Bool). cond b 0 1) (ne_eqb w v other))))
             (cases_eq w v)
 
-  knowing_up : (v : ℕ) → (link_to (ls ++ record unknown { neighbour = w } ∷ []) v).up ≡ (link_to ls v).up
+  knowing_up : (v : ℕ) → (link_to (ls ++ added w cost ∷ []) v).up ≡ (link_to ls v).up
   knowing_up = knowing_keeps (λ l. l.up) refl refl
 
-  knowing_carrier : (v : ℕ) → (link_to (ls ++ record unknown { neighbour = w } ∷ []) v).carrier ≡ (link_to ls v).carrier
+  knowing_carrier : (v : ℕ) → (link_to (ls ++ added w cost ∷ []) v).carrier ≡ (link_to ls v).carrier
   knowing_carrier = knowing_keeps (λ l. l.carrier) refl refl
 
 pub taking_is_a_call : (m : Message) (old new : Node) → IsAsSaid old m.from
@@ -226,11 +230,11 @@ stamp_kept old new rest = rest
     ∙ ap (λ (s : ℕ). record old { links = new.links; stamp = s }) (sym (ap (λ (n : Node). n.stamp) rest))
 
 pub knowing_is_a_call : KnowingIsACall
-knowing_is_a_call w old new (inl e) rest step = only_links old new (stamp_kept old new rest)
+knowing_is_a_call w cost old new (inl e) rest step = only_links old new (stamp_kept old new rest)
     (subst AreListedOnce (sym e)) (λ v. alike old.links.items new.links.items v e) step
-knowing_is_a_call w old new (inr (stranger, e)) rest step = only_links old new (stamp_kept old new rest)
-    (λ once. subst AreListedOnce (sym e) (knowing_once old.links.items w stranger once))
-    (λ v. alike _ new.links.items v e ∙ knowing_up old.links.items w stranger v) step
+knowing_is_a_call w cost old new (inr (stranger, e)) rest step = only_links old new (stamp_kept old new rest)
+    (λ once. subst AreListedOnce (sym e) (knowing_once old.links.items w cost stranger once))
+    (λ v. alike _ new.links.items v e ∙ knowing_up old.links.items w cost stranger v) step
 
 -- a tick that ends for none of these links that it counts as up
 ticking_up : (patience : ℕ) (ls : List Link) → list_any (is_lost patience) ls ≡ false
@@ -314,9 +318,9 @@ unfolding AsSaid
 links_stay_as_said n k w (inl kept) was =
     equal_said n.links.items k.links.items w (ap (λ (ls : List Link). link_to ls w) kept) was
 links_stay_as_said n k w (inr (inl (v, m, says))) was = saying_said v m n.links.items k.links.items says w was
-links_stay_as_said n k w (inr (inr (inl (v, stranger, more)))) was = ap (λ (ls : List Link). (link_to ls w).up) more
-    ∙ knowing_up n.links.items v stranger w ∙ was
-    ∙ sym (ap (λ (ls : List Link). (link_to ls w).carrier) more ∙ knowing_carrier n.links.items v stranger w)
+links_stay_as_said n k w (inr (inr (inl (v, cost, stranger, more)))) was =
+    ap (λ (ls : List Link). (link_to ls w).up) more ∙ knowing_up n.links.items v cost stranger w ∙ was
+    ∙ sym (ap (λ (ls : List Link). (link_to ls w).carrier) more ∙ knowing_carrier n.links.items v cost stranger w)
 links_stay_as_said n k w (inr (inr (inr (inl (patience, ticked, none))))) was =
     ap (λ (ls : List Link). (link_to ls w).up) ticked ∙ ticking_up patience n.links.items none w ∙ was
     ∙ sym (ap (λ (ls : List Link). (link_to ls w).carrier) ticked

@@ -15,7 +15,7 @@ use Rattle.fr_node.proofs.Histories.{Announces-none, Announces-raised, Announces
 use Rattle.fr_node.proofs.Linking.{hears_at}
 use Rattle.fr_node.proofs.Stepping.{InTurn, after_hearing}
 use Rattle.fr_node.specs.Arrivals.{IsLinkedTo, IsQuiet, IsStill, IsTold}
-use Rattle.fr_node.specs.Distances.{IsDistance, IsNearest}
+use Rattle.fr_node.specs.Distances.{IsDistance, IsNearest, distance_over}
 use Rattle.fr_node.specs.Events.{IsAfterEvent}
 use Rattle.fr_node.specs.Histories.{IsHistory}
 use Rattle.fr_node.specs.Links.{Hears, IsHeard, IsNewer, echo_of, is_lower, is_way, unknown}
@@ -48,7 +48,7 @@ own me height number = record {
   announced_since = number;
 }
 
--- a link that is up, to a neighbour of which nothing is known
+-- a link of cost 1 that is up, to a neighbour of which nothing is known
 abbrev new_link : ℕ → Link
 new_link neighbour = record (unknown) { neighbour = neighbour; carrier = true; up = true }
 
@@ -99,6 +99,7 @@ hears_one o m l k from to newer heard = hears_at o m (l ∷ []) 0 l k (record {
 hears_started : Hears (own 1 0 1) started (new_link 0 ∷ []) (met ∷ [])
 hears_started = hears_one (own 1 0 1) started (new_link 0) met refl refl (inl (omega arith)) (record {
   neighbour = refl;
+  cost = refl;
   carrier = refl;
   said = refl;
   both_ways = λ _. (refl, refl);
@@ -119,6 +120,7 @@ hears_started = hears_one (own 1 0 1) started (new_link 0) met refl refl (inl (o
 hears_hello : Hears (own 0 0 1) hello (new_link 1 ∷ []) (greeted ∷ [])
 hears_hello = hears_one (own 0 0 1) hello (new_link 1) greeted refl refl (inl (omega arith)) (record {
   neighbour = refl;
+  cost = refl;
   carrier = refl;
   said = refl;
   both_ways = λ _. (refl, refl);
@@ -139,6 +141,7 @@ hears_hello = hears_one (own 0 0 1) hello (new_link 1) greeted refl refl (inl (o
 hears_reply : Hears (own 1 0 1) reply (met ∷ []) (told ∷ [])
 hears_reply = hears_one (own 1 0 1) reply met told refl refl (inr (refl, omega arith)) (record {
   neighbour = refl;
+  cost = refl;
   carrier = refl;
   said = refl;
   both_ways = λ _. (refl, refl);
@@ -160,6 +163,7 @@ hears_reply = hears_one (own 1 0 1) reply met told refl refl (inr (refl, omega a
 hears_answer : Hears (own 0 1 2) answer (greeted ∷ []) (answered ∷ [])
 hears_answer = hears_one (own 0 1 2) answer greeted answered refl refl (inr (refl, omega arith)) (record {
   neighbour = refl;
+  cost = refl;
   carrier = refl;
   said = refl;
   both_ways = λ _. (refl, refl);
@@ -187,10 +191,10 @@ no_way k nearest = at nearest.some.0 nearest.some.1 nearest.some.2
     at zero l e = true_false e
     at (suc j) l e = omega (arith, l)
 
-near : (k : ℕ) → IsNearest (own 0 1 2) (greeted ∷ []) k → 1 ≡ k + 1
+near : (k : ℕ) → IsNearest (own 0 1 2) (greeted ∷ []) k → 1 ≡ k
 near k nearest = at nearest.some.0 nearest.some.1 nearest.some.3
   where
-    at : (j : ℕ) → j < 1 → (get_or (greeted ∷ []) j unknown).distance ≡ k → 1 ≡ k + 1
+    at : (j : ℕ) → j < 1 → distance_over (get_or (greeted ∷ []) j unknown) ≡ k → 1 ≡ k
     at zero l e = omega (arith, e)
     at (suc j) l e = absurd (omega (arith, l))
 
@@ -528,7 +532,7 @@ module _ (alloc : Global) where
     heard = refl;
     distance = record {
       gateway = λ g. absurd (true_false g);
-      near = λ _ k nearest. omega (arith, near k nearest);
+      near = λ _ k nearest. near k nearest;
       far = λ _ none. absurd (true_false (sym (none 0 (omega arith))));
     };
   }

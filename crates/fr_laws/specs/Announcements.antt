@@ -185,8 +185,8 @@ IsAsSaid n w = (link_to n.links.items w).up ≡ (link_to n.links.items w).carrie
 abbrev pub IsCallWithoutLoss : Node → Node → Type 0
 IsCallWithoutLoss n k = (k.links.items ≡ n.links.items)
     ⊎ ((v : ℕ) × (m : Message) × Says v m n.links.items k.links.items)
-    ⊎ ((v : ℕ) × (¬ IsKnown n.links.items v)
-    × (k.links.items ≡ n.links.items ++ record unknown { neighbour = v } ∷ []))
+    ⊎ ((v cost : ℕ) × (¬ IsKnown n.links.items v)
+    × (k.links.items ≡ n.links.items ++ record unknown { neighbour = v; cost = cost } ∷ []))
     ⊎ ((patience : ℕ) × (k.links.items ≡ map (after_tick patience) n.links.items)
     × (list_any (is_lost patience) n.links.items ≡ false))
     ⊎ ((m : Message) × Hears n.own m n.links.items k.links.items)
@@ -232,7 +232,7 @@ SayingIsACall = (w : ℕ) (said : Option Message) (old new : Node) → SaysTo w 
 
 -- `know` is such a call, whether it makes a neighbour known or not
 abbrev pub KnowingIsACall : Type 0
-KnowingIsACall = (w : ℕ) (old new : Node)
+KnowingIsACall = (w cost : ℕ) (old new : Node)
     → (new.links.items ≡ old.links.items) ⊎ ((¬ IsKnown old.links.items w)
-    × (new.links.items ≡ old.links.items ++ record unknown { neighbour = w } ∷ []))
+    × (new.links.items ≡ old.links.items ++ record unknown { neighbour = w; cost = cost } ∷ []))
     → new ≡ record old { links = new.links } → Steps [] old new → IsCall [] old new

@@ -43,7 +43,7 @@ up_linked n w up = (
 )
 
 -- a neighbour that has acknowledged the last announcement is let in
-answered : (own : Own) (l : Link) → own.used_since ≤ own.number → l.acked ≡ own.number → has_answered own l ≡ true
+pub answered : (own : Own) (l : Link) → own.used_since ≤ own.number → l.acked ≡ own.number → has_answered own l ≡ true
 answered own l since acked = grind (arith, nat_tests)
 
 lets : (n : Node) (w : ℕ) → (link_to n.links.items w).up ≡ true → has_answered n.own (link_to n.links.items w) ≡ true
@@ -104,7 +104,7 @@ module _ (routers : ℕ) (node : ℕ → Node) (all : AreTold routers node) (x :
       best f (Some l, at) = (l, is_sink l at (no_ways f))
 
   -- a router lets in packets from each neighbour at a link that is up
-  gate : (w : ℕ) → (link_to (node x).links.items w).up ≡ true → IsTrue (lets_in (node x) w)
+  pub gate : (w : ℕ) → (link_to (node x).links.items w).up ≡ true → IsTrue (lets_in (node x) w)
   gate w up = let listed = up_listed (node x).links.items w up in
       lets (node x) w up (answered (node x).own (link_to (node x).links.items w) (all.announced x within).1.ends.0
       (all.told x (link_to (node x).links.items w) within listed up).acked)
@@ -132,10 +132,10 @@ module _ (routers : ℕ) (node : ℕ → Node) (all : AreTold routers node) (x :
           → (node l.neighbour).own.used * routers + l.neighbour < (node x).own.used * routers + x
       even h = omega (arith, h.1, all.me x within, ap (λ (u : ℕ). u * routers) (sym told.seen ∙ h.0))
 
--- if each member of some routers is a gateway or has a way, and the neighbours of members are members
+-- if each member of some routers is a gateway or has a way, and ways of members lead to members
 module _ (routers : ℕ) (node : ℕ → Node) (all : AreTold routers node) (Member : ℕ → Type 0)
     (goes : (x : ℕ) → x < routers → Member x → IsTrue (node x).gateway ⊎ ((v : ℕ) × SendsTo (node x) v))
-    (on : (x w : ℕ) → Member x → (link_to (node w).links.items x).up ≡ true → Member w) where
+    (on : (x w : ℕ) → x < routers → Member x → SendsTo (node x) w → Member w) where
   to_gateway : (k x : ℕ) → x < routers → Member x → (node x).own.used * routers + x < k → Arrive node k x
   to_gateway zero x within some less = absurd (omega (arith, less))
   to_gateway (suc k) x within some less = ⊎_elim
@@ -144,7 +144,7 @@ module _ (routers : ℕ) (node : ℕ → Node) (all : AreTold routers node) (Mem
         way,
         λ v sends. let to = leads routers node all x within v sends in (
           gate routers node all v to.0 x to.1,
-          to_gateway k v to.0 (on x v some to.1) (omega (arith, to.2, less)),
+          to_gateway k v to.0 (on x v within some sends) (omega (arith, to.2, less)),
         ),
       ))
       (goes x within some)
@@ -183,4 +183,5 @@ packets_arrive routers node quiet x w within linked = arrive routers node (are_t
     (λ y. (v : ℕ) × IsLinkedTo (node y) v)
     (λ y inside links. ⊎_elim (λ g. inl g) (λ still. inr (has_way routers node quiet y inside still links.0 links.1))
     (quiet.still y inside))
-    (λ y v _ up. (y, up_linked (node v) y up)) x within (w, linked)
+    (λ y v inside _ sends. (y, up_linked (node v) y (leads routers node (are_told routers node quiet) y inside v sends).1))
+    x within (w, linked)

@@ -1,22 +1,25 @@
 -- What a call of a node announces, beside each neighbour whose link is up.
-use Rattle.std.proofs.Common.{IsTrue, arith, false, inl, inr, subst, sym, true, ℕ, ⊎_elim, ◌≡◌, ◌⊎◌, ◌∙◌, List}
+use Rattle.std.proofs.Common.{IsTrue, List, arith, false, inl, inr, nat_lt, refl, subst, sym, true, ℕ, ⊎_elim, ◌&&◌}
+use Rattle.std.proofs.Common.{◌<◌, ◌≡◌, ◌≤◌, ◌⊎◌, ◌∙◌}
 use Rattle.std.specs.List.{Contains}
 use Rattle.std.proofs.lemmas.Bool.{cases_Bool}
 use Rattle.std.proofs.lemmas.Bool.Decides.{nat_tests}
 use Rattle.fr_node.specs.declared.link.Link.{Link}
 use Rattle.fr_node.specs.declared.node.Node.{Node}
 use Rattle.fr_node.specs.declared.policy.Rise.{Rise}
-use Rattle.fr_node.specs.declared.policy.Rise.TheVariants.{Ceiling, Full}
-use Rattle.fr_node.specs.Heights.{AreUp, CallsActBeside, FallsBeside, RisesBeside, knows_low}
+use Rattle.fr_node.specs.declared.message.TheConstants.{CUT_OFF}
+use Rattle.fr_node.specs.declared.policy.Rise.TheVariants.{Full, Top}
+use Rattle.fr_node.specs.Heights.{ActsBeside, AreUp, CallsActBeside, FallsBeside, RisesBeside, is_within, knows_low}
+use Rattle.fr_node.specs.Heights.{test_of}
 use Rattle.fr_node.specs.Histories.{IsHistory}
-use Rattle.fr_node.specs.Links.{link_to}
+use Rattle.fr_node.specs.Links.{is_offer, link_to, offer_of}
 use Rattle.fr_node.specs.Lowerings.{CallsKeepLinksOrFall, Falls}
 use Rattle.fr_node.specs.Nodes.{router}
 use Rattle.fr_node.specs.Paths.{CallsKeepLinks, IsFull, Stays, is_below}
 use Rattle.fr_node.specs.Rests.{CallsStayBelow}
 use Rattle.fr_node.specs.Routers.{IsBelow, Router}
-use Rattle.fr_node.proofs.Announcing.{HasFallen, HasKept, HasRaised, HasRisen, acted, announced, stays_below}
-use Rattle.fr_node.proofs.Announcing.{true_false}
+use Rattle.fr_node.proofs.Announcing.{HasFallen, HasFound, HasKept, HasLost, HasRaised, announced, announced_top}
+use Rattle.fr_node.proofs.Announcing.{stays_below, true_false}
 use Rattle.fr_node.proofs.Heights.{is_below_only}
 use Rattle.fr_node.proofs.Linking.{up_leads, up_listed}
 
@@ -60,7 +63,7 @@ module _ (old new : Node) (h k : ℕ → ℕ) (was : IsHistory old.own h) (now :
     fallen f = record { boot = boot; number = f.number; lower = omega (arith, f.lower, was.last, now.last) }
 
   module _ (ws : List ℕ) (are : AreUp new ws) where
-    rises_beside : HasRisen old new → RisesBeside (is_below old.own.me) ws (router old h) (router new k)
+    rises_beside : HasRaised old new → RisesBeside (is_below old.own.me) ws (router old h) (router new k)
     rises_beside r = record {
       number = r.number;
       greater = omega (arith, was.last, now.last, r.greater);
@@ -89,6 +92,71 @@ module _ (old new : Node) (h k : ℕ → ℕ) (was : IsHistory old.own h) (now :
 
         low : knows_low (is_below old.own.me) (k new.own.number) link.neighbour (router new k) ≡ true
         low = rw now.last (rw (are.listed link f.way.1 up).1 low_there)
+
+  -- with the policy top. These are the costs of the links
+  module _ (ceiling : ℕ) (cost : ℕ → ℕ) (ws : List ℕ) (are : AreUp new ws)
+      (costs : (w : ℕ) → Contains ws w → (link_to new.links.items w).cost ≡ cost w) where
+    -- a neighbour that is near enough offers the height
+    none_within : (e w : ℕ) → Contains ws w → (is_offer ceiling (link_to new.links.items w) ≡ true
+        → e < offer_of (link_to new.links.items w)) → knows_low (is_within ceiling cost) e w (router new k) ≡ false
+    none_within e w at above = ⊎_elim (λ y. absurd (by (costs w at) (are.up w at) y)) (λ f. f)
+        (cases_Bool (knows_low (is_within ceiling cost) e w (router new k)))
+      where
+        by : (link_to new.links.items w).cost ≡ cost w → (link_to new.links.items w).up ≡ true
+            → knows_low (is_within ceiling cost) e w (router new k) ≡ true → ⊥
+        by same up y = omega (arith, above (offers same up y), small same y)
+          where
+            offers : (link_to new.links.items w).cost ≡ cost w → (link_to new.links.items w).up ≡ true
+                → knows_low (is_within ceiling cost) e w (router new k) ≡ true
+                → is_offer ceiling (link_to new.links.items w) ≡ true
+            offers same up y = grind (arith, nat_tests, same, up, y)
+
+            small : (link_to new.links.items w).cost ≡ cost w
+                → knows_low (is_within ceiling cost) e w (router new k) ≡ true
+                → offer_of (link_to new.links.items w) ≤ e
+            small same y = grind (arith, nat_tests, same, y)
+
+    lost_beside : HasLost ceiling old new → RisesBeside (is_within ceiling cost) ws (router old h) (router new k)
+    lost_beside r = record {
+      number = r.number;
+      greater = omega (arith, was.last, now.last, r.greater);
+      none_low = λ w at. none_within (h old.own.number) w at (λ offers. omega (
+        arith,
+        was.last,
+        r.none (link_to new.links.items w) (up_listed new.links.items w (are.up w at)) offers,
+      ));
+    }
+
+    found_beside : HasFound ceiling old new → FallsBeside (is_within ceiling cost) ws (router old h) (router new k)
+    found_beside f = record {
+      number = f.number;
+      lower = omega (arith, f.lower, was.last, now.last);
+      one_low = (link.neighbour, (are.listed link f.offer.1 up).0, low (are.listed link f.offer.1 up).1);
+    }
+      where
+        link : Link
+        link = f.offer.0
+
+        up : link.up ≡ true
+        up = let passes = f.offer.2 in grind (arith, nat_tests, passes)
+
+        -- the offer is that of the link by which the neighbour is known
+        offered : (l : Link) → l ≡ link → l.cost ≡ cost link.neighbour → (nat_lt 0 l.heard
+            && is_within ceiling cost (k new.own.number) link.neighbour l.seen) ≡ true
+        offered l same costs = let passes = f.offer.2 in let height = f.offer.3 in let last = now.last in
+            subst (λ (j : Link). j.cost ≡ cost link.neighbour → (nat_lt 0 j.heard
+            && is_within ceiling cost (k new.own.number) link.neighbour j.seen) ≡ true) (sym same)
+            (λ cost_there. by cost_there passes height last) costs
+          where
+            by : link.cost ≡ cost link.neighbour → is_offer ceiling link ≡ true → offer_of link ≡ new.own.announced
+                → k new.own.number ≡ new.own.announced → (nat_lt 0 link.heard
+                && is_within ceiling cost (k new.own.number) link.neighbour link.seen) ≡ true
+            by cost_there passes height last = grind (arith, nat_tests, cost_there, passes, height, last)
+
+        low : link_to new.links.items link.neighbour ≡ link
+            → knows_low (is_within ceiling cost) (k new.own.number) link.neighbour (router new k) ≡ true
+        low same = offered (link_to new.links.items link.neighbour) same
+            (costs link.neighbour (are.listed link f.offer.1 up).0)
 
 forwards : (n : Node) (rise : Rise) → IsTrue n.gateway ⊎ (n.policy.rise ≡ rise) → n.gateway ≡ false
     → n.policy.rise ≡ rise
@@ -127,19 +195,27 @@ calls_keep_links_or_fall messages old new is step acts h was = let after = step.
 )
 
 pub calls_act_beside : CallsActBeside
-calls_act_beside messages old new ws are step acts h was = let after = step.goes_on h was in (
+calls_act_beside messages old new ws cost are costs step acts h was = let after = step.goes_on h was in (
   after.0,
   after.1,
   after.2,
-  ⊎_elim (λ r. inr (inl (rises_beside old new h after.0 was after.1 ws are r))) (⊎_elim
-      (λ f. inr (inr (falls_beside old new h after.0 was after.1 ws are f)))
-      (λ (k : HasKept old new). inl k.number))
-      (acted old new acts),
+  by after.0 after.1 old.policy.rise refl,
 )
+  where
+    by : (k : ℕ → ℕ) → IsHistory new.own k → (rise : Rise) → old.policy.rise ≡ rise
+        → ActsBeside (test_of rise old.own.me cost) ws (router old h) (router new k)
+    by k now Full rise = ⊎_elim (λ r. inr (inl (rises_beside old new h k was now ws are r))) (⊎_elim
+        (λ f. inr (inr (falls_beside old new h k was now ws are f)))
+        (λ (kept : HasKept old new). inl kept.number))
+        (announced old new (λ _. rise) acts)
+    by k now (Top ceiling) rise = ⊎_elim
+        (λ r. inr (inl (lost_beside old new h k was now ceiling cost ws are costs r)))
+        (⊎_elim
+        (λ f. inr (inr (found_beside old new h k was now ceiling cost ws are costs f)))
+        (λ (kept : HasKept old new). inl kept.number))
+        (announced_top old new acts ceiling (λ _. rise))
 
 pub calls_stay_below : CallsStayBelow
-calls_stay_below ceiling old new is acts h k was now low = omega (
-  arith,
-  now.last,
-  stays_below old new acts ceiling (forwards old (Ceiling ceiling) is) (omega (arith, was.last, low)),
-)
+calls_stay_below ceiling old new is acts h k was now low = subst (λ (v : ℕ). (v < ceiling) ⊎ (v ≡ CUT_OFF))
+    (sym now.last) (stays_below old new acts ceiling (forwards old (Top ceiling) is)
+    (subst (λ (v : ℕ). (v < ceiling) ⊎ (v ≡ CUT_OFF)) was.last low))

@@ -12,7 +12,7 @@ use Rattle.fr_node.specs.declared.node.Node.{Node}
 use Rattle.fr_node.specs.Daemons.{DaemonsHaveNoLoop, Does, HasEvent, IsCalled, IsDaemonStart, IsDaemonStep, IsFresh}
 use Rattle.fr_node.specs.Daemons.{KeepsLinks, StartsAnew}
 use Rattle.fr_node.specs.Histories.{IsHistory}
-use Rattle.fr_node.specs.Links.{leads_to, link_to, place_of, unknown}
+use Rattle.fr_node.specs.Links.{IsKnown, leads_to, link_to, place_of, unknown}
 use Rattle.fr_node.specs.Nodes.{IsMessageTo, lets_in, router, sends_to}
 use Rattle.fr_node.specs.Routers.{GoesOn, IsOpen, IsSaidBy, IsWay, Restarts, Router}
 use Rattle.fr_node.specs.Tables.{ChangesWays, Confirms, Forwarder, HasAnotherState, IsPlaneRun}
@@ -51,30 +51,40 @@ way_of y n r is w t = subst (λ q. IsWay q y w) (sym is.state)
 gate_of : (y : ℕ) (n : Node) (r : Router) → IsState y n r → (w : ℕ) → lets_in n w ≡ true → IsOpen r w
 gate_of y n r is w t = subst (λ q. IsOpen q w) (sym is.state) (gate_to n w t is.history is.known)
 
--- the link, to whomever it leads
+-- the link, to whomever it leads, whatever its cost
 abbrev pub nameless : Link → Link
-nameless l = record l { neighbour = 0 }
+nameless l = record l { neighbour = 0; cost = 1 }
 
 -- past the list there is nothing known, also with a router of which nothing is known after it
-past_alike : (ls : List Link) (w i : ℕ) → length ls ≤ i
-    → nameless (get_or (ls ++ record unknown { neighbour = w } ∷ []) i unknown) ≡ unknown
-past_alike ls w i past = ap (λ (n : ℕ). nameless (get_or (ls ++ record unknown { neighbour = w } ∷ []) n unknown))
+past_alike : (ls : List Link) (w c i : ℕ) → length ls ≤ i
+    → nameless (get_or (ls ++ record unknown { neighbour = w; cost = c } ∷ []) i unknown) ≡ unknown
+past_alike ls w c i past = ap (λ (n : ℕ). nameless (get_or (ls ++ record unknown { neighbour = w; cost = c } ∷ []) n unknown))
     (omega (arith, past))
-    ∙ ap nameless (get_or-append-add ls (record unknown { neighbour = w } ∷ []) (i - length ls) unknown)
+    ∙ ap nameless (get_or-append-add ls (record unknown { neighbour = w; cost = c } ∷ []) (i - length ls) unknown)
     ∙ after (i - length ls)
   where
-    after : (k : ℕ) → nameless (get_or (record unknown { neighbour = w } ∷ []) k unknown) ≡ unknown
+    after : (k : ℕ) → nameless (get_or (record unknown { neighbour = w; cost = c } ∷ []) k unknown) ≡ unknown
     after zero = refl
     after (suc k) = refl
 
--- the link to each router stays when one more is known
-pub known_alike : (ls : List Link) (w v : ℕ)
-    → nameless (link_to (ls ++ record unknown { neighbour = w } ∷ []) v) ≡ nameless (link_to ls v)
-known_alike ls w v = ⊎_elim
-    (λ l. ap nameless (ap (λ (i : ℕ). get_or (ls ++ x ∷ []) i unknown)
-    (place ∙ rw (ne_eqb (place_of ls v) (length ls) (λ e. omega (arith, e, l))) refl)
-    ∙ get_or_append_left ls (x ∷ []) unknown (place_of ls v) l))
-    (λ past. past_alike ls w (place_of (ls ++ x ∷ []) v) (omega (
+-- a known router stays in its place when one more is known, and so does the link to it
+pub place_pushed : (ls : List Link) (w c v : ℕ) → IsKnown ls v
+    → place_of (ls ++ record unknown { neighbour = w; cost = c } ∷ []) v ≡ place_of ls v
+place_pushed ls w c v l = position_or_len_push (leads_to v) ls (record unknown { neighbour = w; cost = c })
+    ∙ rw (ne_eqb (place_of ls v) (length ls) (λ e. omega (arith, e, l))) refl
+
+pub known_stays : (ls : List Link) (w c v : ℕ) → IsKnown ls v
+    → link_to (ls ++ record unknown { neighbour = w; cost = c } ∷ []) v ≡ link_to ls v
+known_stays ls w c v l = ap (λ (i : ℕ). get_or (ls ++ record unknown { neighbour = w; cost = c } ∷ []) i unknown)
+    (place_pushed ls w c v l)
+    ∙ get_or_append_left ls (record unknown { neighbour = w; cost = c } ∷ []) unknown (place_of ls v) l
+
+-- the link to each router stays, but for its name
+pub known_alike : (ls : List Link) (w c v : ℕ)
+    → nameless (link_to (ls ++ record unknown { neighbour = w; cost = c } ∷ []) v) ≡ nameless (link_to ls v)
+known_alike ls w c v = ⊎_elim
+    (λ l. ap nameless (known_stays ls w c v l))
+    (λ past. past_alike ls w c (place_of (ls ++ x ∷ []) v) (omega (
       arith,
       place,
       beyond (eqb (place_of ls v) (length ls))
@@ -83,7 +93,7 @@ known_alike ls w v = ⊎_elim
     (cases_lt (place_of ls v) (length ls))
   where
     x : Link
-    x = record unknown { neighbour = w }
+    x = record unknown { neighbour = w; cost = c }
 
     place : place_of (ls ++ x ∷ []) v ≡ cond (eqb (place_of ls v) (length ls))
         (length ls + cond (leads_to v x) 0 1) (place_of ls v)
@@ -94,14 +104,14 @@ known_alike ls w v = ⊎_elim
     beyond false n k i l = l
 
 -- so what is known of it stays
-pub known_same : (ls : List Link) (w v : ℕ)
-    → KnowsSame (link_to ls v) (link_to (ls ++ record unknown { neighbour = w } ∷ []) v)
-known_same ls w v = record {
-  peer = ap (λ (l : Link). l.peer) (known_alike ls w v);
-  stamp = ap (λ (l : Link). l.stamp) (known_alike ls w v);
-  heard = ap (λ (l : Link). l.heard) (known_alike ls w v);
-  seen = ap (λ (l : Link). l.seen) (known_alike ls w v);
-  acked = ap (λ (l : Link). l.acked) (known_alike ls w v);
+pub known_same : (ls : List Link) (w c v : ℕ)
+    → KnowsSame (link_to ls v) (link_to (ls ++ record unknown { neighbour = w; cost = c } ∷ []) v)
+known_same ls w c v = record {
+  peer = ap (λ (l : Link). l.peer) (known_alike ls w c v);
+  stamp = ap (λ (l : Link). l.stamp) (known_alike ls w c v);
+  heard = ap (λ (l : Link). l.heard) (known_alike ls w c v);
+  seen = ap (λ (l : Link). l.seen) (known_alike ls w c v);
+  acked = ap (λ (l : Link). l.acked) (known_alike ls w c v);
 }
 
 -- the router of a node, by what it knows of others
@@ -214,8 +224,8 @@ module _ (pool : List Message) (y : ℕ) (d e : Forwarder Node) (f : Forwarder R
       knows (inl kept) w = same (link_to d.state.links.items w) (link_to e.state.links.items w)
           (ap (λ ls. link_to ls w) kept)
       knows (inr (inl (v, m, says))) w = said_same v m d.state.links.items e.state.links.items says w
-      knows (inr (inr (inl (v, more)))) w = subst (λ ls. KnowsSame (link_to d.state.links.items w) (link_to ls w))
-          (sym more) (known_same d.state.links.items v w)
+      knows (inr (inr (inl (v, c, more)))) w = subst (λ ls. KnowsSame (link_to d.state.links.items w) (link_to ls w))
+          (sym more) (known_same d.state.links.items v c w)
       knows (inr (inr (inr (patience, ticked)))) w =
           ticked_same patience d.state.links.items e.state.links.items ticked w
 

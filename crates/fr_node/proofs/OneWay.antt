@@ -122,12 +122,12 @@ module _ (flag : Link → Bool) (count : Link → ℕ) (is : IsCounted flag coun
           → HasWaited c n.links.items → HasWaited c k.links.items
       said e = alike c n.links.items k.links.items (ap flag e ∙ is.flag_said m (link_to n.links.items w))
           (ap count e ∙ is.count_said m (link_to n.links.items w))
-  kept c n k (inr (inr (inl (v, more)))) = alike c n.links.items k.links.items
+  kept c n k (inr (inr (inl (v, cost, more)))) = alike c n.links.items k.links.items
       (sym (is.flag_nameless (link_to k.links.items w)) ∙ ap flag same ∙ is.flag_nameless (link_to n.links.items w))
       (sym (is.count_nameless (link_to k.links.items w)) ∙ ap count same ∙ is.count_nameless (link_to n.links.items w))
     where
       same : nameless (link_to k.links.items w) ≡ nameless (link_to n.links.items w)
-      same = ap (λ ls. nameless (link_to ls w)) more ∙ known_alike n.links.items v w
+      same = ap (λ ls. nameless (link_to ls w)) more ∙ known_alike n.links.items v cost w
   kept c n k (inr (inr (inr (other, ticked)))) = ticks_too other c n.links.items k.links.items ticked
 
   module _ (Call : Node → Node → Type 0)

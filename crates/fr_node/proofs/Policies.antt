@@ -11,8 +11,9 @@ use Rattle.fr_node.specs.declared.link.Link.{Link}
 use Rattle.fr_node.specs.declared.node.Node.{Node}
 use Rattle.fr_node.specs.declared.own.Own.{Own}
 use Rattle.fr_node.specs.declared.policy.Rise.{Rise}
+use Rattle.fr_node.specs.declared.policy.Rise.TheVariants.{Full, Top}
 use Rattle.fr_node.specs.Links.{has_answered, is_lower, is_way}
-use Rattle.fr_node.specs.Policies.{IsSink, RisesTo, rises_to}
+use Rattle.fr_node.specs.Policies.{FallsTo, IsSink, RisesTo, falls_to, rises_to}
 
 pub false_true : (b : Bool) → b ≡ false → b ≡ true → ⊥
 false_true b f t = cc
@@ -98,6 +99,45 @@ has_way own ls ks d r same e = let found = e ∙ ap (list_any (λ l. is_way own 
 
     near : (l : Link) → (is_way own l && nat_lt l.distance d) ≡ true → l.distance < d
     near l t = let s = rw (way l t) at t in grind (arith, nat_tests)
+
+-- all gates are open
+gate_test : Own → Link → Bool
+gate_test own l = not l.up || has_answered own l
+
+IsLetIn : Own → Link → Type 0
+IsLetIn own l = l.up ≡ true → has_answered own l ≡ true
+
+gate_yes : (own : Own) (l : Link) → gate_test own l ≡ true → IsLetIn own l
+unfolding gate_test IsLetIn
+gate_yes own l t up = grind (arith, nat_tests)
+
+gate_no : (own : Own) (l : Link) → IsLetIn own l → gate_test own l ≡ true
+unfolding gate_test IsLetIn
+gate_no own l in_gate = ⊎_elim
+    (λ up. let h = in_gate up in rw up h)
+    (λ down. rw down refl)
+    (cases_Bool l.up)
+
+pub are_gates_open : (own : Own) (ls ks : List Link) (r : Bool) → ks ≡ ls
+    → r ≡ list_all (λ l. not l.up || has_answered own l) ks
+    → (r ≡ true → All (λ l. l.up ≡ true → has_answered own l ≡ true) ls)
+    × (All (λ l. l.up ≡ true → has_answered own l ≡ true) ls → r ≡ true)
+unfolding gate_test IsLetIn
+are_gates_open own ls ks r same e = let found = e ∙ ap (list_all (gate_test own)) same in (
+  λ t. all_pass (gate_test own) (IsLetIn own) (gate_yes own) (gate_no own) ls (sym found ∙ t),
+  λ all. found ∙ pass_all (gate_test own) (IsLetIn own) (gate_yes own) (gate_no own) ls all,
+)
+
+-- a fall leads to a lower height
+pub falls_lower : (rise : Rise) (n : Node) (v : ℕ) → falls_to rise n v → v < n.own.used
+falls_lower Full n v falls = falls.lower
+falls_lower (Top ceiling) n v falls = falls.lower
+
+-- what holds of the fall of the policy
+pub falls_by : (rise : Rise) (n : Node) (r : Option ℕ) → n.policy.rise ≡ rise
+    → MatchOption r ((v : ℕ) → ¬ falls_to rise n v) (falls_to rise n)
+    → MatchOption r ((v : ℕ) → ¬ FallsTo n v) (FallsTo n)
+falls_by rise n r e = subst (λ (k : Rise). MatchOption r ((v : ℕ) → ¬ falls_to k n v) (falls_to k n)) (sym e)
 
 -- what holds of the rise of the policy
 pub rises_by : (rise : Rise) (n : Node) (r : Option ℕ) → n.policy.rise ≡ rise

@@ -48,8 +48,8 @@ module _ (boot stamp w : ℕ) where
   kept : (n k : Node) → KeepsLinks n k → KnowsSame (link_to n.links.items w) (link_to k.links.items w)
   kept n k (inl all) = same (link_to n.links.items w) (link_to k.links.items w) (ap (λ ls. link_to ls w) all)
   kept n k (inr (inl (v, m, says))) = said_same v m n.links.items k.links.items says w
-  kept n k (inr (inr (inl (v, more)))) = subst (λ ls. KnowsSame (link_to n.links.items w) (link_to ls w)) (sym more)
-      (known_same n.links.items v w)
+  kept n k (inr (inr (inl (v, c, more)))) = subst (λ ls. KnowsSame (link_to n.links.items w) (link_to ls w)) (sym more)
+      (known_same n.links.items v c w)
   kept n k (inr (inr (inr (patience, ticked)))) = ticked_same patience n.links.items k.links.items ticked w
 
   called : (n k : Node) → IsCall n k → HasReached boot stamp (link_to n.links.items w)

@@ -8,6 +8,7 @@ use Rattle.std.proofs.Math.Nat.{mul-le-mul_right, pow-suc}
 use Rattle.std.proofs.lemmas.Bool.{cases_Bool, cases_lt, or_cases}
 use Rattle.std.proofs.lemmas.Bool.Decides.{nat_tests}
 use Rattle.std.proofs.lemmas.Nat.{pow-add}
+use Rattle.fr_node.specs.declared.policy.Rise.TheVariants.{Full, Top}
 use Rattle.fr_node.specs.Heights.{announces, announces_below, hears_low, knows_low, steps_with}
 use Rattle.fr_node.specs.Paths.{times}
 use Rattle.fr_node.specs.Rests.{AnnouncementsEnd, KeepsBelow, LeadsDown, StaysBelow, TestsLeadDown}
@@ -53,10 +54,8 @@ steps_most p q each x s ts = omega (
 )
 
 pub tests_lead_down : TestsLeadDown
-tests_lead_down = (
-  is_below_only,
-  λ x cost least e w h y. let costs = least w in inl (grind (arith, nat_tests, y, costs)),
-)
+tests_lead_down Full x cost least e w h y = is_below_only x e w h y
+tests_lead_down (Top ceiling) x cost least e w h y = let costs = least w in inl (grind (arith, nat_tests, y, costs))
 
 -- Announcements by rank: by height, and of equal heights by the number of their router
 

@@ -8,7 +8,7 @@ use Rattle.fr_node.specs.Links.{after_tick, link_to, place_of, unknown}
 use Rattle.fr_node.specs.Nodes.{Steps}
 use Rattle.fr_node.proofs.Stepping.{InTurn, KnowsSame, after_keeping, steps_kept}
 
-place_ticked : (patience : ℕ) (ls : List Link) (w : ℕ) → place_of (map (after_tick patience) ls) w ≡ place_of ls w
+pub place_ticked : (patience : ℕ) (ls : List Link) (w : ℕ) → place_of (map (after_tick patience) ls) w ≡ place_of ls w
 place_ticked patience [] w = refl
 place_ticked patience (l ∷ ls) w = rw (place_ticked patience ls w) refl
 

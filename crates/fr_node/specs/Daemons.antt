@@ -33,7 +33,7 @@ pub record StartsAnew (y : ℕ) (d e : Forwarder Node) : Type 0 where
 abbrev pub KeepsLinks : Node → Node → Type 0
 KeepsLinks n k = (k.links.items ≡ n.links.items)
     ⊎ ((w : ℕ) × (m : Message) × Says w m n.links.items k.links.items)
-    ⊎ ((w : ℕ) × (k.links.items ≡ n.links.items ++ record unknown { neighbour = w } ∷ []))
+    ⊎ ((w cost : ℕ) × (k.links.items ≡ n.links.items ++ record unknown { neighbour = w; cost = cost } ∷ []))
     ⊎ ((patience : ℕ) × (k.links.items ≡ map (after_tick patience) n.links.items))
 
 -- `say`, `know` or `written`, a `tick` that is no event, or a call that changes nothing: they change no ways and no

@@ -2,16 +2,19 @@
 -- hears an announcement that is low enough for it. Any test may say whether height h of a neighbour w is low enough for
 -- height e of the router. The definitions and laws are this project's own.
 use Rattle.std.specs.Prelude.{Bool, List, [], ◌∷◌, if◌then◌else◌, not, true, ℕ, ◌+◌, ◌<◌, ◌≡◌, ◌≤◌, ◌⊎◌, ◌==◌}
-use Rattle.std.specs.Prelude.{◌&&◌, false, nat_lt}
+use Rattle.std.specs.Prelude.{◌&&◌, false, nat_le, nat_lt}
 use Rattle.std.specs.List.{Contains, list_any}
 use Rattle.fr_node.specs.declared.link.Link.{Link}
 use Rattle.fr_node.specs.declared.message.Message.{Message}
 use Rattle.fr_node.specs.declared.node.Node.{Node}
+use Rattle.fr_node.specs.declared.policy.Rise.{Rise}
+use Rattle.fr_node.specs.declared.policy.Rise.TheVariants.{Full, Top}
 use Rattle.fr_node.specs.Histories.{IsHistory}
-use Rattle.fr_node.specs.Links.{link_to}
+use Rattle.fr_node.specs.Links.{IsKnown, link_to}
 use Rattle.fr_node.specs.Nodes.{Steps, router}
 use Rattle.fr_node.specs.Paths.{is_below}
 use Rattle.fr_node.specs.Policies.{Acts}
+use Rattle.fr_node.specs.Repeats.{AreCalls, last_node}
 use Rattle.fr_node.specs.Routers.{GoesOn, IsRun, IsStart, Net, Router, last}
 
 -- by what a router, in this state, has heard of w, the height of w is low enough for height e
@@ -81,11 +84,29 @@ pub record AreUp (n : Node) (ws : List ℕ) : Type 0 where
   pub listed : (l : Link) → Contains n.links.items l → l.up ≡ true → Contains ws l.neighbour
       × (link_to n.links.items l.neighbour ≡ l)
 
--- what a call of a node ensures makes it such a step, by the test whether a neighbour is below it, beside the
--- neighbours whose links are up after it, whatever its policy
+-- the neighbour offers a route of a cost of at most e: its height and the cost of the link to it are together below the
+-- ceiling, and at most e
+abbrev pub is_within : (ceiling : ℕ) (cost : ℕ → ℕ) → (e w h : ℕ) → Bool
+is_within ceiling cost e w h = nat_lt (h + cost w) ceiling && nat_le (h + cost w) e
+
+-- the test of router x by its policy, if these are the costs of its links: by full reversal whether a neighbour is below
+-- it, and otherwise whether a neighbour offers its height
+abbrev pub test_of : Rise → (x : ℕ) (cost : ℕ → ℕ) → (e w h : ℕ) → Bool
+test_of Full x cost = is_below x
+test_of (Top ceiling) x cost = is_within ceiling cost
+
+-- no call changes the cost of a link to a known neighbour, and a known neighbour stays known
+abbrev pub CostsStay : Type 0
+CostsStay = (n : Node) (ks : List Node) (w : ℕ) → AreCalls n ks → IsKnown n.links.items w
+    → IsKnown (last_node n ks).links.items w
+    × ((link_to (last_node n ks).links.items w).cost ≡ (link_to n.links.items w).cost)
+
+-- what a call of a node ensures makes it such a step, by the test of its policy, beside the neighbours whose links are up
+-- after it
 abbrev pub CallsActBeside : Type 0
-CallsActBeside = (messages : List Message) (old new : Node) (ws : List ℕ) → AreUp new ws → Steps messages old new
+CallsActBeside = (messages : List Message) (old new : Node) (ws : List ℕ) (cost : ℕ → ℕ) → AreUp new ws
+    → ((w : ℕ) → Contains ws w → (link_to new.links.items w).cost ≡ cost w) → Steps messages old new
     → Acts (record old { links = new.links }) new.own ⊎ (new.own ≡ old.own)
     → (h : ℕ → ℕ) → IsHistory old.own h
     → (k : ℕ → ℕ) × IsHistory new.own k × GoesOn messages old.own.me (router old h) (router new k)
-    × ActsBeside (is_below old.own.me) ws (router old h) (router new k)
+    × ActsBeside (test_of old.policy.rise old.own.me cost) ws (router old h) (router new k)

@@ -13,7 +13,7 @@ pub mod Daemons  -- daemons that call nodes and write tables
 pub mod Paths  -- how many heights routers on a path announce, whatever else happens
 pub mod Lowerings  -- the same of routers that may lower their heights
 pub mod Heights  -- how often a router announces the same height
-pub mod Ceilings  -- where packets end below a ceiling
+pub mod Shortest  -- routes of least cost, once nothing more happens
 pub mod Repeats  -- messages that are heard again
 pub mod OneWay  -- links that work one way
 pub mod Rests  -- how many heights routers below a ceiling announce together

@@ -10,6 +10,7 @@ use Rattle.fr_node.specs.declared.own.Own.{Own}
 abbrev pub unknown : Link
 unknown = record {
   neighbour = 0;
+  cost = 1;
   carrier = false;
   up = false;
   deaf = 0;
@@ -46,6 +47,14 @@ is_lower own l = nat_lt 0 l.heard && (nat_lt l.seen own.used || (l.seen == own.u
 abbrev pub is_way : Own → Link → Bool
 is_way own l = l.up && is_lower own l
 
+-- the cost of a route over the neighbour, by the height that was heard of it
+abbrev pub offer_of : Link → ℕ
+offer_of l = l.seen + l.cost
+
+-- the neighbour offers such a route: the link counts as up, the neighbour was heard, and the cost is below the ceiling
+abbrev pub is_offer : (ceiling : ℕ) → Link → Bool
+is_offer ceiling l = l.up && (nat_lt 0 l.heard && nat_lt (offer_of l) ceiling)
+
 -- the neighbour has acknowledged a number from which on nothing was announced below the height in use
 abbrev pub has_answered : Own → Link → Bool
 has_answered own l = nat_le own.used_since l.acked
@@ -68,6 +77,7 @@ pub record IsTaken (own : Own) (m : Message) (ls : List Link) : Type 0 where
 -- router
 pub record IsHeard (own : Own) (m : Message) (l k : Link) : Type 0 where
   pub neighbour : k.neighbour ≡ l.neighbour
+  pub cost : k.cost ≡ l.cost
   pub carrier : k.carrier ≡ l.carrier
   pub said : k.said ≡ l.said
   pub both_ways : m.echo ≡ own.boot → (k.up ≡ l.carrier) × (k.deaf ≡ 0)

@@ -1,14 +1,17 @@
--- Which height a node announces by its policy, and when it uses it. The definitions are this project's own.
-use Rattle.std.specs.Prelude.{All, Bool, List, MatchOption, Option, min, false, true, nat_lt, if◌then◌else◌, ℕ, ◌+◌, ◌^◌, ◌<◌, ◌≤◌, ◌≡◌, ◌≢◌, ◌⊎◌}
+-- Which height a node announces by its policy, and when it uses it. Full link reversal is from E. Gafni and D. Bertsekas,
+-- IEEE Transactions on Communications 29 (1981). Offers are the sums of distance-vector routing, as in D. Bertsekas and
+-- R. Gallager, Data Networks (1992). That a router waits for acknowledgements before it takes a lower height is near to
+-- what J. J. Garcia-Luna-Aceves describes, IEEE/ACM Transactions on Networking 1 (1993).
+use Rattle.std.specs.Prelude.{All, Bool, List, MatchOption, Option, false, true, nat_lt, if◌then◌else◌, ℕ, ◌+◌, ◌^◌, ◌<◌, ◌≤◌, ◌≡◌, ◌≢◌, ◌⊎◌}
 use Rattle.std.specs.List.{Contains}
 use Rattle.fr_node.specs.declared.link.Link.{Link}
 use Rattle.fr_node.specs.declared.message.TheConstants.{CUT_OFF}
 use Rattle.fr_node.specs.declared.node.Node.{Node}
 use Rattle.fr_node.specs.declared.own.Own.{Own}
 use Rattle.fr_node.specs.declared.policy.Rise.{Rise}
-use Rattle.fr_node.specs.declared.policy.Rise.TheVariants.{Ceiling, Full}
-use Rattle.fr_node.specs.Distances.{IsDistance}
-use Rattle.fr_node.specs.Links.{has_answered, is_lower, is_way}
+use Rattle.fr_node.specs.declared.policy.Rise.TheVariants.{Full, Top}
+use Rattle.fr_node.specs.Distances.{IsDistance, IsLeast}
+use Rattle.fr_node.specs.Links.{has_answered, is_lower, is_offer, is_way, offer_of}
 
 -- link x passes the test, and no link of the list that passes it is better
 pub record IsBest (passes : Link → Bool) (better : Link → Link → Bool) (ls : List Link) (x : Link) : Type 0 where
@@ -41,26 +44,41 @@ pub record IsAboveAll (n : Node) (v : ℕ) : Type 0 where
   pub highest : (x : Link) × IsBest is_up is_higher n.links.items x × (v ≡ x.seen + 1)
   pub fits : v < 2 ^ 64
 
--- the same, but to the ceiling at most
-pub record IsBelowCeiling (n : Node) (ceiling v : ℕ) : Type 0 where
-  pub sink : IsSink n.own n.links.items
-  pub highest : (x : Link) × IsBest is_up is_higher n.links.items x × (v ≡ min (x.seen + 1) ceiling)
+-- a router whose height no neighbour offers rises to v, the height of a router without a route
+pub record IsAtTop (n : Node) (ceiling v : ℕ) : Type 0 where
+  pub none : All (λ l. is_offer ceiling l ≡ true → n.own.announced < offer_of l) n.links.items
+  pub top : v ≡ CUT_OFF
 
 abbrev pub rises_to : Rise → Node → ℕ → Type 0
 rises_to Full n v = IsAboveAll n v
-rises_to (Ceiling ceiling) n v = IsBelowCeiling n ceiling v
+rises_to (Top ceiling) n v = IsAtTop n ceiling v
 
 -- the policy of the node raises it to v, if that is greater than its height
 abbrev pub RisesTo : Node → ℕ → Type 0
 RisesTo n v = rises_to n.policy.rise n v
 
--- the policy lowers the node to v: to its distance, if a way that is nearer than that stays a way
-pub record FallsTo (n : Node) (v : ℕ) : Type 0 where
+-- a router comes down to v: to its distance, if a way that is nearer than that stays a way
+pub record IsAtDistance (n : Node) (v : ℕ) : Type 0 where
   pub wanted : n.policy.lower ≡ true
   pub distance : IsDistance n v
   pub near : v ≢ CUT_OFF
   pub lower : v < n.own.used
   pub stays : (x : Link) × Contains n.links.items x × (is_way (record n.own { used = v }) x ≡ true) × (x.distance < v)
+
+-- a router comes down to v: to its best offer, once each neighbour at a link that is up has acknowledged enough to be let
+-- in
+pub record IsAtOffer (n : Node) (ceiling v : ℕ) : Type 0 where
+  pub answered : All (λ l. l.up ≡ true → has_answered n.own l ≡ true) n.links.items
+  pub best : IsLeast (is_offer ceiling) offer_of n.links.items v
+  pub lower : v < n.own.used
+
+abbrev pub falls_to : Rise → Node → ℕ → Type 0
+falls_to Full n v = IsAtDistance n v
+falls_to (Top ceiling) n v = IsAtOffer n ceiling v
+
+-- the policy of the node lowers it to v
+abbrev pub FallsTo : Node → ℕ → Type 0
+FallsTo n v = falls_to n.policy.rise n v
 
 -- a node may announce a height: it is no gateway, the last height is in use, and the next number has 64 bits
 pub record MayAnnounce (n : Node) : Type 0 where

@@ -1,12 +1,14 @@
 -- How many heights routers announce together that stay below a ceiling, or at one height above, while links stay as
 -- they are. Messages may be lost, delayed, repeated and overtaken, and nothing is supposed of what was heard before.
 -- The definitions and laws are this project's own.
-use Rattle.std.specs.Prelude.{Bool, IsTrue, List, [], ◌∷◌, eqb, nat_le, true, zero, suc, ℕ, ◌+◌, ◌*◌, ◌^◌, ◌<◌, ◌≡◌}
+use Rattle.std.specs.Prelude.{Bool, IsTrue, List, [], ◌∷◌, eqb, true, zero, suc, ℕ, ◌+◌, ◌*◌, ◌^◌, ◌<◌, ◌≡◌}
 use Rattle.std.specs.Prelude.{◌≤◌, ◌⊎◌}
 use Rattle.std.specs.List.{Contains, IsDistinct}
 use Rattle.fr_node.specs.declared.node.Node.{Node}
-use Rattle.fr_node.specs.declared.policy.Rise.TheVariants.{Ceiling}
-use Rattle.fr_node.specs.Heights.{KeepsLinks}
+use Rattle.fr_node.specs.declared.message.TheConstants.{CUT_OFF}
+use Rattle.fr_node.specs.declared.policy.Rise.{Rise}
+use Rattle.fr_node.specs.declared.policy.Rise.TheVariants.{Top}
+use Rattle.fr_node.specs.Heights.{KeepsLinks, test_of}
 use Rattle.fr_node.specs.Histories.{IsHistory}
 use Rattle.fr_node.specs.Paths.{is_below, times, unheard}
 use Rattle.fr_node.specs.Policies.{Acts}
@@ -16,14 +18,9 @@ use Rattle.fr_node.specs.Routers.{IsBelow, IsRun, IsStart, Net, last}
 abbrev pub LeadsDown : ℕ → ((e w h : ℕ) → Bool) → Type 0
 LeadsDown x low = (e w h : ℕ) → low e w h ≡ true → IsBelow h w e x
 
--- the neighbour's height and the cost of the link to it are together at most e
-abbrev pub is_within : (cost : ℕ → ℕ) → (e w h : ℕ) → Bool
-is_within cost e w h = nat_le (h + cost w) e
-
--- such tests are whether the neighbour is below the router, and the one by costs, if each link costs 1 at least
+-- such are the tests of all policies, if each link costs 1 at least
 abbrev pub TestsLeadDown : Type 0
-TestsLeadDown = ((x : ℕ) → LeadsDown x (is_below x))
-    × ((x : ℕ) (cost : ℕ → ℕ) → ((w : ℕ) → 1 ≤ cost w) → LeadsDown x (is_within cost))
+TestsLeadDown = (rise : Rise) (x : ℕ) (cost : ℕ → ℕ) → ((w : ℕ) → 1 ≤ cost w) → LeadsDown x (test_of rise x cost)
 
 -- in these networks, which follow one another, the last height that router x has announced is below the ceiling, or is
 -- top
@@ -68,9 +65,11 @@ SomeRoutersAnnounce = (s : Net) × (past future : List Net) × (ceiling routers 
     × ((x : ℕ) → x < routers → KeepsBelow ceiling ceiling routers most x (is_below x) (beside x) (last s past) future)
     × (times_of_all (last s past) (last (last s past) future) routers ≡ 4)
 
--- a call of a gateway, or of a node that rises to this ceiling at most, announces no height above the ceiling
+-- a call of a gateway, or of a node with `Rise::Top` and this ceiling, announces no height but those below the ceiling
+-- and the top
 abbrev pub CallsStayBelow : Type 0
-CallsStayBelow = (ceiling : ℕ) (old new : Node) → IsTrue old.gateway ⊎ (old.policy.rise ≡ Ceiling ceiling)
+CallsStayBelow = (ceiling : ℕ) (old new : Node) → IsTrue old.gateway ⊎ (old.policy.rise ≡ Top ceiling)
     → Acts (record old { links = new.links }) new.own ⊎ (new.own ≡ old.own)
-    → (h k : ℕ → ℕ) → IsHistory old.own h → IsHistory new.own k → h old.own.number ≤ ceiling
-    → k new.own.number ≤ ceiling
+    → (h k : ℕ → ℕ) → IsHistory old.own h → IsHistory new.own k
+    → (h old.own.number < ceiling) ⊎ (h old.own.number ≡ CUT_OFF)
+    → (k new.own.number < ceiling) ⊎ (k new.own.number ≡ CUT_OFF)

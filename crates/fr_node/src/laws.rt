@@ -1,15 +1,15 @@
 //! The laws of networks of routers. Each clause is a law of `specs/`, proved. The functions do nothing.
 
 ghost use Rattle.fr_node.specs.Bytes.{OneMessage};
-ghost use Rattle.fr_node.specs.Ceilings.{JoinedPacketsArrive, SomeRouterIsJoined};
 ghost use Rattle.fr_node.specs.Daemons.{DaemonsHaveNoLoop};
 ghost use Rattle.fr_node.specs.Tables.{SomeTablesLetThrough, TablesHaveNoLoop};
-ghost use Rattle.fr_node.specs.Heights.{CallsActBeside, SameHeightIsBounded, SomeHeightComesBack};
+ghost use Rattle.fr_node.specs.Heights.{CallsActBeside, CostsStay, SameHeightIsBounded, SomeHeightComesBack};
 ghost use Rattle.fr_node.specs.Laws.{NeverALoop, PacketsArrive, SomeLinkIsUsed};
 ghost use Rattle.fr_node.specs.Lowerings.{CallsKeepLinksOrFall, LinkBoundsWithFalls, PathBoundsWithFalls};
 ghost use Rattle.fr_node.specs.Lowerings.{SomeRouterFalls};
 ghost use Rattle.fr_node.specs.Repeats.{RepeatsAreIgnored};
 ghost use Rattle.fr_node.specs.Rests.{AnnouncementsEnd, CallsStayBelow, SomeRoutersAnnounce, TestsLeadDown};
+ghost use Rattle.fr_node.specs.Shortest.{LostRoutersKnow, RoutesAreShortest, SomeRouteIsShortest};
 ghost use Rattle.fr_node.specs.OneWay.{DeafLinksAreLost, DeafLinksHoldNothingBack, SilenceIsTold};
 ghost use Rattle.fr_node.specs.Paths.{BoundIsReached, CallsKeepLinks, DownPathIsQuiet, LinkBoundsAnnouncements};
 ghost use Rattle.fr_node.specs.Paths.{PathBoundsAnnouncements, UnheardAreAnnouncements};
@@ -38,20 +38,26 @@ pub fn ways_law()
     ensures { PacketsArrive }
 {}
 
-/// In a network of routers with `Rise::Ceiling` and `lower`, with one ceiling that is at least the number of routers,
-/// once all messages have arrived and no router changes its height, packets of each router that is joined to a gateway
-/// come to a gateway, whichever ways they take. Each router that they reach lets them in. A gateway and a router meet
-/// these premises.
-///
-/// Routers that stay at or below a ceiling come to rest, also those that are cut off: while no link goes up or down and
+/// In a network of routers with `Rise::Top`, once all messages have arrived and no router changes its height, routes have
+/// the least costs. A path of links that are up counts if the cost from each of its routers on is below the ceiling of
+/// that router. The height of a router with such a path to a gateway, and its distance, are the least cost of these
+/// paths. Its packets come to a gateway, whichever ways they take, and over links of this cost together if they take
+/// nearest ways. Each router that they reach lets them in. A router that no path of links that are up joins to a gateway
+/// has no distance. A gateway and a router meet these premises.
+pub fn shortest_law()
+    ensures least { RoutesAreShortest }
+    ensures lost { LostRoutersKnow }
+    ensures possible { SomeRouteIsShortest }
+{}
+
+/// Routers that stay below a ceiling come to rest, also those that are cut off: while no link goes up or down and
 /// no router restarts, they announce a bounded number of heights together, whatever happens to messages. Each of them
 /// acts as in `heights_law`, and may do so by a test of its own, if only heights below its own are low enough. Such
-/// tests are whether a neighbour is lower, and whether its height and the cost of the link to it are together at most
-/// the height. Instead of the ceiling they may announce one height above it. In some run routers announce four heights.
-/// A call of a `Node` with `Rise::Ceiling` that starts at or below the ceiling stays there.
+/// tests are whether a neighbour is lower, and whether it offers the height: its height and the cost of the link to it
+/// are together below the ceiling, and at most the height. Instead of heights below the ceiling they may announce one
+/// that is not. In some run routers announce four heights. A call of a `Node` with `Rise::Top` that starts below the
+/// ceiling or at the top stays there.
 pub fn ceiling_law()
-    ensures arrive { JoinedPacketsArrive }
-    ensures joined { SomeRouterIsJoined }
     ensures rest { AnnouncementsEnd }
     ensures tests { TestsLeadDown }
     ensures possible { SomeRoutersAnnounce }
@@ -85,12 +91,14 @@ pub fn lowering_law()
 /// A router that rises only if no neighbour is known to be low enough for its height, and falls to a height only if one
 /// is known to be low enough for that, announces the same height at most once, and again for each time that it goes
 /// below that height or hears an announcement that is low enough for it. Any test may say what is low enough. In some
-/// run a height comes back as often as the law allows. Each call of a `Node` is a step of this law, whatever its
-/// policy, by the test whether a neighbour is lower.
+/// run a height comes back as often as the law allows. Each call of a `Node` is a step of this law: with `Rise::Full` by
+/// the test whether a neighbour is lower, and with `Rise::Top` by the test whether it offers the height. No call changes the
+/// cost of a link, so this test stays.
 pub fn heights_law()
     ensures again { SameHeightIsBounded }
     ensures possible { SomeHeightComesBack }
     ensures calls { CallsActBeside }
+    ensures costs { CostsStay }
 {}
 
 /// Links that work one way hold no router back. A link does not count as up after as many ticks as the caller's

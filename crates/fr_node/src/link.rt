@@ -1,8 +1,8 @@
 //! What a router knows of one neighbour.
 
-ghost use Rattle.std.specs.Prelude.{◌≡◌, ◌≢◌, ◌<◌, ◌≤◌, ◌⊎◌, ◌↔◌, IsTrue, false, true};
-ghost use Rattle.fr_node.specs.Distances.{way_of};
-ghost use Rattle.fr_node.specs.Links.{IsHeard, IsNewer, after_tick, echo_of, has_answered, is_lost, is_lower, is_way, lasts, one_more};
+ghost use Rattle.std.specs.Prelude.{◌≡◌, ◌≢◌, ◌<◌, ◌≤◌, ◌⊎◌, ◌↔◌, IsTrue, MatchOption, false, true};
+ghost use Rattle.fr_node.specs.Distances.{distance_over, way_of};
+ghost use Rattle.fr_node.specs.Links.{IsHeard, IsNewer, after_tick, echo_of, has_answered, is_lost, is_lower, is_offer, is_way, lasts, offer_of, one_more};
 
 use crate::message::{CUT_OFF, Message};
 use crate::own::Own;
@@ -12,6 +12,8 @@ use crate::way::Way;
 #[derive(Clone, Copy, Debug, PartialEq, Eq)]
 pub(crate) struct Link {
     pub(crate) neighbour: u32,
+    /// What it costs to send a packet over the link: 1 or more.
+    pub(crate) cost: u32,
     /// Whether the caller says that the link is up.
     pub(crate) carrier: bool,
     /// Whether the link counts as up: there is a carrier, and the neighbour did not seem deaf for too many ticks.
@@ -40,10 +42,11 @@ pub(crate) struct Link {
 }
 
 impl Link {
-    /// A link that is down, to a neighbour of which nothing is known.
-    pub(crate) fn new(neighbour: u32) -> Link
+    /// A link of this cost that is down, to a neighbour of which nothing is known.
+    pub(crate) fn new(neighbour: u32, cost: u32) -> Link
         ensures { result ≡ record {
           neighbour = neighbour;
+          cost = cost;
           carrier = false;
           up = false;
           deaf = 0;
@@ -60,6 +63,7 @@ impl Link {
     {
         Link {
             neighbour,
+            cost,
             carrier: false,
             up: false,
             deaf: 0,
@@ -237,6 +241,26 @@ impl Link {
         self.heard > 0 && (self.seen < own.used || self.seen == own.used && is_first)
     }
 
+    /// What the neighbour offers: the cost of a route over it, if that is below the ceiling.
+    pub(crate) fn offer(&self, ceiling: u32) -> Option<u32>
+        ensures { MatchOption result (is_offer ceiling self.now ≡ false)
+            (λ v. (is_offer ceiling self.now ≡ true) × (v ≡ offer_of self.now)) }
+    {
+        let cost = self.seen.saturating_add(u64::from(self.cost));
+        if self.up && self.heard > 0 && cost < u64::from(ceiling) {
+            Some(cost as u32)
+        } else {
+            None
+        }
+    }
+
+    /// The distance over the link: that of the neighbour and the cost of the link, if the neighbour has one.
+    pub(crate) fn distance_over(&self) -> u32
+        ensures { result ≡ distance_over self.now }
+    {
+        self.distance.saturating_add(self.cost)
+    }
+
     /// Whether the neighbour has acknowledged enough to be let in.
     pub(crate) fn has_answered(&self, own: &Own) -> bool
         ensures { result ≡ has_answered own.now self.now }
@@ -260,7 +284,7 @@ impl Link {
     {
         Way {
             neighbour: self.neighbour,
-            distance: self.distance,
+            distance: self.distance_over(),
         }
     }
 }

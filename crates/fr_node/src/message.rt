@@ -27,8 +27,8 @@ pub struct Message {
     pub height: u64,
     /// The greatest number that it has heard of the greatest start of the neighbour. 0 if it has heard none.
     pub heard: u64,
-    /// How many links a packet crosses from the router to a gateway, by what it has heard.
-    /// [`CUT_OFF`](crate::CUT_OFF) if it has no way.
+    /// The cost of the nearest route from the router to a gateway, by what it has heard. [`CUT_OFF`](crate::CUT_OFF) if
+    /// it has no way.
     pub distance: u32,
     /// How many messages the router has said at this start, to all neighbours, with this one.
     pub stamp: u64,

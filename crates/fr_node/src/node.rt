@@ -5,9 +5,9 @@ ghost use Rattle.std.specs.Prelude.{IsTrue, IfErr, IfOk, IsSome, IfSome, IfNone,
 ghost use Rattle.std.specs.List.{list_all, list_any, position};
 ghost use Rattle.fr_node.specs.Histories.{Announces};
 ghost use Rattle.fr_node.specs.declared.fault.NodeFault.TheVariants.{Itself, LaterStart, Memory, Outdated, TooHigh, Unwritten};
-ghost use Rattle.fr_node.specs.Links.{Hears, IsKnown, IsTaken, SetsUp, after_tick, has_answered, is_lost, is_lower, is_way, leads_to, link_to, unknown};
-ghost use Rattle.fr_node.specs.Distances.{AreWays, HasNoWay, IsDistance, IsNearest, ways_of};
-ghost use Rattle.fr_node.specs.Policies.{Acts, Announcement, FallsTo, IsAboveAll, IsBelowCeiling, IsBestOrNone, MaySettle, RisesTo, better_of, is_higher, is_up};
+ghost use Rattle.fr_node.specs.Links.{Hears, IsKnown, IsTaken, SetsUp, after_tick, has_answered, is_lost, is_lower, is_offer, is_way, leads_to, link_to, offer_of, unknown};
+ghost use Rattle.fr_node.specs.Distances.{AreWays, HasNoWay, IsDistance, IsLeast, IsNearest, NonePasses, ways_of};
+ghost use Rattle.fr_node.specs.Policies.{Acts, Announcement, FallsTo, IsAboveAll, IsAtDistance, IsAtOffer, IsAtTop, IsBestOrNone, MaySettle, RisesTo, better_of, is_higher, is_up};
 ghost use Rattle.fr_node.specs.Nodes.{IsMessageTo, Steps, lets_in, sends_to};
 ghost use Rattle.fr_node.specs.Events.{IsAfterEvent, IsNews, IsStarted, KnowsLaterStart, SaysTo, gates_of, is_gate};
 ghost use Rattle.fr_node.specs.Histories.{IsHistory};
@@ -97,16 +97,19 @@ impl Node {
         }
     }
 
-    /// Makes a neighbour known. The link to it is down, until it comes up. A neighbour that is known stays as it is. This
-    /// is the only call that takes memory, and it is no event. O(d) for d known neighbours.
+    /// Makes a neighbour known. `cost` is what it costs this router to send a packet to it: the neighbour may know
+    /// another cost for the other direction. The link is down, until it comes up. A neighbour that is known stays as it
+    /// is, with the cost that it had. This is the only call that takes memory, and it is no event. O(d) for d known
+    /// neighbours.
     ///
     /// Fails with `Itself` if the neighbour is this router, and with `Memory` if an allocation was refused, which never
     /// happens for a neighbour that is known. Then nothing has changed.
-    pub fn know(&mut self, neighbour: u32) -> Result<(), NodeFault>
+    pub fn know(&mut self, neighbour: u32, cost: u32) -> Result<(), NodeFault>
+        requires { 0 < cost }
         ensures itself { neighbour ≡ self.old.own.me ↔ (result ≡ Err Itself) }
         ensures known { neighbour ≢ self.old.own.me → IsKnown self.old.links.items neighbour → self.new ≡ self.old }
         ensures new { OnOk result (¬ IsKnown self.old.links.items neighbour
-            → self.new.links.items ≡ self.old.links.items ++ record unknown { neighbour = neighbour } ∷ []) }
+            → self.new.links.items ≡ self.old.links.items ++ record unknown { neighbour = neighbour; cost = cost } ∷ []) }
         ensures same { self.new ≡ record self.old { links = self.new.links } }
         ensures err { IfErr result (λ f. ((f ≡ Itself) ⊎ (f ≡ Memory)) × (self.new.links.items ≡ self.old.links.items)) }
         ensures memory { result ≡ Err Memory → ¬ IsKnown self.old.links.items neighbour }
@@ -117,7 +120,7 @@ impl Node {
         }
         if self.index_of(neighbour).is_none() {
             self.links.reserve(1)?;
-            self.links.push_reserved(Link::new(neighbour));
+            self.links.push_reserved(Link::new(neighbour, cost));
         }
         Ok(())
     }
@@ -399,18 +402,15 @@ impl Node {
         self.own.used
     }
 
-    /// How many links a packet crosses from this router to a gateway, by what it has heard: 0 at a gateway, else one more
-    /// than at the nearest way. `CUT_OFF` if it has no way, or if that has no distance. O(d).
+    /// The cost of the nearest route from this router to a gateway, by what it has heard: 0 at a gateway, else that over
+    /// its nearest way. `CUT_OFF` if it has no way, or if that has no distance. O(d).
     pub fn distance(&self) -> u32
         ensures { IsDistance self.now result }
     {
         if self.gateway {
             return 0;
         }
-        match nearest_way_distance(&self.links, &self.own) {
-            Some(nearest) => nearest.saturating_add(1),
-            None => CUT_OFF,
-        }
+        nearest_way_distance(&self.links, &self.own).unwrap_or(CUT_OFF)
     }
 
     /// The index of the link to a neighbour.
@@ -551,9 +551,19 @@ impl Node {
         !self.policy.wait || will_gates_stay_open(&self.links, &self.own)
     }
 
-    /// The distance, if the router lowers its height to it.
+    /// The height to which the policy lowers the router.
     fn lower_height(&self) -> Option<u64>
         ensures { MatchOption result ((v : ℕ) → ¬ FallsTo self.now v) (FallsTo self.now) }
+    {
+        match self.policy.rise {
+            Rise::Full => self.height_at_distance(),
+            Rise::Top(ceiling) => self.height_at_offer(ceiling),
+        }
+    }
+
+    /// The distance, if the router lowers its height to it.
+    fn height_at_distance(&self) -> Option<u64>
+        ensures { MatchOption result ((v : ℕ) → ¬ IsAtDistance self.now v) (IsAtDistance self.now) }
     {
         let distance = self.distance();
         let height = distance as u64;
@@ -577,7 +587,7 @@ impl Node {
     {
         match self.policy.rise {
             Rise::Full => self.height_above_all(),
-            Rise::Ceiling(ceiling) => self.height_below_ceiling(ceiling),
+            Rise::Top(ceiling) => self.height_at_top(ceiling),
         }
     }
 
@@ -592,15 +602,27 @@ impl Node {
         highest.seen.checked_add(1)
     }
 
-    /// Above all neighbours, if all are known to be higher, but at most the ceiling.
-    fn height_below_ceiling(&self, ceiling: u32) -> Option<u64>
-        ensures { MatchOption result ((v : ℕ) → ¬ IsBelowCeiling self.now ceiling v) (IsBelowCeiling self.now ceiling) }
+    /// The best offer, if it is lower and each neighbour is let in.
+    fn height_at_offer(&self, ceiling: u32) -> Option<u64>
+        ensures { MatchOption result ((v : ℕ) → ¬ IsAtOffer self.now ceiling v) (IsAtOffer self.now ceiling) }
     {
-        if !is_sink(&self.links, &self.own) {
-            return None;
+        match best_offer(&self.links, ceiling) {
+            Some(offer)
+                if u64::from(offer) < self.own.used && are_gates_open(&self.links, &self.own) => {
+                Some(u64::from(offer))
+            }
+            _ => None,
         }
-        let highest = highest_link(&self.links)?;
-        Some(highest.seen.saturating_add(1).min(u64::from(ceiling)))
+    }
+
+    /// The height of a router without a route, if no neighbour offers the height that was announced.
+    fn height_at_top(&self, ceiling: u32) -> Option<u64>
+        ensures { MatchOption result ((v : ℕ) → ¬ IsAtTop self.now ceiling v) (IsAtTop self.now ceiling) }
+    {
+        match best_offer(&self.links, ceiling) {
+            Some(offer) if u64::from(offer) <= self.own.announced => None,
+            _ => Some(u64::from(CUT_OFF)),
+        }
     }
 }
 
@@ -627,6 +649,13 @@ fn will_gates_stay_open(links: &[Link], own: &Own) -> bool
 {
     links.iter().all(|link| !(link.up && link.has_answered(own))
         || link.acked >= own.announced_since)
+}
+
+/// Whether all gates are open: each neighbour at a link that is up is let in.
+fn are_gates_open(links: &[Link], own: &Own) -> bool
+    ensures { result ≡ list_all (λ l. not l.up || has_answered own.now l) links.now }
+{
+    links.iter().all(|link| !link.up || link.has_answered(own))
 }
 
 /// Whether there is a way to a neighbour whose distance is less than this one.
@@ -684,25 +713,38 @@ fn push_ways(links: &[Link], own: &Own, ways: &mut Vec<Way>)
     }
 }
 
-/// The least distance of a neighbour to which packets may be sent.
+/// The least distance over a neighbour to which packets may be sent.
 fn nearest_way_distance(links: &[Link], own: &Own) -> Option<u32>
     ensures { MatchOption result (HasNoWay own.now links.now) (IsNearest own.now links.now) }
 {
     let mut nearest = None;
     for link in links {
         if link.is_way(own) {
-            nearest = Some(lesser_distance(nearest, link.distance));
+            nearest = Some(lesser(nearest, link.distance_over()));
         }
     }
     nearest
 }
 
-/// The lesser of two distances, of which the first may not be known.
-fn lesser_distance(nearest: Option<u32>, distance: u32) -> u32
-    ensures { MatchOption nearest (result ≡ distance) (λ d. result ≡ min d distance) }
+/// The best of all offers: the least one.
+fn best_offer(links: &[Link], ceiling: u32) -> Option<u32>
+    ensures { MatchOption result (NonePasses (is_offer ceiling) links.now) (IsLeast (is_offer ceiling) offer_of links.now) }
 {
-    match nearest {
-        Some(d) => d.min(distance),
-        None => distance,
+    let mut best = None;
+    for link in links {
+        if let Some(offer) = link.offer(ceiling) {
+            best = Some(lesser(best, offer));
+        }
+    }
+    best
+}
+
+/// The lesser of two numbers, of which the first may not be known.
+fn lesser(least: Option<u32>, number: u32) -> u32
+    ensures { MatchOption least (result ≡ number) (λ d. result ≡ min d number) }
+{
+    match least {
+        Some(d) => d.min(number),
+        None => number,
     }
 }

@@ -6,9 +6,11 @@ pub enum Rise {
     /// It rises above all neighbours if it has no way. This is full link reversal. Routers that are cut off from all
     /// gateways raise their heights for ever.
     Full,
-    /// It rises as by full link reversal, but to this ceiling at most. Routers that are cut off from all gateways stop at
-    /// the ceiling. It is to be at least the number of routers, and all routers lower their heights then.
-    Ceiling(u32),
+    /// It rises only if no neighbour offers its height, and then at once to [`CUT_OFF`](crate::CUT_OFF), the height of a
+    /// router without a route. A neighbour offers its own height and the cost of the link together, if that is below this
+    /// ceiling. The router comes down to its best offer once each neighbour at a link that is up is let in. So once all is
+    /// quiet, routes have the least costs. The ceiling is to be above these.
+    Top(u32),
 }
 
 /// When a router changes its height, and when it uses a greater height.
@@ -16,7 +18,8 @@ pub enum Rise {
 pub struct Policy {
     /// When the router raises its height.
     pub rise: Rise,
-    /// Whether the router lowers its height to its distance, if its nearest way stays a way.
+    /// Whether a router with [`Rise::Full`] lowers its height to its distance, if its nearest way stays a way. One with
+    /// [`Rise::Top`] comes down in any case.
     pub lower: bool,
     /// Whether the router keeps its old height, and so its old ways, until the neighbours that it lets in have
     /// acknowledged a greater one. If not, it uses the greater height at once, and lets a neighbour in only once that

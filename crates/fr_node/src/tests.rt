@@ -12,8 +12,8 @@ fn two_routers(rt: HostRuntime) -> Result<(), Fail> {
     };
     let mut gateway = Node::gateway(rt.alloc(), 0, 1);
     let mut router = Node::new(rt.alloc(), 1, 1, 1, policy)?;
-    gateway.know(1)?;
-    router.know(0)?;
+    gateway.know(1, 1)?;
+    router.know(0, 2)?;
     gateway.link_up(1);
     router.link_up(0);
     assert_eq!(rt; router.say(0), Err(NodeFault::Unwritten));
@@ -31,7 +31,7 @@ fn two_routers(rt: HostRuntime) -> Result<(), Fail> {
     }
     assert!(rt; router.sends_to(0));
     assert!(rt; gateway.lets_in(1));
-    assert_eq!(rt; router.distance(), 1);
+    assert_eq!(rt; router.distance(), 2);
     assert_eq!(rt; router.written(1), Err(NodeFault::Outdated));
     Ok(())
 }

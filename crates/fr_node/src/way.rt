@@ -9,7 +9,8 @@ ghost use Rattle.fr_node.specs.Distances.{rank_of};
 pub struct Way {
     /// The neighbour.
     pub neighbour: u32,
-    /// The neighbour's distance from a gateway. [`CUT_OFF`](crate::CUT_OFF) if it knew none.
+    /// The cost of the route to a gateway over this neighbour: its distance and the cost of the link.
+    /// [`CUT_OFF`](crate::CUT_OFF) if the neighbour knew no distance.
     pub distance: u32,
 }
 

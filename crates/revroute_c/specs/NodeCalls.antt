@@ -7,7 +7,7 @@ use Rattle.fr_node.specs.declared.message.TheConstants.{CUT_OFF, MESSAGE_LENGTH}
 use Rattle.fr_node.specs.declared.node.Node.{Node}
 use Rattle.fr_node.specs.declared.node.TheConstants.{START_HEIGHTS}
 use Rattle.fr_node.specs.declared.policy.Policy.{Policy}
-use Rattle.fr_node.specs.declared.policy.Rise.TheVariants.{Ceiling, Full}
+use Rattle.fr_node.specs.declared.policy.Rise.TheVariants.{Full, Top}
 use Rattle.fr_node.specs.declared.way.Way.{Way}
 use Rattle.fr_node.specs.Bytes.{bytes_of}
 use Rattle.fr_node.specs.Distances.{AreWays, IsDistance}
@@ -36,14 +36,14 @@ abbrev pub OfNode : (Node → Type 0) → Type 0 → HeldNode → Type 0
 OfNode Is none None = none
 OfNode Is none (Some k) = Is k
 
--- the kind of rise is not one of the two: 0 is `Full`, and 1 is `Ceiling`
+-- the kind of rise is not one of the two: 0 is `Full`, and 1 is `Top`
 abbrev pub IsNoRise : NodePolicy → Type 0
 IsNoRise p = 1 < p.rise
 
 -- the policy that the struct of C names
 abbrev pub policy_of : NodePolicy → Policy
 policy_of p = record {
-  rise = if p.rise == 0 then Full else Ceiling p.ceiling;
+  rise = if p.rise == 0 then Full else Top p.ceiling;
   lower = not (p.lower == 0);
   wait = not (p.wait == 0);
 }
@@ -73,11 +73,11 @@ pub record IsSame (k j : Node) : Type 0 where
   pub links : j.links.items ≡ k.links.items
 
 -- a neighbour is made known, or the status says why not
-pub record KnowsNeighbour (neighbour status : ℕ) (k j : Node) : Type 0 where
-  pub itself : (neighbour ≡ k.own.me) ↔ (status ≡ REVROUTE_REFUSED)
+pub record KnowsNeighbour (neighbour cost status : ℕ) (k j : Node) : Type 0 where
+  pub refused : ((neighbour ≡ k.own.me) ⊎ (cost ≡ 0)) ↔ (status ≡ REVROUTE_REFUSED)
   pub known : IsKnown k.links.items neighbour → IsSame k j
   pub new : status ≡ REVROUTE_ANSWERED → ¬ IsKnown k.links.items neighbour
-      → j.links.items ≡ k.links.items ++ record unknown { neighbour = neighbour } ∷ []
+      → j.links.items ≡ k.links.items ++ record unknown { neighbour = neighbour; cost = cost } ∷ []
   pub same : KeepsAllButLinks k j
   pub unchanged : status ≢ REVROUTE_ANSWERED → IsSame k j
   pub step : Steps [] k j

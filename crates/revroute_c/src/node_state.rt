@@ -52,18 +52,18 @@ impl NodeState {
         }
     }
 
-    /// Makes a neighbour known.
-    pub(crate) fn know(&mut self, neighbour: u32) -> u32
-        ensures { InNode (KnowsNeighbour neighbour result) ⊥ self.old self.new }
+    /// Makes a neighbour known, with the cost of the link to it.
+    pub(crate) fn know(&mut self, neighbour: u32, cost: u32) -> u32
+        ensures { InNode (KnowsNeighbour neighbour cost result) ⊥ self.old self.new }
     {
-        if neighbour == self.node.me() {
+        if neighbour == self.node.me() || cost == 0 {
             return REFUSED;
         }
         let count = self.node.neighbours();
         if !reserve_one_more(&mut self.ways, count) || !reserve_one_more(&mut self.gates, count) {
             return NO_MEMORY;
         }
-        match self.node.know(neighbour) {
+        match self.node.know(neighbour, cost) {
             Ok(()) => ANSWERED,
             Err(NodeFault::Itself) => REFUSED,
             Err(_) => NO_MEMORY,

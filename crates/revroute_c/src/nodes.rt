@@ -22,11 +22,11 @@ use std::alloc::Global;
 #[repr(C)]
 #[derive(Clone, Copy)]
 pub struct NodePolicy {
-    /// When it raises its height: one of [`FULL`] and [`CEILING`].
+    /// When it raises its height: one of [`FULL`] and [`TOP`].
     pub rise: u32,
-    /// The ceiling of [`CEILING`].
+    /// The ceiling of [`TOP`].
     pub ceiling: u32,
-    /// Whether it lowers its height. 0: no.
+    /// Whether it lowers its height with [`FULL`]. 0: no.
     pub lower: u32,
     /// Whether it waits for acknowledgements before it uses a greater height. 0: no.
     pub wait: u32,
@@ -35,17 +35,17 @@ pub struct NodePolicy {
 /// The node raises its height above all neighbours if it has no way.
 const FULL: u32 = 0;
 
-/// The same, but to a ceiling at most.
-const CEILING: u32 = 1;
+/// The node rises to the top if no neighbour offers its height, and comes down to the best offer.
+const TOP: u32 = 1;
 
-/// The policy that a struct of C names. A kind that is not `FULL` counts as `CEILING`.
+/// The policy that a struct of C names. A kind that is not `FULL` counts as `TOP`.
 fn policy_in(policy: NodePolicy) -> Policy
     ensures { result ≡ policy_of policy }
 {
     let rise = if policy.rise == FULL {
         Rise::Full
     } else {
-        Rise::Ceiling(policy.ceiling)
+        Rise::Top(policy.ceiling)
     };
     Policy {
         rise,
@@ -76,7 +76,7 @@ pub extern "C" fn revroute_node_open(
     ensures refused { (result ≡ REVROUTE_REFUSED) ↔ IsNoStart height policy.now }
     ensures status { (result ≡ REVROUTE_ANSWERED) ⊎ (result ≡ REVROUTE_NO_MEMORY) ⊎ (result ≡ REVROUTE_REFUSED) }
 {
-    if policy.rise > CEILING {
+    if policy.rise > TOP {
         return REFUSED;
     }
     let Ok(node) = Node::new(alloc, me, boot, height, policy_in(*policy)) else {
@@ -114,22 +114,22 @@ pub extern "C" fn revroute_node_open_gateway(
     }
 }
 
-/// Makes a neighbour known, as [`Node::know`] does. The link to it is down. This is the only call on an open node that
-/// takes memory. Returns `ANSWERED`, or:
+/// Makes a neighbour known, as [`Node::know`] does, with the cost of the link to it. The link is down. This is the only
+/// call on an open node that takes memory. Returns `ANSWERED`, or:
 ///
-/// - `REFUSED`: the neighbour is the router itself.
+/// - `REFUSED`: the neighbour is the router itself, or the cost is 0.
 /// - `NO_MEMORY`: an allocation was refused.
 /// - `NO_NETWORK`: the handle is null.
 ///
 /// In these cases the node is unchanged. O(d) for d known neighbours.
 #[unsafe(no_mangle)]
-pub extern "C" fn revroute_node_know(handle: &mut NodeHandle, neighbour: u32) -> u32
-    ensures known { InNode (KnowsNeighbour neighbour result) (result ≡ REVROUTE_NO_NETWORK)
+pub extern "C" fn revroute_node_know(handle: &mut NodeHandle, neighbour: u32, cost: u32) -> u32
+    ensures known { InNode (KnowsNeighbour neighbour cost result) (result ≡ REVROUTE_NO_NETWORK)
         handle.old.machine handle.new.machine }
     ensures same_handle { handle.new.at ≡ handle.old.at }
 {
     match handle.node_state_mut() {
-        Some(machine) => machine.know(neighbour),
+        Some(machine) => machine.know(neighbour, cost),
         None => NO_NETWORK,
     }
 }
@@ -335,7 +335,7 @@ pub extern "C" fn revroute_node_gates(
     }
 }
 
-/// Writes to `distance` how many links a packet crosses from this router to a gateway, by what it has heard: 0 at a
+/// Writes to `distance` the cost of the nearest route from this router to a gateway, by what it has heard: 0 at a
 /// gateway. Returns `ANSWERED`, or:
 ///
 /// - `NO_ROUTE`: there is no way, or no way has a distance.

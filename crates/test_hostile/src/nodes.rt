@@ -40,7 +40,7 @@ fn know<R: Print + Eprint>(
     neighbour: u32,
 ) -> Option<()> {
     let before = node.neighbours();
-    let known = node.know(neighbour);
+    let known = node.know(neighbour, 1);
     let known = answer.told(rt, known);
     if known.is_none() && (node.neighbours() != before || node.height() != 7) {
         say(rt, "the router has changed");

@@ -1,6 +1,7 @@
 //! How the routers of a world raise and lower their heights.
 
 use crate::draws::Draws;
+use crate::links::MOST_COST;
 use fr_node::{Policy, Rise};
 
 #[derive(Clone, Copy, Debug)]
@@ -11,10 +12,12 @@ pub enum Kind {
     Full,
     /// Full reversal with `lower`.
     Lowering,
-    /// Full reversal with `lower` and a ceiling, the number of routers.
-    Ceiling,
+    /// Routes of least cost, with a ceiling above all costs.
+    Top,
     /// The same with a ceiling that is too low.
     LowCeiling,
+    /// Routes of least cost, each router with a ceiling of its own.
+    Ceilings,
     /// Any policies and ceilings.
     Mixed,
 }
@@ -31,6 +34,9 @@ pub enum Promise {
     Bounded,
     /// All routers come to rest, and those that are joined to a gateway are served then.
     AllRest,
+    /// All routers come to rest. Those with a route to a gateway are served then, over a route of least cost, and those
+    /// that are not joined to a gateway know it.
+    Shortest,
 }
 
 impl Kind {
@@ -49,21 +55,26 @@ impl Kind {
                 lower: true,
                 wait,
             },
-            Kind::Ceiling => Policy {
-                rise: Rise::Ceiling(routers),
-                lower: true,
+            Kind::Top => Policy {
+                rise: Rise::Top(routers.saturating_mul(MOST_COST)),
+                lower: false,
                 wait,
             },
             Kind::LowCeiling => Policy {
-                rise: Rise::Ceiling(1),
-                lower: true,
+                rise: Rise::Top(1),
+                lower: false,
+                wait,
+            },
+            Kind::Ceilings => Policy {
+                rise: Rise::Top(draws.below(30)),
+                lower: false,
                 wait,
             },
             Kind::Mixed => Policy {
                 rise: if draws.below(2) == 1 {
                     Rise::Full
                 } else {
-                    Rise::Ceiling(draws.below(20))
+                    Rise::Top(draws.below(20))
                 },
                 lower: draws.below(2) == 1,
                 wait,

@@ -1,7 +1,27 @@
 //! The links that stay at the end of a history.
 
+ghost use Rattle.std.specs.Prelude.{◌<◌};
+
 use crate::draws::Draws;
 use crate::world::MOST_ROUTERS;
+use fr_node::CUT_OFF;
+
+/// The greatest cost of a link.
+pub const MOST_COST: u32 = 9;
+
+/// What it costs router x to send a packet to router w. In every other world each link costs 1, and otherwise the two
+/// directions of a link may have different costs.
+pub fn cost(seed: u64, x: u32, w: u32) -> u32
+    ensures { 0 < result }
+{
+    if seed % 2 == 0 {
+        return 1;
+    }
+    let pair = seed
+        .wrapping_mul(256)
+        .wrapping_add(u64::from(x.wrapping_mul(16).wrapping_add(w)));
+    Draws::from(pair).below(MOST_COST).saturating_add(1)
+}
 
 /// The links that stay, as the neighbours of each router, a bit for each.
 #[derive(Clone, Copy)]
@@ -66,6 +86,38 @@ impl Links {
 
     pub fn works(&self, x: u32, w: u32) -> bool {
         self.carries(x, w) && self.carries(w, x)
+    }
+
+    /// The least cost of a route from each router to one of these over links that work both ways, `CUT_OFF` if there is
+    /// none. A cost counts only if it is below the ceiling of each router of the route.
+    pub fn least_costs(
+        &self,
+        some: u32,
+        ceilings: &[u32; MOST_ROUTERS],
+        seed: u64,
+    ) -> [u32; MOST_ROUTERS] {
+        let mut least = [CUT_OFF; MOST_ROUTERS];
+        for (x, it) in least.iter_mut().enumerate() {
+            if is_set(some, x as u32) {
+                *it = 0;
+            }
+        }
+        for _ in 0..MOST_ROUTERS {
+            for x in 0..MOST_ROUTERS as u32 {
+                let ceiling = ceilings.get(x as usize).copied().unwrap_or(0);
+                for w in 0..MOST_ROUTERS as u32 {
+                    let beyond = least.get(w as usize).copied().unwrap_or(CUT_OFF);
+                    let over = beyond.saturating_add(cost(seed, x, w));
+                    if let Some(it) = least.get_mut(x as usize)
+                        && self.works(x, w)
+                        && over < ceiling
+                    {
+                        *it = over.min(*it);
+                    }
+                }
+            }
+        }
+        least
     }
 
     /// The routers that are joined to one of these by links that work both ways, a bit for each.

@@ -8,9 +8,9 @@
 //!
 //! The program prints what happened, how often a tick ended that a link counted as up, in how many steps the library
 //! differed from the rules (rules.rt), and in how many routers used a loop. Of histories it also prints how many did
-//! not come to rest, after how many a router that is joined to a gateway was not served, and in how many a router
-//! announced more heights than it may. Then it looks for what three kinds of routers do not keep, and a fourth one
-//! without ticks, and has to see that.
+//! not come to rest, after how many a router that is joined to a gateway was not served, after how many a router had
+//! not the least cost, and in how many a router announced more heights than it may. Then it looks for what three kinds
+//! of routers do not keep, and a fourth one without ticks, and has to see that in at most ten times as many histories.
 #![tactic(auto)]
 
 mod draws;
@@ -29,10 +29,11 @@ use std::io;
 use world::{Found, World};
 
 /// What routers of each kind keep, and what they do not.
-const KEPT: [(Kind, Promise); 4] = [
+const KEPT: [(Kind, Promise); 5] = [
     (Kind::Full, Promise::Bounded),
     (Kind::Lowering, Promise::Served),
-    (Kind::Ceiling, Promise::AllRest),
+    (Kind::Top, Promise::Shortest),
+    (Kind::Ceilings, Promise::Shortest),
     (Kind::Mixed, Promise::NoLoop),
 ];
 
@@ -41,6 +42,9 @@ const NOT_KEPT: [(Kind, Promise); 3] = [
     (Kind::Lowering, Promise::Bounded),
     (Kind::LowCeiling, Promise::Served),
 ];
+
+/// In how many times as many histories the program looks at most for what is not kept.
+const TIMES: u32 = 10;
 
 fn main(rt: HostRuntime) -> io::Result<()> {
     for line in rt.lines(rt.alloc()) {
@@ -59,7 +63,7 @@ fn main(rt: HostRuntime) -> io::Result<()> {
             for (kind, promise) in NOT_KEPT {
                 tell_broken(&rt, histories, (kind, promise), Some(PATIENCE))?;
             }
-            tell_broken(&rt, histories, (Kind::Ceiling, Promise::Served), None)?;
+            tell_broken(&rt, histories, (Kind::Top, Promise::Served), None)?;
         }
         if let Some(times) = number_after(line, "again ") {
             tell_repeats(&rt, times)?;
@@ -78,7 +82,7 @@ fn tell_steps<R: Alloc<A = Global> + Print>(rt: &R, steps: u32, choice: u32) -> 
         rise: if choice % 2 == 0 {
             Rise::Full
         } else {
-            Rise::Ceiling(2)
+            Rise::Top(12)
         },
         lower: choice / 2 % 2 == 1,
         wait: choice / 4 % 2 == 1,
@@ -135,6 +139,7 @@ fn tell_kept<R: Alloc<A = Global> + Print>(
                 joined,
                 restless,
                 unserved,
+                longer,
                 above,
             } = rests;
             let Found {
@@ -144,7 +149,7 @@ fn tell_kept<R: Alloc<A = Global> + Print>(
                 ..
             } = found;
             println!(rt;
-                "  {kind:?}, {promise:?}: {joined} joined, {lost} lost; {differ} differ, {loops} loops, {restless} restless, {unserved} unserved, {above} above"
+                "  {kind:?}, {promise:?}: {joined} joined, {lost} lost; {differ} differ, {loops} loops, {restless} restless, {unserved} unserved, {longer} longer, {above} above"
             )
         }
         Err(fault) => rt.println(fault),
@@ -158,13 +163,10 @@ fn tell_broken<R: Alloc<A = Global> + Print>(
     (kind, promise): (Kind, Promise),
     patience: Option<u32>,
 ) -> io::Result<()> {
-    match rest::draw_histories(rt.alloc(), (kind, promise), patience, histories) {
-        Ok(rests) => {
-            let seen = if rests.has_broken() {
-                "seen"
-            } else {
-                "NOT SEEN"
-            };
+    let most = histories.saturating_mul(TIMES);
+    match rest::is_broken(rt.alloc(), (kind, promise), patience, most) {
+        Ok(is_broken) => {
+            let seen = if is_broken { "seen" } else { "NOT SEEN" };
             let ticks = if patience.is_none() {
                 " without ticks"
             } else {

@@ -10,8 +10,8 @@ use std::alloc::Global;
 /// The routers of the line.
 const ROUTERS: u32 = 4;
 
-/// Routers that lower their heights to their distances.
-pub const KINDS: [Kind; 2] = [Kind::Lowering, Kind::Ceiling];
+/// Routers whose distances change under the same number.
+pub const KINDS: [Kind; 1] = [Kind::Lowering];
 
 /// How often one old message changes a router of a line. Router 1 says to router 2 that it knows no distance, before it hears
 /// of the gateway, which is router 0. Once all is quiet, that message is heard so often. It has the number of the last

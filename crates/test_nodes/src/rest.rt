@@ -5,7 +5,7 @@ use crate::draws::Draws;
 use crate::kinds::{Kind, Promise};
 use crate::links::{Links, is_set, routers_where};
 use crate::world::{Found, MOST_ROUTERS, Seen, World};
-use fr_node::NodeFault;
+use fr_node::{CUT_OFF, NodeFault};
 use std::alloc::Global;
 
 /// Rounds in which messages are lost, held back and repeated, and the most rounds in which all arrive.
@@ -27,12 +27,13 @@ pub struct Rests {
     pub restless: u32,
     /// Histories at whose end a joined router has no way, or a way on which its packets are not let in.
     pub unserved: u32,
+    /// Histories at whose end a router's height or distance is not the least cost, or its first way is on no such route.
+    pub longer: u32,
     /// Histories in which a joined router announced more heights than it may.
     pub above: u32,
 }
 
-/// Draws so many histories of 2 to 16 routers, of which none to three are gateways. Each other one has links that work
-/// one way.
+/// Draws so many histories.
 pub fn draw_histories(
     alloc: Global,
     (kind, promise): (Kind, Promise),
@@ -41,6 +42,43 @@ pub fn draw_histories(
 ) -> Result<Rests, NodeFault> {
     let mut rests = Rests::default();
     for seed in 0..histories {
+        rests.draw(alloc, (kind, promise), patience, seed)?;
+    }
+    Ok(rests)
+}
+
+/// Whether one of so many histories does not keep what is promised. It is the last one that is drawn.
+pub fn is_broken(
+    alloc: Global,
+    (kind, promise): (Kind, Promise),
+    patience: Option<u32>,
+    histories: u32,
+) -> Result<bool, NodeFault> {
+    let mut rests = Rests::default();
+    for seed in 0..histories {
+        rests.draw(alloc, (kind, promise), patience, seed)?;
+        if rests.has_broken() {
+            return Ok(true);
+        }
+    }
+    Ok(false)
+}
+
+impl Rests {
+    /// Whether a history did not keep what was promised.
+    fn has_broken(self) -> bool {
+        self.restless > 0 || self.unserved > 0 || self.longer > 0 || self.above > 0
+    }
+
+    /// Draws a history of 2 to 16 routers, of which none to three are gateways, and adds what comes of it. Each other one
+    /// has links that work one way.
+    fn draw(
+        &mut self,
+        alloc: Global,
+        (kind, promise): (Kind, Promise),
+        patience: Option<u32>,
+        seed: u32,
+    ) -> Result<(), NodeFault> {
         let mut draws = Draws::from(u64::from(seed).wrapping_add(1 << 32));
         let routers = draws.below(15).wrapping_add(2);
         let gateways = draws.below(4).min(routers);
@@ -56,16 +94,9 @@ pub fn draw_histories(
         if loses_all {
             world.lose_all();
         }
-        rests.end(&mut world, &links, (promise, patience), loses_all)?;
-        rests.found = rests.found.and(world.found());
-    }
-    Ok(rests)
-}
-
-impl Rests {
-    /// Whether a history did not keep what was promised.
-    pub fn has_broken(self) -> bool {
-        self.restless > 0 || self.unserved > 0 || self.above > 0
+        self.end(&mut world, &links, (promise, patience), loses_all)?;
+        self.found = self.found.and(world.found());
+        Ok(())
     }
 
     /// Lets messages arrive over these links, and adds what comes of it.
@@ -88,12 +119,19 @@ impl Rests {
         let looked_at = match promise {
             Promise::NoLoop => return Ok(()),
             Promise::Served | Promise::Bounded => joined,
-            Promise::AllRest => u32::MAX,
+            Promise::AllRest | Promise::Shortest => u32::MAX,
+        };
+        let least = links.least_costs(gateways, &world.ceilings(), world.seed());
+        let served = match promise {
+            Promise::Shortest => routers_where(all, |x| cost_at(&least, x) != CUT_OFF),
+            _ => joined,
         };
         if !comes_to_rest(world, links, patience, looked_at)? {
             self.restless = self.restless.wrapping_add(1);
-        } else if !are_served(world, joined & !gateways) {
+        } else if !are_served(world, served & !gateways) {
             self.unserved = self.unserved.wrapping_add(1);
+        } else if matches!(promise, Promise::Shortest) && !are_shortest(world, &least, joined)? {
+            self.longer = self.longer.wrapping_add(1);
         }
         if matches!(promise, Promise::Bounded) && loses_all && is_above(world, &limits, joined) {
             self.above = self.above.wrapping_add(1);
@@ -230,6 +268,42 @@ fn are_served(world: &World, some: u32) -> bool {
         }
     }
     true
+}
+
+fn cost_at(least: &[u32; MOST_ROUTERS], x: u32) -> u32 {
+    least.get(x as usize).copied().unwrap_or(CUT_OFF)
+}
+
+/// Whether the height of each router is the least cost, and also its distance if it has one. The first way is on a route
+/// of this cost, and the neighbour there lets packets in. A router that is not joined has no distance.
+fn are_shortest(
+    world: &World,
+    least: &[u32; MOST_ROUTERS],
+    joined: u32,
+) -> Result<bool, NodeFault> {
+    for x in 0..world.count() {
+        let cost = cost_at(least, x);
+        let seen = world.seen(x);
+        if seen.height != u64::from(cost) {
+            return Ok(false);
+        }
+        if cost != CUT_OFF || !is_set(joined, x) {
+            let is_first = match world.first_way(x)? {
+                _ if cost == 0 => true,
+                None => cost == CUT_OFF,
+                Some(way) => {
+                    cost_at(least, way.neighbour).saturating_add(world.cost(x, way.neighbour))
+                        == cost
+                        && way.distance == cost
+                        && (cost == CUT_OFF || is_set(world.seen(way.neighbour).gates, x))
+                }
+            };
+            if seen.distance != cost || !is_first {
+                return Ok(false);
+            }
+        }
+    }
+    Ok(true)
 }
 
 /// Whether one of these routers has announced more than it may.

@@ -1,6 +1,7 @@
 //! What a router has to do, written from the rules of the protocol and not from the library. It keeps all announcements
 //! since the one whose height is in use, and looks through them.
 
+use crate::links::cost;
 use fr_node::{CUT_OFF, Message, Policy, Rise};
 use std::alloc::{AllocError, Global};
 
@@ -8,6 +9,7 @@ use std::alloc::{AllocError, Global};
 #[derive(Clone, Copy)]
 struct Seen {
     neighbour: u32,
+    cost: u32,
     /// Whether the router was told that the link is up, and whether it still counts as up.
     carrier: bool,
     up: bool,
@@ -50,11 +52,11 @@ impl Rules {
     pub fn start(
         alloc: Global,
         (me, routers): (u32, u32),
-        boot: u64,
+        (boot, seed): (u64, u64),
+        used: u64,
         gateway: bool,
         policy: Policy,
     ) -> Result<Rules, AllocError> {
-        let used = if gateway { 0 } else { u64::from(me) };
         let mut said = Vec::new(alloc);
         said.push(Said {
             number: 1,
@@ -64,6 +66,7 @@ impl Rules {
         for neighbour in 0..routers {
             seen.push(Seen {
                 neighbour,
+                cost: cost(seed, me, neighbour),
                 carrier: false,
                 up: false,
                 works_since: 0,
@@ -228,10 +231,10 @@ impl Rules {
         let mut least = CUT_OFF;
         for seen in &self.seen {
             if self.sends_to(seen.neighbour) {
-                least = least.min(seen.distance);
+                least = least.min(seen.distance.saturating_add(seen.cost));
             }
         }
-        least.saturating_add(1)
+        least
     }
 
     pub fn say(&mut self, w: u32) -> Option<Message> {
@@ -294,7 +297,40 @@ impl Rules {
         true
     }
 
+    /// The least cost of a route over a neighbour, by the heights that they announced. It has to be below the ceiling.
+    fn best_offer(&self, ceiling: u32) -> Option<u64> {
+        let mut best: Option<u64> = None;
+        for seen in &self.seen {
+            let offer = seen.height.saturating_add(u64::from(seen.cost));
+            if seen.up && seen.number > 0 && offer < u64::from(ceiling) {
+                best = Some(offer.min(best.unwrap_or(offer)));
+            }
+        }
+        best
+    }
+
+    /// The best offer, if it is lower, and all neighbours are let in.
+    fn offered(&self, ceiling: u32) -> Option<u64> {
+        for seen in &self.seen {
+            if seen.up && !self.lets_in(seen.neighbour) {
+                return None;
+            }
+        }
+        self.best_offer(ceiling).filter(|offer| *offer < self.used)
+    }
+
+    /// The top, if nobody offers this height.
+    fn top(&self, ceiling: u32) -> Option<u64> {
+        match self.best_offer(ceiling) {
+            Some(offer) if offer <= self.used => None,
+            _ => Some(u64::from(CUT_OFF)),
+        }
+    }
+
     fn lower(&self) -> Option<u64> {
+        if let Rise::Top(ceiling) = self.policy.rise {
+            return self.offered(ceiling);
+        }
         let distance = self.distance();
         let height = u64::from(distance);
         if !self.policy.lower || distance == CUT_OFF || height >= self.used {
@@ -314,9 +350,7 @@ impl Rules {
     fn raise(&self) -> Option<u64> {
         match self.policy.rise {
             Rise::Full => self.above_all(),
-            Rise::Ceiling(ceiling) => self
-                .above_all()
-                .map(|height| height.min(u64::from(ceiling))),
+            Rise::Top(ceiling) => self.top(ceiling),
         }
     }
 

@@ -2,8 +2,9 @@
 
 use crate::draws::Draws;
 use crate::kinds::Kind;
+use crate::links::cost;
 use crate::rules::Rules;
-use fr_node::{Message, Node, NodeFault, Policy};
+use fr_node::{CUT_OFF, Message, Node, NodeFault, Policy, Rise, Way};
 use std::alloc::Global;
 
 /// The most routers of a world.
@@ -72,8 +73,8 @@ impl Found {
 /// What can be seen of a router: its height and distance, and its ways and gates, a bit for each.
 #[derive(Clone, Copy, Default, PartialEq, Eq)]
 pub struct Seen {
-    height: u64,
-    distance: u32,
+    pub height: u64,
+    pub distance: u32,
     pub ways: u32,
     pub gates: u32,
 }
@@ -83,6 +84,7 @@ pub struct World {
     alloc: Global,
     count: u32,
     gateways: u32,
+    seed: u64,
     boots: u64,
     routers: Vec<Both>,
     pool: Vec<Message>,
@@ -102,7 +104,7 @@ impl World {
         let mut all = Vec::new(alloc);
         for x in 0..routers {
             let policy = kind.policy(&mut draws, routers);
-            let both = start(alloc, policy, (x, routers), 1, x < gateways)?;
+            let both = start(alloc, policy, (x, routers), (1, seed), x < gateways)?;
             all.reserve(1)?;
             all.push_reserved(both);
         }
@@ -110,6 +112,7 @@ impl World {
             alloc,
             count: routers,
             gateways,
+            seed,
             boots: 1,
             routers: all,
             pool: Vec::new(alloc),
@@ -120,6 +123,38 @@ impl World {
 
     pub fn count(&self) -> u32 {
         self.count
+    }
+
+    /// The number from which all that is drawn in this world follows.
+    pub fn seed(&self) -> u64 {
+        self.seed
+    }
+
+    /// What it costs router x to send a packet to router w.
+    pub fn cost(&self, x: u32, w: u32) -> u32 {
+        cost(self.seed, x, w)
+    }
+
+    /// The ceiling of each router: costs from there on do not count.
+    pub fn ceilings(&self) -> [u32; MOST_ROUTERS] {
+        let mut ceilings = [CUT_OFF; MOST_ROUTERS];
+        for (both, it) in self.routers.iter().zip(ceilings.iter_mut()) {
+            if let Rise::Top(ceiling) = both.rules.policy().rise {
+                *it = ceiling;
+            }
+        }
+        ceilings
+    }
+
+    /// The first of the ways that a router lists.
+    pub fn first_way(&self, x: u32) -> Result<Option<Way>, NodeFault> {
+        let Some(both) = self.routers.get(x as usize) else {
+            return Ok(None);
+        };
+        let mut ways = Vec::new(self.alloc);
+        ways.reserve(both.node.neighbours())?;
+        both.node.list_ways(&mut ways);
+        Ok(ways.first().copied())
     }
 
     pub fn is_gateway(&self, x: u32) -> bool {
@@ -176,7 +211,7 @@ impl World {
                 self.alloc,
                 both.rules.policy(),
                 size,
-                self.boots,
+                (self.boots, self.seed),
                 is_gateway,
             )?;
         }
@@ -387,21 +422,31 @@ fn start(
     alloc: Global,
     policy: Policy,
     (x, routers): (u32, u32),
-    boot: u64,
+    (boot, seed): (u64, u64),
     gateway: bool,
 ) -> Result<Both, NodeFault> {
+    let height = start_height(policy, x, boot, gateway);
     let mut node = if gateway {
         Node::gateway(alloc, x, boot)
     } else {
-        Node::new(alloc, x, boot, u64::from(x), policy)?
+        Node::new(alloc, x, boot, height, policy)?
     };
     for w in 0..routers {
         if w != x {
-            node.know(w)?;
+            node.know(w, cost(seed, x, w))?;
         }
     }
-    let rules = Rules::start(alloc, (x, routers), boot, gateway, policy)?;
+    let rules = Rules::start(alloc, (x, routers), (boot, seed), height, gateway, policy)?;
     Ok(Both { node, rules })
+}
+
+/// The height at which a router starts: its number, or none at every other start, if its policy can do without.
+fn start_height(policy: Policy, x: u32, boot: u64, gateway: bool) -> u64 {
+    match policy.rise {
+        _ if gateway => 0,
+        Rise::Top(_) if (u64::from(x).wrapping_add(boot)) % 2 == 0 => u64::from(CUT_OFF),
+        _ => u64::from(x),
+    }
 }
 
 fn is_same(both: &Both, routers: u32) -> bool {

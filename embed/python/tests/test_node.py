@@ -66,7 +66,7 @@ def settle(nodes):
     """Delivers news until nobody has any. Then says everything again, as a daemon does from time to time, until nothing
     has changed three times. A router that waits for acknowledgements may take its next step only when it hears
     something."""
-    links = [(me, to) for me in range(ROUTERS) for to in range(ROUTERS) if nodes[me].say(to)]
+    links = [(me, to) for me in range(len(nodes)) for to in range(len(nodes)) if nodes[me].say(to)]
     still = 0
     for _ in range(1_000):
         before = [(it.height, it.ways(), it.distance) for it in nodes]
@@ -98,6 +98,25 @@ class NodeTest(unittest.TestCase):
             self.assertEqual([it.distance for it in nodes], [0, 4, 3, 2, 1])
             self.assertEqual([it.ways() for it in nodes], [[], [2], [3], [4], [0]])
             self.assertTrue(nodes[2].lets_in(1) and nodes[1].sends_to(2) and not nodes[2].sends_to(1))
+
+    def test_routes_have_the_least_costs(self):
+        """Gateway 0 is dear for router 1 and cheap for router 2. So router 1 sends over router 2, at 2 + 3. Once that link
+        is lost, it sends to the gateway."""
+        nodes = [Node.gateway(0, 1), Node(1, 1, ceiling=16), Node(2, 1, ceiling=16)]
+        for me, costs in enumerate(({1: 1, 2: 1}, {0: 9, 2: 2}, {0: 3, 1: 7})):
+            for other, cost in costs.items():
+                nodes[me].know(other, cost)
+                nodes[me].know(other)
+                nodes[me].link_up(other)
+            write(nodes[me])
+        settle(nodes)
+        self.assertEqual([(it.height, it.distance) for it in nodes], [(0, 0), (5, 5), (3, 3)])
+        self.assertEqual(nodes[1].ways(), [2, 0])
+        for me, other in ((1, 2), (2, 1)):
+            nodes[me].link_down(other)
+            write(nodes[me])
+        settle(nodes)
+        self.assertEqual([(it.height, it.distance) for it in nodes], [(0, 0), (9, 9), (3, 3)])
 
     def test_a_node_speaks_only_once_its_table_is_written(self):
         node = Node(1, 1)
@@ -263,7 +282,7 @@ class NodeTest(unittest.TestCase):
             return losses
 
         for patience in (3, 4, 9):
-            nodes = ring(height=ROUTERS, ceiling=ROUTERS)
+            nodes = ring(ceiling=ROUTERS)
             self.assertEqual(pass_ticks(30), [])
             self.assertEqual([it.distance for it in nodes], [0, 1, 2, 2, 1])
             self.assertEqual(pass_ticks(2 * patience, (2, 1)), [1, 2])
@@ -275,8 +294,9 @@ class NodeTest(unittest.TestCase):
             self.assertTrue(nodes[1].lets_in(2) and nodes[2].sends_to(1))
 
     def test_a_router_does_not_wait_for_a_neighbour_that_it_does_not_hear(self):
-        """Router 2 has links to routers 1 and 3. Router 1 has a way, and 3 is never heard."""
-        node, form = Node(2, 1, 0, ceiling=9, wait=False), struct.Struct(">4s3I6Q")
+        """Router 2 has links to routers 1 and 3. Router 1 has a way, and 3 is never heard. Router 3 may have its route over
+        this router, so this one comes down only once the link to 3 is lost."""
+        node, form = Node(2, 1, ceiling=9, wait=False), struct.Struct(">4s3I6Q")
         for other in (1, 3):
             node.know(other)
             node.link_up(other)
@@ -285,7 +305,7 @@ class NodeTest(unittest.TestCase):
             while node.act():
                 pass
             write(node)
-            self.assertEqual((node.ways(), node.height), ([], 0))
+            self.assertEqual((node.ways(), node.height), ([1], 2**32 - 1))
             self.assertEqual(node.tick(5), tick == 5)
         self.assertEqual((node.ways(), node.height), ([1], 5))
 
@@ -330,12 +350,15 @@ class NodeTest(unittest.TestCase):
     def test_words(self):
         node = Node(1, 2**64 - 1, 2**63 - 1)
         self.assertEqual((node.height, node.distance, node.ways(), node.gates()), (2**63 - 1, None, [], []))
+        self.assertEqual((Node(1, 1).height, Node(1, 1, ceiling=9).height, Node(1, 1, 7, ceiling=9).height), (0, 2**32 - 1, 7))
         for height in (2**63, 2**64 - 1):
             self.assertRaises(ValueError, Node, 1, 1, height)
         self.assertRaises(OverflowError, Node, 1, 1, 2**64)
         self.assertRaises(ValueError, node.know, 1)
+        self.assertRaises(ValueError, node.know, 2, 0)
         for number in (-1, 2**32):
             self.assertRaises(OverflowError, node.know, number)
+            self.assertRaises(OverflowError, node.know, 2, number)
             self.assertRaises(OverflowError, Node, number, 1)
         self.assertRaises(OverflowError, Node, 1, 2**64)
         self.assertRaises(OverflowError, Node.gateway, 1, -1)

@@ -20,9 +20,12 @@ pub enum Rise {
     /// If it has no way: above all neighbours. This is full link reversal. Routers that are cut off from all gateways
     /// raise their heights for ever.
     Full,
-    /// The same, but to this ceiling at most, so routers that are cut off from all gateways stop there. The ceiling is at
-    /// least the number of routers, and all routers use `lower`: otherwise a router may stay without a way.
-    Ceiling(u32),
+    /// If no neighbour offers its height: at once to [`u32::MAX`], the height of a router without a route. A neighbour
+    /// offers its own height and the cost of the link together, if that is below this ceiling. The node comes down to its
+    /// best offer once each neighbour at a link that is up is let in. So once all is quiet, routes have the least costs,
+    /// if these are below the ceiling, and routers that are cut off from all gateways are silent. Start such nodes at
+    /// [`u32::MAX`].
+    Top(u32),
 }
 
 /// When a node changes its height. No policy can make a loop.
@@ -30,7 +33,7 @@ pub enum Rise {
 pub struct Policy {
     /// When it raises its height.
     pub rise: Rise,
-    /// Whether it lowers its height to its distance, if its nearest way stays a way.
+    /// Whether a node with [`Rise::Full`] lowers its height to its distance, if its nearest way stays a way.
     pub lower: bool,
     /// Whether it keeps its old height and ways until the neighbours that it lets in have acknowledged a greater
     /// height.
@@ -42,7 +45,8 @@ pub struct Policy {
 /// Full reversal needs no number that depends on the network, and packets arrive once messages have arrived and no
 /// router raises its height. With `lower`, routers come down to their distances, so routes are short. With `wait`, a
 /// router keeps its gates open while its neighbours learn of its new height, so it drops fewer packets. Choose another
-/// policy if routers that are cut off from all gateways have to fall silent: [`Rise::Ceiling`].
+/// policy if routes are to have the least costs, or if routers that are cut off from all gateways have to fall silent:
+/// [`Rise::Top`].
 ///
 /// ```
 /// use revroute::{Policy, Rise};
@@ -63,7 +67,7 @@ impl Policy {
     fn of_c(self) -> sys::NodePolicy {
         let (rise, ceiling) = match self.rise {
             Rise::Full => (sys::FULL, 0),
-            Rise::Ceiling(ceiling) => (sys::CEILING, ceiling),
+            Rise::Top(ceiling) => (sys::TOP, ceiling),
         };
         sys::NodePolicy {
             rise,
@@ -80,6 +84,8 @@ impl Policy {
 pub enum NodeFault {
     /// The neighbour is the router itself.
     Itself,
+    /// The cost of the link is 0.
+    FreeLink,
     /// The height is 2^63 or more. Neighbours have to be able to rise above it.
     TooHigh,
     /// Memory ran out.
@@ -90,6 +96,7 @@ impl fmt::Display for NodeFault {
     fn fmt(&self, f: &mut fmt::Formatter<'_>) -> fmt::Result {
         match self {
             NodeFault::Itself => f.write_str("a router is no neighbour of itself"),
+            NodeFault::FreeLink => f.write_str("a link costs 1 or more"),
             NodeFault::TooHigh => f.write_str("a router starts at a height below 2^63"),
             NodeFault::NoMemory => NoMemory.fmt(f),
         }
@@ -197,8 +204,8 @@ impl NodeTable {
 /// }
 ///
 /// let (mut gateway, mut router) = (Node::gateway(0, 1)?, Node::new(1, 1, 0, Policy::default())?);
-/// gateway.know(1)?;
-/// router.know(0)?;
+/// gateway.know(1, 1)?;
+/// router.know(0, 1)?;
 /// gateway.link_up(1);
 /// router.link_up(0);
 /// write(&mut gateway)?;
@@ -273,16 +280,18 @@ impl Node {
         }
     }
 
-    /// Makes a neighbour known. The link to it is down, until it comes up. A neighbour that is known stays as it is. It
-    /// may come at any time, and is no event. `O(d)`.
+    /// Makes a neighbour known. `cost` is what it costs this router to send a packet to it: 1 if you have no other number.
+    /// The neighbour may know another cost for the other direction. The link is down, until it comes up. A neighbour
+    /// that is known stays as it is, with its cost. It may come at any time, and is no event. `O(d)`.
     ///
     /// # Errors
     ///
-    /// [`Itself`](NodeFault::Itself) and [`NoMemory`](NodeFault::NoMemory).
-    pub fn know(&mut self, neighbour: u32) -> Result<(), NodeFault> {
+    /// [`FreeLink`](NodeFault::FreeLink), [`Itself`](NodeFault::Itself) and [`NoMemory`](NodeFault::NoMemory).
+    pub fn know(&mut self, neighbour: u32, cost: u32) -> Result<(), NodeFault> {
         // SAFETY: the handle is the library's own, and no other call has it.
-        match unsafe { sys::revroute_node_know(self.handle.get(), neighbour) } {
+        match unsafe { sys::revroute_node_know(self.handle.get(), neighbour, cost) } {
             sys::ANSWERED => Ok(()),
+            sys::REFUSED if cost == 0 => Err(NodeFault::FreeLink),
             sys::REFUSED => Err(NodeFault::Itself),
             sys::NO_MEMORY => Err(NodeFault::NoMemory),
             _ => unreachable!("a node is not null"),
@@ -446,7 +455,7 @@ impl Node {
         }
     }
 
-    /// How many links a packet crosses from this router to a gateway, by what it has heard: 0 at a gateway. `None` if
+    /// The cost of the nearest route from this router to a gateway, by what it has heard: 0 at a gateway. `None` if
     /// there is no way, or if no way has a distance. `O(d)`.
     pub fn distance(&self) -> Option<u32> {
         let mut distance = 0;

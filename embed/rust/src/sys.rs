@@ -149,7 +149,7 @@ pub struct Refusal {
 
 /// The kinds of rise of a node.
 pub const FULL: u32 = 0;
-pub const CEILING: u32 = 1;
+pub const TOP: u32 = 1;
 
 /// When a node changes its height.
 #[repr(C)]
@@ -419,7 +419,7 @@ unsafe extern "C" {
 
     pub fn revroute_node_open_gateway(node: *mut NodeHandle, me: u32, boot: u64) -> u32;
 
-    pub fn revroute_node_know(node: *mut NodeHandle, neighbour: u32) -> u32;
+    pub fn revroute_node_know(node: *mut NodeHandle, neighbour: u32, cost: u32) -> u32;
 
     pub fn revroute_node_link_up(node: *mut NodeHandle, neighbour: u32) -> u32;
 

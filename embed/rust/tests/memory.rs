@@ -271,10 +271,10 @@ fn without_memory_there_is_no_node_and_no_neighbour() -> Result<(), NodeFault> {
     let mut node = Node::new(1, 1, 1, policy)?;
     // One allocation is for the list of ways, and one for the neighbours.
     for number in [1, 2, 1] {
-        assert_eq!(poor(number, || node.know(2)), Err(NodeFault::NoMemory));
+        assert_eq!(poor(number, || node.know(2, 1)), Err(NodeFault::NoMemory));
     }
-    assert_eq!(poor(1, || node.know(1)), Err(NodeFault::Itself));
-    assert_eq!(node.know(2), Ok(()));
+    assert_eq!(poor(1, || node.know(1, 1)), Err(NodeFault::Itself));
+    assert_eq!(node.know(2, 1), Ok(()));
     let table = poor(1, || {
         node.link_up(2);
         node.table()

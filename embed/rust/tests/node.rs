@@ -7,7 +7,7 @@ use revroute::{
 use std::error::Error;
 
 const POLICY: Policy = Policy {
-    rise: Rise::Ceiling(16),
+    rise: Rise::Top(16),
     lower: true,
     wait: true,
 };
@@ -45,7 +45,7 @@ impl Ring {
                 _ => Node::new(me, 1, 1, policy)?,
             };
             for other in [(me + count - 1) % count, (me + 1) % count] {
-                node.know(other)?;
+                node.know(other, 1)?;
                 node.link_up(other);
             }
             write(&mut node)?;
@@ -141,11 +141,36 @@ fn a_ring_finds_its_ways_and_heals() -> Result<(), Box<dyn Error>> {
     Ok(())
 }
 
+/// Gateway 0 is dear for router 1 and cheap for router 2. So router 1 sends over router 2, at 2 + 3.
+#[test]
+fn routes_have_the_least_costs() -> Result<(), Box<dyn Error>> {
+    const COSTS: [[u32; 3]; 3] = [[0, 1, 1], [9, 0, 2], [3, 7, 0]];
+    let start = u32::MAX.into();
+    let mut ring = Ring {
+        nodes: vec![
+            Node::gateway(0, 1)?,
+            Node::new(1, 1, start, POLICY)?,
+            Node::new(2, 1, start, POLICY)?,
+        ],
+    };
+    for (node, costs) in ring.nodes.iter_mut().zip(COSTS) {
+        for (other, cost) in (0..).zip(costs).filter(|(_, cost)| *cost > 0) {
+            node.know(other, cost)?;
+            node.link_up(other);
+        }
+        write(node)?;
+    }
+    ring.settle()?;
+    assert_eq!(ring.picture(), [(0, Some(0)), (5, Some(5)), (3, Some(3))]);
+    assert_eq!(ring.nodes[1].table()?.ways(), [2, 0]);
+    Ok(())
+}
+
 #[test]
 fn only_the_last_table_can_be_confirmed() -> Result<(), Box<dyn Error>> {
     let mut node = Node::gateway(0, 1)?;
     for neighbour in [9, 5, 7] {
-        node.know(neighbour)?;
+        node.know(neighbour, 1)?;
         node.link_up(neighbour);
     }
     let early = node.table()?;
@@ -183,9 +208,10 @@ fn a_neighbour_may_become_known_at_any_time() -> Result<(), Box<dyn Error>> {
     let mut node = Node::new(1, 1, 0, Policy::default())?;
     node.link_up(2);
     let table: NodeTable = node.table()?;
-    node.know(3)?;
-    node.know(3)?;
-    assert_eq!(node.know(1), Err(NodeFault::Itself));
+    node.know(3, 1)?;
+    node.know(3, 1)?;
+    assert_eq!(node.know(1, 1), Err(NodeFault::Itself));
+    assert_eq!(node.know(4, 0), Err(NodeFault::FreeLink));
     assert_eq!(node.written(table), Ok(()));
     Ok(())
 }
@@ -193,8 +219,8 @@ fn a_neighbour_may_become_known_at_any_time() -> Result<(), Box<dyn Error>> {
 #[test]
 fn what_is_no_message_changes_nothing() -> Result<(), Box<dyn Error>> {
     let mut node = Node::new(1, 1, 7, POLICY)?;
-    assert_eq!(node.know(1), Err(NodeFault::Itself));
-    assert_eq!(node.know(2), Ok(()));
+    assert_eq!(node.know(1, 1), Err(NodeFault::Itself));
+    assert_eq!(node.know(2, 1), Ok(()));
     assert_eq!(node.say(2), Ok(None));
     for bytes in [&[][..], &[0; MESSAGE_LENGTH], &[0; 400]] {
         assert_eq!(node.hear(bytes), Err(HearFault::NotAMessage));
@@ -213,12 +239,12 @@ fn what_is_no_message_changes_nothing() -> Result<(), Box<dyn Error>> {
 #[test]
 fn a_boot_number_that_did_not_grow_is_noticed() -> Result<(), Box<dyn Error>> {
     let mut neighbour = Node::new(2, 1, 0, POLICY)?;
-    neighbour.know(1)?;
+    neighbour.know(1, 1)?;
     neighbour.link_up(1);
     write(&mut neighbour)?;
     let greeting = neighbour.say(1)?.expect("the link is up");
     let mut node = Node::new(1, 5, 0, POLICY)?;
-    node.know(2)?;
+    node.know(2, 1)?;
     let table = node.table()?;
     for later in [6, 1 << 40, u64::MAX] {
         let heard = node.hear(&with_number(greeting, 24, later));
@@ -235,7 +261,7 @@ fn a_boot_number_that_did_not_grow_is_noticed() -> Result<(), Box<dyn Error>> {
 fn what_is_not_newer_is_no_event() -> Result<(), Box<dyn Error>> {
     let (mut node, mut neighbour) = (Node::new(1, 1, 0, POLICY)?, Node::new(2, 1, 0, POLICY)?);
     for (it, other) in [(&mut node, 2), (&mut neighbour, 1)] {
-        it.know(other)?;
+        it.know(other, 1)?;
         it.link_up(other);
         while it.act() {}
         write(it)?;
@@ -263,7 +289,7 @@ fn a_link_that_works_one_way_counts_at_neither_end() -> Result<(), Box<dyn Error
     const PATIENCE: u32 = 3;
     let (mut gateway, mut router) = (Node::gateway(0, 1)?, Node::new(1, 1, 1, POLICY)?);
     for (it, other) in [(&mut gateway, 1), (&mut router, 0)] {
-        it.know(other)?;
+        it.know(other, 1)?;
         it.link_up(other);
         write(it)?;
     }
@@ -327,12 +353,13 @@ fn a_node_may_go_to_another_thread() -> Result<(), NoMemory> {
 
 #[test]
 fn faults_are_errors() {
-    let faults: [Box<dyn Error>; 7] = [
+    let faults: [Box<dyn Error>; 8] = [
         HearFault::NotAMessage.into(),
         HearFault::LaterStart.into(),
         Outdated.into(),
         Unwritten.into(),
         NodeFault::Itself.into(),
+        NodeFault::FreeLink.into(),
         NodeFault::TooHigh.into(),
         NodeFault::from(NoMemory).into(),
     ];

@@ -14,7 +14,7 @@ ANSWERED, BLANK, TOO_SHORT, NO_MEMORY, NO_NETWORK, NO_ROUTE, REFUSED, NO_WALK, B
 UNWRITTEN, NO_MESSAGE, LINK_DOWN, OUTDATED, LATER_START = range(12, 17)
 HERE, CUT_OFF, NO_SUCH_NODE, NO_HOP = range(0xFFFFFFFF, 0xFFFFFFFB, -1)
 CUT, ADD, JOIN = range(3)
-FULL, CEILING = range(2)
+FULL, TOP = range(2)
 UNKNOWN_EDIT, RANGE, SELF_LINK, TWICE, CLOSED_WALK, NO_LINK, TOO_MANY = 2, *range(4, 10)
 
 
@@ -115,7 +115,7 @@ _WORDS: dict[str, list[Any]] = {
     "way_reader_close": [_way_reader],
     "node_open": [_node, _number, _wide, _wide, ctypes.POINTER(Policy)],
     "node_open_gateway": [_node, _number, _wide],
-    "node_know": [_node, _number],
+    "node_know": [_node, _number, _number],
     "node_link_up": [_node, _number],
     "node_link_down": [_node, _number],
     "node_tick": [_node, _number],

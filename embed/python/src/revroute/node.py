@@ -75,8 +75,8 @@ class Node:
     ...     table = node.table()
     ...     # write table.ways and table.gates to the forwarding table
     ...     node.written(table.state)
-    >>> gateway, router = revroute.Node.gateway(0, boot=1), revroute.Node(1, boot=1, height=1, ceiling=16)
-    >>> gateway.know(1), router.know(0)
+    >>> gateway, router = revroute.Node.gateway(0, boot=1), revroute.Node(1, boot=1, ceiling=16)
+    >>> gateway.know(1), router.know(0, cost=2)
     (None, None)
     >>> gateway.link_up(1), router.link_up(0)
     (None, None)
@@ -88,15 +88,19 @@ class Node:
     ...     gateway.hear(router.say(0))
     ...     write(gateway)
     >>> router.ways(), router.distance, gateway.gates()
-    ([0], 1, [1])
+    ([0], 2, [1])
 
     `me` is the number of the router, which no other router has. `boot` is greater than at all earlier starts of this
-    router. `height` is the height at which it starts. Without a `ceiling`, a router that has no way rises above all
-    its neighbours: this is full link reversal, and routers that are cut off from all gateways rise for ever. With a
-    `ceiling`, it rises to the ceiling at most, and such routers stop there. The ceiling is at least the number of routers,
-    and all routers use `lower` then: otherwise a router may stay without a way. With `lower`, a router lowers its height to its distance if its nearest way stays a way. With
-    `wait`, it keeps its old height and ways until the neighbours that it lets in have acknowledged a greater height. No
-    choice can make a loop.
+    router. `height` is the height at which it starts: without it 0, or 2^32 - 1 with a `ceiling`.
+
+    Without a `ceiling`, a router that has no way rises above all its neighbours: this is full link reversal, and routers
+    that are cut off from all gateways rise for ever. With `lower`, such a router lowers its height to its distance if its
+    nearest way stays a way. With a `ceiling`, a router rises if no neighbour offers its height, and at once to 2^32 - 1,
+    the height of a router without a route. A neighbour offers its own height and the cost of the link together, if that
+    is below the ceiling. The router comes down to its best offer once each neighbour at a link that is up is let in. So
+    once all is quiet, routes have the least costs, if these are below the ceiling, and routers that are cut off are
+    silent. With `wait`, a router keeps its old height and ways until the neighbours that it lets in have acknowledged a
+    greater height. No choice can make a loop.
 
     Raises OverflowError if `boot` or `height` has more than 64 bits or another number has more than 32, ValueError if
     `height` is 2^63 or more, since neighbours have to be able to rise above it, and MemoryError if memory runs out. A call on a
@@ -112,13 +116,15 @@ class Node:
         self,
         me: int,
         boot: int,
-        height: int = 0,
+        height: Optional[int] = None,
         *,
         ceiling: Optional[int] = None,
         lower: bool = True,
         wait: bool = True,
     ) -> None:
-        rise = _calls.FULL if ceiling is None else _calls.CEILING
+        rise = _calls.FULL if ceiling is None else _calls.TOP
+        if height is None:
+            height = 0 if ceiling is None else _MOST[4]
         policy = _calls.Policy(rise, _number(ceiling or 0), bool(lower), bool(wait))
         words = _number(me), _number(boot, 8), _number(height, 8), ctypes.byref(policy)
         self._start(lambda at: questions.revroute_node_open(at, *words))
@@ -145,14 +151,17 @@ class Node:
         self._end.atexit = False
         _nodes[id(self)] = self
 
-    def know(self, neighbour: int) -> None:
-        """Makes a neighbour known. The link to it is down until `link_up`. A neighbour that is known stays as it is.
+    def know(self, neighbour: int, cost: int = 1) -> None:
+        """Makes a neighbour known. `cost` is what it costs this router to send a packet to it. The neighbour may know
+        another cost for the other direction. The link to it is down until `link_up`. A neighbour that is known stays as
+        it is, with its cost.
 
-        Raises ValueError if it is the router itself, and MemoryError if memory runs out. Then nothing has changed.
+        Raises ValueError if it is the router itself or the cost is 0, OverflowError if a number has more than 32 bits,
+        and MemoryError if memory runs out. Then nothing has changed.
         """
-        status = self._call(questions.revroute_node_know, _number(neighbour))
+        status = self._call(questions.revroute_node_know, _number(neighbour), _number(cost))
         if status == _calls.REFUSED:
-            raise ValueError("a router is no neighbour of itself")
+            raise ValueError("a router is no neighbour of itself" if cost else "a link costs 1 or more")
         if status == _calls.NO_MEMORY:
             raise MemoryError
 
@@ -275,8 +284,8 @@ class Node:
 
     @property
     def distance(self) -> Optional[int]:
-        """How many links a packet crosses from this router to a gateway, by what it has heard: 0 at a gateway. None if
-        there is no way, or if no way has a distance."""
+        """The cost of the nearest route from this router to a gateway, by what it has heard: 0 at a gateway. None if there
+        is no way, or if no way has a distance."""
         distance = ctypes.c_uint32()
         status = self._call(questions.revroute_node_distance, ctypes.byref(distance))
         return distance.value if status == _calls.ANSWERED else None

@@ -1,15 +1,7 @@
 use Rattle.fr_node.proofs.Calls.{calls_stay_below}
-use Rattle.fr_node.proofs.CeilingExample.{some_router_is_joined}
-use Rattle.fr_node.proofs.Ceilings.{joined_packets_arrive}
 use Rattle.fr_node.proofs.HeightExample.{some_routers_announce}
 use Rattle.fr_node.proofs.Rests.{announcements_end, tests_lead_down}
 use Rattle.fr_node.proofs.laws.ceiling_law.Goals as goal
-
-pub returns-clause-arrive : goal.returns-clause-arrive
-returns-clause-arrive c = joined_packets_arrive
-
-pub returns-clause-joined : goal.returns-clause-joined
-returns-clause-joined c = some_router_is_joined
 
 pub returns-clause-rest : goal.returns-clause-rest
 returns-clause-rest c = announcements_end

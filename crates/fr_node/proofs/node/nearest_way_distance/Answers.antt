@@ -1,5 +1,7 @@
 use Rattle.std.proofs.Common.{sym, ◌∙◌}
-use Rattle.fr_node.proofs.Nearest.{nearest_more, nearest_same}
+use Rattle.fr_node.specs.Distances.{distance_over}
+use Rattle.fr_node.specs.Links.{is_way}
+use Rattle.fr_node.proofs.Least.{least_more, least_same}
 use Rattle.fr_node.proofs.node.nearest_way_distance.Goals as goal
 use Rattle.fr_node.proofs.node.nearest_way_distance.Goals.{else-is_way, then-is_way}
 
@@ -8,8 +10,8 @@ loop-link-preserved c =
     let own = c.args.own.now in
     let links = c.args.links.now in
     elim c.if-is_way.branch [
-      | then-is_way w ↦ rw w.nearest-is (nearest_more own links _ _ _ _ c.loop-link-test.true c.loop-link.invariant
-          (sym c.is_way.ensures ∙ w.if-is_way.true) w.lesser_distance.ensures)
-      | else-is_way w ↦ rw w.nearest-is (nearest_same own links _ _ _ c.loop-link-test.true c.loop-link.invariant
-          (sym c.is_way.ensures ∙ w.if-is_way.false))
+      | then-is_way w ↦ rw w.nearest-is (least_more (is_way own) distance_over links _ _ _ _ _ c.loop-link-test.true
+          c.loop-link.invariant (sym c.is_way.ensures ∙ w.if-is_way.true) w.distance_over.ensures w.lesser.ensures)
+      | else-is_way w ↦ rw w.nearest-is (least_same (is_way own) distance_over links _ _ _ c.loop-link-test.true
+          c.loop-link.invariant (sym c.is_way.ensures ∙ w.if-is_way.false))
     ]

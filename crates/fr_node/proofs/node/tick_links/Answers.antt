@@ -9,7 +9,7 @@ pub loop-link-preserved : goal.loop-link-preserved
 loop-link-preserved c =
     let now = c.loop-link.links in
     let i = c.loop-link.link-index in
-    let d : Link = record unknown { distance = 0 } in
+    let d : Link = record unknown { cost = 0; distance = 0 } in
     let inside : i < length c.args.links.now = c.loop-link-test.true in
     let here : i < length now = omega (arith, inside, c.loop-link.auto.links) in
     ap (slice_set now i) c.after_tick.ensures

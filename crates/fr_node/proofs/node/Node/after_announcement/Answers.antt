@@ -1,9 +1,13 @@
-use Rattle.std.proofs.Common.{arith, inl, inr}
+use Rattle.std.proofs.Common.{arith, inl, inr, ◌<◌}
 use Rattle.fr_node.proofs.Histories.{Announces-lowered, Announces-raised}
+use Rattle.fr_node.proofs.Policies.{falls_lower}
 use Rattle.fr_node.proofs.node.Node.after_announcement.Goals as goal
 
 pub returns-in-Some-clause-own : goal.returns-in-Some-clause-own
-returns-in-Some-clause-own c = rw c.announce_lowered.ensures (Announces-lowered _ _ (omega (arith, c.in-Some.ensures.lower)))
+returns-in-Some-clause-own c =
+    let n = c.args.self.now in
+    let lower : c.in-Some.height < n.own.used = falls_lower n.policy.rise n c.in-Some.height c.in-Some.ensures in
+    rw c.announce_lowered.ensures (Announces-lowered _ _ (omega (arith, lower)))
 
 pub returns-in-Some-clause-policy : goal.returns-in-Some-clause-policy
 returns-in-Some-clause-policy c = inl (record {

@@ -1,28 +1,28 @@
--- Two routers below a ceiling in which nothing more happens: a gateway, and a router that has a way to it.
+-- Two routers in which nothing more happens: a gateway, and a router with a route to it.
 use Rattle.std.proofs.Common.{None, [], arith, false, get_or, inl, inr, refl, subst, suc, sym, true, zero, ℕ, ⊎_elim}
-use Rattle.std.proofs.Common.{◌<◌, ◌∷◌, ◌≡◌, ◌⊎◌}
+use Rattle.std.proofs.Common.{◌<◌, ◌∷◌, ◌≡◌, ◌≤◌, ◌⊎◌}
 use Rattle.std.specs.Global.{Global, Vec}
 use Rattle.std.specs.List.{Contains}
 use denote.RawPtr.{null_ptr}
 use Rattle.fr_node.specs.Arrivals.{IsTold}
-use Rattle.fr_node.specs.Distances.{IsDistance, IsNearest}
-use Rattle.fr_node.specs.Ceilings.{IsGateway, IsStillBelow, SomeRouterIsJoined}
+use Rattle.fr_node.specs.Distances.{IsDistance, IsLeast, IsNearest, distance_over}
+use Rattle.fr_node.specs.Shortest.{IsGateway, IsStillBelow, SomeRouteIsShortest}
 use Rattle.fr_node.specs.Histories.{IsHistory}
-use Rattle.fr_node.specs.Links.{unknown}
-use Rattle.fr_node.specs.Policies.{IsSink}
+use Rattle.fr_node.specs.Links.{is_offer, offer_of, unknown}
+use Rattle.fr_node.specs.Policies.{IsAtTop}
 use Rattle.fr_node.specs.declared.link.Link.{Link}
 use Rattle.fr_node.specs.declared.node.Node.{Node}
 use Rattle.fr_node.specs.declared.own.Own.{Own}
 use Rattle.fr_node.specs.declared.policy.Policy.{Policy}
-use Rattle.fr_node.specs.declared.policy.Rise.TheVariants.{Ceiling}
+use Rattle.fr_node.specs.declared.policy.Rise.TheVariants.{Top}
 use Rattle.fr_node.proofs.Announcing.{true_false}
 use Rattle.fr_node.proofs.Members.{Contains-cases, Contains-head, Contains-none}
-use Rattle.fr_node.proofs.Nearest.{distance_once}
 
 -- a link that is up, on which the height and the distance h were heard
 abbrev link : ℕ → ℕ → Link
 link neighbour h = record {
   neighbour = neighbour;
+  cost = 1;
   carrier = true;
   up = true;
   deaf = 0;
@@ -50,7 +50,7 @@ own me = record {
 }
 
 abbrev policy : Policy
-policy = record { rise = Ceiling 2; lower = true; wait = false }
+policy = record { rise = Top 2; lower = false; wait = false }
 
 only : (l k : Link) → Contains (l ∷ []) k → l ≡ k
 only l k h = ⊎_elim (λ e. e) (λ none. absurd (Contains-none k none)) (Contains-cases k l [] h)
@@ -72,13 +72,18 @@ announced me = (
   },
 )
 
-is_near : IsNearest (own 1) (link 0 0 ∷ []) 0
-is_near = record { some = (0, omega arith, refl, refl); least = λ k l way. omega arith }
-
-near : (k : ℕ) → IsNearest (own 1) (link 0 0 ∷ []) k → 0 ≡ k
+near : (k : ℕ) → IsNearest (own 1) (link 0 0 ∷ []) k → 1 ≡ k
 near k nearest = at nearest.some.0 nearest.some.1 nearest.some.3
   where
-    at : (j : ℕ) → j < 1 → (get_or (link 0 0 ∷ []) j unknown).distance ≡ k → 0 ≡ k
+    at : (j : ℕ) → j < 1 → distance_over (get_or (link 0 0 ∷ []) j unknown) ≡ k → 1 ≡ k
+    at zero l e = omega (arith, e)
+    at (suc j) l e = absurd (omega (arith, l))
+
+-- what the gateway offers
+best : (v : ℕ) → IsLeast (is_offer 2) offer_of (link 0 0 ∷ []) v → 1 ≡ v
+best v least = at least.some.0 least.some.1 least.some.3
+  where
+    at : (j : ℕ) → j < 1 → offer_of (get_or (link 0 0 ∷ []) j unknown) ≡ v → 1 ≡ v
     at zero l e = omega (arith, e)
     at (suc j) l e = absurd (omega (arith, l))
 
@@ -134,22 +139,26 @@ module _ (alloc : Global) where
     far = λ _ none. absurd (true_false (sym (none 0 (omega arith))));
   }
 
-  not_sink : IsSink (own 1) (link 0 0 ∷ []) → ⊥
-  not_sink sink = true_false (sym (sink 0 unknown (omega arith) refl).1)
+  not_top : (v : ℕ) → IsAtTop router 2 v → ⊥
+  not_top v top = omega (arith, top.none 0 unknown (omega arith) refl)
 
   still : IsStillBelow 2 router
   still = record {
     rise = refl;
-    lower = refl;
+    height = omega arith;
     may = record { forwards = refl; settled = refl; number = omega arith };
     keeps = record {
       stays = λ may v. (
-        λ falls. omega (arith, falls.lower, distance_once router v 1 falls.distance router_distance),
-        λ rises. absurd (not_sink rises.sink),
+        λ falls. omega (arith, falls.lower, best v falls.best),
+        λ rises. absurd (not_top v rises),
       );
       own = refl;
     };
   }
+
+  cost : (x : ℕ) (l : Link) → Contains (nodes x).links.items l → 1 ≤ l.cost
+  cost zero l h = subst (λ (k : Link). 1 ≤ k.cost) (only (link 1 1) l h) (omega arith)
+  cost (suc x) l h = subst (λ (k : Link). 1 ≤ k.cost) (only (link 0 0) l h) (omega arith)
 
   me : (x : ℕ) → x < 2 → (nodes x).own.me ≡ x
   me zero l = refl
@@ -187,23 +196,23 @@ module _ (alloc : Global) where
   stills zero = inl (record { gateway = refl; height = refl })
   stills (suc x) = inr still
 
-pub some_router_is_joined : SomeRouterIsJoined
-some_router_is_joined alloc = (
+pub some_route_is_shortest : SomeRouteIsShortest
+some_route_is_shortest alloc = (
   2,
-  2,
+  λ _. 2,
   nodes alloc,
   1,
-  0 ∷ [],
-  omega arith,
-  omega arith,
+  link 0 0 ∷ [],
   record {
+    bits = λ x _. omega arith;
     me = me alloc;
     announced = λ x _. has_announced alloc x;
+    cost = λ x l _ h. cost alloc x l h;
     told = λ x l inside h _. told alloc x l inside h;
     distance = λ x l _ h _. distance alloc x l h;
     still = λ x _. stills alloc x;
   },
   omega arith,
-  ((link 0 0, head (link 0 0), refl, refl), refl),
+  record { path = (head (link 0 0), refl, refl); within = (omega arith, tt) },
   refl,
 )
