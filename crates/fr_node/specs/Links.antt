@@ -11,16 +11,16 @@ abbrev pub unknown : Link
 unknown = record {
   neighbour = 0;
   cost = 1;
+  distance = CUT_OFF;
+  deaf = 0;
+  silent = 0;
   carrier = false;
   up = false;
-  deaf = 0;
   is_heard = false;
-  silent = 0;
   peer = 0;
   stamp = 0;
   heard = 0;
   seen = 0;
-  distance = CUT_OFF;
   acked = 0;
   said = None;
 }

@@ -14,17 +14,19 @@ pub(crate) struct Link {
     pub(crate) neighbour: u32,
     /// What it costs to send a packet over the link: 1 or more.
     pub(crate) cost: u32,
+    /// The neighbour's distance, which came with its height.
+    pub(crate) distance: u32,
+    /// For how many ticks the neighbour has seemed deaf: since it last said something to this start of the router,
+    /// since it started again, or since the link came up.
+    pub(crate) deaf: u32,
+    /// For how many ticks the neighbour has been silent: since its last message was taken.
+    pub(crate) silent: u32,
     /// Whether the caller says that the link is up.
     pub(crate) carrier: bool,
     /// Whether the link counts as up: there is a carrier, and the neighbour did not seem deaf for too many ticks.
     pub(crate) up: bool,
-    /// For how many ticks the neighbour has seemed deaf: since it last said something to this start of the router,
-    /// since it started again, or since the link came up.
-    pub(crate) deaf: u32,
     /// Whether the neighbour was heard lately: it was not silent for too many ticks.
     pub(crate) is_heard: bool,
-    /// For how many ticks the neighbour has been silent: since its last message was taken.
-    pub(crate) silent: u32,
     /// The greatest start of the neighbour that is known. 0: none.
     pub(crate) peer: u64,
     /// The greatest stamp of a message that was taken of that start. 0: none.
@@ -33,8 +35,6 @@ pub(crate) struct Link {
     pub(crate) heard: u64,
     /// The height that came with it.
     pub(crate) seen: u64,
-    /// The distance that came with it.
-    pub(crate) distance: u32,
     /// The number of the router's announcements that the neighbour has acknowledged. 0: none.
     pub(crate) acked: u64,
     /// The last message that was said to the neighbour, without its stamp.
@@ -47,16 +47,16 @@ impl Link {
         ensures { result ≡ record {
           neighbour = neighbour;
           cost = cost;
+          distance = CUT_OFF;
+          deaf = 0;
+          silent = 0;
           carrier = false;
           up = false;
-          deaf = 0;
           is_heard = false;
-          silent = 0;
           peer = 0;
           stamp = 0;
           heard = 0;
           seen = 0;
-          distance = CUT_OFF;
           acked = 0;
           said = None;
         } }
@@ -64,16 +64,16 @@ impl Link {
         Link {
             neighbour,
             cost,
+            distance: CUT_OFF,
+            deaf: 0,
+            silent: 0,
             carrier: false,
             up: false,
-            deaf: 0,
             is_heard: false,
-            silent: 0,
             peer: 0,
             stamp: 0,
             heard: 0,
             seen: 0,
-            distance: CUT_OFF,
             acked: 0,
             said: None,
         }
