@@ -9,8 +9,8 @@
 //! The program prints what happened, how often a tick ended that a link counted as up, in how many steps the library
 //! differed from the rules (rules.rt), and in how many routers used a loop. Of histories it also prints how many did
 //! not come to rest, after how many a router that is joined to a gateway was not served, after how many a router had
-//! not the least cost, and in how many a router announced more heights than it may. Then it looks for what three kinds
-//! of routers do not keep, and a fourth one without ticks, and has to see that in at most ten times as many histories.
+//! not the least cost, and in how many a router announced more heights than it may. Then it looks for what four kinds
+//! of routers do not keep, and one kind without ticks, and has to see that in at most ten times as many histories.
 #![tactic(auto)]
 
 mod draws;
@@ -37,10 +37,11 @@ const KEPT: [(Kind, Promise); 5] = [
     (Kind::Mixed, Promise::NoLoop),
 ];
 
-const NOT_KEPT: [(Kind, Promise); 3] = [
+const NOT_KEPT: [(Kind, Promise); 4] = [
     (Kind::Full, Promise::AllRest),
     (Kind::Lowering, Promise::Bounded),
     (Kind::LowCeiling, Promise::Served),
+    (Kind::Mixed, Promise::Served),
 ];
 
 /// In how many times as many histories the program looks at most for what is not kept.
