@@ -10,6 +10,7 @@ pub mod Nodes  -- which router of the laws a node is
 pub mod Events  -- a node at its start, after an event, and when it says a message
 pub mod Arrivals  -- where packets end, once nothing more happens
 pub mod Daemons  -- daemons that call nodes and write tables
+pub mod Prefixes  -- forwarding by the longest prefix
 pub mod Paths  -- how many heights routers on a path announce, whatever else happens
 pub mod Lowerings  -- the same of routers that may lower their heights
 pub mod Heights  -- how often a router announces the same height

@@ -2,6 +2,7 @@
 
 ghost use Rattle.fr_node.specs.Bytes.{OneMessage};
 ghost use Rattle.fr_node.specs.Daemons.{DaemonsHaveNoLoop};
+ghost use Rattle.fr_node.specs.Prefixes.{PrefixesHaveNoLoop, SomePrefixIsLonger};
 ghost use Rattle.fr_node.specs.Tables.{SomeTablesLetThrough, TablesHaveNoLoop};
 ghost use Rattle.fr_node.specs.Heights.{CallsActBeside, CostsStay, SameHeightIsBounded, SomeHeightComesBack};
 ghost use Rattle.fr_node.specs.Laws.{NeverALoop, PacketsArrive, SomeLinkIsUsed};
@@ -29,6 +30,15 @@ pub fn tables_law()
     ensures safe { TablesHaveNoLoop }
     ensures possible { SomeTablesLetThrough }
     ensures calls { DaemonsHaveNoLoop }
+{}
+
+/// Forwarding by the longest prefix makes no loop either. Routers may know different prefixes, and a packet goes by the
+/// longest one that its router knows. A packet never meets a router again if the tables of no prefix have a loop, and if
+/// each router that lets in anything from a neighbour knows each prefix for which that neighbour has it as a way. Then
+/// the prefix by which the packet goes never gets shorter. In some network a packet comes to a longer prefix.
+pub fn prefixes_law()
+    ensures safe { PrefixesHaveNoLoop }
+    ensures possible { SomePrefixIsLonger }
 {}
 
 /// In a network of routers with `Rise::Full`, once all messages have arrived and no router raises its height, each
