@@ -31,8 +31,7 @@ module _ (t : PrefixTables) (knows : KnowsWhatComes t) where
   alone u (v ∷ vs) p walk at end =
       let out : walk.0.out ≡ p = once u walk.0.out p walk.0.by at in
       let most = grows v vs walk.0.into p walk.1 walk.0.at end in
-      let into : walk.0.into ≡ p = omega (arith, out, longer u v walk.0, most) in
-      (
+      let into : walk.0.into ≡ p = omega (arith, out, longer u v walk.0, most) in (
         record {
           way = subst (λ k. t.ways k u v ≡ true) out walk.0.way;
           gate = subst (λ k. t.gates k v u ≡ true) into walk.0.gate;
