@@ -1,4 +1,4 @@
--- What is read from a reader, and a beginning of an output. This project's own. If the bytes of a reader are not known,
+-- What is read from a reader, and a prefix of an output. This project's own. If the bytes of a reader are not known,
 -- as those of standard input, these definitions hold of any bytes and say nothing.
 use Rattle.std.specs.Prelude.{◌≡◌, ℕ, ◌+◌, ◌<◌, ◌≤◌, List, ◌++◌, length, Option}
 use Rattle.std.specs.Io.KnownBytes.{Consumes, IsAtEnd}

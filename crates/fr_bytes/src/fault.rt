@@ -13,7 +13,7 @@ pub enum RunFault {
     /// A read failed. A service has written the answers to all lines that had ended; the others have written nothing.
     #[error("read fault")]
     Read,
-    /// A write or the flush failed, or a write accepted no byte. What was written is a beginning of the output.
+    /// A write or the flush failed, or a write accepted no byte. What was written is a prefix of the output.
     #[error("write fault")]
     Write,
     /// The input has more than [`MAX_BYTES`](crate::MAX_BYTES) bytes; then nothing was written. In a service, one line

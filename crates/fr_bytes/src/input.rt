@@ -21,6 +21,7 @@ pub const PIECE: usize = 65_536;
 /// Fails with `Read` if a read fails, with `TooLong` if the reader has more bytes, and with `Memory` if there is no
 /// memory for bytes that were read. It never fails with `Write` or `Start`. O(b) for b bytes read.
 pub fn read_input<R: Read>(alloc: Global, reader: &mut R) -> Result<Vec<u8>, RunFault>
+    // Exactly the bytes that the reader had.
     ensures ok { IfOk result (λ input. ReadsInput (R.remaining reader.old) (R.remaining reader.new) input.items) }
     ensures limit { ReadsAtMostOneTooMany (R.remaining reader.old) (R.remaining reader.new) }
     ensures fault { IfErr result (IsInputFault (R.remaining reader.old) (R.remaining reader.new)) }

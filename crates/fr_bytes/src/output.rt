@@ -1,4 +1,4 @@
-//! Writing all of some bytes, or a beginning of them if a write fails.
+//! Writing all of some bytes, or a prefix of them if a write fails.
 
 ghost use Rattle.std.specs.Prelude.{◌≡◌, ℕ, List, OnOk, OnErr, IfErr, take};
 ghost use Rattle.std.specs.Io.KnownBytes.{Appends, Keeps};
@@ -7,10 +7,11 @@ ghost use Rattle.fr_bytes.specs.Bytes.{IsBeginning};
 use crate::fault::RunFault;
 use std::io::Write;
 
-/// Writes all of the bytes. Fails with `Write` if a write fails or accepts no byte; then a beginning of the bytes was
+/// Writes all of the bytes. Fails with `Write` if a write fails or accepts no byte; then a prefix of the bytes was
 /// written. O(b) for b bytes.
 pub fn write_whole<W: Write>(writer: &mut W, bytes: &[u8]) -> Result<(), RunFault>
     ensures ok { OnOk result (Appends (W.contents writer.old) (W.contents writer.new) bytes.now) }
+    // A prefix of the bytes was written.
     ensures err { OnErr result ((n : ℕ) × Appends (W.contents writer.old) (W.contents writer.new) (take n bytes.now)) }
     ensures kind { IfErr result (λ fault. fault ≡ RunFault.Write) }
 {
@@ -25,7 +26,7 @@ pub fn write_whole<W: Write>(writer: &mut W, bytes: &[u8]) -> Result<(), RunFaul
 }
 
 /// Writes all of the bytes and flushes once. Fails with `Write` if a write or the flush fails, or if a write accepts no
-/// byte; then a beginning of the bytes was written. O(b) for b bytes.
+/// byte; then a prefix of the bytes was written. O(b) for b bytes.
 pub fn write_out<W: Write>(writer: &mut W, bytes: &[u8]) -> Result<(), RunFault>
     ensures ok { OnOk result (Appends (W.contents writer.old) (W.contents writer.new) bytes.now) }
     ensures err { OnErr result ((front : List ℕ) × IsBeginning front bytes.now

@@ -19,6 +19,7 @@ pub trait Stream {
         ensures ok { IfOk result (λ count. Reads (traffic self.old) (traffic self.new) (take count piece.new)) }
         ensures bound { IfOk result (λ count. count ≤ length piece.old) }
         ensures end { IfOk result (λ count. count ≡ 0 → 0 < length piece.old → IsAtEnd (traffic self.new).left) }
+        // Then no byte was taken.
         ensures err { OnErr result (Reads (traffic self.old) (traffic self.new) []) }
         ensures kind { IfErr result (λ fault. fault ≡ RunFault.Read) };
 
@@ -27,6 +28,7 @@ pub trait Stream {
     fn write(&mut self, bytes: &[u8]) -> Result<usize, RunFault>
         ensures ok { IfOk result (λ count. Writes (traffic self.old) (traffic self.new) (take count bytes.now)) }
         ensures bound { IfOk result (λ count. count ≤ length bytes.now) }
+        // Then no byte was written.
         ensures err { OnErr result (Writes (traffic self.old) (traffic self.new) []) }
         ensures kind { IfErr result (λ fault. fault ≡ RunFault.Write) };
 
@@ -73,7 +75,7 @@ impl<R: Read, W: Write> Stream for Joined<R, W> {
     }
 }
 
-/// Writes all of the bytes to a stream. Fails with `Write` if a write fails or accepts no byte; then a beginning of the
+/// Writes all of the bytes to a stream. Fails with `Write` if a write fails or accepts no byte; then a prefix of the
 /// bytes was written. O(b) for b bytes.
 pub fn send_whole<S: Stream>(stream: &mut S, bytes: &[u8]) -> Result<(), RunFault>
     ensures ok { OnOk result (Writes (S.traffic stream.old) (S.traffic stream.new) bytes.now) }

@@ -90,7 +90,10 @@ pub fn command_line<'a>(
     words: &'a [&'a str],
     version: &'a str,
 ) -> Result<CommandLine, TaskFault>
+    // The task and the flags are exactly as `clap` reads the words.
     ensures ok { IfOk result (IsCommandLineIn (map (λ s. s.now) words.entry.now)) }
+    // `Usage` only if `clap` finds a fault, help was asked for, or `--ways` was given without `--json`, which is a
+    // usage error. `Version` only if the version was asked for.
     ensures fault { IfErr result (IsFaultOf (map (λ s. s.now) words.entry.now)) }
 {
     let matches = match matches_of(alloc, words, version) {
@@ -107,6 +110,7 @@ pub fn command_line<'a>(
 
 /// The task of a command line. The words, the faults and the cost are those of [`command_line`].
 pub fn task_of<'a>(alloc: Global, words: &'a [&'a str], version: &'a str) -> Result<Task, TaskFault>
+    // As for `command_line`.
     ensures ok { IfOk result (IsTaskIn (map (λ s. s.now) words.entry.now)) }
     ensures fault { IfErr result (IsFaultOf (map (λ s. s.now) words.entry.now)) }
 {
@@ -247,6 +251,7 @@ fn error_text(alloc: Global, error: &Error) -> Result<String, AllocError> {
 /// The exit status for a fault, and its text, which is for standard output if the status is 0 and otherwise for
 /// standard error. O(1).
 pub fn task_end(fault: &TaskFault) -> (u8, &str)
+    // The status is 0 for help or the version, 2 for a usage error, and 1 if memory ran out.
     ensures { IsEndOf fault.now result.0 result.1.now }
 {
     match fault {

@@ -108,7 +108,7 @@ answers_unique form old (line ∷ rest) a b p q h k =
     (h.6 ∙ (texts ∙ sym k.6), more.1))
     h k
 
--- the answers to some lines are a beginning of the answers to these and more lines
+-- the answers to some lines are a prefix of the answers to these and more lines
 pub answers_begin : (form : Form) (old : Point) (xs ys : List (List ℕ)) (a b : List ℕ) (p q : Point)
     → AreAnswersIn form old xs a p
     → AreAnswersIn form old (xs ++ ys) b q → IsBeginning a b

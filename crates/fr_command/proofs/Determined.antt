@@ -1,4 +1,4 @@
--- An input has only one output, and the answers to its first lines are a beginning of it.
+-- An input has only one output, and the answers to its first lines are a prefix of it.
 use Rattle.std.proofs.Common.{◌≡◌, ◌∙◌, ◌↔◌, ℕ, ◌++◌, List, take, drop, append_assoc, sym, ap, subst, Option, None}
 use Rattle.std.proofs.lemmas.List.{take-append-drop}
 use Rattle.fr_route.specs.Answers.{AreAnswers}
@@ -31,7 +31,7 @@ text_output bytes out = (
       (texts_unique None (lines_of bytes) all.0 out all.1.0.state h.0 texts h.1).0 all.1,
 )
 
--- the answers to the first lines are a beginning of the output
+-- the answers to the first lines are a prefix of the output
 pub output_begins_with : (form : Form) (bytes a b : List ℕ) (lines : ℕ) (p : Point)
     → AreAnswersIn form first_point (take lines (lines_of bytes)) a p → IsOutputIn form bytes b → IsBeginning a b
 output_begins_with form bytes a b lines p h k =
@@ -40,10 +40,10 @@ output_begins_with form bytes a b lines p h k =
     answers_begin form first_point (take lines (lines_of bytes)) (drop lines (lines_of bytes)) a b p k.0 h
     (subst (λ (ls : List (List ℕ)). AreAnswersIn form first_point ls b k.0) all k.1)
 
--- a beginning of a beginning
+-- a prefix of a prefix
 pub begins-trans : (a b c : List ℕ) → IsBeginning a b → IsBeginning b c → IsBeginning a c
 begins-trans a b c h k = (h.0 ++ k.0, k.1 ∙ (ap (λ (o : List ℕ). o ++ k.0) h.1 ∙ append_assoc a h.0 k.0))
 
--- a beginning of what follows
+-- a prefix of what follows
 pub begins_behind : (front out whole : List ℕ) → IsBeginning out whole → IsBeginning (front ++ out) (front ++ whole)
 begins_behind front out whole h = (h.0, ap (λ (l : List ℕ). front ++ l) h.1 ∙ sym (append_assoc front out h.0))

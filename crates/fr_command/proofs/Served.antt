@@ -90,7 +90,7 @@ pub answers_says : (first last : Talk) (xs : List ℕ) (t u : Traffic) → Answe
 answers_says first last xs t u h =
     says_kept first last xs t.written h.0.written u.written (tells_says first last xs t h.0 h.1) h.2.1
 
--- everything that was written is a beginning, too
+-- everything that was written is a prefix, too
 pub says_begins : (first last : Talk) (piece : List ℕ) (done : ℕ) (u v : Option (List ℕ))
     → Says first (take done piece) last u v → BeginsInPiece first piece u v
 says_begins first last piece done u v h = record {
@@ -103,7 +103,7 @@ says_begins first last piece done u v h = record {
   writes = h.writes;
 }
 
--- a beginning of the answer to the line that the end of the input ends
+-- a prefix of the answer to the line that the end of the input ends
 pub ends_begun : (old last : Talk) (text out : List ℕ) (before after : Option (List ℕ)) → Ends old text last
     → IsBeginning out text → Appends before after out → BeginsAnswer old.form (point_of old) old.begun before after
 ends_begun old last text out before after end begins writes = record {
@@ -229,7 +229,7 @@ module _ (form : Form) (bytes : List ℕ) (talk : Talk) (a : Traffic) (v : Optio
         refused = refused;
       }
 
-  -- or a beginning of its answer was written
+  -- or a prefix of its answer was written
   output_begun : (w : Option (List ℕ)) → BeginsAnswer talk.form (point_of talk) talk.begun v w
       → WritesBeginning form bytes a.written w
   output_begun w part =

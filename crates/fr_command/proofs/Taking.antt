@@ -48,7 +48,7 @@ each_taken form bytes =
     record { ended = parts.ended; cut = parts.cut; are_answers = answers.2; same_form = refl } in
     (answers.0, talk, taken)
 
--- whatever follows, the answer to some bytes is a beginning of the output
+-- whatever follows, the answer to some bytes is a prefix of the output
 pub answer_stands : (form : Form) (bytes more text whole : List ℕ) (talk : Talk)
     → Takes (silence_in form) bytes text talk
     → IsOutputIn form (bytes ++ more) whole → IsBeginning text whole

@@ -21,7 +21,7 @@ StopsAfterReading form before after old new =
     (bytes : List ℕ) × ReadsInput before after bytes × StopsAtLine form bytes old new
 
 -- Why a run that answers in this form fails. If a read fails or the input is too long, nothing was written. If a write
--- fails, a beginning of the output was written. A thread is missing for a line that may need one, or memory for a line,
+-- fails, a prefix of the output was written. A thread is missing for a line that may need one, or memory for a line,
 -- and then the answers to the lines before it were written; or memory is missing for the input, and then nothing was
 -- written.
 abbrev pub IsRunFaultIn : (form : Form) (before after old new : Option (List ℕ)) → RunFault → Type 0
@@ -40,7 +40,7 @@ abbrev pub IsRunFault : (before after old new : Option (List ℕ)) → RunFault 
 IsRunFault before after old new fault = IsRunFaultIn Text before after old new fault
 
 -- Why a service that answers in this form fails. If a read fails, or the last byte read makes a line too long, exactly
--- the lines that had ended were answered. If a write fails, a beginning of the output was written. If a thread is
+-- the lines that had ended were answered. If a write fails, a prefix of the output was written. If a thread is
 -- missing for a line that may need one, or memory for a line, the lines before it were answered.
 abbrev pub IsServeFaultIn : (form : Form) (old new : Traffic) → RunFault → Type 0
 IsServeFaultIn form old new Read =
@@ -65,7 +65,7 @@ IsServeFaultIn form old new Memory =
 abbrev pub IsServeFault : (old new : Traffic) → RunFault → Type 0
 IsServeFault old new fault = IsServeFaultIn Text old new fault
 
--- Why a play fails. If a write fails, a beginning of the output was written; otherwise nothing was written. It starts
+-- Why a play fails. If a write fails, a prefix of the output was written; otherwise nothing was written. It starts
 -- no thread.
 abbrev pub IsDrawnPlayFault : (draw : Draw) (before after old new : Option (List ℕ)) → RunFault → Type 0
 IsDrawnPlayFault draw before after old new Read = Keeps old new

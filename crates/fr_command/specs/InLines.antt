@@ -11,7 +11,7 @@ use Rattle.fr_bytes.specs.declared.fault.RunFault.TheVariants.{Read, Write, TooL
 use Rattle.fr_command.specs.Outputs.{WritesBeginning, StopsAtLine}
 use Rattle.fr_command.specs.Points.{Point, AreAnswersIn, MayStartAt}
 
--- a beginning of the answer to this line in this form was written, at this point
+-- a prefix of the answer to this line in this form was written, at this point
 pub record BeginsAnswer (form : Form) (point : Point) (line : List ℕ) (before after : Option (List ℕ)) : Type 0 where
   pub answer : List ℕ
   pub last : Point

@@ -25,7 +25,7 @@ pub record StopsInPiece (fault : RunFault) (old : Talk) (piece : List ℕ) (new 
   pub says : Says old (take count piece) new before after
   pub untaken : IsTakeFault (point_of new) (carried new (drop count piece)) (drop count piece) fault
 
--- a beginning of the answer to some bytes of the piece was written
+-- a prefix of the answer to some bytes of the piece was written
 pub record BeginsInPiece (old : Talk) (piece : List ℕ) (before after : Option (List ℕ)) : Type 0 where
   pub count : ℕ
   pub new : Talk

@@ -37,7 +37,7 @@ abbrev pub CutsDoNotMatter : Type 0
 CutsDoNotMatter = (old mid new : Talk) (front rest text more : List ℕ) → Takes old front text mid
     → Takes mid rest more new → Takes old (front ++ rest) (text ++ more) new
 
--- Whatever bytes follow, the answer to the bytes so far is a beginning of the output.
+-- Whatever bytes follow, the answer to the bytes so far is a prefix of the output.
 abbrev pub AnswerStands : Type 0
 AnswerStands = (form : Form) (bytes rest text whole : List ℕ) (talk : Talk) → Takes (silence_in form) bytes text talk
     → IsOutputIn form (bytes ++ rest) whole → IsBeginning text whole

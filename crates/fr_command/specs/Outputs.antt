@@ -42,7 +42,7 @@ pub record WritesOutputIn (form : Form) (bytes : List ℕ) (old new : Option (Li
   pub answered : tally.answered ≡ last.answered
   pub refused : tally.refused ≡ last.refused
 
--- a beginning of the only output of these bytes in this form was written
+-- a prefix of the only output of these bytes in this form was written
 pub record WritesBeginning (form : Form) (bytes : List ℕ) (old new : Option (List ℕ)) : Type 0 where
   pub whole : List ℕ
   pub out : List ℕ
@@ -51,7 +51,7 @@ pub record WritesBeginning (form : Form) (bytes : List ℕ) (old new : Option (L
   pub begins : IsBeginning out whole
   pub writes : Appends old new out
 
--- the answers to the lines before the one at this place, which is not blank, were written. They are a beginning of the
+-- the answers to the lines before the one at this place, which is not blank, were written. They are a prefix of the
 -- output
 pub record StopsAtLine (form : Form) (bytes : List ℕ) (old new : Option (List ℕ)) : Type 0 where
   pub place : ℕ

@@ -28,7 +28,7 @@ use Rattle.fr_cli.specs.declared.draws.Draw.{Draw}
 abbrev pub is_linked : List (ℕ × ℕ) → ℕ → Bool
 is_linked links x = list_any (λ (l : ℕ × ℕ). (l.0 == x) || (l.1 == x)) links
 
--- the nodes with links, except the destination, in increasing order
+-- the nodes with links, except the destination, in ascending order
 abbrev pub turnable_nodes : ℕ → ℕ → List (ℕ × ℕ) → List ℕ
 turnable_nodes n d links = filter (λ x. not (x == d) && is_linked links x) (range_with_len 0 n)
 
@@ -116,7 +116,7 @@ pub record WritesPlay (draw : Draw) (bytes : List ℕ) (old new : Option (List �
   pub only : (other : List ℕ) (number : ℕ) → IsPlayOutput draw bytes other number → (other ≡ out) × (number ≡ count)
   pub writes : Appends old new out
 
--- a beginning of the only text of the play of these bytes was written
+-- a prefix of the only text of the play of these bytes was written
 pub record WritesPlayBeginning (draw : Draw) (bytes : List ℕ) (old new : Option (List ℕ)) : Type 0 where
   pub whole : List ℕ
   pub count : ℕ

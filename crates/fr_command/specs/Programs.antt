@@ -60,7 +60,7 @@ AsksFor NoMemory out = ⊥
 abbrev pub PrintsAsked : TaskFault → (old new : Option (List ℕ)) → Type 0
 PrintsAsked fault old new = (text : List ℕ) × AsksFor fault text × Appends old new text
 
--- No text was written that the words ask for: they are wrong, and the failure has the text that says so; or a beginning
+-- No text was written that the words ask for: they are wrong, and the failure has the text that says so; or a prefix
 -- of the text was written; or memory is missing.
 abbrev pub IsUntold : TaskFault → (old new : Option (List ℕ)) → Failure → Type 0
 IsUntold fault old new (Usage text) = (fault ≡ UsageFault text false) × Keeps old new

@@ -117,10 +117,15 @@ impl Conversation {
         piece: &[u8],
     ) -> Result<Taken, RunFault>
         ensures count { IfOk result (λ taken. taken.count ≡ line_size piece.now) }
+        // A piece without a newline is kept.
         ensures takes { IfOk result
             (λ taken. Takes self.old (take taken.count piece.now) (text_of taken.answer) self.new) }
+        // The line has at most 16,777,216 bytes.
         ensures within { OnOk result (length (carried self.old piece.now) ≤ most_bytes) }
+        // A fault takes nothing.
         ensures unchanged { OnErr result (self.new ≡ self.old) }
+        // `TooLong` only for a longer line. `Start` only as for `run`, and `Memory` only at a line that is not blank
+        // or has not ended.
         ensures fault { IfErr result
             (IsTakeFault (point_of self.old) (carried self.old piece.now) piece.now) }
         ensures no_start { StartsNone crew.now.plan.now → result ≢ Err RunFault.Start }

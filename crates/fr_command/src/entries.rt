@@ -34,7 +34,7 @@ pub(crate) fn targets_of(
     Ok(targets)
 }
 
-/// The nodes with links, except the destination, in increasing order.
+/// The nodes with links, except the destination, in ascending order.
 fn turnable_nodes(alloc: Global, net: &Net, dest: u32) -> Result<Vec<u32>, AllocError>
     ensures { IfOk result (λ nodes. nodes.items ≡ turnable_nodes_of net.now.nodes dest net.now.links) }
 {

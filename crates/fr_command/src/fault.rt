@@ -9,6 +9,7 @@ use fr_route::AnswerFault;
 /// The exit status for a fault, which is 1, and the line for standard error. O(1).
 pub fn run_end(fault: &RunFault) -> (u8, &'static str)
     ensures status { result.0 ≡ 1 }
+    // The line of exactly this fault.
     ensures text { result.1.now ≡ fault_line fault.now }
 {
     match fault {

@@ -24,14 +24,14 @@ use std::io::{Read, Write};
 
 /// Reads the whole input, and plays the schedule of the draw on the network of the first line that is not blank. Writes
 /// the entries, one on each line, and then the links and the counts at the end; flushes once; and returns how many
-/// entries there are. Each worker goes through the nodes with links, except the destination, in increasing order and
+/// entries there are. Each worker goes through the nodes with links, except the destination, in ascending order and
 /// again from the first, for at most as many nodes as there are steps.
 ///
 /// If there is no such line, if it is not a network, or if it is refused as the first line of a run would be, only the
 /// refusal is written. At most one byte more than [`MAX_BYTES`](crate::MAX_BYTES) is read.
 ///
 /// Fails with `Read` if a read fails, with `TooLong` if the input is longer than the limit, and with `Memory` if an
-/// allocation is refused; then nothing was written. Fails with `Write` if a write or the flush fails; then a beginning
+/// allocation is refused; then nothing was written. Fails with `Write` if a write or the flush fails; then a prefix
 /// of the output was written. It never fails with `Start`.
 ///
 /// O(b) for b bytes of input, the cost of [`read_line`] for one line, O(n + m + w s) for w workers and s steps, O(d)
@@ -42,10 +42,12 @@ pub fn play_drawn<R: Read, W: Write>(
     writer: &mut W,
     draw: Draw,
 ) -> Result<u64, RunFault>
+    // The play of the pseudo-random schedule, to the byte.
     ensures ok { IfOk result (λ count. (bytes : List ℕ)
         × ReadsInput (R.remaining reader.old) (R.remaining reader.new) bytes
         × WritesPlay draw bytes (W.contents writer.old) (W.contents writer.new) count) }
     ensures limit { ReadsAtMostOneTooMany (R.remaining reader.old) (R.remaining reader.new) }
+    // After `Write`, a prefix of the output was written. After any other fault, nothing was written. Never `Start`.
     ensures fault { IfErr result (IsDrawnPlayFault draw (R.remaining reader.old) (R.remaining reader.new)
         (W.contents writer.old) (W.contents writer.new)) }
 {

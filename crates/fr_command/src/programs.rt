@@ -40,7 +40,9 @@ pub enum Failure {
 impl Failure {
     /// The exit status, which is 2 for a usage error and 1 otherwise, and the text for standard error. O(1).
     pub fn end(&self) -> (u8, &str)
+        // 2 for a usage error and 1 for a fault.
         ensures status { result.0 ≡ status_of self.now }
+        // The text of the usage error, or the line of exactly this fault.
         ensures text { result.1.now ≡ failure_text self.now }
     {
         match self {
@@ -68,9 +70,12 @@ pub fn program<'a, T: Threads + Wait + Sync, R: Read, W: Write>(
     words: &'a [&'a str],
     stream: &mut Joined<R, W>,
 ) -> Result<u8, Failure>
+    // The answers have the form of the flags `--json` and `--ways`. The status is 3 exactly if a line was refused and
+    // `--strict` was given, otherwise 0. It is 0 or 3 only if the task was done, or help or the version was written.
     ensures done { IfOk result (IsDone (map (λ s. s.now) words.entry.now)
         (traffic_of (R.remaining stream.old.reader) (W.contents stream.old.writer))
         (traffic_of (R.remaining stream.new.reader) (W.contents stream.new.writer))) }
+    // After a usage error nothing was read or written. Otherwise the call has the fault of the task.
     ensures failed { IfErr result (IsFailure (map (λ s. s.now) words.entry.now)
         (traffic_of (R.remaining stream.old.reader) (W.contents stream.old.writer))
         (traffic_of (R.remaining stream.new.reader) (W.contents stream.new.writer))) }

@@ -15,14 +15,15 @@ use std::io::{Read, Write};
 use std::sync::Wait;
 use std::thread::Threads;
 
-/// Reads the whole input, answers each line that is not blank as text, flushes once at the end, and returns how many
-/// lines were answered. Each line ends at a newline (byte 10). `specs/Answers.antt` of fr_route defines the answers.
-/// Threads settle each network, with this plan and gate; no answer depends on them. The call waits for these threads,
-/// which end once the calls of the gate return. At most one byte more than [`MAX_BYTES`](crate::MAX_BYTES) is read.
+/// Reads the whole input, answers each line that is not blank as text, and returns how many lines were answered. It
+/// flushes once, at the end. Each line ends at a newline (byte 10). `specs/Answers.antt` of fr_route defines the
+/// answers. Threads settle each network, with this plan and gate; no answer depends on them. The call waits for these
+/// threads, which end once the calls of the gate return. At most one byte more than [`MAX_BYTES`](crate::MAX_BYTES)
+/// is read.
 ///
 /// Fails with `Read` if a read fails, with `TooLong` if the input is longer than the limit, and with `Memory` if there
 /// is no memory for the input; then nothing was written. Fails with `Write` if a write or the flush fails; then a
-/// beginning of the output was written. Fails with `Start` if a thread cannot be started for a line, or with `Memory`
+/// prefix of the output was written. Fails with `Start` if a thread cannot be started for a line, or with `Memory`
 /// if there is no memory for it; then the answers to the lines before it were written. With the budget 0 there are no
 /// threads, and it never fails with `Start`.
 ///
@@ -35,10 +36,15 @@ pub fn run<T: Threads + Wait + Sync, R: Read, W: Write, G: Gate + Sync>(
     plan: &Plan,
     gate: &G,
 ) -> Result<u64, RunFault>
+    // Exactly the output of the definitions, and the number of lines that got an answer.
     ensures ok { IfOk result (λ count. (bytes : List ℕ)
         × ReadsInput (R.remaining reader.old) (R.remaining reader.new) bytes
         × WritesOutput bytes (W.contents writer.old) (W.contents writer.new) count) }
+    // At most one byte past the limit is read.
     ensures limit { ReadsAtMostOneTooMany (R.remaining reader.old) (R.remaining reader.new) }
+    // After `Read` or `TooLong`, nothing was written. After `Write`, a prefix of the output was written. After
+    // `Start` or `Memory`, the answers before the failed line were written; after `Memory`, it is also possible that
+    // nothing was written. `Start` only at an accepted line after which a node can turn.
     ensures fault { IfErr result (IsRunFault (R.remaining reader.old) (R.remaining reader.new)
         (W.contents writer.old) (W.contents writer.new)) }
     ensures no_start { StartsNone plan.now → result ≢ Err RunFault.Start }
@@ -63,6 +69,7 @@ pub fn run_in<T: Threads + Wait + Sync, R: Read, W: Write, G: Gate + Sync>(
     reader: &mut R,
     writer: &mut W,
 ) -> Result<Tally, RunFault>
+    // The output in this form, with how many lines got an answer, and how many were refused.
     ensures ok { IfOk result (λ tally. (bytes : List ℕ)
         × ReadsInput (R.remaining reader.old) (R.remaining reader.new) bytes
         × WritesOutputIn form bytes (W.contents writer.old) (W.contents writer.new) tally) }

@@ -30,15 +30,22 @@ use std::thread::Threads;
 /// nothing is read; then all lines that had ended were answered. Fails with `Start` if a thread cannot be started for a
 /// line, or with `Memory` if there is no memory for it; then the lines before it were answered, and the lines after it
 /// that were already read are lost. It never fails with `Start` if the budget is 0 or there is one worker. Fails with
-/// `Write` if a write or a flush fails; then a beginning of the output was written.
+/// `Write` if a write or a flush fails; then a prefix of the output was written.
 ///
 /// The cost is that of `run`, but memory is needed only for the longest line.
 pub fn serve<T: Threads + Wait + Sync, S: Stream, G: Gate + Sync>(
     crew: &Crew<'_, T, G>,
     stream: &mut S,
 ) -> Result<(), RunFault>
+    // Exactly what `run` writes. A last line needs no newline.
     ensures ok { OnOk result (ServesText (S.traffic stream.old) (S.traffic stream.new)) }
+    // After `Read`, exactly the lines that had ended were answered. After `Write`, a prefix of the output was
+    // written. After `TooLong`, `Start` or `Memory`, the lines before the failed one were answered; lines that were
+    // read after it are lost. `Start` only as for `run`.
     ensures fault { IfErr result (IsServeFault (S.traffic stream.old) (S.traffic stream.new)) }
+    // When a read of a stream with a log begins, exactly the lines that have ended are answered, and all answers are
+    // flushed. `Connection` of `crates/test_callers` is such a stream. `Joined`, which the program uses, has no log,
+    // so tests take the place of this clause there.
     ensures in_time { AnswersInTime Text (S.traffic stream.old).log (S.traffic stream.new).log }
     ensures no_start { StartsNone crew.now.plan.now → result ≢ Err RunFault.Start }
 {

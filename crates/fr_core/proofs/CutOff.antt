@@ -1,4 +1,4 @@
--- Nodes that have turned and are joined with no others: they are given the cap, and no node can turn afterwards that could not before.
+-- Nodes that have turned and are connected to no others: they are given the cap, and no node can turn afterwards that could not before.
 use Rattle.std.proofs.Common.{All, Contains, List, ap, arith, eqb, inl, inr, map, slice_index, sym, ℕ, ⊎_elim, ◌<◌, ◌≡◌, ◌∙◌}
 use Rattle.std.proofs.Math.ListN.{get_or-map}
 use Rattle.std.proofs.lemmas.Bool.{cases_eq, cond-false, ne_eqb}

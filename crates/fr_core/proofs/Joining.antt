@@ -1,4 +1,4 @@
--- Which nodes are joined with the destination.
+-- Which nodes are connected to the destination.
 use Rattle.std.proofs.Common.{All, List, [], arith, inl, inr, refl, slice_index, subst, sym, ℕ, ⊎_elim, ◌+◌, ◌<◌, ◌↔◌, ◌∷◌, ◌≡◌, ◌⊎◌}
 use Rattle.fr_core.proofs.Sinks.{links_at_keeps}
 use Rattle.fr_core.proofs.Unique.{IsLinkedCount, joined_count_below, of_linked}

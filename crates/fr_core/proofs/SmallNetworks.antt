@@ -33,7 +33,7 @@ ring = refl
 lost_link : links_at ((0, 1) ∷ []) (0 ∷ 2 ∷ []) ≡ []
 lost_link = refl
 
--- the links that counts give need not be in rising order
+-- the links that counts give need not be in ascending order
 rising_order : in_order (links_at ((0, 1) ∷ (0, 3) ∷ (1, 2) ∷ (2, 3) ∷ (3, 4) ∷ []) (0 ∷ 1 ∷ 1 ∷ 1 ∷ 2 ∷ [])) ≡ (1, 0) ∷ (1, 2) ∷ (2, 3) ∷ (3, 0) ∷ (4, 3) ∷ []
 rising_order = refl
 

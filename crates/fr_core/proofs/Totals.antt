@@ -74,7 +74,7 @@ module _ (n d : ℕ) (first : List (ℕ × ℕ)) (net : IsNet n first) (below : 
   high : (x : ℕ) → IsConnected first d x → slice_index c x < n
   high x joined = joined_count_below n d first net below c settled x joined
 
-  -- a node with a count from 1 to n - 1 is joined with the destination
+  -- a node with a count from 1 to n - 1 is connected to the destination
   joined_by_count : (x : ℕ) → ¬ (slice_index c x ≡ 0) → slice_index c x < n → IsConnected first d x
   joined_by_count x some l = ⊎_elim
       (λ linked. joined_from_counts n d first net below c settled x (inr (linked, l)))
@@ -91,7 +91,7 @@ module _ (n d : ℕ) (first : List (ℕ × ℕ)) (net : IsNet n first) (below : 
       (omega (arith, at_destination)) (omega (arith, e)) in
       (at.0, at.1, joined_by_count at.0 (λ z. omega (arith, z, at.2)) (omega (arith, e, at.2, high x joined)), at.2)
 
-  -- a joined node with the count 0 has a path
+  -- a connected node with the count 0 has a path
   path_at_zero : (x : ℕ) → x < n → IsConnected first d x → slice_index c x ≡ 0 → HasPath first x d
   path_at_zero x l joined e = ⊎_elim
       (λ same. ([], (tt, same)))

@@ -115,7 +115,7 @@ module _ (n d : ℕ) (first : List (ℕ × ℕ)) (net : IsNet n first) (c : List
             ]
       ]
 
-  -- and a node that is not joined with it has kept its links
+  -- and a node that is not connected to it has kept its links
   could_before : (y : ℕ) → ¬ (y ≡ x) → ¬ Joins first x y → CanTurn n d (moment_of first (raised c x)) y → CanTurn n d (moment_of first c) y
   could_before y ne apart_from now =
       let a = sink_meets_bounds first (raised c x) after.kept y now.sink in

@@ -1,4 +1,4 @@
--- The state of the search by levels. The queue has each reached node once, in increasing order of the counts. For
+-- The state of the search by levels. The queue has each reached node once, in ascending order of the counts. For
 -- proofs only.
 use Rattle.std.specs.Prelude.{◌≡◌, ℕ, ◌+◌, ◌<◌, ◌≤◌, ◌⊎◌, List, length, slice_index}
 use Rattle.fr_graph.specs.Links.{Points, IsAlone}

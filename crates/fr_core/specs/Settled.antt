@@ -4,7 +4,7 @@ use Rattle.std.specs.Prelude.{◌≡◌, ℕ, ◌<◌, ◌⊎◌, List, length, 
 use Rattle.fr_graph.specs.Links.{IsAlone}
 use Rattle.fr_core.specs.Walks.{IsConnected, IsLeastAway}
 
--- 0 for a node without a link; the least away number for a node that is joined with the destination d (so 0 for d
+-- 0 for a node without a link; the least away number for a node that is connected to the destination d (so 0 for d
 -- itself, by the walk without steps); and n for every other node
 abbrev pub IsSettledCount : ℕ → ℕ → List (ℕ × ℕ) → ℕ → ℕ → Type 0
 IsSettledCount n d links x k =

@@ -12,12 +12,12 @@ use Rattle.fr_core.specs.Settled.{AreSettled}
 use Rattle.fr_core.specs.Walks.{IsConnected}
 use Rattle.fr_core.specs.declared.entry.Entry.{Entry}
 
--- a bad node, as it is called in the literature: it is joined with the destination d, but no path along the links leads
+-- a bad node, as it is called in the literature: it is connected to the destination d, but no path along the links leads
 -- to d
 abbrev pub IsBad : ℕ → List (ℕ × ℕ) → ℕ → Type 0
 IsBad d links x = IsConnected links d x × ¬ HasPath links x d
 
--- a stranded node: it has links, but is not joined with d
+-- a stranded node: it has links, but is not connected to d
 abbrev pub IsStranded : ℕ → List (ℕ × ℕ) → ℕ → Type 0
 IsStranded d links x = ¬ IsAlone links x × ¬ IsConnected links d x
 
@@ -41,7 +41,7 @@ pub record IsWithinWork (n d : ℕ) (first : List (ℕ × ℕ)) (total : ℕ) : 
   -- so at most n * (n - 1), since the destination is neither bad nor stranded
   pub below : total ≤ n * (n - 1)
 
--- a network of n nodes that are all joined with d, in whatever directions its links point
+-- a network of n nodes that are all connected to d, in whatever directions its links point
 pub record IsConnectedNet (n d : ℕ) (links : List (ℕ × ℕ)) : Type 0 where
   pub is_net : IsNet n links
   pub dest : d < n
@@ -53,13 +53,13 @@ BadAreCounted = (n d : ℕ) (first : List (ℕ × ℕ)) → IsNet n first → d 
     → (b c : ℕ) × AreCounted n d first b c × (b + c < n)
     × ((k l : ℕ) → AreCounted n d first k l → (k ≡ b) × (l ≡ c))
 
--- The joined nodes lie in levels, by their settled counts. If level k + 1 has a node, level k has one too.
+-- The connected nodes lie in levels, by their settled counts. If level k + 1 has a node, level k has one too.
 abbrev pub NoLevelIsEmpty : Type 0
 NoLevelIsEmpty = (n d : ℕ) (first : List (ℕ × ℕ)) (counts : List ℕ) (x k : ℕ) → IsNet n first → d < n
     → AreSettled n d first counts → IsConnected first d x → slice_index counts x ≡ k + 1
     → (y : ℕ) × (y < n) × IsConnected first d y × (slice_index counts y ≡ k)
 
--- No joined node turns more often than there are bad nodes.
+-- No connected node turns more often than there are bad nodes.
 abbrev pub EachIsAtMostBad : Type 0
 EachIsAtMostBad = (n d : ℕ) (first : List (ℕ × ℕ)) (counts : List ℕ) (b c x : ℕ) → IsNet n first → d < n
     → AreCounted n d first b c → AreSettled n d first counts → IsConnected first d x → slice_index counts x ≤ b

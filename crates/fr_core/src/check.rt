@@ -141,8 +141,8 @@ fn fault_of(net: &Net, dest: u32, counts: &[u64], entry: Entry) -> Option<Why>
     }
 }
 
-/// Checks a history entry by entry, from the counts 0, and returns how often each node has turned at its end. The
-/// answer depends only on the entries, not on how they were made.
+/// Checks that a history is a run, and returns how often each node has turned at its end. It goes entry by entry,
+/// from the counts 0. The answer depends only on the entries, not on how they were made.
 ///
 /// Fails with `Range` if `dest` is not a node, which is tested first; with `BadAt` and the first entry that is not
 /// legal after those before it, and the first test that it fails; and with `Memory` if there is no memory for the
@@ -156,7 +156,9 @@ pub fn check_run(
     entries: &[Entry],
 ) -> Result<Vec<u64>, CheckFault>
     ensures destination { IfOk result (λ _. dest < net.now.nodes) }
+    // Only if the history is a run, which leads to these counts.
     ensures run { IfOk result (λ counts. IsRunTo net.now.nodes dest net.now.links entries.now counts.items) }
+    // A destination that is not a node, else the first illegal entry, with the first test that it fails.
     ensures refused { IfErr result (λ fault. fault ≢ Memory
         → IsCheckFault net.now.nodes dest net.now.links entries.now fault) }
 {

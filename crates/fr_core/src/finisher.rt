@@ -62,7 +62,10 @@ pub fn finish(net: &Net, dest: u32, counts: &mut [u64]) -> u64
     requires node { dest < net.now.nodes }
     requires lawful { AreLawful net.now.nodes dest net.now.links counts.old }
     ensures settled { AreSettled net.now.nodes dest net.now.links counts.new }
+    // A run of as many turns as the call returns leads to them.
     ensures run { IsFinish net.now.nodes dest net.now.links counts.old counts.new result }
+    // The turns of this run and all turns before it are together within the bound of `work_law`, and so at most n(n -
+    // 1).
     ensures work { IsWithinWork net.now.nodes dest net.now.links (sum counts.old + result) }
 {
     // By this law, there are few nodes, so the totals are exact.
@@ -101,6 +104,7 @@ pub fn finish_turns(net: &Net, dest: u32, turns: &mut Turns) -> u64
 pub fn finish_from(net: &Net, dest: u32, turns: &mut Turns, from: &[u32])
     requires node { dest < net.now.nodes }
     requires lawful { AreLawful net.now.nodes dest net.now.links turns.old }
+    // The list has all nodes that can turn.
     requires from { HoldsAllThatCanTurn net.now.nodes dest net.now.links turns.old from.now }
     ensures { AreSettled net.now.nodes dest net.now.links turns.new }
 {
@@ -126,7 +130,9 @@ pub fn finish_if_few(net: &Net, dest: u32, turns: &mut Turns, from: &[u32]) -> b
     requires lawful { AreLawful net.now.nodes dest net.now.links turns.old }
     requires from { HoldsAllThatCanTurn net.now.nodes dest net.now.links turns.old from.now }
     ensures lawful { AreLawful net.now.nodes dest net.now.links turns.new }
+    // No count falls.
     ensures forth { (x : ℕ) → slice_index turns.old x ≤ slice_index turns.new x }
+    // The result says whether the counts are settled.
     ensures settled { IsTrue result ↔ AreSettled net.now.nodes dest net.now.links turns.new }
 {
     // By this law, a network is settled exactly if no node can turn.

@@ -54,7 +54,7 @@ pub fn settled_law()
     ensures most { LawfulIsAtMostSettled }
 {}
 
-/// Which settled counts are 0, which are the cap, and how they show which nodes are joined with the destination.
+/// Which settled counts are 0, which are the cap, and how they show which nodes are connected to the destination.
 pub fn count_law()
     ensures zero { ZeroIsAPath }
     ensures cap { CapIsNotJoined }

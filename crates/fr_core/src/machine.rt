@@ -61,8 +61,10 @@ impl<'a> Machine<'a> {
         ensures ok { IfOk result (λ m. m ≡ started net.now.nodes dest net.now.links (lists_of targets.items)) }
         ensures destination { IfOk result (λ _. dest < net.now.nodes) }
         ensures come { IfOk result (λ m. HasCome m (lists_of targets.items) []) }
+        // Only if no target is bad.
         ensures accepted { IfOk result (λ _. AreAllAccepted net.now.nodes dest net.now.links
             (lists_of targets.items)) }
+        // `Range` exactly if the destination is not a node, else `BadTarget` for the first bad target.
         ensures refused { IfErr result
             (λ fault. fault ≢ Memory → IsMachineFault net.now.nodes dest net.now.links (lists_of targets.items) fault) }
     {
@@ -110,6 +112,7 @@ impl<'a> Machine<'a> {
         ensures value { result.now ≡ self.now.state.counts }
         ensures lawful { AreLawful self.now.nodes self.now.dest self.now.links self.now.state.counts }
         ensures acyclic { IsAcyclic (links_at self.now.links self.now.state.counts) }
+        // The entries that the steps have returned are a run that leads to the counts.
         ensures run { (targets : List (List Target)) (entries : List Entry) → HasCome self.now targets entries
             → IsRunTo self.now.nodes self.now.dest self.now.links entries self.now.state.counts }
     {
@@ -120,9 +123,12 @@ impl<'a> Machine<'a> {
     /// decides a call. After a worker has used up its targets, its steps change nothing. O(1).
     pub fn step(&mut self, worker: u32) -> Option<Entry>
         requires { worker < length self.old.state.workers }
+        // The step is the one in the table of steps.
         ensures next { self.new ≡ record self.old { state = step self.old.nodes self.old.links self.old.state worker } }
+        // The result is the entry that the step decides, if any.
         ensures entry { option_to_list result
             ≡ entry_of worker (outcome_of self.old.nodes self.old.links self.old.state worker).decided }
+        // The entries that the steps have returned stay a run that leads to the counts.
         ensures come { (targets : List (List Target)) (entries : List Entry) → HasCome self.old targets entries
             → HasCome self.new targets (entries ++ option_to_list result) }
     {

@@ -34,8 +34,11 @@ pub fn play(
     targets: Vec<Vec<Target>>,
     schedule: &[u32],
 ) -> Result<Vec<Entry>, PlayFault>
+    // The calls of the workers form one list of legal replies, which leads to the counts of the machine. Each
+    // worker's part of the list is its replies.
     ensures ok { IfOk result
         (λ entries. IsPlay net.now.nodes dest net.now.links (lists_of targets.items) schedule.now entries.items) }
+    // As for `Machine::new`, and `Range` for a number that is not a worker.
     ensures refused { IfErr result
         (λ fault. fault ≢ Memory
         → IsPlayFault net.now.nodes dest net.now.links (lists_of targets.items) schedule.now fault) }

@@ -20,12 +20,15 @@ pub trait Gate {
 
     /// A worker calls this before its call with this number.
     fn before(&self, worker: u32, call: u64)
+        // A worker's calls are numbered from 1.
         requires numbered { 1 ≤ call }
+        // The worker has called `after` for all earlier calls.
         requires in_order { EachBefore call (passed self.now worker) }
         ensures { entered self.now worker call };
 
     /// A worker calls this after its call with this number was answered.
     fn after(&self, worker: u32, call: u64)
+        // The worker has called `before` for this call.
         requires { entered self.now worker call }
         ensures { passed self.now worker call };
 }

@@ -117,7 +117,10 @@ pub fn live_walk(
     requires { IsOwn round.now worker.old }
     ensures keeps { KeepsWorker worker.old worker.new }
     ensures begun { IfOk result (λ _. IsLookable round.now.setup.nodes round.now.setup.links x) }
+    // As by `Round::look`.
     ensures refused { IfErr result (λ fault. IsLiveFault round.now.setup x fault × (worker.new ≡ worker.old)) }
+    // Each node held the one before it. The walk ends at the destination (`Here`), at a sink (`AtSink`), or when no
+    // looks are left (`Limit`).
     ensures walked { IfOk result (λ walk. IsLiveWalk worker.old worker.new round.now.setup.dest x limit walk) }
 {
     let net = round.net();

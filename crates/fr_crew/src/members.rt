@@ -93,7 +93,7 @@ fn deal_node<J: Naming>(
     }
 }
 
-/// Deals all candidates in increasing order, each to the member whose number is the node's modulo the number of
+/// Deals all candidates in ascending order, each to the member whose number is the node's modulo the number of
 /// members.
 fn deal_all_candidates<J: Naming>(
     round: &Round,

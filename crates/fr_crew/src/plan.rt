@@ -23,6 +23,7 @@ impl Plan {
     /// [`MAX_WORKERS`] workers. The seed determines where each worker looks first for work when it has none of its own;
     /// no link and no count depends on it. O(1).
     pub fn new(workers: u32, seed: u64, budget: u64) -> Option<Plan>
+        // Exactly unless there are 1 to `MAX_WORKERS` workers.
         ensures none { IsNone result ↔ ((workers ≡ 0) ⊎ (most_workers < workers)) }
         ensures some { IfSome result (λ plan. (plan.workers ≡ workers) × (plan.seed ≡ seed) × (plan.budget ≡ budget)) }
     {

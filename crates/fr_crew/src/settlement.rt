@@ -76,8 +76,12 @@ pub fn settle<R: Threads + Wait + Sync, G: Gate + Sync>(
     plan: &Plan,
     gate: &G,
 ) -> Result<Settled, CrewFault>
+    // The settled counts, their links, and the number of turns, which is within the bound of `work_law`. They do not
+    // depend on workers, seed, budget and gate.
     ensures settled { IfOk result (λ settled. IsSettlement net.nodes dest net.links settled) }
+    // Exactly if the destination is not a node.
     ensures range { IfErr result (λ fault. (fault ≡ Range) ↔ (net.nodes ≤ dest)) }
+    // Workers make no more turns than their budgets allow together.
     ensures budget { IfOk result (λ settled. settled.by_workers ≤ plan.now.workers * plan.now.budget) }
     ensures no_start { (plan.now.budget ≡ 0) ⊎ (plan.now.workers ≡ 1) → IfErr result (λ fault. fault ≢ Start) }
     ensures still { AreSettled net.nodes dest net.links (replicate net.nodes 0)
@@ -115,8 +119,11 @@ pub fn settle_telling<R: Threads + Wait + Sync, G: Gate + Sync>(
     dest: u32,
 ) -> Result<CrewWork, CrewFault>
     ensures settled { IfOk result (λ work. IsSettlement net.nodes dest net.links work.settled) }
+    // The finisher begins with the counts `left`, and the workers' turns lead to these counts. Each worker's pair has
+    // its own turns. No worker makes more calls than its budget, and each of its calls has passed the gate.
     ensures told { IfOk result (IsCrewWork net.nodes dest net.links crew.now.plan.now (G.passed crew.now.gate.now)) }
     ensures range { IfErr result (λ fault. (fault ≡ Range) ↔ (net.nodes ≤ dest)) }
+    // Without a budget the finisher makes all turns.
     ensures by_finisher { crew.now.plan.now.budget ≡ 0 → IfOk result (λ work. work.settled.by_workers ≡ 0) }
     ensures no_start { (crew.now.plan.now.budget ≡ 0) ⊎ (crew.now.plan.now.workers ≡ 1)
         → IfErr result (λ fault. fault ≢ Start) }
@@ -168,12 +175,16 @@ pub fn settled_counts<R: Threads + Wait + Sync, G: Gate + Sync>(
     from: Option<&[u32]>,
     mut turns: Turns,
 ) -> Result<Turns, CrewFault>
+    // If the caller names nodes, they include each sink except the destination.
     requires { CanBegin net.now dest from turns }
+    // The settled counts, within the bound of `work_law`.
     ensures settled { IfOk result (IsCounted net.now.nodes dest net.now.links) }
     ensures range { IfErr result (λ fault. (fault ≡ Range) ↔ (net.now.nodes ≤ dest)) }
+    // Without a budget the only fault is `Range`.
     ensures alone { crew.now.plan.now.budget ≡ 0 → IfErr result (λ fault. fault ≡ Range) }
     ensures no_start { (crew.now.plan.now.budget ≡ 0) ⊎ (crew.now.plan.now.workers ≡ 1)
         → IfErr result (λ fault. fault ≢ Start) }
+    // If no node can turn, the only fault is `Range`.
     ensures still { AreSettled net.now.nodes dest net.now.links (replicate net.now.nodes 0)
         → IfErr result (λ fault. fault ≡ Range) }
 {

@@ -24,7 +24,7 @@ rises_tail x xs r i j d lt l = r (suc i) (suc j) d (omega arith) (omega arith)
 pub rises_head : (x : ℕ × First) (xs : List (ℕ × First)) (e : ℕ × First) → Rises (x ∷ xs) → Contains xs e → x.0 < e.0
 rises_head x xs e r h = let t = r 0 (suc h.0) e (omega arith) (omega (arith, h.1)) in rw h.2 at t
 
--- two increasing lists of the same entries are equal
+-- two ascending lists of the same entries are equal
 pub rising_same : (xs ys : List (ℕ × First)) → Rises xs → Rises ys → ((e : ℕ × First) → Contains xs e → Contains ys e)
     → ((e : ℕ × First) → Contains ys e → Contains xs e) → xs ≡ ys
 rising_same [] [] r s to from = refl

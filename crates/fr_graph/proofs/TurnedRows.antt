@@ -106,7 +106,7 @@ pub row_turned : (n : ℕ) (links : List (ℕ × ℕ)) (c : List ℕ) (x : ℕ) 
     → row n (links_at links c) x ≡ map (turned_entry c x) (row n links x)
 row_turned n links c x kept net = row_turned_by n n links c x kept net (net_turned n links c kept net)
 
--- links in strictly increasing order occur once each
+-- links in strictly ascending order occur once each
 rising_once : (links : List (ℕ × ℕ)) (x : ℕ × ℕ) → IsSorted IsBefore links → times links x ≤ 1
 rising_once [] x s = omega arith
 rising_once (l ∷ ls) x s =
@@ -150,7 +150,7 @@ same_times a b x one two to from =
       | inr some ↦ omega (arith, one, two, some, one_counted b x (to (contains_counted a x some)))
     ]
 
--- links in strictly increasing order are, in order, those of a network with the same links
+-- links in strictly ascending order are, in order, those of a network with the same links
 pub rising_links : (rising links : List (ℕ × ℕ)) → IsSorted IsBefore rising → AreSingle links
     → ((x : ℕ × ℕ) → Contains rising x → Contains links x) → ((x : ℕ × ℕ) → Contains links x → Contains rising x) → rising ≡ in_order links
 rising_links rising links s single to from =

@@ -30,7 +30,7 @@ abbrev pub LinksAreSeenFromBothEnds : Type 0
 LinksAreSeenFromBothEnds = (n : ℕ) (links : List (ℕ × ℕ)) (x w : ℕ) → IsNet n links
     → Contains (row n links x) (w, Outward) ↔ Contains (row n links w) (x, Inward)
 
--- The neighbours in a row increase, and none is there twice.
+-- The neighbours in a row are in ascending order, and none is there twice.
 abbrev pub NeighboursRise : Type 0
 NeighboursRise = (n : ℕ) (links : List (ℕ × ℕ)) (x : ℕ)
     → IsStrictlyIncreasing (map (λ (e : ℕ × First). e.0) (row n links x))

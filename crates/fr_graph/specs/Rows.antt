@@ -16,7 +16,7 @@ row_entry links x w =
     else if has_link links w x then Some (w, Inward)
     else None
 
--- the neighbours of x below n in increasing order, each with the direction of its link seen from x
+-- the neighbours of x below n in ascending order, each with the direction of its link seen from x
 abbrev pub row : ℕ → List (ℕ × ℕ) → ℕ → List (ℕ × First)
 row zero links x = []
 row (suc w) links x = row w links x ++ option_to_list (row_entry links x w)

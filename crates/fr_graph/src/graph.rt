@@ -61,7 +61,7 @@ pub(crate) enum Effect {
 }
 
 impl Graph {
-    /// The neighbours of node `x` in increasing order, each with the direction of its link seen from `x`.
+    /// The neighbours of node `x` in ascending order, each with the direction of its link seen from `x`.
     pub(crate) fn row(&self, x: u32) -> &[(u16, First)]
         requires graph { IsGraph self.now }
         requires node { x < self.now.nodes }

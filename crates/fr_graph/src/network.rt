@@ -153,9 +153,14 @@ impl Net {
     ///
     /// O(n + m) time and memory.
     pub fn new(alloc: Global, nodes: u32, links: &[(u32, u32)]) -> Result<Net, NetFault>
+        // The network has exactly the listed links, in ascending order.
         ensures ok { IfOk result (IsNetworkOf nodes links.now) }
+        // The first fault, in the order from `TooMany` to `Cycle`. `Cycle` names the cycle.
         ensures refused { IfErr result (λ fault. fault ≢ Memory → IsFirstFault nodes links.now fault) }
+        // `Memory` never hides `TooMany`, `Range` or `SelfLink`.
         ensures memory { IfErr result (λ fault. fault ≡ Memory → PassFirstTests nodes links.now) }
+        // The first end that is not a node, the first self link, the lowest pair that is linked twice, or the lowest
+        // cycle.
         ensures names { IfErr result (NamesFirst nodes links.now) }
     {
         test_links(nodes, links)?;
@@ -184,6 +189,7 @@ impl Net {
     /// The law of a network: its links have none of the faults of [`NetFault`]. The function does nothing; call it
     /// where a proof needs the law.
     pub fn network_law(&self)
+        // The network has no fault.
         ensures { IsFaultless self.now.nodes self.now.links }
     {
         // A field has to be read, because only then the proof can use the invariant.
@@ -208,6 +214,7 @@ impl Net {
     /// The law of the order of a network's links: they increase by tail, and with equal tails by head. The function
     /// does nothing, like [`network_law`](Net::network_law).
     pub fn order_law(&self)
+        // The links are in ascending order, and none is there twice.
         ensures { AreRising self.now.links }
     {
         let _nodes = self.graph.nodes;
@@ -229,7 +236,7 @@ impl Net {
     }
 
     /// The neighbour at place `j` of the row of node `x`, and the direction of its link seen from `x`. Places count
-    /// from 0, in increasing order of the neighbours. The node and the place must exist. O(1).
+    /// from 0, in ascending order of the neighbours. The node and the place must exist. O(1).
     pub fn neighbour(&self, x: u32, j: u32) -> (u32, First)
         requires node { x < self.now.nodes }
         requires place { j < length (row self.now.nodes self.now.links x) }
@@ -240,9 +247,9 @@ impl Net {
         (neighbour as u32, first)
     }
 
-    /// All neighbours of node `x` in increasing order, each with the direction of its link seen from `x`, for a loop
-    /// over a whole row. The node must be in the network. The neighbours are `u16`, as the rows keep them, which
-    /// halves their memory; other calls take them `as u32`. O(1).
+    /// All neighbours of node `x` in ascending order, each with the direction of its link seen from `x`. It is for
+    /// loops over a whole row. The node must be in the network. The neighbours are `u16`, as the rows keep them,
+    /// which halves their memory; other calls take them `as u32`. O(1).
     pub fn row(&self, x: u32) -> &[(u16, First)]
         requires { x < self.now.nodes }
         ensures { result.now ≡ row self.now.nodes self.now.links x }
@@ -275,6 +282,7 @@ impl Net {
     /// them (also if one is not a node, or both are the same), and with `Memory` if an allocation is refused. O(n + m)
     /// time and memory, because it copies the network.
     pub fn with_cut(&self, alloc: Global, u: u32, v: u32) -> Result<Net, NetFault>
+        // Only if there is such a link.
         ensures joined { OnOk result (Joins self.now.links u v) }
         ensures ok { IfOk result (IsNetworkOf self.now.nodes (without u v self.now.links)) }
         ensures refused { IfErr result (λ fault. fault ≢ Memory → IsCutFault self.now.links u v fault) }
@@ -287,8 +295,10 @@ impl Net {
     /// allocation is refused. O(n + m) for the copy, and the cost of [`edit_if`](Net::edit_if).
     pub fn with_link(&self, alloc: Global, u: u32, v: u32) -> Result<Net, NetFault>
         ensures ok { IfOk result (IsNetworkOf self.now.nodes (self.now.links ++ (u, v) ∷ [])) }
+        // The first fault of the links with the added one.
         ensures refused { IfErr result (λ fault. fault ≢ Memory
             → IsFirstFault self.now.nodes (self.now.links ++ (u, v) ∷ []) fault) }
+        // The nodes of the edit, or the lowest cycle through its link.
         ensures names { IfErr result (NamesOfEdit self.now (Add u v)) }
     {
         self.with_edit(alloc, Edit::Add { u, v })
@@ -298,9 +308,12 @@ impl Net {
     /// close a cycle. By the law [`join_law`](crate::laws::join_law) the second closes none then. Fails as `with_link`
     /// does, but never with `Cycle`. O(n + m) for the copy, and the cost of [`edit_if`](Net::edit_if).
     pub fn with_join(&self, alloc: Global, u: u32, v: u32) -> Result<Net, NetFault>
+        // The link points from `v` to `u` only if one from `u` to `v` would close a cycle.
         ensures ok { IfOk result (IsJoined self.now.nodes self.now.links u v) }
+        // The first fault. A join is never refused because of a cycle.
         ensures refused { IfErr result (λ fault. fault ≢ Memory
             → IsJoinFault self.now.nodes self.now.links u v fault) }
+        // The nodes of the edit.
         ensures names { IfErr result (NamesOfEdit self.now (Join u v)) }
     {
         self.with_edit(alloc, Edit::Join { u, v })
@@ -311,10 +324,15 @@ impl Net {
     /// `MAX_EDITS`: none is tried, and no memory is needed. Fails with `Memory` if an allocation is refused. O(n + m) for
     /// one copy, and the cost of [`edit_if`](Net::edit_if).
     pub fn with_edits(&self, alloc: Global, edits: &[Edit]) -> Result<Net, EditFault>
+        // Only if there are not too many edits.
         ensures few { OnOk result (length edits.now ≤ most_edits) }
+        // Each edit applies to the result of those before it.
         ensures ok { IfOk result (AreMade self.now edits.now) }
+        // The first bad edit and its fault, or `TooMany`.
         ensures refused { IfErr result (λ refused. refused.fault ≢ Memory → IsBatchFault self.now edits.now refused) }
+        // `Memory` never hides `TooMany`.
         ensures memory { IfErr result (λ refused. refused.fault ≡ Memory → length edits.now ≤ most_edits) }
+        // As for each edit alone.
         ensures names { IfErr result (NamesInBatch self.now edits.now) }
     {
         test_edit_limit(edits)?;
@@ -341,10 +359,14 @@ impl Net {
     ) -> Result<T, NotEdited<E>>
         requires callable { (made : Bor Network) → AreMade self.old edits.now made.now → F.pre accept made }
         ensures few { OnOk result (length edits.now ≤ most_edits) }
+        // The edits are made exactly if `accept` returns `Ok` for the edited network.
         ensures ok { IfOk result (λ answer. AreMade self.old edits.now self.new
             × FnOnceReturnsAt F.FnOnce accept self.new (Ok answer)) }
+        // As for `with_edits`, or the fault of `accept`.
         ensures refused { IfErr result (IsNotEdited self.old edits.now (FnOnceReturnsAt F.FnOnce accept)) }
+        // `Memory` never hides that there are too many edits.
         ensures memory { IfErr result (AreFewIfMemory edits.now) }
+        // As for each edit alone.
         ensures names { IfErr result (NamesIfRefused self.old edits.now) }
         ensures unchanged { OnErr result (self.new ≡ self.old) }
     {

@@ -120,7 +120,7 @@ module _ (s : State) (after : IsAfterRound s) (u v : ℕ) (new : State)
       left_still x (path_joins left x p.0 tail s.dest p.1.0 p.1.1 (tail_path tail w at h on)))
       (splits tail at x joined)
 
-  -- a joined node keeps its hop if it is not the tail, and neither it nor the nodes to which its links point turn
+  -- a connected node keeps its hop if it is not the tail, and neither it nor the nodes to which its links point turn
   other_hop : (x tail : ℕ) → IsConnected s.links s.dest x → IsTail s.links u v tail → x ≢ tail → ¬ HasTurned new x
       → ((w : ℕ) → Points s.links x w → ¬ HasTurned new w) → KeepsHop s new x
   other_hop x tail joined at apart still out = keeps_hop s after left new left_net round x joined still
@@ -136,7 +136,7 @@ module _ (s : State) (after : IsAfterRound s) (u v : ℕ) (new : State)
   apart_still x joined tail at none =
       ⊎_elim (left_still x) (λ p. absurd (none (path_was x tail p))) (splits tail at x joined)
 
-  -- the tail is not the destination, since a path leads back to that from each joined node
+  -- the tail is not the destination, since a path leads back to that from each connected node
   tail_hop : (x w : ℕ) → IsConnected s.links s.dest x → ¬ HasTurned new x → ¬ HasTurned new w → IsNextHop left x w
       → IsHop new x (To w)
   tail_hop x w joined still rests next =

@@ -83,7 +83,7 @@ joined_before : (x : ℕ) (links : List (ℕ × ℕ)) (u v : ℕ) → Points (tu
 joined_before x links u v h = ⊎_elim (λ t. inr (subst (Points links v) (sym t.0) t.1)) (λ t. inl t.1)
     (from_turn x links u v h)
 
--- a turn keeps which nodes are joined
+-- a turn keeps which nodes are connected
 same_joined : (x : ℕ) (links : List (ℕ × ℕ)) (u v : ℕ) → Joins links u v ↔ Joins (turn x links) u v
 same_joined x links u v = (
   λ j. ⊎_elim (joins_turned x links u v) (λ h. ⊎_elim (λ a. inr a) (λ a. inl a) (joins_turned x links v u h)) j,

@@ -128,7 +128,7 @@ module _ (s : State) (after : IsAfterRound s) (first : List (ℕ × ℕ)) (new :
       let leads = hop_leads_on s.nodes s.dest first new net after.dest round x y apart free next in
       subst (λ (d : ℕ). (rest : List ℕ) × IsRoute new.links d x (y ∷ rest)) (sym round.dest) leads
 
-  -- a joined node keeps its hop if it does not turn, and its links point to the nodes to which they did, none of which
+  -- a connected node keeps its hop if it does not turn, and its links point to the nodes to which they did, none of which
   -- turns
   pub keeps_hop : (x : ℕ) → IsConnected s.links s.dest x → ¬ HasTurned new x
       → ((w : ℕ) → Points s.links x w → Points first x w × ¬ HasTurned new w)

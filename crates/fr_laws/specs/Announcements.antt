@@ -125,49 +125,53 @@ announcements begin s (p ∷ ps) =
 
 -- The laws
 
--- the announcements are a run of full reversal, whatever messages are lost, delayed, repeated and overtaken
+-- The announcements are a run of full reversal, whatever messages are lost, delayed, repeated and overtaken, if no
+-- link goes up or down, no router restarts, each router is connected to the one gateway, and none lowers its height.
+-- At the start no router holds, or can still hear, an outdated height that misleads it, as before routers have heard
+-- anything.
 abbrev pub AnnouncementsAreARun : Type 0
 AnnouncementsAreARun = (n d : ℕ) (first : List (ℕ × ℕ)) (s : Configuration) (ps : List (ℕ × Configuration))
     → IsConnectedNet n d first → IsNetwork n d first s → AreSteps n s ps
     → IsRun n d (moment_of first (replicate n 0)) (announcements s s ps)
 
--- the links after this run are those from higher to lower routers at the end, and all that `IsNetwork` says still holds
+-- The links after this run are those from higher to lower routers at the end, and all that `IsNetwork` says still
+-- holds.
 abbrev pub HeightsFollowTheRun : Type 0
 HeightsFollowTheRun = (n d : ℕ) (first : List (ℕ × ℕ)) (s : Configuration) (ps : List (ℕ × Configuration))
     → IsConnectedNet n d first → IsNetwork n d first s → AreSteps n s ps
     → IsNetwork n d (links_after first (announcements s s ps)) (last s ps)
 
--- the turns of a router in this run are its announcements
+-- The turns of a router in this run are its announcements.
 abbrev pub TurnsAreAnnouncements : Type 0
 TurnsAreAnnouncements = (n d : ℕ) (first : List (ℕ × ℕ)) (s : Configuration) (ps : List (ℕ × Configuration)) (x : ℕ)
     → IsConnectedNet n d first → IsNetwork n d first s → AreSteps n s ps → x < n
     → turn_count_of x (announcements s s ps) ≡ times s (last s ps) x
 
--- a router announces at most as many heights as its settled count says, and none if it has a path to the gateway
+-- A router announces at most as many heights as its settled count says, and none if it has a path to the gateway.
 abbrev pub EachAnnouncesFew : Type 0
 EachAnnouncesFew = (n d : ℕ) (first : List (ℕ × ℕ)) (settled : List ℕ) (s : Configuration)
     (ps : List (ℕ × Configuration)) (x : ℕ) → IsConnectedNet n d first → AreSettled n d first settled
     → IsNetwork n d first s → AreSteps n s ps → x < n
     → (times s (last s ps) x ≤ slice_index settled x) × (HasPath first x d → times s (last s ps) x ≡ 0)
 
--- all routers together announce at most as many heights as the sum of the settled counts, and so at most
--- n * (n - 1) / 2
+-- All routers together announce at most as many heights as the sum of the settled counts, and so at most n * (n - 1)
+-- / 2.
 abbrev pub AllAnnounceFew : Type 0
 AllAnnounceFew = (n d : ℕ) (first : List (ℕ × ℕ)) (settled : List ℕ) (s : Configuration)
     (ps : List (ℕ × Configuration)) → IsConnectedNet n d first → AreSettled n d first settled
     → IsNetwork n d first s → AreSteps n s ps
     → (length (announcements s s ps) ≤ sum settled) × (2 * length (announcements s s ps) ≤ n * (n - 1))
 
--- once all messages have arrived and no router raises its height, each router has announced as many heights as its
--- settled count says
+-- Once all messages have arrived and no router raises its height, each router has announced as many heights as its
+-- settled count says.
 abbrev pub QuietRoutersAreSettled : Type 0
 QuietRoutersAreSettled = (n d : ℕ) (first : List (ℕ × ℕ)) (settled : List ℕ) (s : Configuration)
     (ps : List (ℕ × Configuration)) (x : ℕ) → IsConnectedNet n d first → AreSettled n d first settled
     → IsNetwork n d first s → AreSteps n s ps → IsQuiet n (last s ps).node → x < n
     → times s (last s ps) x ≡ slice_index settled x
 
--- these premises can be met: by two routers that have said nothing, with numbers of starts greater than 0. One of them
--- announces a height. Then each has acknowledged the other's last announcement, and nothing more happens
+-- These premises can be met: by two routers that have said nothing, with numbers of starts greater than 0. One of
+-- them announces a height. Then each has acknowledged the other's last announcement, and nothing more happens.
 abbrev pub SomeRouterAnnounces : Type 0
 SomeRouterAnnounces = (alloc : Global) → (n d : ℕ) × (first : List (ℕ × ℕ)) × (s : Configuration)
     × (ps : List (ℕ × Configuration)) × IsConnectedNet n d first × IsNetwork n d first s × AreSteps n s ps
@@ -192,45 +196,45 @@ IsCallWithoutLoss n k = (k.links.items ≡ n.links.items)
     ⊎ ((m : Message) × Hears n.own m n.links.items k.links.items)
     ⊎ ((v : ℕ) × (up : Bool) × SetsUp v up n.links.items k.links.items)
 
--- so links stay as the caller has said until a tick loses one. A node that starts has no links
+-- Each link is so until a tick loses one, whatever is called. A node that starts has no links.
 abbrev pub LinksStayAsSaid : Type 0
 LinksStayAsSaid = (n k : Node) (w : ℕ) → IsCallWithoutLoss n k → IsAsSaid n w → IsAsSaid k w
 
--- `hear` is such a call, in which the node hears one message over a link that is as the caller has said. If it does not
--- take the message, nothing changes
+-- `hear` is such a call over a link that counts as up exactly if the caller has said that it is up. If the node does
+-- not take the message, nothing changes.
 abbrev pub HearingIsACall : Type 0
 HearingIsACall = (m : Message) (old new : Node) → IsAsSaid old m.from
     → Hears old.own m old.links.items new.links.items
     → (IsTaken old.own m old.links.items → IsAfterEvent (m ∷ []) old new)
     → (¬ IsTaken old.own m old.links.items → new ≡ old) → IsCall (m ∷ []) old new
 
--- `tick` is such a call if it ends for no link that it counts as up
+-- `tick` is such a call if it ends for no link that it counts as up.
 abbrev pub TickingIsACall : Type 0
 TickingIsACall = (patience : ℕ) (old new : Node) → new.links.items ≡ map (after_tick patience) old.links.items
     → list_any (is_lost patience) old.links.items ≡ false → new ≡ record old { links = new.links }
     → IsCall [] old new
 
--- `act` is such a call, whether it changes something or nothing
+-- `act` is such a call, whether it changes something or nothing.
 abbrev pub ActingIsACall : Type 0
 ActingIsACall = (changed : Bool) (old new : Node) → new.links ≡ old.links
     → (IsTrue changed → IsAfterEvent [] old new) → (¬ IsTrue changed → new ≡ old) → IsCall [] old new
 
 -- `link_up` is such a call for a link that is up already, and `link_down` for one that is down. Both are for a router
--- that is not known
+-- that is not known.
 abbrev pub RepeatingIsACall : Type 0
 RepeatingIsACall = (w : ℕ) (up : Bool) (old new : Node)
     → (IsKnown old.links.items w → up ≡ (link_to old.links.items w).up)
     → SetsUp w up old.links.items new.links.items → IsAfterEvent [] old new → IsCall [] old new
 
--- `written` is such a call, which changes only whether the table is written
+-- `written` is such a call, which changes only whether the table is written.
 abbrev pub WritingIsACall : Type 0
 WritingIsACall = (old new : Node) → new ≡ record old { is_written = true } → IsCall [] old new
 
--- `say` is such a call, whether it says a message or nothing
+-- `say` is such a call, whether it says a message or nothing.
 abbrev pub SayingIsACall : Type 0
 SayingIsACall = (w : ℕ) (said : Option Message) (old new : Node) → SaysTo w old new said → IsCall [] old new
 
--- `know` is such a call, whether it makes a neighbour known or not
+-- `know` is such a call, whether it makes a neighbour known or not.
 abbrev pub KnowingIsACall : Type 0
 KnowingIsACall = (w cost : ℕ) (old new : Node)
     → (new.links.items ≡ old.links.items) ⊎ ((¬ IsKnown old.links.items w)

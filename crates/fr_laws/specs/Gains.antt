@@ -19,17 +19,18 @@ pub record Gains (s new : State) (x y : ℕ) : Type 0 where
   pub has : IsWay new x y
   pub had : ¬ IsWay s x y
 
--- after a cut, only nodes that turned gain a way
+-- After a cut, only nodes that turned gain a way.
 abbrev pub CutGrowsTurned : Type 0
 CutGrowsTurned = (s : State) (u v : ℕ) (first : List (ℕ × ℕ)) (d : ℕ) (new : State) (x y : ℕ)
     → IsSettledAnew s (Cut u v) first d new → Gains s new x y → HasTurned new x
 
--- of the nodes that were connected before a link is added, only its tail gains a way, and only the link's head
+-- Of the nodes that were connected before a link is added, only its tail gains a way, and this way is the link's
+-- head.
 abbrev pub AddGrowsItsTail : Type 0
 AddGrowsItsTail = (s : State) (u v : ℕ) (first : List (ℕ × ℕ)) (d : ℕ) (new : State) (x y : ℕ)
     → IsSettledAnew s (Add u v) first d new → IsConnected s.links s.dest x → Gains s new x y → (x ≡ u) × (y ≡ v)
 
--- the same for a join: its tail is one of the two nodes
+-- The same holds for a join, whose tail is one of the two nodes.
 abbrev pub JoinGrowsATail : Type 0
 JoinGrowsATail = (s : State) (u v : ℕ) (first : List (ℕ × ℕ)) (d : ℕ) (new : State)
     → IsSettledAnew s (Join u v) first d new → (tail : ℕ) × (head : ℕ) × AreEnds u v tail head
@@ -43,7 +44,8 @@ pub record LeadsHome (first : List (ℕ × ℕ)) (new : State) (x : ℕ) : Type 
   pub goes_on : (ys : List ℕ) → IsPath new.links x ys
       → (end_of x ys ≡ new.dest) ⊎ ((y : ℕ) × IsWay new (end_of x ys) y)
 
--- after any change, this holds of a connected node that did not turn
+-- After any change, a connected node that did not turn has only ways from before the round. All walks from it along
+-- ways go on until they arrive, and meet only nodes that did not turn.
 abbrev pub StillLeadsHome : Type 0
 StillLeadsHome = (s : State) (change : Change) (first : List (ℕ × ℕ)) (d : ℕ) (new : State) (x : ℕ)
     → IsSettledAnew s change first d new → IsConnected new.links new.dest x → ¬ HasTurned new x

@@ -25,13 +25,12 @@ use Rattle.fr_laws.specs.Quiet.{IsQuiet}
 abbrev pub GoesAlong : List (ℕ × ℕ) → List Hop → Type 0
 GoesAlong links table = (x y : ℕ) → SendsOn table x y → Points links x y
 
--- at each moment of a round: in each state that the rule allows, no table along the links that the words give has a
--- loop
+-- At each moment of a round, whichever link each node takes, next hops along its links have no loop.
 abbrev pub RoundNeverLoops : Type 0
 RoundNeverLoops = (b : Setup) (s : State (Unit {0}) View) (table : List Hop) → KeepsRule b s
     → GoesAlong (links_at b.links s.words) table → IsLoopFree table
 
--- the same after each run of full reversal, from the first links of a network
+-- The same holds after each run of full reversal from the first links of a network.
 abbrev pub RunNeverLoops : Type 0
 RunNeverLoops = (n d : ℕ) (first : List (ℕ × ℕ)) (h : List Entry) (table : List Hop) → IsNet n first
     → IsRun n d (moment_of first (replicate n 0)) h → GoesAlong (links_after first h) table → IsLoopFree table
@@ -49,7 +48,7 @@ pub record IsLoopOverTime (n d : ℕ) (first : List (ℕ × ℕ)) (h : List Entr
   pub went : WentAlong first h table
   pub loops : ¬ IsLoopFree table
 
--- such a run exists, so the laws above need one moment for all hops
+-- Hops of several moments may have a loop: in some run they have one.
 abbrev pub SomeLoopOverTime : Type 0
 SomeLoopOverTime = (n d : ℕ) × (first : List (ℕ × ℕ)) × (h : List Entry) × (table : List Hop)
     × IsLoopOverTime n d first h table
@@ -66,14 +65,14 @@ abbrev pub AllHeldSendOn : List Entry → List Hop → Type 0
 AllHeldSendOn entries table = (e : Entry) (by : ℕ) → Contains entries e → e.reply ≡ Held by
     → (y : ℕ) × SendsOn table e.node y
 
--- hops that are read from replies have no loop if no node turned between these replies
+-- Hops that are read from replies have no loop if no node turned between these replies.
 abbrev pub RepliesNeverLoop : Type 0
 RepliesNeverLoop = (n d : ℕ) (first : List (ℕ × ℕ)) (h still : List Entry) (table : List Hop) → IsNet n first
     → IsRun n d (moment_of first (replicate n 0)) (h ++ still) → turn_count still ≡ 0 → AreReadFrom still table
     → IsLoopFree table
 
--- if the replies are quiet as well, and each node that they say is held sends on, the hops lead every node that is
--- joined with the destination to the destination
+-- If the replies are quiet as well, and each node that a reply names as the holder sends on, these hops lead every
+-- connected node to the destination.
 abbrev pub QuietHopsLeadHome : Type 0
 QuietHopsLeadHome = (n d : ℕ) (first : List (ℕ × ℕ)) (h quiet : List Entry) (table : List Hop) → IsNet n first → d < n
     → IsRun n d (moment_of first (replicate n 0)) (h ++ quiet) → IsQuiet d first quiet → AreReadFrom quiet table

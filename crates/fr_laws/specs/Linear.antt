@@ -165,7 +165,7 @@ module _ (b : Setup) (law : StepsGrowTheList b) (x : Execution b law) where
   IsDecided c = (t : ℕ) × (c.began ≤ t) × (t < c.ended) × ((x.at (t + 1)).list ≡ (x.at t).list ++ c.entry ∷ [])
 
   -- At each moment the list explains the state: it is a run of full reversal on one thread to the words, and each
-  -- worker knows a beginning of it. One step of each call adds its entry. And a call that ended before another one
+  -- worker knows a prefix of it. One step of each call adds its entry. And a call that ended before another one
   -- began comes first.
   pub record IsLinearizable : Type 0 where
     pub explains : (t : ℕ) → StandsBehind b (x.at t).state (x.at t).list
@@ -174,6 +174,8 @@ module _ (b : Setup) (law : StepsGrowTheList b) (x : Execution b law) where
         → (between : List Entry)
         × ((x.at ((decided d).0 + 1)).list ≡ ((x.at ((decided c).0 + 1)).list ++ between) ++ d.entry ∷ [])
 
+-- One list explains each state of an execution. One step of each call adds the call to this list, so a call that
+-- ended before another began comes first: calls are linearizable (Herlihy and Wing, 1990).
 abbrev pub CallsAreLinearizable : Type 0
 CallsAreLinearizable = (b : Setup) (law : StepsGrowTheList b) (x : Execution b law) → IsLinearizable b law x
 
@@ -205,26 +207,28 @@ pub record IsKept (before after : Knowledge) : Type 0 where
   pub own : (past : KnownPast) → LearnsPast before past after → StartsWith after.known before.known
   pub others : (past : KnownPast) → LearnsPast before past after → StartsWith after.known past.known
 
+-- What a worker knows, it goes on to know, over its own calls and over what it learns. It knows what it has learned.
 abbrev pub KnowledgeIsKept : Type 0
 KnowledgeIsKept = (before after : Knowledge) → IsKept before after
 
--- a call that knows an earlier one comes after it, in what its worker then knows, and so in each list that begins with
--- this, as the list of the closed round does if the worker is handed back
+-- A call that knows of another call, through what workers hand on, comes after that call in what its worker then
+-- knows, and so in each list that begins with this, as the list of the closed round does if the worker is handed
+-- back.
 abbrev pub LaterIsBehind : Type 0
 LaterIsBehind = (earlier later : Call) → IsCall earlier → IsCall later → Knows later earlier
     → (front : List Entry) × (between : List Entry) × (earlier.after.known ≡ front ++ entry_of earlier ∷ [])
     × (later.after.known ≡ (front ++ entry_of earlier ∷ between) ++ entry_of later ∷ [])
 
--- its reply is the right one after a list of calls that has all that the earlier worker knew, and there no count is below
--- those that this worker had seen
+-- Its reply is the right one after a list of calls that has all that the earlier worker knew, and there no count is
+-- below those that this worker had seen.
 abbrev pub LaterIsFresh : Type 0
 LaterIsFresh = (earlier later : Call) → IsCall earlier → IsCall later → Knows later earlier
     → (calls : List Entry) × (later.after.known ≡ calls ++ entry_of later ∷ []) × StartsWith calls earlier.after.known
     × IsLegal later.before.setup.nodes later.before.setup.dest (moment later.before.setup calls) (entry_of later)
     × ((z : ℕ) → slice_index earlier.after.seen z ≤ reached later.before.setup calls z)
 
--- so a node x that has turned k times holds a node y later only where y has turned since: k times if the link pointed first
--- from y to x, and once more if it pointed first from x to y
+-- So a node x that has turned k times holds a node y later only where y has turned since: k times if the link pointed
+-- first from y to x, and once more if it pointed first from x to y.
 abbrev pub HeldAfterATurn : Type 0
 HeldAfterATurn = (earlier later : Call) (k : ℕ) → IsCall earlier → IsCall later → Knows later earlier
     → IsNet later.before.setup.nodes later.before.setup.links
@@ -233,7 +237,7 @@ HeldAfterATurn = (earlier later : Call) (k : ℕ) → IsCall earlier → IsCall 
     × ((Points later.before.setup.links later.node earlier.node × (k ≤ reached later.before.setup calls later.node))
     ⊎ (Points later.before.setup.links earlier.node later.node × (k + 1 ≤ reached later.before.setup calls later.node)))
 
--- the destination never turns, so a node that has turned never holds it again: no stale reply says so
+-- The destination never turns, so a node that has turned never holds it again: no stale reply says so.
 abbrev pub NoneHoldsTheDestination : Type 0
 NoneHoldsTheDestination = (earlier later : Call) (k : ℕ) → IsCall earlier → IsCall later → Knows later earlier
     → IsNet later.before.setup.nodes later.before.setup.links

@@ -44,14 +44,14 @@ pub record IsSettledAnew (s : State) (change : Change) (first : List (ℕ × ℕ
 abbrev pub HasTurned : State → ℕ → Type 0
 HasTurned new x = 0 < slice_index new.counts x
 
--- the changes of a state after a round are exactly these rounds
+-- The changes of a state after a round are exactly these rounds.
 abbrev pub ChangeIsARound : Type 0
 ChangeIsARound = (s : State) (change : Change) (new : State) → IsAfterRound s
     → IsChanged s change new ↔ ((first : List (ℕ × ℕ)) × (d : ℕ) × IsSettledAnew s change first d new)
 
 -- Who turns
 
--- exactly the nodes turn that have a link, and no path to the destination along the changed links
+-- Exactly the nodes turn that have a link, and no path to the destination along the changed links.
 abbrev pub WhoTurns : Type 0
 WhoTurns = (s : State) (change : Change) (first : List (ℕ × ℕ)) (d : ℕ) (new : State) (x : ℕ)
     → IsSettledAnew s change first d new → HasTurned new x ↔ (¬ IsAlone first x × ¬ HasPath first x d)
@@ -63,8 +63,8 @@ pub record AreLinksBetween (first : List (ℕ × ℕ)) (new : State) (x y : ℕ)
   -- if only x has turned, a link points from x to y exactly if one joined them before the round
   pub border : HasTurned new x → ¬ HasTurned new y → Joins first x y ↔ Points new.links x y
 
--- links between nodes that did not turn keep their direction. A link between a node that turned and one that did not
--- points to the latter
+-- Links between nodes that did not turn keep their direction. A link between a node that turned and one that did not
+-- points to the latter.
 abbrev pub LinksStand : Type 0
 LinksStand = (s : State) (change : Change) (first : List (ℕ × ℕ)) (d : ℕ) (new : State) (x y : ℕ)
     → IsSettledAnew s change first d new → AreLinksBetween first new x y
@@ -75,7 +75,7 @@ LinksStand = (s : State) (change : Change) (first : List (ℕ × ℕ)) (d : ℕ)
 abbrev pub KeepsHop : State → State → ℕ → Type 0
 KeepsHop s new x = (hop : Hop) → IsHop s x hop → IsHop new x hop
 
--- x is the tail of the added link and takes it: the head was joined with the destination, and its number is less than
+-- x is the tail of the added link and takes it: the head was connected to the destination, and its number is less than
 -- that of the node to which x sent on
 pub record TakesLink (s : State) (tail head x : ℕ) : Type 0 where
   pub at_tail : x ≡ tail
@@ -84,15 +84,15 @@ pub record TakesLink (s : State) (tail head x : ℕ) : Type 0 where
   pub hop : IsHop s x (To before)
   pub less : head < before
 
--- what an added link does to x, which was joined with the destination. It does not turn. If it takes the link, it sends
+-- what an added link does to x, which was connected to the destination. It does not turn. If it takes the link, it sends
 -- on to the head, and otherwise it keeps its hop
 pub record IsAfterAdd (s : State) (tail head : ℕ) (new : State) (x : ℕ) : Type 0 where
   pub still : ¬ HasTurned new x
   pub takes : TakesLink s tail head x → IsHop new x (To head)
   pub keeps : ¬ TakesLink s tail head x → KeepsHop s new x
 
--- so an added link turns no node that was joined with the destination, and of these nodes it changes at most the hop of
--- its tail
+-- An added link turns no connected node. Of the connected nodes, only the link's tail may change its hop, to the
+-- head.
 abbrev pub AddSparesJoined : Type 0
 AddSparesJoined = (s : State) (u v : ℕ) (first : List (ℕ × ℕ)) (d : ℕ) (new : State) (x : ℕ)
     → IsSettledAnew s (Add u v) first d new → IsConnected s.links s.dest x → IsAfterAdd s u v new x
@@ -101,7 +101,7 @@ AddSparesJoined = (s : State) (u v : ℕ) (first : List (ℕ × ℕ)) (d : ℕ) 
 abbrev pub AreEnds : ℕ → ℕ → ℕ → ℕ → Type 0
 AreEnds u v tail head = ((tail ≡ u) × (head ≡ v)) ⊎ ((tail ≡ v) × (head ≡ u))
 
--- the same for a join, which adds a link in one of the two directions
+-- The same holds for a join, which adds a link in one of the two directions.
 abbrev pub JoinSparesJoined : Type 0
 JoinSparesJoined = (s : State) (u v : ℕ) (first : List (ℕ × ℕ)) (d : ℕ) (new : State)
     → IsSettledAnew s (Join u v) first d new → (tail : ℕ) × (head : ℕ) × AreEnds u v tail head × Points first tail head
@@ -122,7 +122,7 @@ GoesOver u v x (w ∷ ws) = IsTrue (is_between u v (x, w)) ⊎ GoesOver u v w ws
 abbrev pub EachGoesOver : List (ℕ × ℕ) → ℕ → ℕ → ℕ → ℕ → Type 0
 EachGoesOver links u v x y = (vs : List ℕ) → IsPath links x vs → end_of x vs ≡ y → GoesOver u v x vs
 
--- what the cut of the link between u and v does to x, which was joined with the destination; `first` are the links that
+-- what the cut of the link between u and v does to x, which was connected to the destination; `first` are the links that
 -- are left
 pub record IsAfterCut (s : State) (u v : ℕ) (first : List (ℕ × ℕ)) (new : State) (x : ℕ) : Type 0 where
   -- x had a path to the destination
@@ -136,8 +136,9 @@ pub record IsAfterCut (s : State) (u v : ℕ) (first : List (ℕ × ℕ)) (new :
   -- if x had no path to the tail, it does not turn and keeps its hop
   pub apart : (tail : ℕ) → IsTail s.links u v tail → ¬ HasPath s.links x tail → ¬ HasTurned new x × KeepsHop s new x
 
--- of the nodes that were joined with the destination, a cut touches only those with a path to the tail of the link. A
--- node that was cut off stays cut off
+-- A cut turns exactly the connected nodes that keep a link and whose every path went over the cut link. If another
+-- link points from the tail, only the tail's hop changes. A node without a path to the tail is unchanged, and a node
+-- that was cut off stays cut off.
 abbrev pub CutSparesOthers : Type 0
 CutSparesOthers = (s : State) (u v : ℕ) (first : List (ℕ × ℕ)) (d : ℕ) (new : State) (x : ℕ)
     → IsSettledAnew s (Cut u v) first d new

@@ -42,20 +42,21 @@ pub record IsQuiet (d : ℕ) (first : List (ℕ × ℕ)) (entries : List Entry) 
 
 -- Runs
 
--- if a run from lawful counts ends with quiet entries, the counts at its end are the settled ones
+-- Replies are *quiet* if, since the last turn, every node with a link, except the destination, was held or cut. If a
+-- run from lawful counts ends with quiet replies, the counts at its end are the settled ones.
 abbrev pub QuietIsSettled : Type 0
 QuietIsSettled = (n d : ℕ) (first : List (ℕ × ℕ)) (counts : List ℕ) (h quiet : List Entry) → IsNet n first → d < n
     → AreLawful n d first counts → IsRun n d (moment_of first counts) (h ++ quiet) → IsQuiet d first quiet
     → AreSettled n d first (after_all (moment_of first counts) (h ++ quiet)).counts
 
--- the network stays quiet: no entry after quiet entries is a turn, and the counts stay the settled ones
+-- The network stays quiet: no entry after quiet entries is a turn, and the counts stay the settled ones.
 abbrev pub QuietIsForGood : Type 0
 QuietIsForGood = (n d : ℕ) (first : List (ℕ × ℕ)) (counts : List ℕ) (h quiet more : List Entry) → IsNet n first → d < n
     → AreLawful n d first counts → IsRun n d (moment_of first counts) ((h ++ quiet) ++ more) → IsQuiet d first quiet
     → (turn_count more ≡ 0) × AreSettled n d first (after_all (moment_of first counts) ((h ++ quiet) ++ more)).counts
 
--- conversely, a run that ends at settled counts can be continued by quiet entries, so being quiet requires no more than
--- settled counts
+-- Conversely, a run that ends at settled counts can be continued by quiet entries, so being quiet requires no more
+-- than settled counts.
 abbrev pub SettledCanBeQuiet : Type 0
 SettledCanBeQuiet = (n d : ℕ) (first : List (ℕ × ℕ)) (counts : List ℕ) (h : List Entry) → IsNet n first → d < n
     → AreLawful n d first counts → IsRun n d (moment_of first counts) h
@@ -64,15 +65,15 @@ SettledCanBeQuiet = (n d : ℕ) (first : List (ℕ × ℕ)) (counts : List ℕ) 
 
 -- Rounds
 
--- in each state that the rule of a round allows: if a history that explains the state contains quiet entries, at its
--- end or earlier, the words are the settled counts
+-- In each state that the rule of a round allows: if a history that explains the state contains quiet entries, at its
+-- end or earlier, the words are the settled counts.
 abbrev pub QuietRoundIsSettled : Type 0
 QuietRoundIsSettled = (b : Setup) (s : State (Unit {0}) View) (history h quiet : List Entry) → b.dest < b.nodes
     → KeepsRule b s → StandsBehind b s history → StartsWith history (h ++ quiet) → IsQuiet b.dest b.links quiet
     → AreSettled b.nodes b.dest b.links s.words
 
--- so one worker is enough: if what it knows ends with quiet entries, the words are the settled counts, whatever the
--- other workers have done since
+-- So one worker is enough: if what it knows ends with quiet entries, the words are the settled counts, whatever the
+-- other workers have done since.
 abbrev pub WorkerKnowsQuiet : Type 0
 WorkerKnowsQuiet = (b : Setup) (s : State (Unit {0}) View) (number : ℕ) (h quiet : List Entry) → b.dest < b.nodes
     → KeepsRule b s → Contains (workers_of s.views) (number, h ++ quiet) → IsQuiet b.dest b.links quiet

@@ -7,11 +7,11 @@ ghost use Rattle.fr_laws.specs.Announcements.{SomeRouterAnnounces};
 ghost use Rattle.fr_laws.specs.Announcements.{ActingIsACall, HearingIsACall, KnowingIsACall, RepeatingIsACall};
 ghost use Rattle.fr_laws.specs.Announcements.{LinksStayAsSaid, SayingIsACall, TickingIsACall, WritingIsACall};
 
-/// In a network of routers with `Rise::Full` that stays as it is, the announcements are a run of full reversal,
+/// With `Rise::Full`, in a network that stays as it is, the announcements are a run of full reversal. So they are
 /// whatever messages are lost, delayed, repeated and overtaken. Suppose that each router is connected to the one
-/// gateway. Then no router announces more heights than its settled count, and all together announce at most
-/// n * (n - 1) / 2. Once all messages have arrived and no router raises its height, the numbers of announcements are
-/// the settled counts. Two routers meet these premises, and one of them announces a height before they are quiet.
+/// gateway. Then no router announces more heights than its settled count, and all together announce at most n * (n -
+/// 1) / 2. Once all messages have arrived and no router raises its height, the numbers of announcements are the
+/// settled counts. Two routers meet these premises, and one of them announces a height before they are quiet.
 pub fn announcements_law()
     ensures run { AnnouncementsAreARun }
     ensures heights { HeightsFollowTheRun }

@@ -3,10 +3,11 @@
 ghost use Rattle.fr_laws.specs.Hops.{RoundNeverLoops, RunNeverLoops, SomeLoopOverTime};
 ghost use Rattle.fr_laws.specs.Hops.{RepliesNeverLoop, QuietHopsLeadHome};
 
-/// Take any moment of a round, and let each node send on along any link that points away from it at that moment. No
-/// packet goes round in a loop, although the round has not ended. Hops that were read at several moments may have a
-/// loop: `one_moment` has an example. Hops may be read from replies that say who holds a node, if no node turned
-/// between the calls. Once the replies show that the network is quiet, these hops lead to the destination.
+/// At each moment of a round, next hops along its links have no loop. Let each node send on along any link that
+/// points away from it at that moment: no packet goes round in a loop, although the round has not ended. Hops that
+/// were read at several moments may have a loop: `one_moment` has an example. Hops may be read from replies that say
+/// who holds a node, if no node turned between the calls. Once the replies show that the network is quiet, these hops
+/// lead to the destination.
 pub fn hop_law()
     ensures round { RoundNeverLoops }
     ensures run { RunNeverLoops }

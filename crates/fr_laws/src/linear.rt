@@ -3,9 +3,9 @@
 ghost use Rattle.fr_laws.specs.Linear.{CallsAreLinearizable, KnowledgeIsKept, LaterIsBehind, LaterIsFresh};
 ghost use Rattle.fr_laws.specs.Linear.{HeldAfterATurn, NoneHoldsTheDestination};
 
-/// The order of calls in time. Calls of a round are *linearizable* (M. Herlihy and J. Wing, 1990): at each time all calls
-/// so far form one list, in which each reply is the right one. Each call enters the list by one step between its beginning
-/// and its end, so a call that ended before another one began comes first.
+/// Calls of a round are *linearizable* (M. Herlihy and J. Wing, 1990): at each time all calls so far form one list,
+/// in which each reply is the right one. Each call enters the list by one step between its beginning and its end, so
+/// a call that ended before another one began comes first.
 ///
 /// An execution starts as a round is opened, and each of its steps is one that [`round_law`](fr_round::round_law) lists.
 /// That the list only grows, and where a call enters it, follows from the clause `grows` of that law. A call is known by

@@ -15,14 +15,14 @@ pub record HasPlace (n d : ℕ) (first : List (ℕ × ℕ)) (history : List Entr
   pub after_it : part k back ≡ after
   pub legal : IsLegal n d (after_all (moment_of first (replicate n 0)) front) e
 
--- each entry of each log has such a place
+-- Each entry of each log has a legal place in the run.
 abbrev pub EachHasPlace : Type 0
 EachHasPlace = (n d : ℕ) (first : List (ℕ × ℕ)) (counts : List ℕ) (logs : List (List Entry))
     (r : AreOneRun n d first counts logs)
     (k : ℕ) (before : List Entry) (e : Entry) (after : List Entry) → slice_get logs k ≡ Some (before ++ e ∷ after)
     → HasPlace n d first r.history k before e after
 
--- however logs are merged into a run, it leads to the same counts
+-- Every merge of the logs into a run leads to the same counts.
 abbrev pub LogsShowTheEnd : Type 0
 LogsShowTheEnd = (n d : ℕ) (first : List (ℕ × ℕ)) (counts others : List ℕ) (logs : List (List Entry))
     → AreOneRun n d first counts logs

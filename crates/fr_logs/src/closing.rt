@@ -68,7 +68,9 @@ pub fn close_logged(
     requires few { length recorders.items ≤ round.setup.workers }
     ensures net { IfOk result (λ logged. (logged.closed.net.nodes ≡ round.setup.nodes)
         × (logged.closed.net.links ≡ round.setup.links)) }
+    // One run explains the round, and each log is exactly its worker's part.
     ensures logged { IfOk result (IsLogged round (workers_of recorders.items)) }
+    // A fault returns the round and the recorders.
     ensures handed_back { IfErr result (λ fault. (fault.round ≡ round) × (fault.recorders ≡ recorders)) }
 {
     match make_room(alloc, recorders.len()) {

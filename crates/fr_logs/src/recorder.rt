@@ -137,7 +137,9 @@ impl Recorder {
     /// not allocate or wait.
     pub fn call(&mut self, round: &Round, target: Target) -> Result<Reply, CallFault>
         requires { IsOwn round.now self.old.worker }
+        // The reply is written down once. The log is exactly the worker's own part of what it knows.
         ensures records { IfOk result (λ reply. Records round.now.setup self.old target reply self.new) }
+        // `Full` if the log is full, or what the round refuses.
         ensures fault { IfErr result
             (λ fault. IsCallFault round.now.setup self.old target fault × (self.new ≡ self.old)) }
     {
@@ -181,6 +183,7 @@ impl Recorder {
     pub fn follow(&mut self, round: &Round, plan: &[Target])
         requires own { IsOwn round.now self.old.worker }
         requires room { length plan.now ≤ self.old.room }
+        // The log then has the replies in order, and is exactly the worker's own part of what it knows.
         ensures { HasFollowed round.now.setup self.old plan.now self.new }
     {
         follow_plan(self, round, plan);

@@ -138,13 +138,16 @@ pub fn run_logged<R: Threads + Sync>(
     plans: &[Vec<Target>],
 ) -> Result<Logged, RunFault>
     ensures net { IfOk result (λ logged. logged.closed.net ≡ net) }
+    // Each log answers its plan, and together the logs are one run, which has no other entry.
     ensures run { IfOk result (IsRunOfPlans (record {
       nodes = net.nodes;
       dest = dest;
       links = net.links;
       workers = length plans.now;
     }) (lists_of plans.now)) }
+    // A refusal returns the network.
     ensures handed_back { IfErr result (λ fault. fault.net ≡ net) }
+    // `Range` exactly if the destination is not a node, or if there is no plan or too many plans.
     ensures why { IfErr result (λ fault. IsWhyNotOpened net.nodes dest (length plans.now) fault.why) }
 {
     if plans.len() > MAX_WORKERS as usize {

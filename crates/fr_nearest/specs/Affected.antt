@@ -48,7 +48,7 @@ IsTouchedBy net touched y = HasOne IsEnd touched.edits.now y ⊎ HasOne (IsNextT
 abbrev pub IsBehindChange : List (ℕ × ℕ) → List ℕ → List ℕ → ℕ → Type 0
 IsBehindChange links before table y = (w : ℕ) × Points links y w × (slice_index table w ≢ slice_index before w)
 
--- Nodes in increasing order, with the ends of each edit. Only nodes near a change are listed, and each node that is not
+-- Nodes in ascending order, with the ends of each edit. Only nodes near a change are listed, and each node that is not
 -- listed has kept its ways, whatever the earlier links and destination were.
 pub record AreAffected (net : Network) (touched : Touched) (before table list : List ℕ) : Type 0 where
   pub order : IsStrictlyIncreasing list

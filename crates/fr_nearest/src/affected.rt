@@ -250,7 +250,7 @@ impl Affected {
         Ok(())
     }
 
-    /// Lists the nodes whose ways the last change may have altered, in increasing order: the ends of the edited links,
+    /// Lists the nodes whose ways the last change may have altered, in ascending order: the ends of the edited links,
     /// the nodes that have turned and their neighbours, and the nodes with a link to a node whose distance has changed,
     /// if that has changed which ways they have, or their order. The ways of each other node are the same as before. It
     /// cannot fail and does not allocate.
@@ -261,6 +261,7 @@ impl Affected {
         requires one_each { length distances.now.table ≡ net.now.nodes }
         requires edits { All (HasEndsBelow net.now.nodes) touched.now.edits.now }
         requires turned { All (λ (x : ℕ). x < net.now.nodes) touched.now.turned.now }
+        // All nodes whose ways the change has altered, and only nodes near the change.
         ensures affected { AreAffected net.now touched.now distances.now.before distances.now.table self.new.nodes }
         ensures room { self.new.room ≡ self.old.room }
     {

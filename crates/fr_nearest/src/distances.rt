@@ -131,6 +131,8 @@ impl Distances {
     pub fn renew(&mut self, net: &Net, dest: u32, touched: &Touched<'_>)
         requires node { dest < net.now.nodes }
         requires old { IsOutOfDate net.now touched.now self.old.dest self.old.table }
+        // The update cannot fail. It lists exactly the nodes whose distance changed, each once, and keeps the
+        // distance that each had before.
         ensures { IsRenewed net.now dest self.old self.new }
     {
         net.network_law();

@@ -176,6 +176,7 @@ impl Distances {
         requires before { length self.now.before ≡ net.now.nodes }
         requires node { x < net.now.nodes }
         requires space { net.now.nodes ≤ length space.old }
+        // This holds if no edit has changed the links of the node.
         ensures ways { (links : List (ℕ × ℕ)) (d : ℕ) → AreDistances net.now.nodes links d self.now.before
             → HadLinks net.now.links counts.now links x → AreWays links d x (take result space.new) }
         ensures few { result ≤ length space.new }
@@ -191,6 +192,7 @@ impl Distances {
     pub fn first_way(&self, net: &Net, x: u32) -> Option<u32>
         requires measured { IsMeasureOf net.now self.now }
         requires node { x < net.now.nodes }
+        // `None` exactly if the node has no way.
         ensures { MatchOption result ((w : ℕ) → ¬ IsWay net.now.links self.now.dest x w)
             (IsFirstWay net.now.links self.now.dest x) }
     {
@@ -214,6 +216,7 @@ impl Distances {
     pub fn walk(&self, alloc: Global, net: &Net, x: u32) -> Result<Option<Vec<u32>>, AllocError>
         requires measured { IsMeasureOf net.now self.now }
         requires node { x < net.now.nodes }
+        // `None` exactly if no path leads to the destination.
         ensures { IfOk result (λ answer. MatchOption answer (¬ HasPath net.now.links x self.now.dest)
             (λ walk. (rest : List ℕ) × IsNearestWalk net.now.links self.now.dest x rest × (walk.items ≡ x ∷ rest))) }
     {

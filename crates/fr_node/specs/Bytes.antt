@@ -30,6 +30,6 @@ pub record HasWidths (m : Message) : Type 0 where
   pub distance : m.distance < 2 ^ 32
   pub stamp : m.stamp < 2 ^ 64
 
--- no two messages have the same bytes
+-- No two messages have the same bytes.
 abbrev pub OneMessage : Type 0
 OneMessage = (m k : Message) → HasWidths m → HasWidths k → bytes_of m ≡ bytes_of k → m ≡ k

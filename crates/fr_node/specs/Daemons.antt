@@ -66,7 +66,8 @@ pub record IsDaemonStart (s : Plane Node) : Type 0 where
   pub me : (y : ℕ) → (s.forwarder y).state.own.me ≡ y
   pub fresh : (y : ℕ) → IsFresh (s.forwarder y).state
 
--- at the end of every run, and so at every moment, the tables that the daemons write have no loop
+-- The same holds of daemons whose routers are nodes. Each of their steps is by the contract of a call, or a step of
+-- writing by `sends_to` and `lets_in`.
 abbrev pub DaemonsHaveNoLoop : Type 0
 DaemonsHaveNoLoop = (s : Plane Node) (ts : List (Plane Node)) → IsDaemonStart s → IsPlaneRun IsDaemonStep s ts
     → IsLoopFree (last_plane s ts)

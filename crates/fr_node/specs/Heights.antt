@@ -60,8 +60,9 @@ abbrev pub steps_with : (Router → Router → Bool) → ℕ → Net → List Ne
 steps_with p x s [] = 0
 steps_with p x s (t ∷ ts) = (if p (s.router x) (t.router x) then 1 else 0) + steps_with p x t ts
 
--- by any test, a router announces the same height at most once, and again for each time that it announces a lower one,
--- or hears a new announcement that is low enough for that height
+-- A router announces a height at most once, and again for each time that it announces a lower one or hears a new
+-- announcement that is low enough for this height. It rises only if no neighbour is known to be low enough for its
+-- height, and falls to a height only if one is known to be low enough for that. Any test may say what is low enough.
 abbrev pub SameHeightIsBounded : Type 0
 SameHeightIsBounded = (s : Net) (past future : List Net) (x e : ℕ) (low : (e w h : ℕ) → Bool) (ws : List ℕ)
     → IsStart s → IsRun s past → IsRun (last s past) future → KeepsLinks low x ws (last s past) future
@@ -69,8 +70,7 @@ SameHeightIsBounded = (s : Net) (past future : List Net) (x e : ℕ) (low : (e w
     ≤ 1 + steps_with (announces_below e) x (last s past) future
     + steps_with (hears_low low e ws) x (last s past) future
 
--- this happens: a router announces a height twice, since it hears one announcement below it between. It announces no
--- lower one, so the bound is reached
+-- In some run a height comes back because the router has heard a lower one.
 abbrev pub SomeHeightComesBack : Type 0
 SomeHeightComesBack = (s : Net) × (past future : List Net) × (x e : ℕ) × (ws : List ℕ) × IsStart s × IsRun s past
     × IsRun (last s past) future × KeepsLinks (is_below x) x ws (last s past) future
@@ -95,14 +95,14 @@ abbrev pub test_of : Rise → (x : ℕ) (cost : ℕ → ℕ) → (e w h : ℕ) �
 test_of Full x cost = is_below x
 test_of (Top ceiling) x cost = is_within ceiling cost
 
--- no call changes the cost of a link to a known neighbour, and a known neighbour stays known
+-- No call changes the cost of a link to a known neighbour, and a known neighbour stays known.
 abbrev pub CostsStay : Type 0
 CostsStay = (n : Node) (ks : List Node) (w : ℕ) → AreCalls n ks → IsKnown n.links.items w
     → IsKnown (last_node n ks).links.items w
     × ((link_to (last_node n ks).links.items w).cost ≡ (link_to n.links.items w).cost)
 
--- what a call of a node ensures makes it such a step, by the test of its policy, beside the neighbours whose links are up
--- after it
+-- Each call of a node is a step of this law. With `Rise::Full` the test is whether a neighbour is lower, with
+-- `Rise::Top` whether it offers the height.
 abbrev pub CallsActBeside : Type 0
 CallsActBeside = (messages : List Message) (old new : Node) (ws : List ℕ) (cost : ℕ → ℕ) → AreUp new ws
     → ((w : ℕ) → Contains ws w → (link_to new.links.items w).cost ≡ cost w) → Steps messages old new

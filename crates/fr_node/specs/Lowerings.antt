@@ -42,30 +42,28 @@ abbrev pub falls_on : ℕ → List ℕ → Net → List Net → ℕ
 falls_on x [] s ts = 0
 falls_on x (w ∷ ws) s ts = falls x s ts + falls_on w ws s ts
 
--- beside a link that stays up, a router announces no more heights than are due, its neighbour announces, and twice as
--- many as it falls
+-- Beside one link, each fall of the router adds at most two announcements to the bound of `paths_law`.
 abbrev pub LinkBoundsWithFalls : Type 0
 LinkBoundsWithFalls = (s : Net) (past future : List Net) (x w : ℕ) → IsStart s → IsRun s past
     → IsRun (last s past) future → KeepsLinkOrFalls x w (last s past) future
     → times (last s past) (last (last s past) future) x
     ≤ due (last s past) x w + times (last s past) (last (last s past) future) w + 2 * falls x (last s past) future
 
--- so on a path only falls can go on
+-- Each fall on the path adds at most two announcements to the bound of `paths_law`.
 abbrev pub PathBoundsWithFalls : Type 0
 PathBoundsWithFalls = (s : Net) (past future : List Net) (x : ℕ) (ws : List ℕ) → IsStart s → IsRun s past
     → IsRun (last s past) future → KeepsPathOrFalls x ws (last s past) future
     → times (last s past) (last (last s past) future) x
     ≤ due_on (last s past) x ws + 2 * falls_on x ws (last s past) future
 
--- this happens: a router falls twice, and rises again each time, though nothing is due and its neighbour announces
--- nothing. So the bound is reached
+-- In some run a router falls twice and announces four heights, where nothing else is due.
 abbrev pub SomeRouterFalls : Type 0
 SomeRouterFalls = (s : Net) × (past future : List Net) × (x w : ℕ) × IsStart s × IsRun s past
     × IsRun (last s past) future × KeepsPathOrFalls x (w ∷ []) (last s past) future
     × (times (last s past) (last (last s past) future) x ≡ 4) × (due_on (last s past) x (w ∷ []) ≡ 0)
     × (falls_on x (w ∷ []) (last s past) future ≡ 2)
 
--- what a call of a node with `Rise::Full` ensures makes it such a step beside each neighbour whose link is up after it
+-- Each call of a node with `Rise::Full` is a step of this law.
 abbrev pub CallsKeepLinksOrFall : Type 0
 CallsKeepLinksOrFall = (messages : List Message) (old new : Node) → IsTrue old.gateway ⊎ (old.policy.rise ≡ Full)
     → Steps messages old new → Acts (record old { links = new.links }) new.own ⊎ (new.own ≡ old.own)

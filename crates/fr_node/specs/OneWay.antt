@@ -43,7 +43,9 @@ pub record LastsFor (Call : Node → Node → Type 0) (patience : ℕ) (n : Node
   pub enough : patience ≤ ticks
   pub calls : HasTicks Call patience ticks n ks
 
--- a link to a neighbour that seems deaf for so long does not count as up
+-- A link does not count as up after as many ticks as the patience in which what was taken of the neighbour was for
+-- another start of the router. Meanwhile the neighbour has not started again, and the caller has not said that the
+-- link is up. Anything else may be called, also `tick` with another patience.
 abbrev pub DeafLinksAreLost : Type 0
 DeafLinksAreLost = (patience w : ℕ) (n : Node) (ks : List Node) → LastsFor (IsDeafCall w) patience n ks
     → (link_to (last_node n ks).links.items w).up ≡ false
@@ -55,14 +57,14 @@ pub record HoldsNothingBack (patience : ℕ) (n : Node) (ks : List Node) (l : Li
   pub why : ((0 < l.heard) × (is_lower (last_node n ks).own l ≡ false))
       ⊎ LastsFor (IsDeafCall l.neighbour) patience n ks
 
--- so if all neighbours that do not seem deaf were heard, and none of them is lower, then the router is a sink
+-- If each other neighbour was heard and is not lower, the router is then a sink, so its policy may act.
 abbrev pub DeafLinksHoldNothingBack : Type 0
 DeafLinksHoldNothingBack = (patience : ℕ) (n : Node) (ks : List Node)
     → ((l : Link) → Contains (last_node n ks).links.items l → HoldsNothingBack patience n ks l)
     → IsSink (last_node n ks).own (last_node n ks).links.items
 
--- to a neighbour that is silent for so long, the router says that it knows no start of it. So it seems deaf to that
--- neighbour, which has a number of its start above 0
+-- After as many ticks in which no message of a neighbour is taken, the router says to it that it knows no start of
+-- it. So it seems deaf to that neighbour, which has a number of its start above 0.
 abbrev pub SilenceIsTold : Type 0
 SilenceIsTold = (patience w : ℕ) (n : Node) (ks : List Node) → LastsFor (IsSilentCall w) patience n ks
     → (m : Message) → IsMessageTo (last_node n ks) w m → m.echo ≡ 0

@@ -1,4 +1,4 @@
--- How many heights routers announce that are joined to a gateway by a path of links that stay up, whatever else happens
+-- How many heights routers announce that are connected to a gateway by a path of links that stay up, whatever else happens
 -- in the network: other links go up and down, other routers restart, and messages are lost, delayed, repeated and
 -- overtaken. Nothing is supposed of what was heard before. The definitions and laws are this project's own.
 use Rattle.std.specs.Prelude.{Bool, IsTrue, List, [], ◌∷◌, if◌then◌else◌, false, true, ℕ, ◌+◌, ◌-◌, ◌<◌, ◌≡◌, ◌≤◌}
@@ -91,34 +91,38 @@ IsDown s x (w ∷ ws) = (may_rise x w (s.router x) ≡ false) × (unheard s x w 
 
 -- The laws. `past` is anything that can happen from a start on, and `future` what happens then
 
--- beside a link that stays up, a router announces no more heights than are due and its neighbour announces
+-- Beside a link that stays up, a router announces at most what is due because of its neighbour, and one height for
+-- each that the neighbour announces.
 abbrev pub LinkBoundsAnnouncements : Type 0
 LinkBoundsAnnouncements = (s : Net) (past future : List Net) (x w : ℕ) → IsStart s → IsRun s past
     → IsRun (last s past) future → KeepsLink x w (last s past) future
     → times (last s past) (last (last s past) future) x
     ≤ due (last s past) x w + times (last s past) (last (last s past) future) w
 
--- if x knows the present start of w, then what it has not heard are announcements of that start
+-- What a router has not heard are announcements of the neighbour's present start, if it knows this start.
 abbrev pub UnheardAreAnnouncements : Type 0
 UnheardAreAnnouncements = (s : Net) (x w : ℕ) → (s.router x).peer w ≡ (s.router w).boot
     → unheard s x w ≡ (s.router w).number - (s.router x).heard w
 
--- with a path of links that stay up, it announces no more than is due on the path: at most one height for each link of
--- the path, and one for each announcement that a router of the path has not heard of the next one
+-- While a path to a gateway stays up, a router of it announces at most one height for each link of the path, and one
+-- for each announcement that a router of the path has not heard of the next one. The routers of the path use
+-- `Rise::Full` without `lower`. Other links may go up and down, other routers restart, and messages be lost, delayed,
+-- repeated and reordered. Before that anything may have happened, and no router has to have forgotten what is
+-- outdated.
 abbrev pub PathBoundsAnnouncements : Type 0
 PathBoundsAnnouncements = (s : Net) (past future : List Net) (x : ℕ) (ws : List ℕ) → IsStart s → IsRun s past
     → IsRun (last s past) future → KeepsPath x ws (last s past) future
     → (times (last s past) (last (last s past) future) x ≤ due_on (last s past) x ws)
     × (times (last s past) (last (last s past) future) x ≤ length ws + unheard_on (last s past) x ws)
 
--- if the path leads down, and all of it is heard, then no router of it announces anything, whatever happens elsewhere
+-- If each router of the path has heard the next one and is above it, none of them announces anything any more,
+-- whatever happens elsewhere.
 abbrev pub DownPathIsQuiet : Type 0
 DownPathIsQuiet = (s : Net) (past future : List Net) (x : ℕ) (ws : List ℕ) → IsStart s → IsRun s past
     → IsRun (last s past) future → KeepsPath x ws (last s past) future → IsDown (last s past) x ws
     → times (last s past) (last (last s past) future) x ≡ 0
 
--- this happens: an outdated height of a neighbour that has restarted makes a router announce one, and the present
--- height another. These are as many as are due, and the neighbour announces nothing. The path leads down then
+-- In some run two heights are due, and a router announces both.
 abbrev pub BoundIsReached : Type 0
 BoundIsReached = (s : Net) × (past future : List Net) × (x w : ℕ) × IsStart s × IsRun s past
     × IsRun (last s past) future × KeepsPath x (w ∷ []) (last s past) future
@@ -131,8 +135,7 @@ BoundIsReached = (s : Net) × (past future : List Net) × (x w : ℕ) × IsStart
 abbrev pub IsFull : Node → Type 0
 IsFull n = IsTrue n.gateway ⊎ ((n.policy.rise ≡ Full) × (n.policy.lower ≡ false))
 
--- what a call of a node ensures, by which it acts by its policy or keeps what it knows of itself, makes it such a step
--- beside each neighbour whose link is up after it. A gateway announces nothing
+-- Each call of a node is a step of this law beside each link that is up, by its contract.
 abbrev pub CallsKeepLinks : Type 0
 CallsKeepLinks = (messages : List Message) (old new : Node) → IsFull old → Steps messages old new
     → Acts (record old { links = new.links }) new.own ⊎ (new.own ≡ old.own)

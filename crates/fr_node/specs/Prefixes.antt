@@ -36,13 +36,14 @@ IsPacketWalk t u (v ∷ vs) = IsForwarded t u v × IsPacketWalk t v vs
 abbrev pub KnowsWhatComes : PrefixTables → Type 0
 KnowsWhatComes t = (p q x w : ℕ) → t.ways p x w ≡ true → t.gates q w x ≡ true → t.known w p ≡ true
 
--- then, if the tables have no loop for any one prefix, no walk of one step or more comes back to where it began
+-- A packet never meets a router again if the tables of no prefix have a loop, and if each router that lets in anything
+-- from a neighbour knows each prefix for which that neighbour has it as a way.
 abbrev pub PrefixesHaveNoLoop : Type 0
 PrefixesHaveNoLoop = (t : PrefixTables) → KnowsWhatComes t → ((p : ℕ) → HaveNoLoop (t.ways p) (t.gates p))
     → (u v : ℕ) (vs : List ℕ) → IsPacketWalk t u (v ∷ vs) → ¬ (end_of v vs ≡ u)
 
--- these premises can be met while routers know different prefixes: a packet goes from router 1 to router 0, which knows
--- a longer prefix
+-- In some network whose routers know different prefixes, a packet goes from router 1 to router 0, which knows a longer
+-- prefix.
 abbrev pub SomePrefixIsLonger : Type 0
 SomePrefixIsLonger = (t : PrefixTables) × KnowsWhatComes t × ((p : ℕ) → HaveNoLoop (t.ways p) (t.gates p))
     × ((it : IsForwarded t 1 0) × (it.out < it.into))

@@ -22,8 +22,8 @@ abbrev pub last_node : Node → List Node → Node
 last_node n [] = n
 last_node n (k ∷ ks) = last_node k ks
 
--- a node has heard the message m, which was for it and from a known neighbour. Whatever is called then, it never takes
--- m again, and no message of this neighbour that is older: of an earlier start, or of this start with no greater stamp
+-- Once a node has heard a message that is for it and from a known neighbour, it never takes this message again, nor
+-- an older one of this neighbour, whatever is called between.
 abbrev pub RepeatsAreIgnored : Type 0
 RepeatsAreIgnored = (m again : Message) (old new : Node) (between : List Node) → m.to ≡ old.own.me
     → IsKnown old.links.items m.from → Hears old.own m old.links.items new.links.items → AreCalls new between

@@ -18,7 +18,7 @@ use Rattle.fr_node.specs.Routers.{IsBelow, IsRun, IsStart, Net, last}
 abbrev pub LeadsDown : ℕ → ((e w h : ℕ) → Bool) → Type 0
 LeadsDown x low = (e w h : ℕ) → low e w h ≡ true → IsBelow h w e x
 
--- such are the tests of all policies, if each link costs 1 at least
+-- The tests of all policies are such, if each link costs at least 1.
 abbrev pub TestsLeadDown : Type 0
 TestsLeadDown = (rise : Rise) (x : ℕ) (cost : ℕ → ℕ) → ((w : ℕ) → 1 ≤ cost w) → LeadsDown x (test_of rise x cost)
 
@@ -50,23 +50,26 @@ abbrev pub times_of_all : Net → Net → ℕ → ℕ
 times_of_all s t zero = 0
 times_of_all s t (suc n) = times s t n + times_of_all s t n
 
--- together they announce no more than so many heights, however long the run is. Each may go by a test of its own. The
--- top may be the ceiling, or any greater height
+-- Routers whose heights are below H, or equal to one height from H on, announce together at most (1 + u) * 2^((H + 1)
+-- * n) heights, however long they run and whatever happens to messages, with a gateway or without. There are n
+-- routers, and at first each has at most u announcements of its neighbours still to hear. No link goes up or down and
+-- no router restarts. Each router acts as in `heights_law`, by a test of its own, by which only heights below its own
+-- are low enough.
 abbrev pub AnnouncementsEnd : Type 0
 AnnouncementsEnd = (s : Net) (past future : List Net) (ceiling top routers most : ℕ) (low : (x e w h : ℕ) → Bool)
     (beside : ℕ → List ℕ) → IsStart s → IsRun s past → IsRun (last s past) future → ceiling ≤ top
     → ((x : ℕ) → x < routers → KeepsBelow ceiling top routers most x (low x) (beside x) (last s past) future)
     → times_of_all (last s past) (last (last s past) future) routers ≤ (1 + most) * 2 ^ ((ceiling + 1) * routers)
 
--- this happens: of three routers one announces four heights
+-- In some run one of three routers announces four heights.
 abbrev pub SomeRoutersAnnounce : Type 0
 SomeRoutersAnnounce = (s : Net) × (past future : List Net) × (ceiling routers most : ℕ) × (beside : ℕ → List ℕ)
     × IsStart s × IsRun s past × IsRun (last s past) future
     × ((x : ℕ) → x < routers → KeepsBelow ceiling ceiling routers most x (is_below x) (beside x) (last s past) future)
     × (times_of_all (last s past) (last (last s past) future) routers ≡ 4)
 
--- a call of a gateway, or of a node with `Rise::Top` and this ceiling, announces no height but those below the ceiling
--- and the top
+-- A call of a gateway, or of a node with `Rise::Top` and this ceiling, announces no height but those below the
+-- ceiling and the top.
 abbrev pub CallsStayBelow : Type 0
 CallsStayBelow = (ceiling : ℕ) (old new : Node) → IsTrue old.gateway ⊎ (old.policy.rise ≡ Top ceiling)
     → Acts (record old { links = new.links }) new.own ⊎ (new.own ≡ old.own)

@@ -87,18 +87,22 @@ pub record IsServed (ceiling : ℕ → ℕ) (node : ℕ → Node) (x : ℕ) : Ty
   pub arrive : (k : ℕ) × Arrive node k x
   pub nearest : (k : ℕ) × ArriveNearest node k x (node x).own.used
 
--- each router with a route is served so
+-- The height of a router with a route, and its distance, are the least cost of its routes. Its packets come to a
+-- gateway whichever ways they take, and at this cost by nearest ways. A route is a path of links that are up, from a
+-- router to a gateway, whose cost from each of its routers on is below the ceiling of that router. Ceilings may
+-- differ, and so may the costs that the ends of a link know, each 1 or more. All messages have arrived, also with the
+-- present distances, and no policy changes a height. Gateways are at height 0, and other routers not above the top.
 abbrev pub RoutesAreShortest : Type 0
 RoutesAreShortest = (routers : ℕ) (ceiling : ℕ → ℕ) (node : ℕ → Node) → IsQuietBelow routers ceiling node
     → (x : ℕ) (ls : List Link) → x < routers → IsRoute ceiling node x ls → IsServed ceiling node x
 
--- a router from which no path of links that are up leads to a gateway is at the top, and has no distance
+-- A router from which no path of links that are up leads to a gateway is at the top, and has no distance.
 abbrev pub LostRoutersKnow : Type 0
 LostRoutersKnow = (routers : ℕ) (ceiling : ℕ → ℕ) (node : ℕ → Node) → IsQuietBelow routers ceiling node
     → (x : ℕ) → x < routers → ((ls : List Link) → ¬ IsPath node x ls)
     → ((node x).own.used ≡ CUT_OFF) × IsDistance (node x) CUT_OFF
 
--- these premises can be met: by a router with a route. A node's list of links has an allocator
+-- A gateway and a router meet these premises.
 abbrev pub SomeRouteIsShortest : Type 0
 SomeRouteIsShortest = (alloc : Global) → (routers : ℕ) × (ceiling : ℕ → ℕ) × (node : ℕ → Node) × (x : ℕ)
     × (ls : List Link) × IsQuietBelow routers ceiling node × (x < routers) × IsRoute ceiling node x ls

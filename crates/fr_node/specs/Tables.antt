@@ -131,13 +131,18 @@ IsLoopFree s = HaveNoLoop (λ y. (s.forwarder y).ways) (λ y. (s.forwarder y).ga
 
 -- The laws
 
--- at the end of every run, and so at every moment, the tables have no loop
+-- At the end of every run, and so at every moment, the tables have no loop. Packets meet the tables alone. Any number
+-- of events, also restarts, may come before a table is written and between the steps of writing. A step may take away
+-- any ways and close any gates. It may add ways of a state that the router had since the table was confirmed, once
+-- gates that are not open in this state are closed. It may open gates of such a state, once ways that are not of this
+-- state are taken away. A table is confirmed if its ways and open gates are those of the present state; some may be
+-- missing. After an event the router says nothing until its table is confirmed. A router that restarts finds the
+-- table as it was, and writes it by the same rule.
 abbrev pub TablesHaveNoLoop : Type 0
 TablesHaveNoLoop = (s : Plane Router) (ts : List (Plane Router)) → IsPlaneStart s → IsPlaneRun IsPlaneStep s ts
     → IsLoopFree (last_plane s ts)
 
--- packets get through: some run, in which each start has a number above 0, ends with tables by which packets go from
--- router 1 to router 0, which is no gateway
+-- In some run packets get through to a router that is not a gateway.
 abbrev pub SomeTablesLetThrough : Type 0
 SomeTablesLetThrough = (s : Plane Router) × (ts : List (Plane Router)) × IsPlaneStart s × IsPlaneRun IsPlaneStep s ts
     × ((y : ℕ) → 0 < (s.forwarder y).state.boot)

@@ -15,17 +15,17 @@ ghost use Rattle.fr_node.specs.OneWay.{DeafLinksAreLost, DeafLinksHoldNothingBac
 ghost use Rattle.fr_node.specs.Paths.{BoundIsReached, CallsKeepLinks, DownPathIsQuiet, LinkBoundsAnnouncements};
 ghost use Rattle.fr_node.specs.Paths.{PathBoundsAnnouncements, UnheardAreAnnouncements};
 
-/// At no moment do the links that routers use contain a loop, whatever happens to messages and whichever routers
+/// At no moment do the links that routers use contain a cycle, whatever happens to messages and whichever routers
 /// restart. In some run a router restarts, and a link is used then.
 pub fn routers_law()
     ensures safe { NeverALoop }
     ensures possible { SomeLinkIsUsed }
 {}
 
-/// At no moment do the forwarding tables that packets meet contain a loop, though each router writes its table late, in
-/// part and in steps, hears more meanwhile, and may restart and find the table of its earlier process. A router has to
-/// close gates before it changes ways, and to change ways before it opens gates. It may say nothing before its table is
-/// confirmed. In some run the tables let packets through.
+/// At no moment do the tables of routers, which are written late and in steps, contain a loop. Meanwhile each router
+/// hears more, and it may restart and find the table of its earlier process. A router has to close gates before it
+/// changes ways, and to change ways before it opens gates. It may say nothing before its table is confirmed. In some
+/// run the tables let packets through.
 pub fn tables_law()
     ensures safe { TablesHaveNoLoop }
     ensures possible { SomeTablesLetThrough }
@@ -41,19 +41,18 @@ pub fn prefixes_law()
     ensures possible { SomePrefixIsLonger }
 {}
 
-/// In a network of routers with `Rise::Full`, once all messages have arrived and no router raises its height, each
-/// router that has a link has a way. Packets come to a gateway, whichever ways they take, and each router that they
-/// reach lets them in.
+/// Once messages have arrived and no router raises its height, packets of each router with a link come to a gateway. The
+/// routers have `Rise::Full`. Packets arrive whichever ways they take, and each router that they reach lets them in.
 pub fn ways_law()
     ensures { PacketsArrive }
 {}
 
-/// In a network of routers with `Rise::Top`, once all messages have arrived and no router changes its height, routes have
-/// the least costs. A path of links that are up counts if the cost from each of its routers on is below the ceiling of
-/// that router. The height of a router with such a path to a gateway, and its distance, are the least cost of these
-/// paths. Its packets come to a gateway, whichever ways they take, and over links of this cost together if they take
-/// nearest ways. Each router that they reach lets them in. A router that no path of links that are up joins to a gateway
-/// has no distance. A gateway and a router meet these premises.
+/// With `Rise::Top`, once all messages have arrived and no router changes its height, routes have the least costs. A
+/// path of links that are up counts if the cost from each of its routers on is below the ceiling of that router. The
+/// height of a router with such a path to a gateway, and its distance, are the least cost of these paths. Its packets
+/// come to a gateway, whichever ways they take, and over links of this cost together if they take nearest ways. Each
+/// router that they reach lets them in. A router that no path of links that are up connects to a gateway has no
+/// distance. A gateway and a router meet these premises.
 pub fn shortest_law()
     ensures least { RoutesAreShortest }
     ensures lost { LostRoutersKnow }
@@ -74,11 +73,12 @@ pub fn ceiling_law()
     ensures calls { CallsStayBelow }
 {}
 
-/// Routers with `Rise::Full` and without `lower`, joined to a gateway by a path of links that stay up. After anything
-/// that can have happened, and whatever happens to other links and routers meanwhile, each of them announces at most
-/// one height for each link of the path, and one for each announcement that a router of the path has not heard of the
-/// next one. If the path leads down, and all of it is heard, none of them announces anything. In some run two heights
-/// are due, and announced. Each call of a `Node` is a step of these laws beside each link that is up.
+/// While a path to a gateway stays up, its routers announce a bounded number of heights. They have `Rise::Full`
+/// without `lower`. After anything that can have happened, and whatever happens to other links and routers meanwhile,
+/// each of them announces at most one height for each link of the path, and one for each announcement that a router
+/// of the path has not heard of the next one. If the path leads down, and all of it is heard, none of them announces
+/// anything. In some run two heights are due, and announced. Each call of a `Node` is a step of these laws beside
+/// each link that is up.
 pub fn paths_law()
     ensures link { LinkBoundsAnnouncements }
     ensures path { PathBoundsAnnouncements }
@@ -88,9 +88,8 @@ pub fn paths_law()
     ensures calls { CallsKeepLinks }
 {}
 
-/// The same for routers with `Rise::Full` that may also lower their heights: beyond what is due on the path, each of
-/// them announces at most two heights for each time that a router of the path lowers its height. In some run it
-/// announces as many.
+/// With `lower`, each fall on the path adds at most two announcements to the bound of `paths_law`. The routers have
+/// `Rise::Full`. In some run it announces as many.
 pub fn lowering_law()
     ensures link { LinkBoundsWithFalls }
     ensures path { PathBoundsWithFalls }
@@ -98,12 +97,11 @@ pub fn lowering_law()
     ensures calls { CallsKeepLinksOrFall }
 {}
 
-/// A router that rises only if no neighbour is known to be low enough for its height, and falls to a height only if one
-/// is known to be low enough for that, announces the same height at most once, and again for each time that it goes
-/// below that height or hears an announcement that is low enough for it. Any test may say what is low enough. In some
-/// run a height comes back as often as the law allows. Each call of a `Node` is a step of this law: with `Rise::Full` by
-/// the test whether a neighbour is lower, and with `Rise::Top` by the test whether it offers the height. No call changes the
-/// cost of a link, so this test stays.
+/// A router announces the same height again only after a lower announcement, or one low enough for it. It rises only
+/// if no neighbour is known to be low enough for its height, and falls to a height only if one is known to be low
+/// enough for that. Any test may say what is low enough. In some run a height comes back as often as the law allows.
+/// Each call of a `Node` is a step of this law: with `Rise::Full` by the test whether a neighbour is lower, and with
+/// `Rise::Top` by the test whether it offers the height. No call changes the cost of a link, so this test stays.
 pub fn heights_law()
     ensures again { SameHeightIsBounded }
     ensures possible { SomeHeightComesBack }
@@ -111,11 +109,11 @@ pub fn heights_law()
     ensures costs { CostsStay }
 {}
 
-/// Links that work one way hold no router back. A link does not count as up after as many ticks as the caller's
-/// patience in which the neighbour seemed deaf: what was taken of it was for another start of the router, and it did
-/// not start again. If each other neighbour was heard, and none is lower, then the router is a sink. After as many
-/// ticks in which no message of a neighbour was taken, the router seems deaf to that neighbour: so the link counts at
-/// neither end.
+/// A link that works one way soon counts at neither end, and holds no router back. A link does not count as up after
+/// as many ticks as the caller's patience in which the neighbour seemed deaf: what was taken of it was for another
+/// start of the router, and it did not start again. If each other neighbour was heard, and none is lower, then the
+/// router is a sink. After as many ticks in which no message of a neighbour was taken, the router seems deaf to that
+/// neighbour: so the link counts at neither end.
 pub fn one_way_law()
     ensures lost { DeafLinksAreLost }
     ensures free { DeafLinksHoldNothingBack }

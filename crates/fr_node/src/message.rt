@@ -76,6 +76,7 @@ impl Message {
 
     /// Reads a message. Returns `None` if the bytes are not a message, because of their number or their header. O(1).
     pub fn read(bytes: &[u8]) -> Option<Message>
+        // Exactly the bytes of a message are read.
         ensures { MatchOption result ((m : Message) → bytes_of m ≢ bytes.now) (λ m. bytes_of m ≡ bytes.now) }
     {
         if bytes.len() != MESSAGE_LENGTH || read_u32(bytes, 0) != HEADER {

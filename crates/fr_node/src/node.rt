@@ -58,8 +58,10 @@ impl Node {
         height: u64,
         policy: Policy,
     ) -> Result<Node, NodeFault>
+        // This is a restart by `routers_law`, if the start number is greater than every earlier one.
         ensures started { IfOk result (IsStarted me boot height) }
         ensures router { IfOk result (λ n. (n.gateway ≡ false) × (n.policy ≡ policy)) }
+        // `TooHigh` exactly for a height of 2^63 or more.
         ensures fault { MatchResult result (λ _. height < START_HEIGHTS) (λ f. (f ≡ TooHigh) × (START_HEIGHTS ≤ height)) }
     {
         if height >= START_HEIGHTS {
@@ -79,6 +81,7 @@ impl Node {
     /// A gateway that starts: it takes packets out of the network and sends on nothing. Several routers may be gateways
     /// for one destination. `boot` as for [`Node::new`]. O(1).
     pub fn gateway(alloc: Global, me: u32, boot: u64) -> Node
+        // As for `Node::new`.
         ensures started { IsStarted me boot 0 result }
         ensures gateway { result.gateway ≡ true }
     {
@@ -106,13 +109,18 @@ impl Node {
     /// happens for a neighbour that is known. Then nothing has changed.
     pub fn know(&mut self, neighbour: u32, cost: u32) -> Result<(), NodeFault>
         requires { 0 < cost }
+        // `Itself` exactly if the neighbour is this router.
         ensures itself { neighbour ≡ self.old.own.me ↔ (result ≡ Err Itself) }
+        // A neighbour that is known stays as it is.
         ensures known { neighbour ≢ self.old.own.me → IsKnown self.old.links.items neighbour → self.new ≡ self.old }
+        // The link to it has this cost.
         ensures new { OnOk result (¬ IsKnown self.old.links.items neighbour
             → self.new.links.items ≡ self.old.links.items ++ record unknown { neighbour = neighbour; cost = cost } ∷ []) }
         ensures same { self.new ≡ record self.old { links = self.new.links } }
         ensures err { IfErr result (λ f. ((f ≡ Itself) ⊎ (f ≡ Memory)) × (self.new.links.items ≡ self.old.links.items)) }
+        // Only for a neighbour that is not known.
         ensures memory { result ≡ Err Memory → ¬ IsKnown self.old.links.items neighbour }
+        // A step of `routers_law`. It is no event.
         ensures step { Steps [] self.old self.new }
     {
         if neighbour == self.own.me {
@@ -129,7 +137,14 @@ impl Node {
     /// the neighbour is not known, no link changes. The policy may change the height. Then the ways and gates have to
     /// be written. It does not allocate. O(d) for d known neighbours.
     pub fn link_up(&mut self, neighbour: u32)
+        // The link counts as up until `link_down`, or until a tick ends that.
         ensures set { SetsUp neighbour true self.old.links.items self.new.links.items }
+        // A step of `routers_law`, and an event: the ways and gates get the next number, modulo 2^64, and are not
+        // written. The height changes exactly as the policy says. With `Rise::Full` a router without a way rises to
+        // one more than the greatest height of its neighbours; with `lower` it falls to its distance if a nearer way
+        // stays a way. With `Rise::Top` a router rises to the top if no neighbour offers its height, and falls to its
+        // best offer once all its gates are open; a neighbour offers its height and the cost of the link together, if
+        // that is below the ceiling. A greater height is used at once, or with `wait` once each open gate stays open.
         ensures after { IsAfterEvent [] self.old self.new }
     {
         self.set_link_up(neighbour, true);
@@ -140,6 +155,7 @@ impl Node {
     /// still knows what it has heard from it. All else is as for [`link_up`](Node::link_up). O(d).
     pub fn link_down(&mut self, neighbour: u32)
         ensures set { SetsUp neighbour false self.old.links.items self.new.links.items }
+        // An event, as for `link_up`.
         ensures after { IsAfterEvent [] self.old self.new }
     {
         self.set_link_up(neighbour, false);
@@ -158,9 +174,14 @@ impl Node {
     /// Returns whether a link was lost so. That is an event as [`link_down`](Node::link_down): the policy may change
     /// the height, and the ways and gates have to be written. Otherwise this was no event. It does not allocate. O(d).
     pub fn tick(&mut self, patience: u32) -> bool
+        // For each link that counts as up, ticks are counted in which the neighbour has seemed deaf. Once these are
+        // as many as the patience, the link counts no longer.
         ensures links { self.new.links.items ≡ map (after_tick patience) self.old.links.items }
+        // The result says whether a link was lost.
         ensures lost { result ≡ list_any (is_lost patience) self.old.links.items }
+        // Then this was an event.
         ensures after { IsTrue result → IsAfterEvent [] self.old self.new }
+        // Otherwise only ticks are counted.
         ensures kept { ¬ IsTrue result → self.new ≡ record self.old { links = self.new.links } }
     {
         if !self.tick_all(patience) {
@@ -175,10 +196,14 @@ impl Node {
     /// policy rests until the next one. Each event takes one step of the policy, so call this after it until it returns
     /// `false`. It does not allocate. O(d) for d known neighbours.
     pub fn act(&mut self) -> bool
+        // The policy takes one more step.
         ensures policy { Acts self.old self.new.own }
         ensures links { self.new.links ≡ self.old.links }
+        // The result says whether that has changed something.
         ensures changed { IsTrue result ↔ (self.new.own ≢ self.old.own) }
+        // Then this was an event.
         ensures after { IsTrue result → IsAfterEvent [] self.old self.new }
+        // Otherwise nothing changes.
         ensures kept { ¬ IsTrue result → self.new ≡ self.old }
     {
         let before = self.own;
@@ -201,12 +226,18 @@ impl Node {
     /// another router has the same number. Nothing has changed, and this node should be given up: it hears nothing from
     /// such neighbours.
     pub fn hear(&mut self, message: &Message) -> Result<(), NodeFault>
+        // The node learns exactly what the rules say. The link counts as up again after a message for this start of
+        // the router, if the caller says that it is up.
         ensures heard { OnOk result (Hears self.old.own message.now self.old.links.items self.new.links.items) }
+        // A message that is taken is an event. It is of a greater start than all that were taken from the neighbour,
+        // or of the same one with a greater stamp.
         ensures after { OnOk result (IsTaken self.old.own message.now self.old.links.items
             → IsAfterEvent (message.now ∷ []) self.old self.new) }
+        // Any other message changes nothing.
         ensures ignored { ¬ IsTaken self.old.own message.now self.old.links.items → self.new ≡ self.old }
         ensures kept { OnErr result (self.new ≡ self.old) }
         ensures neighbours { map (λ l. l.neighbour) self.new.links.items ≡ map (λ l. l.neighbour) self.old.links.items }
+        // `LaterStart` exactly if a known neighbour says that it knows a later start of this router.
         ensures fault { MatchResult result (λ _. ¬ KnowsLaterStart self.old message.now)
             (λ f. (f ≡ LaterStart) × KnowsLaterStart self.old message.now) }
     {
@@ -241,6 +272,7 @@ impl Node {
     pub fn written(&mut self, state: u64) -> Result<(), NodeFault>
         ensures written { OnOk result (self.new ≡ record self.old { is_written = true }) }
         ensures kept { OnErr result (self.new ≡ self.old) }
+        // `Outdated` exactly for a number that is not the present one.
         ensures fault { MatchResult result (λ _. state ≡ self.old.events)
             (λ f. (f ≡ Outdated) × (state ≢ self.old.events)) }
     {
@@ -258,8 +290,12 @@ impl Node {
     ///
     /// Fails with `Unwritten` if the ways and gates after the last event are not written. Then nothing has changed.
     pub fn say(&mut self, neighbour: u32) -> Result<Option<Message>, NodeFault>
+        // The message says what the router knows, true by `routers_law`, and is only for a neighbour whose link is up
+        // as the caller says. To a neighbour that was silent for too many ticks it says that it knows no start of it.
+        // It has the next stamp, as long as this has 64 bits.
         ensures says { IfOk result (SaysTo neighbour self.old self.new) }
         ensures kept { OnErr result (self.new ≡ self.old) }
+        // `Unwritten` exactly until the caller says that the present ways and gates are written.
         ensures fault { MatchResult result (λ _. self.old.is_written ≡ true)
             (λ f. (f ≡ Unwritten) × (self.old.is_written ≡ false)) }
     {
@@ -293,7 +329,9 @@ impl Node {
     ///
     /// Fails with `Unwritten` if the ways and gates after the last event are not written.
     pub fn has_news(&self, neighbour: u32) -> Result<bool, NodeFault>
+        // A message is news if it differs from the last one that the node said by more than its stamp.
         ensures news { IfOk result (IsNews neighbour self.now) }
+        // As for `say`.
         ensures fault { MatchResult result (λ _. self.now.is_written ≡ true)
             (λ f. (f ≡ Unwritten) × (self.now.is_written ≡ false)) }
     {
@@ -315,7 +353,9 @@ impl Node {
 
     /// Whether packets from this neighbour are let in: a gate for them is to be open. All other packets are dropped. O(d).
     pub fn lets_in(&self, neighbour: u32) -> bool
+        // Exactly by the rules.
         ensures open { result ≡ lets_in self.now neighbour }
+        // An open gate is one of `routers_law`.
         ensures safe { IsTrue result → (h : ℕ → ℕ) → IsHistory self.now.own h → IsOpen (router self.now h) neighbour }
     {
         match self.index_of(neighbour) {
@@ -333,7 +373,9 @@ impl Node {
 
     /// Whether packets may be sent to this neighbour. O(d).
     pub fn sends_to(&self, neighbour: u32) -> bool
+        // Exactly by the rules.
         ensures way { result ≡ sends_to self.now neighbour }
+        // A way is one of `routers_law`.
         ensures safe { IsTrue result → (h : ℕ → ℕ) → IsWay (router self.now h) self.now.own.me neighbour }
     {
         match self.index_of(neighbour) {

@@ -101,7 +101,9 @@ impl PublishedSession {
     /// Between two calls, the tables of the readers have the hops and the ways of the session. The function does
     /// nothing.
     pub fn table_law(&self)
+        // A number that is not a node is cut off.
         ensures hops { IfSome self.now.table (HasHopsOf self.now.session) }
+        // The first five ways of each node, or all of them if there are fewer.
         ensures ways { IfSome self.now.ways (HasWaysOf self.now.session) }
     {
         // A field has to be read, because only then the proof can use the invariant.
@@ -118,6 +120,7 @@ impl PublishedSession {
     pub fn reader(&mut self, alloc: Global) -> Result<Reader, AllocError>
         ensures session { (self.new.session ≡ self.old.session) × (self.new.rerouted ≡ self.old.rerouted)
             × (self.new.ways ≡ self.old.ways) × (self.new.pushes ≡ self.old.pushes) }
+        // The first reader opens the table. An open table stays as it is.
         ensures kept { IfSome self.old.table (λ k. self.new.table ≡ Some k) }
         ensures reader { IfOk result (λ reader. self.new.table ≡ Some reader) }
         ensures unchanged { OnErr result (self.new ≡ self.old) }
@@ -146,6 +149,7 @@ impl PublishedSession {
     pub fn way_reader(&mut self, alloc: Global) -> Result<shared_ways::Reader, AllocError>
         ensures session { (self.new.session ≡ self.old.session) × (self.new.rerouted ≡ self.old.rerouted)
             × (self.new.table ≡ self.old.table) × (self.new.pushes ≡ self.old.pushes) }
+        // The first reader opens the table. An open table stays as it is.
         ensures kept { IfSome self.old.ways (λ k. self.new.ways ≡ Some k) }
         ensures reader { IfOk result (λ reader. self.new.ways ≡ Some reader) }
         ensures unchanged { OnErr result (self.new ≡ self.old) }
@@ -168,6 +172,7 @@ impl PublishedSession {
     /// It makes one load, and does not allocate or wait. O(1).
     pub fn ways_past(&mut self) -> Option<shared_ways::Past>
         ensures kept { self.new ≡ self.old }
+        // After a change, a reader of ways learns all pushes by it.
         ensures past { result ≡ option_map ways_past_of self.old.ways }
     {
         let ways = self.ways.as_mut()?;
@@ -182,6 +187,7 @@ impl PublishedSession {
     /// It makes one load, and does not allocate or wait. O(1).
     pub fn past(&mut self) -> Option<Past>
         ensures kept { self.new ≡ self.old }
+        // After a change, a reader learns all pushes by it.
         ensures past { result ≡ option_map past_of self.old.table }
     {
         let publisher = self.publisher.as_mut()?;
@@ -193,6 +199,7 @@ impl PublishedSession {
     pub fn ways(&mut self, x: u32, list: &mut Vec<u32>) -> Option<Result<(), AllocError>>
         requires { IfSome self.old.session (λ s. x < s.nodes) }
         ensures same { self.new ≡ self.old }
+        // `None` exactly if there is no network.
         ensures none { result ≡ None ↔ (self.old.session ≡ None) }
         ensures ways { IfSome result (λ made. OnOk made
             (IfSome self.old.session (λ s. AreNodeWays s x list.new.items))) }
@@ -206,6 +213,7 @@ impl PublishedSession {
     pub fn distance(&mut self, x: u32) -> Option<Option<u32>>
         requires { IfSome self.old.session (λ s. x < s.nodes) }
         ensures same { self.new ≡ self.old }
+        // `None` exactly if there is no network.
         ensures none { result ≡ None ↔ (self.old.session ≡ None) }
         ensures distance { IfSome result (λ distance. IfSome self.old.session (λ s. HasDistance s x distance)) }
     {
@@ -218,9 +226,11 @@ impl PublishedSession {
     pub fn nearest(&mut self, alloc: Global, x: u32) -> Option<Result<Walked, RouteFault>>
         requires { IfSome self.old.session (λ s. x < s.nodes) }
         ensures same { self.new ≡ self.old }
+        // `None` exactly if there is no network.
         ensures none { result ≡ None ↔ (self.old.session ≡ None) }
         ensures walked { IfSome result (λ made. IfOk made
             (λ walked. IfSome self.old.session (λ s. IsNearest s x walked))) }
+        // `Memory` is the only fault.
         ensures memory { IfSome result (λ made. IfErr made (λ fault. fault ≡ Memory)) }
     {
         let router = self.session.router_mut()?;
@@ -236,6 +246,10 @@ impl PublishedSession {
     /// all nodes are listed again. [`change`](PublishedSession::change) lists only those that a change has altered. A
     /// question, a refused line and a blank line cost one test more.
     pub fn answer_line(&mut self, alloc: Global, line: &[u8]) -> Result<Option<String>, AnswerFault>
+        // The answer is that of `Session::answer_line_telling_alone`. Then the rerouted nodes are pushed in push
+        // order, and the table has the session's hops. To readers of ways exactly the shrinks, and then the grows, to
+        // the new ways are pushed. The pushes of a change are kept. After a refusal or a fault, the list of rerouted
+        // nodes and the tables are unchanged.
         ensures { AnswersLine self.old line.now result self.new }
     {
         session_law(&self.session);
@@ -255,7 +269,9 @@ impl PublishedSession {
     /// It also publishes the ways, once there is a reader of them. Then its cost and its memory are those of
     /// [`change_with_ways`](PublishedSession::change_with_ways).
     pub fn change(&mut self, alloc: Global, change: Change) -> Option<Result<Report, NotMade>>
+        // The change is that of `Router::change_telling_alone`, with its faults. It is published as by `answer_line`.
         ensures changes { MakesChange self.old change result self.new }
+        // The pushes of an earlier `change_with_ways` are kept.
         ensures pushes { self.new.pushes ≡ self.old.pushes }
     {
         if self.ways.is_none() {
@@ -282,7 +298,10 @@ impl PublishedSession {
         alloc: Global,
         change: Change,
     ) -> Option<Result<Report, NotMade>>
+        // As for `change`, also report, rerouted nodes, faults and readers.
         ensures changes { MakesChange self.old change result self.new }
+        // The pushes lead from the ways of all nodes before the change to those after it. The session keeps them
+        // until the next change by `change_with_ways`.
         ensures pushes { NotesPushes self.old result self.new }
     {
         let mut reroutes = self.reroutes.take();
@@ -325,13 +344,14 @@ impl PublishedSession {
         Some(answer)
     }
 
-    /// Replaces the router of the session, or sets the first one, and lists and publishes the nodes that this reroutes,
+    /// Replaces the router of the session, or sets the first one. Lists and publishes the nodes that this reroutes,
     /// as [`changed_since`](fr_route::Router::changed_since) lists them.
     ///
     /// Fails with `AllocError` if an allocation is refused. Then nothing has changed. O(n) for the n nodes of the
     /// larger network. It publishes the ways as [`answer_line`](PublishedSession::answer_line) does after a new network,
     /// at the same cost.
     pub fn put_router(&mut self, alloc: Global, router: Router) -> Result<(), AllocError>
+        // The router is published as by `answer_line`.
         ensures { PutsRouter self.old router result self.new }
     {
         session_law(&self.session);

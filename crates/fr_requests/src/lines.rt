@@ -19,6 +19,7 @@ use std::alloc::Global;
 /// `serde_json` reads every other line, as one with an escape or an empty list. It then also clears 16 KB.
 pub fn read_line(alloc: Global, line: &[u8]) -> Result<Request, LineFault>
     ensures ok { IfOk result (λ request. reading line.now ≡ Ok (plain request)) }
+    // `NotJson` exactly if the line is not JSON, `NotRequest` exactly if its value is not a request.
     ensures refused { IfErr result (λ fault. fault ≢ Memory → reading line.now ≡ Err fault) }
 {
     if let Some((word, rest)) = opening_word(line) {

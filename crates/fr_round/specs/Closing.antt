@@ -17,7 +17,7 @@ number_and_known k = (k.number, k.known)
 abbrev pub number_and_turns : Knowledge → ℕ × ℕ
 number_and_turns k = (k.number, turn_count (part k.number k.known))
 
--- a worker that was given back knows a beginning of the history, in which its own calls are those that it made
+-- a worker that was given back knows a prefix of the history, in which its own calls are those that it made
 pub record IsPartOf (history : List Entry) (k : Knowledge) : Type 0 where
   pub begins : StartsWith history k.known
   pub own : part k.number history ≡ part k.number k.known

@@ -28,7 +28,7 @@ abbrev pub AreApart : List ℕ → Type 0
 AreApart [] = Unit {0}
 AreApart (k ∷ ks) = Each (λ (j : ℕ). j ≢ k) ks × AreApart ks
 
--- the known history is a beginning of the whole one
+-- the known history is a prefix of the whole one
 abbrev pub StartsWith : List Entry → List Entry → Type 0
 StartsWith whole known = (rest : List Entry) × (whole ≡ known ++ rest)
 

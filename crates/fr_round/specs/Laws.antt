@@ -42,7 +42,7 @@ workers_at v = (if v.works then (v.number, v.known) ∷ [] else []) ++ (if v.clo
 abbrev pub workers_of : List View → List (ℕ × List Entry)
 workers_of views = flat_map workers_at views
 
--- a worker knows a beginning of the history, in which its own calls are those that it made
+-- a worker knows a prefix of the history, in which its own calls are those that it made
 pub record KnowsPartOf (history : List Entry) (w : ℕ × List Entry) : Type 0 where
   pub begins : StartsWith history w.1
   pub own : part w.0 history ≡ part w.0 w.1
@@ -60,7 +60,7 @@ pub record StandsBehind (b : Setup) (s : State (Unit {0}) View) (history : List 
   pub apart : AreApart (map (λ (w : ℕ × List Entry). w.0) (workers_of s.views))
   pub numbered : Each (λ (w : ℕ × List Entry). w.0 < b.workers) (workers_of s.views)
 
--- one history explains the words and the workers of every state that the rule allows
+-- One run explains the words, and what each worker knows, in every state that the rule allows.
 abbrev pub OneHistoryStandsBehindAll : Type 0
 OneHistoryStandsBehindAll = (b : Setup) (s : State (Unit {0}) View) (ruled : KeepsRule b s)
     → StandsBehind b s ruled.history
@@ -69,12 +69,13 @@ OneHistoryStandsBehindAll = (b : Setup) (s : State (Unit {0}) View) (ruled : Kee
 abbrev pub first_state : Setup → State (Unit {0}) View
 first_state b = opening (replicate b.nodes 0) [] (opening_view b)
 
--- the rule allows this state, and the empty history explains it
+-- The rule allows the state in which a round is opened, and the empty history explains it.
 abbrev pub RuleHoldsAtFirst : Type 0
 RuleHoldsAtFirst = (b : Setup) → IsNet b.nodes b.links
     → HasList b [] (first_state b) × StandsBehind b (first_state b) []
 
--- the rule allows no other state in which the opening seat is the only one and has given out no number
+-- At the opening the rule allows only words that are 0. No clause reads the words in memory, but the kit requires
+-- that the rule allows them.
 abbrev pub NoOtherStateIsFirst : Type 0
 NoOtherStateIsFirst = (b : Setup) (words : List ℕ) → KeepsRule b (opening {S = Unit {0}} words [] (opening_view b))
     → opening words [] (opening_view b) ≡ first_state b
@@ -123,6 +124,7 @@ pub record StepsKeepTheRule (b : Setup) : Type 0 where
   pub calls : CallSteps b (Allows (KeepsRule b))
   pub seats : SeatSteps b (KeepsRule b)
 
+-- Each step of a worker leads from a state that the rule allows to another such state, whatever other threads do.
 abbrev pub EveryStepKeepsTheRule : Type 0
 EveryStepKeepsTheRule = (b : Setup) → StepsKeepTheRule b
 
@@ -148,6 +150,7 @@ pub record StepsGrowTheList (b : Setup) : Type 0 where
   pub calls : CallSteps b (Grows b)
   pub seats : (list : List Entry) → SeatSteps b (HasList b list)
 
+-- The list of calls only grows. A step adds the call that it decides, at the end of the list.
 abbrev pub EveryStepGrowsTheList : Type 0
 EveryStepGrowsTheList = (b : Setup) → StepsGrowTheList b
 

@@ -5,10 +5,10 @@ ghost use Rattle.fr_round.specs.Laws.{EveryStepKeepsTheRule, EveryStepGrowsTheLi
 ghost use Rattle.fr_round.specs.Laws.{OwnLoadIsTheMachines, NeighbourLoadIsTheMachines, ExchangeIsTheMachines};
 ghost use Rattle.fr_round.specs.Laws.{LookBeginsAsTheMachines, LookEndsAsTheMachines};
 
-/// At each moment of a round, all calls so far form one list, in which each reply is the one that full reversal on one
-/// thread (E. Gafni and D. Bertsekas, 1981) gives at that point. Its counts are the words, and its links, which the
-/// words give, contain no cycle. Each worker knows a beginning of the list; its own calls are in the list in their
-/// order; and no two workers have the same number.
+/// At each moment of a round, all calls so far form one list of legal replies. Each reply is the one that full
+/// reversal on one thread (E. Gafni and D. Bertsekas, 1981) gives at that point. Its counts are the words, and its
+/// links, which the words give, contain no cycle. Each worker knows a prefix of the list; its own calls are in the
+/// list in their order; and no two workers have the same number.
 ///
 /// This follows from a rule. The rule holds when a round is opened, with the empty list, and each step at a seat keeps
 /// it, whatever the other threads do. An open round is in a state that the rule allows, because its table is one of

@@ -62,11 +62,15 @@ impl Round {
         dest: u32,
         workers: u32,
     ) -> Result<(Round, Vec<Worker>), OpenFault>
+        // Only if the destination is a node and there are 1 to `MAX_WORKERS` workers.
         ensures openable { IfOk result (λ _. IsOpenable net.nodes dest workers) }
         ensures setup { IfOk result
             (λ r. r.0.setup ≡ record { nodes = net.nodes; dest = dest; links = net.links; workers = workers }) }
+        // The workers are numbered from 0.
         ensures workers { IfOk result (λ r. r.1.items ≡ new_workers r.0.table r.0.setup workers) }
+        // They have made no call.
         ensures not_begun { IfOk result (λ r. HasNotBegun r.0 r.1.items) }
+        // A refusal returns the network.
         ensures handed_back { IfErr result (λ fault. fault.net ≡ net) }
         ensures why { IfErr result (λ fault. IsWhyNotOpened net.nodes dest workers fault.why) }
     {
@@ -139,11 +143,16 @@ impl Round {
     /// exchange, and goes through the row of each node whose seen count rises: O(d²).
     pub fn try_turn(&self, worker: &mut Worker, x: u32) -> Result<Reply, Refusal>
         requires { IsOwn self.now worker.old }
+        // Counts that the worker has seen never fall, and never exceed the turns that it knows of.
         ensures keeps { KeepsWorker worker.old worker.new }
+        // Only for a node with links that is not the destination. The call takes no lock and no memory, and waits for
+        // nobody.
         ensures decided { IfOk result
             (λ _. IsTurnable self.now.setup.nodes self.now.setup.dest self.now.setup.links x) }
+        // A number that is not a node, a node without links, or the destination. Every other call is decided.
         ensures refused { IfErr result (λ refusal. Refuses self.now.setup x refusal × (worker.new ≡ worker.old)) }
         ensures kind { IfOk result IsReplyToTurn }
+        // The worker then knows a run that continues what it knew, and ends with this call.
         ensures learns { IfOk result (λ reply. LearnsReply worker.old x reply worker.new) }
     {
         self.words.round_setup.check_turn(x)?;
@@ -167,9 +176,12 @@ impl Round {
     pub fn look(&self, worker: &mut Worker, x: u32) -> Result<Reply, Refusal>
         requires { IsOwn self.now worker.old }
         ensures keeps { KeepsWorker worker.old worker.new }
+        // Only for a node with links.
         ensures decided { IfOk result (λ _. IsLookable self.now.setup.nodes self.now.setup.links x) }
+        // A number that is not a node, or a node without links.
         ensures refused { IfErr result (λ refusal. RefusesLook self.now.setup x refusal × (worker.new ≡ worker.old)) }
         ensures kind { IfOk result IsReplyToLook }
+        // As for `try_turn`.
         ensures learns { IfOk result (λ reply. LearnsReply worker.old x reply worker.new) }
     {
         self.words.round_setup.check_look(x)?;
@@ -197,6 +209,7 @@ impl Round {
     pub fn learn(&self, worker: &mut Worker, past: Past)
         requires worker { IsOwn self.now worker.old }
         requires past { past.table ≡ self.now.table }
+        // The worker then knows what both workers knew, and its own calls are as before.
         ensures { LearnsPast worker.old past worker.new }
     {
         worker.learn(&self.words, past);
@@ -209,7 +222,10 @@ impl Round {
     pub fn close(self, workers: Vec<Worker>) -> Closed
         requires own { Each (IsOwn self) workers.items }
         requires few { length workers.items ≤ self.setup.workers }
+        // The network is as it was opened.
         ensures net { (result.net.nodes ≡ self.setup.nodes) × (result.net.links ≡ self.setup.links) }
+        // One run leads to the counts. Each worker knows a prefix of this run, and the worker's part of it is exactly
+        // what the worker did. If all workers come back, their turns add up to the counts.
         ensures history { Closes self workers.items result.counts.items result.turned.items }
     {
         let Round {

@@ -123,7 +123,7 @@ module _ (n d : ℕ) (first : List (ℕ × ℕ)) (s : State) (net : IsNet n firs
         ((round_joined x).1 j) apart in none o.0 ((as_given x o.0).0 o.1),
   )
 
-  -- a node with a link whose count is below the cap is joined with the destination
+  -- a node with a link whose count is below the cap is connected to the destination
   pub linked_joined : (x y : ℕ) → Joins s.links x y → ¬ (slice_index s.counts x ≡ n) → IsConnected first d x
   linked_joined x y h free = go (of_linked n d first net below s.counts round.counts x y ((round_joins x y).1 h))
     where

@@ -1,5 +1,5 @@
 -- Routes: they are simple paths to the destination, no node has two, and at settled counts exactly the nodes that are
--- joined with the destination have one.
+-- connected to the destination have one.
 use Rattle.std.proofs.Common.{List, [], ap, ap₂, arith, eqb, inl, inr, length, refl, slice_index, subst, suc, sym, zero, ℕ, ⊎_elim, ◌<◌, ◌∷◌, ◌≡◌, ◌⊎◌}
 use Rattle.std.proofs.lemmas.Bool.{cases_eq}
 use Rattle.std.specs.List.{IsDistinct}
@@ -73,7 +73,7 @@ module _ (n d : ℕ) (first : List (ℕ × ℕ)) (net : IsNet n first) (in_range
       go (inl h) = joined_along n d first net in_range c settled x y h.0 joined
       go (inr h) = joined_against n d first net in_range c settled x y h.0 joined
 
-  -- a link points away from each node that is joined with the destination, except from the destination
+  -- a link points away from each node that is connected to the destination, except from the destination
   pub out_of_joined : (x : ℕ) → IsConnected first d x → ¬ (x ≡ d) → (y : ℕ) × Points (links_at first c) x y
   out_of_joined x joined apart = go (walk_linked first d joined.1.0 joined.0 x joined.1.1)
     where

@@ -208,7 +208,7 @@ not_found nodes x i less more (k, low, at) =
 
 -- The list of affected nodes.
 
--- later nodes of an increasing list are higher
+-- later nodes of an ascending list are higher
 rises_to : (nodes : List ℕ) → IsStrictlyIncreasing nodes → (i j : ℕ) → i < j → j < length nodes
     → slice_index nodes i < slice_index nodes j
 rises_to nodes up i zero lt low = absurd (omega (arith, lt))

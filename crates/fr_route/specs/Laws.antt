@@ -18,54 +18,54 @@ use Rattle.fr_tables.specs.declared.hop.Hop.{Hop}
 
 -- Rounds
 
--- the first links determine the state after a round
+-- The first links determine the state after a round.
 abbrev pub RoundIsUnique : Type 0
 RoundIsUnique = (n d : ℕ) (first : List (ℕ × ℕ)) (some other : State) → IsRound n d first some
     → IsRound n d first other → some ≡ other
 
--- the links after a round contain no cycle
+-- The links after a round contain no cycle.
 abbrev pub RoundLeavesNoLoop : Type 0
 RoundLeavesNoLoop = (n d : ℕ) (first : List (ℕ × ℕ)) (s : State) → IsNet n first → d < n → IsRound n d first s
     → IsAcyclic s.links
 
--- the same nodes are joined with the destination before and after a round
+-- The same nodes are connected to the destination before and after a round.
 abbrev pub RoundKeepsJoined : Type 0
 RoundKeepsJoined = (n d : ℕ) (first : List (ℕ × ℕ)) (s : State) (x : ℕ) → IsNet n first → d < n → IsRound n d first s
     → IsConnected first d x ↔ IsConnected s.links d x
 
--- a state has only one report
+-- A state has only one report.
 abbrev pub ReportIsUnique : Type 0
 ReportIsUnique = (s : State) (t u k l : ℕ) → IsReport s t k → IsReport s u l → (t ≡ u) × (k ≡ l)
 
 -- Routes
 
--- after a round, a node has a route exactly if it is joined with the destination
+-- After a round, a node has a route exactly if it is connected to the destination.
 abbrev pub RoutesLeadHome : Type 0
 RoutesLeadHome = (n d : ℕ) (first : List (ℕ × ℕ)) (s : State) (x : ℕ) → IsNet n first → d < n → IsRound n d first s
     → IsConnected s.links d x ↔ ((rest : List ℕ) × IsRoute s.links d x rest)
 
--- no node has two routes
+-- No node has two routes.
 abbrev pub RouteIsUnique : Type 0
 RouteIsUnique = (links : List (ℕ × ℕ)) (d x : ℕ) (some other : List ℕ) → IsRoute links d x some
     → IsRoute links d x other → some ≡ other
 
--- a route is a path along the links that ends at the destination and visits no node twice
+-- A route is a path along the links that ends at the destination and visits no node twice.
 abbrev pub RouteIsSimple : Type 0
 RouteIsSimple = (links : List (ℕ × ℕ)) (d x : ℕ) (rest : List ℕ) → IsAcyclic links → IsRoute links d x rest
     → IsPath links x rest × (end_of x rest ≡ d) × IsDistinct nat_eq (x ∷ rest)
 
--- no node has two hops
+-- No node has two hops.
 abbrev pub HopIsUnique : Type 0
 HopIsUnique = (s : State) (x : ℕ) (some other : Hop) → IsHop s x some → IsHop s x other → some ≡ other
 
 -- Pushes
 
--- the hops after a round have no loop, and all name nodes
+-- The hops after a round have no loop, and all name nodes.
 abbrev pub HopsHaveNoLoop : Type 0
 HopsHaveNoLoop = (s : State) (hops : List Hop) → IsAfterRound s → AreHops s s.nodes hops
     → IsLoopFree hops × IsInRange hops
 
--- exactly the rerouted nodes are listed
+-- A change lists exactly the nodes whose hop differs.
 abbrev pub ReroutedAreTold : Type 0
 ReroutedAreTold = (old new : State) (nodes : List ℕ) (x : ℕ) → old.nodes ≡ new.nodes → AreRerouted old new nodes
     → Contains nodes x ↔ ((x < new.nodes) × IsRerouted old new x)
@@ -74,20 +74,20 @@ ReroutedAreTold = (old new : State) (nodes : List ℕ) (x : ℕ) → old.nodes �
 abbrev pub HasRoute : State → ℕ → Type 0
 HasRoute s x = (rest : List ℕ) × IsRoute s.links s.dest x rest
 
--- While the rerouted nodes of a change are pushed, a node that has a route before and after the change has one at each
--- moment.
+-- While the rerouted nodes of a change are pushed, a node that has a route before and after the change has one at
+-- each moment.
 abbrev pub ChangeKeepsRoutes : Type 0
 ChangeKeepsRoutes = (old new : State) (done left : List ℕ) (r : AreRerouted old new (done ++ left)) (table : List Hop)
     (x : ℕ) → IsAfterRound old → IsAfterRound new → IsPushed r.before r.after done table
     → HasRoute old x → HasRoute new x → Arrives table x
 
--- The same while a new network replaces an old one.
+-- The same holds while a new network replaces an old one.
 abbrev pub ReplacingKeepsRoutes : Type 0
 ReplacingKeepsRoutes = (old new : State) (done left : List ℕ) (r : AreReplaced (Some old) new (done ++ left))
     (table : List Hop) (x : ℕ) → IsAfterRound old → IsAfterRound new → IsPushed r.before r.after done table
     → HasRoute old x → HasRoute new x → Arrives table x
 
--- The same while any table gets the hops of a state.
+-- The same holds while any table gets the hops of a state.
 abbrev pub PushesKeepRoutes : Type 0
 PushesKeepRoutes = (s : State) (old : List Hop) (done left : List ℕ) (r : ArePushes s old (done ++ left))
     (table : List Hop) (x : ℕ) → IsAfterRound s → IsPushed old r.hops done table
@@ -95,17 +95,17 @@ PushesKeepRoutes = (s : State) (old : List Hop) (done left : List ℕ) (r : AreP
 
 -- Answers
 
--- the state and the request determine the text of the answer and the state after it
+-- The state and the request determine the text of the answer and the state after it.
 abbrev pub AnswerIsUnique : Type 0
 AnswerIsUnique = (s : Option State) (request : PlainRequest) (t u : List ℕ) (p q : Option State)
     → IsAnswer s request t p → IsAnswer s request u q → (t ≡ u) × (p ≡ q)
 
--- the same holds for a line
+-- The same holds for a line.
 abbrev pub LineAnswerIsUnique : Type 0
 LineAnswerIsUnique = (s : Option State) (line : Result PlainRequest LineFault) (t u : List ℕ) (p q : Option State)
     → IsLineAnswer s line t p → IsLineAnswer s line u q → (t ≡ u) × (p ≡ q)
 
--- in either form, the state, the number of a line and the line determine the answer and the state after it
+-- In either form, the state, the number of a line and the line determine the answer and the state after it.
 abbrev pub AnswerInIsUnique : Type 0
 AnswerInIsUnique = (form : Form) (number : ℕ) (s : Option State) (line : Result PlainRequest LineFault)
     (t u : List ℕ) (p q : Option State)

@@ -40,7 +40,7 @@ pub record IsAfterRound (s : State) : Type 0 where
   pub dest : s.dest < s.nodes
   pub round : IsRound s.nodes s.dest first s
 
--- x is cut off: it is not the destination, and not joined with it
+-- x is cut off: it is not the destination, and not connected to it
 abbrev pub IsCutOff : ℕ → List (ℕ × ℕ) → ℕ → Type 0
 IsCutOff d links x = ¬ (x ≡ d) × ¬ IsConnected links d x
 

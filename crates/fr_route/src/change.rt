@@ -41,6 +41,6 @@ pub enum Change {
 pub struct Report {
     /// How many turns the round took: the sum of the counts.
     pub turned: u64,
-    /// How many nodes are cut off: not the destination, and not joined with it.
+    /// How many nodes are cut off: not the destination, and not connected to it.
     pub cut: u64,
 }

@@ -7,7 +7,7 @@ ghost use Rattle.fr_route.specs.Laws.{ChangeKeepsRoutes, PushesKeepRoutes, Repla
 ghost use Rattle.fr_route.specs.Laws.{AnswerInIsUnique, AnswerIsUnique, LineAnswerIsUnique};
 
 /// The first links determine the state after a round, and so the report. The links after a round contain no cycle, and
-/// the same nodes are joined with the destination as before.
+/// the same nodes are connected to the destination as before.
 pub fn round_law()
     ensures unique { RoundIsUnique }
     ensures acyclic { RoundLeavesNoLoop }
@@ -15,7 +15,7 @@ pub fn round_law()
     ensures report { ReportIsUnique }
 {}
 
-/// After a round, exactly the nodes that are joined with the destination have a route. A node has only one route. It is
+/// After a round, exactly the nodes that are connected to the destination have a route. A node has only one route. It is
 /// a simple path along the links to the destination.
 pub fn route_law()
     ensures home { RoutesLeadHome }

@@ -144,7 +144,7 @@ pub(crate) fn push_ends(nodes: &mut Vec<u32>, edits: &[Edit]) -> Result<(), Allo
     Ok(())
 }
 
-/// Appends the nodes that have turned as often as there are nodes, in increasing order.
+/// Appends the nodes that have turned as often as there are nodes, in ascending order.
 pub(crate) fn push_capped_nodes(
     capped: &mut Vec<u32>,
     nodes: u32,

@@ -276,7 +276,9 @@ impl Router {
         plan: &Plan,
         gate: &G,
     ) -> Result<Router, RouteFault>
+        // Settled counts, their links, and a hop for each node.
         ensures opened { IfOk result (λ router. (dest < net.nodes) × IsRound net.nodes dest net.links router) }
+        // `Range` exactly if the destination is not a node. Never `Net`.
         ensures fault { IfErr result (IsOpenFault net.nodes dest) }
         ensures still { IsStill net dest → IfErr result (λ fault. fault ≢ Start) }
         ensures one_worker { plan.now.workers ≡ 1 → IfErr result (λ fault. fault ≢ Start) }
@@ -339,8 +341,8 @@ impl Router {
         })
     }
 
-    /// Changes the network or its destination, settles the network again by a crew, with this plan and gate, and
-    /// returns the report of the round. A batch takes one round, after its last edit.
+    /// Changes the network or its destination, settles the network again, and returns the report of the round. A crew
+    /// settles it, with this plan and gate. A batch takes one round, after its last edit.
     ///
     /// Fails with `Net` and the fault for which the change is refused: a cut only for `NoLink`, an added link or a join
     /// for the faults of `Net::with_link` or `Net::with_join`, and a batch for its length or the first edit that
@@ -367,8 +369,12 @@ impl Router {
         plan: &Plan,
         gate: &G,
     ) -> Result<Report, RouteFault>
+        // One round of a cut, an added link, a join, a batch or another destination.
         ensures changed { IfOk result (λ _. IsChanged self.old change self.new) }
         ensures report { IfOk result (λ report. IsReport self.new report.turned report.cut) }
+        // `Net` with the exact fault, in a batch that of the first bad edit. `Range` only for a destination, `Start`
+        // only for an accepted change. `Memory` never hides that a destination is not a node, or that a batch is too
+        // long.
         ensures fault { IfErr result (IsRouteFault self.old change) }
         ensures unchanged { OnErr result (self.new ≡ self.old) }
         ensures one_worker { plan.now.workers ≡ 1 → IfErr result (λ fault. fault ≢ Start) }
@@ -422,7 +428,9 @@ impl Router {
     ) -> Result<Report, NotMade>
         ensures changed { IfOk result (λ _. IsChanged self.old change self.new) }
         ensures report { IfOk result (λ report. IsReport self.new report.turned report.cut) }
+        // Exactly the nodes whose hop changed, in push order.
         ensures told { TellsRerouted self.old result self.new rerouted.old.items rerouted.new.items }
+        // As for `change`. `Net` names exactly the nodes, or the cycle, that `evidence_law` determines.
         ensures fault { IfErr result (IsUndone self.old change) }
         ensures unchanged { OnErr result (self.new ≡ self.old) }
         ensures no_start { IfErr result (λ undone. undone.fault ≢ Start) }
@@ -450,7 +458,9 @@ impl Router {
     ) -> Result<Report, NotMade>
         ensures changed { IfOk result (λ _. IsChanged self.old change self.new) }
         ensures report { IfOk result (λ report. IsReport self.new report.turned report.cut) }
+        // The pushes that `Router::phases` lists from the ways before the change.
         ensures told { TellsReroutes self.old result self.new reroutes.old reroutes.new }
+        // As for `change_telling_alone`. Then the lists are unchanged too.
         ensures fault { IfErr result (IsUndone self.old change) }
         ensures unchanged { OnErr result (self.new ≡ self.old) }
         ensures no_start { IfErr result (λ undone. undone.fault ≢ Start) }
@@ -541,6 +551,7 @@ impl Router {
     /// The law of a router: its network is the result of a round. The function does nothing; call it where a proof
     /// needs the law.
     pub fn state_law(&self)
+        // The router is in the state after a round.
         ensures { IsAfterRound self.now }
     {
         // A field has to be read, because only then the proof can use the invariant.
@@ -558,6 +569,7 @@ impl Router {
         alloc: Global,
         before: Option<&Router>,
     ) -> Result<Vec<u32>, RouteFault>
+        // In push order. A number that is not a node of one of the two routers counts as cut off there.
         ensures changed { IfOk result (λ nodes. AreReplaced (option_copied before.entry) self.now nodes.items) }
         ensures memory { IfErr result (λ fault. fault ≡ Memory) }
     {
@@ -626,6 +638,8 @@ impl Router {
     /// with `Loop`. O(n).
     pub fn pushes(&self, alloc: Global, table: &[Hop]) -> Result<Vec<u32>, TableFault>
         ensures pushes { IfOk result (λ nodes. ArePushes self.now table.now nodes.items) }
+        // `Length` exactly for another number of hops. `Range` with the first number out of range. Never `Loop`.
+        // `Memory` only if neither `Length` nor `Range` applies.
         ensures fault { IfErr result (IsPushesFault self.now table.now) }
     {
         if table.len() != self.hops.len() {
@@ -641,6 +655,7 @@ impl Router {
     /// each hop must name a node. Fails with `AllocError` if an allocation is refused. O(n).
     pub fn known_pushes(&self, alloc: Global, table: &[Hop]) -> Result<Vec<u32>, AllocError>
         requires nodes { length table.now ≡ self.now.nodes }
+        // Each hop names a node.
         requires range { NamesNodes table.now }
         ensures { IfOk result (λ nodes. ArePushes self.now table.now nodes.items) }
     {
@@ -652,13 +667,14 @@ impl Router {
     /// from `x` points. `CutOff` if no path of links joins the node with the destination. O(1).
     pub fn next_hop(&self, x: u32) -> Hop
         requires { x < self.now.nodes }
+        // `Here` only at the destination, `CutOff` exactly if there is no route.
         ensures { IsHop self.now x result }
     {
         self.hops[x as usize]
     }
 
     /// Lists the ways of node `x`, which must be in the network: the nodes to which its links point, nearest first. Ways of
-    /// the same distance are in rising order. The destination has no way, and neither has a node that is cut off. The
+    /// the same distance are in ascending order. The destination has no way, and neither has a node that is cut off. The
     /// list is cleared first. It keeps its capacity, so that a caller who asks often allocates rarely.
     ///
     /// A packet may take any of the ways at each node: it visits no node twice, because the links contain no cycle.
@@ -669,6 +685,7 @@ impl Router {
     pub fn ways(&mut self, x: u32, list: &mut Vec<u32>) -> Result<(), AllocError>
         requires { x < self.old.nodes }
         ensures same { self.new ≡ self.old }
+        // All nodes that the node's links point to, nearest first.
         ensures ways { OnOk result (AreNodeWays self.old x list.new.items) }
         ensures empty { OnErr result (list.new.items ≡ []) }
     {
@@ -699,6 +716,7 @@ impl Router {
     pub fn distance(&mut self, x: u32) -> Option<u32>
         requires { x < self.old.nodes }
         ensures same { self.new ≡ self.old }
+        // The fewest links down to the destination. `None` exactly for a node that is cut off.
         ensures distance { HasDistance self.old x result }
     {
         self.distances.keep_from_now(&self.net, self.dest);
@@ -727,7 +745,9 @@ impl Router {
     /// refused; never with `Range` or `Cycle`. O(n + m log d), where no node has more than d links, and the time to read
     /// the table.
     pub fn phases(&self, alloc: Global, table: &WayTable) -> Result<TwoPhases, WaysFault>
+        // From any table of ways, the pushes of two phases lead to the ways of all nodes.
         ensures phases { IfOk result (LeadToWays self.now table.now) }
+        // `Length` exactly if the table does not have a list for each node. Otherwise only `Memory`.
         ensures fault { IfErr result (IsPhasesFault self.now table.now) }
     {
         self.net.network_law();
@@ -744,7 +764,9 @@ impl Router {
     pub fn nearest(&mut self, alloc: Global, x: u32) -> Result<Walked, RouteFault>
         requires { x < self.old.nodes }
         ensures same { self.new ≡ self.old }
+        // The route follows first ways, unless the node is cut off.
         ensures walked { IfOk result (IsNearest self.old x) }
+        // `Memory` is the only fault.
         ensures memory { IfErr result (λ fault. fault ≡ Memory) }
     {
         self.distances.keep_from_now(&self.net, self.dest);
@@ -758,6 +780,7 @@ impl Router {
     /// `Memory`, if an allocation is refused. O(r) for a route of r nodes.
     pub fn walk(&self, alloc: Global, x: u32) -> Result<Walked, RouteFault>
         requires { x < self.now.nodes }
+        // The whole route. `Here` only at the destination, `CutOff` exactly if there is no route.
         ensures walked { IfOk result (IsWalked self.now x) }
         ensures memory { IfErr result (λ fault. fault ≡ Memory) }
     {

@@ -73,6 +73,7 @@ impl Session {
 
     /// The same router, for changes in place. Its state after the changes is the state of the session. O(1).
     pub fn router_mut(&mut self) -> Option<&mut Router>
+        // The session keeps what the caller changed.
         ensures* writes_back { sem 𝓛 (LendsRouter self.entry result) }
         ensures value { MatchOption result (self.old ≡ None) (λ router. self.old ≡ Some router.now) }
     {
@@ -107,11 +108,16 @@ impl Session {
         plan: &Plan,
         gate: &G,
     ) -> Result<Option<String>, AnswerFault>
+        // `None` only for a blank line.
         ensures blank { IfOk result
             (λ answer. IfNone answer ((is_blank_line line.now ≡ true) × (self.new ≡ self.old))) }
+        // The answer, and the state after it, are those of the definitions. Pushes lead from a table to the settled
+        // hops or to another table, in push order, or a fault says why there are no pushes. A refusal has the number
+        // of the first fault.
         ensures text { IfOk result (λ answer. IfSome answer (λ text. (is_blank_line line.now ≡ false)
             × IsLineAnswer self.old (reading line.now) (string_bytes text) self.new)) }
         ensures unchanged { OnErr result ((is_blank_line line.now ≡ false) × (self.new ≡ self.old)) }
+        // `Start` only for an accepted change.
         ensures start { IfErr result (λ fault. fault ≡ Start → MayStartForLine self.old (reading line.now)) }
         ensures one_worker { plan.now.workers ≡ 1 → IfErr result (λ fault. fault ≢ Start) }
         ensures no_start { plan.now.budget ≡ 0 → IfErr result (λ fault. fault ≢ Start) }
@@ -143,6 +149,7 @@ impl Session {
         ensures text { IfOk result (λ answer. IfSome answer (λ text. (is_blank_line line.now ≡ false)
             × IsLineAnswer self.old (reading line.now) (string_bytes text) self.new)) }
         ensures unchanged { OnErr result ((is_blank_line line.now ≡ false) × (self.new ≡ self.old)) }
+        // An answer that changes the session has at most 52 bytes.
         ensures short { IfOk result
             (λ answer. IfSome answer (λ text. (self.new ≡ self.old) ⊎ (length (string_bytes text) ≤ longest_report))) }
         ensures no_start { IfErr result (λ fault. fault ≢ Start) }
@@ -168,6 +175,7 @@ impl Session {
             (λ answer. IfNone answer ((is_blank_line line.now ≡ true) × (self.new ≡ self.old))) }
         ensures text { IfOk result (λ answer. IfSome answer (λ text. (is_blank_line line.now ≡ false)
             × IsLineAnswer self.old (reading line.now) (string_bytes text) self.new)) }
+        // Exactly the nodes whose hop a change or a new network alters.
         ensures told { TellsOfLine self.old (reading line.now) result self.new rerouted.old.items rerouted.new.items }
         ensures unchanged { OnErr result ((is_blank_line line.now ≡ false) × (self.new ≡ self.old)) }
         ensures short { IfOk result
@@ -269,9 +277,13 @@ impl Session {
     ) -> Result<Option<Answer>, AnswerFault>
         ensures blank { IfOk result
             (λ answer. IfNone answer ((is_blank_line line.entry.bytes.now ≡ true) × (self.new ≡ self.old))) }
+        // The defined answer in this form, to the byte. A JSON answer has the changed hops in push order, or the
+        // fault of a refusal with its nodes and the line. With `JsonWithWays` a report also has the pushes of both
+        // phases, from the ways before the change or before the new network.
         ensures answer { IfOk result (λ answer. IfSome answer (λ it. (is_blank_line line.entry.bytes.now ≡ false)
             × IsAnswerIn form line.entry.number self.old (reading line.entry.bytes.now)
             (string_bytes it.text) self.new)) }
+        // The answer says that it is a refusal exactly if the line is refused.
         ensures refused { IfOk result
             (λ answer. IfSome answer (λ it. IsTrue it.refused
             ↔ IsLineRefused self.old (reading line.entry.bytes.now))) }

@@ -54,6 +54,6 @@ AreAllTables n table (p ∷ ps) = IsTable n table × AreAllTables n (slice_set t
 abbrev pub IsHistory : ℕ → List Push → Type 0
 IsHistory n history = AreAllTables n (blank n) history
 
--- the known history is a beginning of the whole one
+-- the known history is a prefix of the whole one
 abbrev pub StartsWith : List Push → List Push → Type 0
 StartsWith whole known = (rest : List Push) × (whole ≡ known ++ rest)

@@ -4,7 +4,7 @@ use Rattle.atomic_table.specs.Seated.{TableId}
 use Rattle.fr_shared_ways.specs.declared.view.Push.{Push}
 use Rattle.fr_shared_ways.specs.Histories.{table_of}
 
--- a table, its number of nodes, and the known pushes: the publisher knows all, a reader a beginning of them
+-- a table, its number of nodes, and the known pushes: the publisher knows all, a reader a prefix of them
 pub record Knowledge : Type 0 where
   pub table : TableId
   pub nodes : ℕ

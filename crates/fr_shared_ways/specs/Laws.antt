@@ -23,12 +23,13 @@ pub record Explains (n : ℕ) (s : State (Unit {0}) View) (history : List Push) 
   pub tables : IsHistory n history
   -- the words are its last table
   pub words : map ways_of s.words ≡ table_of n history
-  -- each seat knows a beginning of it
+  -- each seat knows a prefix of it
   pub begins : (j : ℕ) (v : View) → get_elem? s.views j ≡ some v → StartsWith history v.known
   -- the publisher's seat knows all of it
   pub all : (j : ℕ) (v : View) → get_elem? s.views j ≡ some v → v.writes ≡ true → v.known ≡ history
 
--- In every such state, one history explains the words and what the seats know.
+-- In every such state the table is the last of one history of tables without cycles. The publisher knows all of this
+-- history, and each reader knows a prefix of it.
 abbrev pub OneHistoryExplainsAll : Type 0
 OneHistoryExplainsAll = (n : ℕ) (s : State (Unit {0}) View) → KeepsRule n s
     → (history : List Push) × Explains n s history
@@ -70,6 +71,7 @@ pub record StepsKeepTheRule (n : ℕ) : Type 0 where
   pub compares : (slots id : ℕ) (me : Me (Unit {0}) View) (x : ℕ) → me.0.writes ≡ true
       → Allows (KeepsRule n) slots id me x (λ word. word) (compared (step slots x 0 0 none) me)
 
+-- Each step of each thread leads from a state that the rule allows to another such state.
 abbrev pub EveryStepKeepsTheRule : Type 0
 EveryStepKeepsTheRule = (n : ℕ) → StepsKeepTheRule n
 
@@ -86,7 +88,8 @@ pub record LeadToOneTable (n : ℕ) (before : List Push) (new : List (List ℕ))
   pub begins : StartsWith known before
   pub ends : StartsWith (before ++ pushes_of (table_of n before) new) after
 
--- Such a walk visits no node more than twice.
+-- A walk during the pushes to one new table visits no node more than twice, if its reader knows all pushes before
+-- them.
 abbrev pub VisitsTwiceAtMost : Type 0
 VisitsTwiceAtMost =
     (n : ℕ) (before : List Push) (new : List (List ℕ)) (known after : List Push) (x : ℕ) (nodes : List ℕ) (z : ℕ)

@@ -8,7 +8,7 @@ use Rattle.fr_shared_ways.specs.declared.view.View.{View}
 use Rattle.fr_shared_ways.specs.Words.{word_of}
 use Rattle.fr_shared_ways.specs.Histories.{IsHistory, StartsWith, table_of}
 
--- the seat j knows a beginning of the history. Only the seat `at` writes, and it knows the whole history
+-- the seat j knows a prefix of the history. Only the seat `at` writes, and it knows the whole history
 pub record ViewFits (history : List Push) (at j : ℕ) (v : View) : Type 0 where
   pub begins : StartsWith history v.known
   pub met : StartsWith history v.met

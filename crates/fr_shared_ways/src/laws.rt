@@ -4,7 +4,7 @@ ghost use Rattle.fr_shared_ways.specs.Laws.{EveryStepKeepsTheRule, IsTableAtEach
 ghost use Rattle.fr_shared_ways.specs.Laws.{NoOtherStateIsFirst, OneHistoryExplainsAll, RuleHoldsAtFirst, VisitsTwiceAtMost};
 
 /// At each moment, whatever the threads do, the words are a table without cycles: the last table of one history of
-/// pushes. The publisher knows the whole history, and each reader knows a beginning of it. This follows from a rule.
+/// pushes. The publisher knows the whole history, and each reader knows a prefix of it. This follows from a rule.
 /// The rule holds when a table is opened, with no way for any node, and each step of a thread keeps it. An open table
 /// keeps the rule, because its `Table` is one of `Rule`.
 ///

@@ -23,6 +23,7 @@ pub(crate) type Words = Table<(), View, u32, Rule, Global>;
 pub fn open(alloc: Global, nodes: u32) -> Result<(Publisher, Reader), AllocError>
     requires some { 0 < nodes }
     requires few { nodes ≤ 4096 }
+    // No node has a way. There are a publisher and a reader.
     ensures { IfOk result (λ r. IsOpened nodes r.0 r.1) }
 {
     let words = vec![in alloc; 0u64; nodes as usize]?;

@@ -75,8 +75,11 @@ impl Publisher {
     /// It makes three loads for each node, and one store for each push. It does not allocate or wait. O(n).
     pub fn push_all(&mut self, new: &FirstWays)
         requires { IsTable self.old.nodes new.now }
+        // The pushes are exactly those of `phases`: first all shrinks, with nodes that keep no way last, then all
+        // grows.
         ensures history { self.new
             ≡ record self.old { known = self.old.known ++ pushes_of (last_table self.old) new.now } }
+        // The words are then the new table.
         ensures table { last_table self.new ≡ new.now }
     {
         self.history_law();
@@ -92,6 +95,7 @@ impl Publisher {
     /// listed nodes.
     pub fn push_listed(&mut self, new: &FirstWays, nodes: &[u32])
         requires new { IsTable self.old.nodes new.now }
+        // Each node whose ways differ is listed. The list is sorted by number.
         requires listed { ListsChanges nodes.now (last_table self.old) new.now }
         ensures history { self.new
             ≡ record self.old { known = self.old.known ++ pushes_of (last_table self.old) new.now } }
@@ -233,6 +237,7 @@ impl Publisher {
     /// Fails with `AllocError` only if the table already has 2^63 readers. O(1).
     pub fn reader(&mut self) -> Result<Reader, AllocError>
         ensures kept { self.new ≡ self.old }
+        // The reader knows all pushes so far, so it never reads an earlier table.
         ensures reader { IfOk result (λ reader. reader ≡ self.old) }
     {
         let table = Arc::try_clone(&self.table)?;
@@ -250,7 +255,7 @@ impl Publisher {
         Past::new(self.table.shared.split_seat::<AddReader>(&mut self.seat))
     }
 
-    /// Proves that what a reader of this table knows is a beginning of the publisher's pushes. It changes neither.
+    /// Proves that what a reader of this table knows is a prefix of the publisher's pushes. It changes neither.
     ///
     /// It makes three loads. O(1).
     pub fn meet(&mut self, reader: &mut Reader)

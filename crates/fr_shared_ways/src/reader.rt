@@ -61,14 +61,16 @@ impl Reader {
         let _nodes = self.nodes;
     }
 
-    /// Writes the ways of node `x`, which must be in the table, to the front of `list`, in the order in which they were
-    /// pushed. Returns how many they are; the rest of the list is unchanged. The ways are all of one moment: those in
-    /// the last table of a history that extends what the reader knew. No table of this history has a cycle. Two calls
-    /// can read different tables.
+    /// Writes the ways of node `x`, which must be in the table, to the front of `list`. They are in the order in
+    /// which they were pushed. Returns how many they are; the rest of the list is unchanged. The ways are all of one
+    /// moment: those in the last table of a history that extends what the reader knew. No table of this history has a
+    /// cycle. Two calls can read different tables.
     ///
     /// It makes one load, and does not allocate or wait. O(1).
     pub fn ways(&mut self, x: u32, list: &mut [u32; MOST]) -> usize
         requires { x < self.old.nodes }
+        // The ways are those in the last table that the reader then knows, read by one load. The reader's tables
+        // continue what it knew before, and none has a cycle.
         ensures ways { HasRead self.old self.new x (take result list.new) }
         ensures few { result ≤ 5 }
         ensures rest { drop result list.new ≡ drop result list.old }
@@ -85,6 +87,8 @@ impl Reader {
     /// It makes one load, and does not allocate or wait. O(1).
     pub fn way(&mut self, x: u32, choice: u32) -> Option<u32>
         requires { x < self.old.nodes }
+        // It is the way at the index `choice` modulo the number of first ways, of those that `Reader::ways` would
+        // read.
         ensures { (ys : List ℕ) × HasRead self.old self.new x ys × IsChosen ys choice result }
     {
         let word = self.word(x);
@@ -124,6 +128,7 @@ impl Reader {
     /// The past must be of the same table. It makes two loads, and does not allocate or wait. O(1).
     pub fn learn(&mut self, past: Past)
         requires { past.table ≡ self.old.table }
+        // The reader then reads the last table that it has learned of, or a later one.
         ensures { LearnsPast self.old past self.new }
     {
         self.table

@@ -39,25 +39,26 @@ abbrev pub NoRouteIsLost : Type 0
 NoRouteIsLost = (old new : List Hop) (nodes : List ℕ) (table : List Hop) (x : ℕ) → IsClosedDownstream old new nodes
     → ((y : ℕ) → Contains nodes y → Arrives new y) → IsPushed old new nodes table → Arrives old x → Arrives table x
 
--- A node with a route in the old and in the new table has one meanwhile, if nodes without a route in the new table are
--- pushed last.
+-- A node with a route in the old and in the new table has one meanwhile, if nodes without a route in the new table
+-- are pushed last. The law asks nothing of the old table, so it also holds for the old one without the hops over
+-- failed links.
 abbrev pub RoutesAreKept : Type 0
 RoutesAreKept = (old new : List Hop) (nodes : List ℕ) (table : List Hop) (x : ℕ) → IsClosedDownstream old new nodes
     → AreRoutedFirst old new nodes → IsPushed old new nodes table → Arrives old x → Arrives new x → Arrives table x
 
--- A packet that moves while hops are pushed visits no node more than twice.
+-- If neither table has a loop, a packet that moves while hops are pushed visits no node more than twice.
 abbrev pub ComesTwiceAtMost : Type 0
 ComesTwiceAtMost = (old new : List Hop) (pushed : ℕ → List ℕ) (x : ℕ) (ys : List ℕ) (z : ℕ) → IsLoopFree old
     → IsLoopFree new
     → ((k : ℕ) → IsClosedDownstream old new (pushed k)) → Grows pushed → Moves old new pushed x ys
     → count_by (nat_eq z) (x ∷ ys) ≤ 2
 
--- Each beginning of a push order is closed downstream.
+-- Each prefix of a push order is closed downstream.
 abbrev pub BeginningIsClosed : Type 0
 BeginningIsClosed = (old new : List Hop) (done left : List ℕ) → IsPushOrder old new (done ++ left)
     → IsClosedDownstream old new done
 
--- In each of them, the nodes with a route in the new table come first.
+-- In each of these prefixes, the nodes with a route in the new table come first.
 abbrev pub BeginningIsRoutedFirst : Type 0
 BeginningIsRoutedFirst = (old new : List Hop) (done left : List ℕ) → IsPushOrder old new (done ++ left)
     → AreRoutedFirst old new done
@@ -73,7 +74,8 @@ OrderKeepsRoutes = (old new : List Hop) (done left : List ℕ) (table : List Hop
 abbrev pub GroupsAreClosed : Type 0
 GroupsAreClosed = (old new : List Hop) (nodes : List ℕ) → IsUpToGroup old new nodes → IsClosedDownstream old new nodes
 
--- A router may be slow to confirm. Whichever of the sent pushes have arrived, the nodes with new hops are closed
+-- A push is sent in time once all pushes downstream of it are confirmed, and a withdrawal once every node that gets a
+-- route has confirmed. Whichever of the pushes sent in time have arrived, the nodes with new hops are closed
 -- downstream, and those with a route come first.
 abbrev pub AnyBetweenIsClosed : Type 0
 AnyBetweenIsClosed = (old new : List Hop) (confirmed sent nodes : List ℕ) → IsSentInTime old new confirmed sent
@@ -85,11 +87,12 @@ EndsAsNew = (old new : List Hop) (order : List ℕ) (table : List Hop) → lengt
     → IsPushOrder old new order
     → IsPushed old new order table → table ≡ new
 
--- Two tables have exactly one push order.
+-- Two tables of the same length have a push order, if the new one is in range and has no loop.
 abbrev pub OrderExists : Type 0
 OrderExists = (old new : List Hop) → length old ≡ length new → IsInRange new → IsLoopFree new
     → (order : List ℕ) × IsPushOrder old new order
 
+-- Two tables have at most one push order.
 abbrev pub OrderIsUnique : Type 0
 OrderIsUnique = (old new : List Hop) (order other : List ℕ) → IsPushOrder old new order → IsPushOrder old new other
     → order ≡ other

@@ -5,8 +5,8 @@ ghost use Rattle.fr_tables.specs.Laws.{ComesTwiceAtMost, BeginningIsClosed, Grou
 ghost use Rattle.fr_tables.specs.Laws.{EndsAsNew, OrderExists, OrderIsUnique};
 ghost use Rattle.fr_tables.specs.Laws.{NoRouteIsLost, RoutesAreKept, BeginningIsRoutedFirst, OrderKeepsRoutes};
 
-/// If the new table has no loop and the pushed nodes are closed downstream, pushes add no loop, in whatever order they
-/// are made: each loop of the mixed table was in the old table. If the old table had no loop either, a packet that
+/// If the new table has no loop, pushing nodes that are closed downstream makes no new loop. In whatever order pushes
+/// are made, each loop of the mixed table was in the old table. If the old table had no loop either, a packet that
 /// moves meanwhile visits no node more than twice.
 pub fn push_law()
     ensures start { StartsAsOld }
@@ -17,9 +17,9 @@ pub fn push_law()
     ensures twice { ComesTwiceAtMost }
 {}
 
-/// The pushed nodes of a push order are closed downstream at each moment, even if the nodes of one group are pushed in
-/// any order, and even if routers are slow to confirm a push. The last push makes the new table. Two tables have
-/// exactly one push order.
+/// The pushed nodes of a push order are closed downstream at each moment. So they are even if the nodes of one group
+/// are pushed in any order, and even if routers are slow to confirm a push. The last push makes the new table. Two
+/// tables have exactly one push order.
 pub fn order_law()
     ensures beginnings { BeginningIsClosed }
     ensures groups { GroupsAreClosed }
@@ -29,8 +29,8 @@ pub fn order_law()
     ensures unique { OrderIsUnique }
 {}
 
-/// A node that has a route in the old and in the new table has one at each moment between, if the nodes without a route
-/// in the new table are pushed last. A push order does so.
+/// No node loses a route that it has in the old and in the new table, if withdrawals come last. They are the pushes
+/// of nodes without a route in the new table, and a push order has them last.
 pub fn route_law()
     ensures unlost { NoRouteIsLost }
     ensures kept { RoutesAreKept }

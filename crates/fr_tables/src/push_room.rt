@@ -74,6 +74,7 @@ impl PushRoom {
         requires room { length new.now ≡ self.old }
         requires new { IsInRange new.now × IsLoopFree new.now }
         requires changed { IsDistinct nat_eq changed.old × All (λ (x : ℕ). x < length new.now) changed.old }
+        // It is the push order if `changed` has exactly the nodes that differ. The call tests and allocates nothing.
         ensures order { (old : List Hop) → length old ≡ length new.now
             → ((x : ℕ) → Contains changed.old x ↔ DifferAt old new.now x) → IsPushOrder old new.now changed.new }
         ensures kept { self.new ≡ self.old }

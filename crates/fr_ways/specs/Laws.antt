@@ -84,7 +84,7 @@ ComesTwiceAtMost = (old new : List (List ℕ)) (pushed : ℕ → List ℕ) (x : 
     → ((k : ℕ) → IsClosedDownstream old new (pushed k)) → Grows pushed → Moves old new pushed x ys
     → count_by (nat_eq z) (x ∷ ys) ≤ 2
 
--- Each beginning of a push order is closed downstream.
+-- Each prefix of a push order is closed downstream.
 abbrev pub BeginningIsClosed : Type 0
 BeginningIsClosed = (old new : List (List ℕ)) (done left : List ℕ) → IsPushOrder old new (done ++ left)
     → IsClosedDownstream old new done
@@ -114,11 +114,12 @@ EndsAsNew = (old new : List (List ℕ)) (order : List ℕ) (table : List (List �
     → IsPushOrder old new order
     → IsPushed old new order table → table ≡ new
 
--- Two tables have exactly one push order.
+-- Two tables of the same length have a push order, if the new one is in range and has no cycle.
 abbrev pub OrderExists : Type 0
 OrderExists = (old new : List (List ℕ)) → length old ≡ length new → IsInRange new → HasNoCycle new
     → (order : List ℕ) × IsPushOrder old new order
 
+-- Two tables have at most one push order.
 abbrev pub OrderIsUnique : Type 0
 OrderIsUnique = (old new : List (List ℕ)) (order other : List ℕ) → IsPushOrder old new order
     → IsPushOrder old new other → order ≡ other

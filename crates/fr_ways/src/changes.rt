@@ -15,7 +15,7 @@ use std::marker::Model;
 /// The pushes of both phases for a change that alters the ways of few nodes: those that
 /// [`known_phases`](crate::known_phases) lists for the whole tables.
 ///
-/// Call [`WayChanges::clear`], then [`WayChanges::note`] for each node whose list can have changed, in rising order,
+/// Call [`WayChanges::clear`], then [`WayChanges::note`] for each node whose list can have changed, in ascending order,
 /// and then [`WayChanges::finish`]. Other nodes are not looked at.
 ///
 /// None of these calls allocates, and none can fail: [`WayChanges::make_room`] allocates the memory beforehand, and one
@@ -86,7 +86,11 @@ impl WayChanges {
     /// noted, and there must be room for the table after the change. `old` can have any ways; all ways of `new` must
     /// name nodes of that table. O(ways in both lists).
     pub fn note(&mut self, x: u32, old: &[u32], new: &[u32])
+        // Each node below `x` whose list has changed is noted. There is room for the table after the change, whose ways
+        // name nodes of it.
         requires { (before after : List (List ℕ)) × MayNote before after x old.now new.now self.old }
+        // The pushes so far are those of `phases` at the nodes up to this one. The call needs no memory and cannot
+        // fail.
         ensures noted { (before after : List (List ℕ)) → MayNote before after x old.now new.now self.old
             → IsNotedTo before after (x + 1) self.new }
         ensures room { HasSameRoom self.old self.new }
@@ -106,6 +110,7 @@ impl WayChanges {
     /// Adds the nodes that keep no way to the first phase, each with an empty list: they come last. Each node whose
     /// list has changed must be noted. O(these nodes).
     pub fn finish(&mut self)
+        // The pushes are then those that `phases` lists.
         ensures phases { (before after : List (List ℕ)) → IsNotedTo before after (length after) self.old
             → (self.new.shrink ≡ shrinks before after) × (self.new.grow ≡ growths before after) }
         ensures room { HasSameRoom self.old self.new }

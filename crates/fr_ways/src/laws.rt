@@ -18,16 +18,16 @@ pub fn table_law()
     ensures failover { FailoverIsSafe }
 {}
 
-/// If the ways of each node are listed by distance, the first way is one step nearer, and the walk by first ways is a
-/// shortest one.
+/// If the ways of each node are listed by distance, first ways lead along shortest walks. Each first way is one step
+/// nearer.
 pub fn nearest_law()
     ensures nearer { FirstIsNearer }
     ensures shortest { FirstWaysAreShortest }
 {}
 
-/// If the new table has no cycle and the pushed nodes are closed downstream, pushes add no cycle, in whatever order they
-/// are made: each cycle of the mixed table was in the old table. If the old table had no cycle either, a packet that
-/// moves meanwhile, and takes any way at each step, visits no node more than twice.
+/// If the new table has no cycle, pushing nodes that are closed downstream makes no new cycle. In whatever order
+/// pushes are made, each cycle of the mixed table was in the old table. If the old table had no cycle either, a
+/// packet that moves meanwhile, and takes any way at each step, visits no node more than twice.
 pub fn push_law()
     ensures start { StartsAsOld }
     ensures step { PushIsOneMore }
@@ -37,8 +37,8 @@ pub fn push_law()
     ensures twice { ComesTwiceAtMost }
 {}
 
-/// The pushed nodes of a push order are closed downstream at each moment, even if the nodes of one wave are pushed in
-/// any order. The last push makes the new table. Two tables have exactly one push order.
+/// The pushed nodes of a push order are closed downstream at each moment. So they are even if the nodes of one wave
+/// are pushed in any order. The last push makes the new table. Two tables have exactly one push order.
 pub fn order_law()
     ensures beginnings { BeginningIsClosed }
     ensures waves { WavesAreClosed }

@@ -85,7 +85,11 @@ pub struct TwoPhases {
 ///
 /// O(n + m) time and memory.
 pub fn phases(alloc: Global, old: &WayTable, new: &WayTable) -> Result<TwoPhases, WaysFault>
+    // First exactly the nodes that lose ways, each with the ways that it keeps, those that keep none last; then
+    // exactly the nodes whose list still differs. Each group is sorted by number.
     ensures phases { IfOk result (IsPlanned old.now new.now) }
+    // The first of `Length`, `Range` (with the first way that is not a node) and `Cycle`. `Memory` only if the tables
+    // have the same length and the new one is in range.
     ensures fault { IfErr result (IsFaultOf old.now new.now) }
 {
     if old.len() != new.len() || new.len() > u32::MAX as usize {

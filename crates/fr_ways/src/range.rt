@@ -6,8 +6,8 @@ ghost use Rattle.fr_ways.specs.Ways.{IsInRange};
 
 use crate::table::WayTable;
 
-/// Goes through the lists in the order of the nodes, and returns the first way that is not a node of the table. Returns
-/// `None` if all ways are nodes. O(m).
+/// Returns the first way that is not a node of the table, in the order of the nodes. Returns `None` if all ways are
+/// nodes. O(m).
 pub fn first_outside(table: &WayTable) -> Option<u32>
     ensures { MatchOption result (IsInRange table.now) (IsFirstOutside table.now) }
 {

@@ -54,8 +54,10 @@ impl WayTable {
         starts: &[usize],
         list: &[u32],
     ) -> Result<Option<WayTable>, AllocError>
+        // `None` exactly if the lists hold no table.
         ensures made { IfOk result (λ made. MatchOption made
             ((table : List (List ℕ)) → ¬ IsLaidOut starts.now list.now table) (IsLaidOut starts.now list.now)) }
+        // Only if the lists hold a table.
         ensures memory { IfErr result (λ fault. (table : List (List ℕ)) × IsLaidOut starts.now list.now table) }
     {
         if !are_bounds(starts, list.len()) {

@@ -18,7 +18,7 @@ pub record WritesText (IsText : List ℕ → List ℕ → Type 0) (before after 
   pub text : IsOne IsText bytes out
   pub writes : Appends old new out
 
--- the whole input was read, and a beginning of its text was written
+-- the whole input was read, and a prefix of its text was written
 pub record WritesBeginning (IsText : List ℕ → List ℕ → Type 0) (before after old new : Option (List ℕ)) : Type 0 where
   pub bytes : List ℕ
   pub whole : List ℕ
@@ -28,7 +28,7 @@ pub record WritesBeginning (IsText : List ℕ → List ℕ → Type 0) (before a
   pub begins : IsBeginning out whole
   pub writes : Appends old new out
 
--- Why the text is not written. If a write failed, a beginning of the text was written, otherwise nothing. No thread is
+-- Why the text is not written. If a write failed, a prefix of the text was written, otherwise nothing. No thread is
 -- started.
 abbrev pub IsTextFault : (IsText : List ℕ → List ℕ → Type 0) (before after old new : Option (List ℕ)) → RunFault
     → Type 0

@@ -25,9 +25,9 @@ pub enum Picture {
     Turns,
 }
 
-/// Reads the whole input, answers its lines in a session, writes the picture of the resulting network (nothing without
-/// a network), and flushes once. It reads at most one byte more than the limit of 16,777,216 bytes. If it fails with
-/// any fault but `Write`, it has written nothing. Comments have no answer.
+/// Writes one graph of the state that the lines of the input leave. It reads the whole input, answers its lines in a
+/// session, and flushes once. It reads at most one byte more than the limit of 16,777,216 bytes. If it fails with any
+/// fault but `Write`, it has written nothing. Comments have no answer.
 pub fn draw<R: Read, W: Write>(
     alloc: Global,
     reader: &mut R,
@@ -35,9 +35,15 @@ pub fn draw<R: Read, W: Write>(
     picture: Picture,
     direction: Direction,
 ) -> Result<(), RunFault>
+    // A comment, a line whose first byte apart from tabs, carriage returns and spaces is `#`, has no answer and
+    // changes nothing. The graph names its direction as Graphviz does, and with `--ways` it shows the first way of
+    // each node. Without a network there is no graph. With `--turns`, the output begins with one graph for each turn
+    // of the last round, up to 1,000 turns, and the text below the last graph says how many turns have none.
     ensures ok { OnOk result (WritesText (IsDrawing picture direction) (R.remaining reader.old) (R.remaining reader.new)
         (W.contents writer.old) (W.contents writer.new)) }
     ensures limit { ReadsAtMostOneTooMany (R.remaining reader.old) (R.remaining reader.new) }
+    // `TooLong` only if the input has a byte too many. After `Write`, a prefix of the output was written. After any
+    // other fault, nothing was written.
     ensures fault { IfErr result (IsTextFault (IsDrawing picture direction) (R.remaining reader.old)
         (R.remaining reader.new) (W.contents writer.old) (W.contents writer.new)) }
 {

@@ -10,10 +10,10 @@ use fr_bytes::{RunFault, read_input, write_out};
 use std::alloc::{AllocError, Global};
 use std::io::{Read, Write};
 
-/// Reads the whole input, answers its lines in a session, writes the page of the input (its story between the two parts
-/// of the viewer), and flushes once. It reads at most one byte more than the limit of 16,777,216 bytes. If it fails
-/// with any fault but `Write`, it has written nothing. Comments have no answer. Those that say where nodes are or what
-/// they are called are in the story.
+/// Writes one page with the story of the lines of the input, between the two parts of the viewer. It reads the whole
+/// input, answers its lines in a session, and flushes once. It reads at most one byte more than the limit of
+/// 16,777,216 bytes. If it fails with any fault but `Write`, it has written nothing. Comments have no answer. Those
+/// that say where nodes are or what they are called are in the story.
 ///
 /// The whole text is made before any of it is written. On a network of at most 256 nodes the first 4,096 turns of each
 /// round are made again, one by one; each takes time linear in the nodes and links. Of a round on a larger network the
@@ -25,10 +25,16 @@ pub fn page<R: Read, W: Write>(
     first_part: &str,
     last_part: &str,
 ) -> Result<(), RunFault>
+    // The page has each line, request and answer. For a network of up to 256 nodes, it also has each round, with up
+    // to 4,096 turns, and the pushes of the round. For a change it has what the round changed, which determines the
+    // links after the round. After each 256th line, it has the whole state. Changes list exactly the nodes with new
+    // ways, and whole states list all ways. The page has the comments that begin with `# places ` or `# names `,
+    // percent-encoded, and no other ones.
     ensures ok { OnOk result
         (WritesText (IsPage first_part.now last_part.now) (R.remaining reader.old) (R.remaining reader.new)
         (W.contents writer.old) (W.contents writer.new)) }
     ensures limit { ReadsAtMostOneTooMany (R.remaining reader.old) (R.remaining reader.new) }
+    // As for `draw`.
     ensures fault { IfErr result
         (IsTextFault (IsPage first_part.now last_part.now) (R.remaining reader.old) (R.remaining reader.new)
         (W.contents writer.old) (W.contents writer.new)) }

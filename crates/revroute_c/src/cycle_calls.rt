@@ -32,10 +32,13 @@ pub extern "C" fn revroute_closed_walk(
     size: &mut usize,
 ) -> u32
     ensures same { IsUnchanged handle.old handle.new }
+    // Exactly the cycle of a JSON answer.
     ensures gives { GivesList (IsWalkOfChange handle.old.session edits.now)
         (outcome result nodes.old nodes.new size.new) }
     ensures no_network { (result ≡ REVROUTE_NO_NETWORK) ↔ (handle.old.session ≡ None) }
+    // Only if there is no such cycle.
     ensures no_walk { result ≡ REVROUTE_NO_WALK → HasNoWalkOfChange handle.old.session edits.now }
+    // Never for too many edits or an unknown kind.
     ensures no_memory { result ≡ REVROUTE_NO_MEMORY → AreKnown edits.now × (length edits.now ≤ most_edits) }
     ensures status { (result ≡ REVROUTE_ANSWERED) ⊎ ((REVROUTE_TOO_SHORT ≤ result) × (result ≤ REVROUTE_NO_NETWORK))
         ⊎ (result ≡ REVROUTE_NO_WALK) }
@@ -61,6 +64,7 @@ pub extern "C" fn revroute_closed_walk_of(
     ensures gives { GivesList (IsWalkOfNetwork nodes (map link_of links.now))
         (outcome result walk.old walk.new size.new) }
     ensures no_walk { result ≡ REVROUTE_NO_WALK → HasNoWalkOfNetwork nodes (map link_of links.now) }
+    // Never for links that `revroute_open` refuses without memory.
     ensures no_memory { result ≡ REVROUTE_NO_MEMORY → PassFirstTests nodes (map link_of links.now) }
     ensures status { (result ≡ REVROUTE_ANSWERED) ⊎ (result ≡ REVROUTE_TOO_SHORT) ⊎ (result ≡ REVROUTE_NO_MEMORY)
         ⊎ (result ≡ REVROUTE_NO_WALK) }

@@ -53,6 +53,7 @@ use std::alloc::Global;
 /// Releases all memory of the session. The handle is then null. O(1).
 #[unsafe(no_mangle)]
 pub extern "C" fn revroute_close(alloc: Global, handle: &mut Handle)
+    // The session then holds nothing, and its handle is null.
     ensures none { held_by handle.new ≡ no_engine }
     ensures null { handle.new.at ≡ null_ptr }
 {

@@ -32,6 +32,11 @@ pub extern "C" fn revroute_answer(
     answer: &mut [u8],
     size: &mut usize,
 ) -> u32
+    // The answer is that of the definitions. The session keeps a line that has begun, and the nodes that the last
+    // accepted line rerouted, in push order; they are pushed to readers before the call returns, and to readers of
+    // ways exactly the shrinks, then the grows. `BLANK` exactly for a blank line, with memory or without, if the
+    // buffer has at least 64 bytes. `TOO_SHORT` for a smaller buffer; otherwise only if the answer is longer than the
+    // buffer, with the length of the answer. After any status but `ANSWERED` everything is unchanged.
     ensures answers { AnswersApart line.now (held_by handle.old) (held_by handle.new)
         (outcome result answer.old answer.new size.new) }
     ensures kept { ¬ (result ≡ REVROUTE_ANSWERED) → handle.new.at ≡ handle.old.at }
@@ -69,6 +74,9 @@ pub extern "C" fn revroute_take(
     size: &mut usize,
     taken: &mut usize,
 ) -> u32
+    // Bytes are taken through the first newline, and the line that ends there is answered as by `revroute_answer`.
+    // Without a newline the bytes are kept. `TOO_LONG` only for a line above 16,777,216 bytes. After a fault nothing
+    // is taken.
     ensures takes { TakesPiece piece.now (held_by handle.old) (held_by handle.new) taken.new
         (outcome result answer.old answer.new size.new) }
     ensures same_handle { result ≢ REVROUTE_ANSWERED → result ≢ REVROUTE_BEGUN → handle.new.at ≡ handle.old.at }
@@ -94,9 +102,11 @@ pub extern "C" fn revroute_finish(
     answer: &mut [u8],
     size: &mut usize,
 ) -> u32
+    // As for `revroute_answer`.
     ensures answers { AnswersLine handle.old.begun (held_by handle.old) (held_by handle.new)
         (outcome result answer.old answer.new size.new) }
     ensures ended { result ≤ REVROUTE_BLANK → handle.new.begun ≡ [] }
+    // After a fault the line that has begun is kept.
     ensures still { REVROUTE_BLANK < result → handle.new.begun ≡ handle.old.begun }
     ensures same_handle { handle.new.at ≡ handle.old.at }
 {

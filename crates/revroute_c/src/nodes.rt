@@ -70,9 +70,11 @@ pub extern "C" fn revroute_node_open(
     height: u64,
     policy: &NodePolicy,
 ) -> u32
+    // A restart by `routers_law`, with the number, start, height and policy of the call, and no links.
     ensures opened { result ≡ REVROUTE_ANSWERED
         → OfNode (IsOpened me boot height policy.now) ⊥ handle.new.machine }
     ensures kept { result ≢ REVROUTE_ANSWERED → handle.new ≡ handle.old }
+    // Exactly for an unknown kind of rise or a height of 2^63 or more.
     ensures refused { (result ≡ REVROUTE_REFUSED) ↔ IsNoStart height policy.now }
     ensures status { (result ≡ REVROUTE_ANSWERED) ⊎ (result ≡ REVROUTE_NO_MEMORY) ⊎ (result ≡ REVROUTE_REFUSED) }
 {
@@ -100,6 +102,7 @@ pub extern "C" fn revroute_node_open_gateway(
     me: u32,
     boot: u64,
 ) -> u32
+    // A restart by `routers_law`, with the number and the start of the call, and no links.
     ensures opened { result ≡ REVROUTE_ANSWERED → OfNode (IsOpenedGateway me boot) ⊥ handle.new.machine }
     ensures kept { result ≢ REVROUTE_ANSWERED → handle.new ≡ handle.old }
     ensures status { (result ≡ REVROUTE_ANSWERED) ⊎ (result ≡ REVROUTE_NO_MEMORY) }
@@ -124,6 +127,7 @@ pub extern "C" fn revroute_node_open_gateway(
 /// In these cases the node is unchanged. O(d) for d known neighbours.
 #[unsafe(no_mangle)]
 pub extern "C" fn revroute_node_know(handle: &mut NodeHandle, neighbour: u32, cost: u32) -> u32
+    // `REFUSED` exactly for the router itself or the cost 0, with memory or without.
     ensures known { InNode (KnowsNeighbour neighbour cost result) (result ≡ REVROUTE_NO_NETWORK)
         handle.old.machine handle.new.machine }
     ensures same_handle { handle.new.at ≡ handle.old.at }
@@ -139,6 +143,7 @@ pub extern "C" fn revroute_node_know(handle: &mut NodeHandle, neighbour: u32, co
 /// may come meanwhile. Returns `NO_NETWORK` if the handle is null. It takes no memory. O(d).
 #[unsafe(no_mangle)]
 pub extern "C" fn revroute_node_link_up(handle: &mut NodeHandle, neighbour: u32) -> u32
+    // The link is then up, and nothing else that is known of links changes. The call is a step of `routers_law`.
     ensures up { InNode (TurnsLink neighbour true result) (result ≡ REVROUTE_NO_NETWORK)
         handle.old.machine handle.new.machine }
     ensures same_handle { handle.new.at ≡ handle.old.at }
@@ -152,6 +157,7 @@ pub extern "C" fn revroute_node_link_up(handle: &mut NodeHandle, neighbour: u32)
 /// Call this when the link to a neighbour goes down. All else is as for [`revroute_node_link_up`]. O(d).
 #[unsafe(no_mangle)]
 pub extern "C" fn revroute_node_link_down(handle: &mut NodeHandle, neighbour: u32) -> u32
+    // As for `revroute_node_link_up`, but the link is then down.
     ensures down { InNode (TurnsLink neighbour false result) (result ≡ REVROUTE_NO_NETWORK)
         handle.old.machine handle.new.machine }
     ensures same_handle { handle.new.at ≡ handle.old.at }
@@ -168,6 +174,7 @@ pub extern "C" fn revroute_node_link_down(handle: &mut NodeHandle, neighbour: u3
 /// memory. O(d).
 #[unsafe(no_mangle)]
 pub extern "C" fn revroute_node_tick(handle: &mut NodeHandle, patience: u32) -> u32
+    // 1 exactly if a link was lost, which is an event, and 0 otherwise.
     ensures ticks { InNode (TicksOnce patience result) (result ≡ 0) handle.old.machine handle.new.machine }
     ensures same_handle { handle.new.at ≡ handle.old.at }
 {
@@ -183,6 +190,7 @@ pub extern "C" fn revroute_node_tick(handle: &mut NodeHandle, patience: u32) -> 
 /// O(d).
 #[unsafe(no_mangle)]
 pub extern "C" fn revroute_node_act(handle: &mut NodeHandle) -> u32
+    // 1 exactly if that has changed something, and 0 otherwise; then nothing has changed.
     ensures acts { InNode (ActsAgain result) (result ≡ 0) handle.old.machine handle.new.machine }
     ensures same_handle { handle.new.at ≡ handle.old.at }
 {
@@ -205,6 +213,8 @@ pub extern "C" fn revroute_node_act(handle: &mut NodeHandle) -> u32
 /// In these cases the node is unchanged. It takes no memory. O(d).
 #[unsafe(no_mangle)]
 pub extern "C" fn revroute_node_hear(handle: &mut NodeHandle, bytes: &[u8]) -> u32
+    // As by `Node::hear`, so the call is a step of `routers_law`. A message that the node does not take changes
+    // nothing. `NO_MESSAGE` exactly for bytes that are not a message, `LATER_START` exactly as by `Node::hear`.
     ensures heard { InNode (HearsBytes bytes.now result) (result ≡ REVROUTE_NO_NETWORK)
         handle.old.machine handle.new.machine }
     ensures same_handle { handle.new.at ≡ handle.old.at }
@@ -224,6 +234,7 @@ pub extern "C" fn revroute_node_hear(handle: &mut NodeHandle, bytes: &[u8]) -> u
 /// In both cases the node is unchanged. O(1).
 #[unsafe(no_mangle)]
 pub extern "C" fn revroute_node_written(handle: &mut NodeHandle, state: u64) -> u32
+    // `OUTDATED` exactly if an event came after the ways and gates with that number.
     ensures written { InNode (ConfirmsWritten state result) (result ≡ REVROUTE_NO_NETWORK)
         handle.old.machine handle.new.machine }
     ensures same_handle { handle.new.at ≡ handle.old.at }
@@ -250,6 +261,9 @@ pub extern "C" fn revroute_node_say(
     message: &mut [u8],
     size: &mut usize,
 ) -> u32
+    // The message is true by `routers_law`, and its bytes are in the buffer. The node says nothing until the caller
+    // says that ways and gates are written, to a neighbour whose link the caller does not say is up, or for a buffer
+    // that is too short, under 64 bytes.
     ensures says { InNode (SaysBytesTo neighbour (outcome result message.old message.new size.new))
         ((result ≡ REVROUTE_NO_NETWORK) × (message.new ≡ message.old) × (size.new ≡ 0))
         handle.old.machine handle.new.machine }
@@ -275,6 +289,8 @@ pub extern "C" fn revroute_node_has_news(
     neighbour: u32,
     news: &mut u32,
 ) -> u32
+    // A message is news if it differs from the last one that the node said by more than its stamp. There is no news
+    // before ways and gates are written.
     ensures news { OfNode (TellsNews neighbour result news.old news.new)
         ((result ≡ REVROUTE_NO_NETWORK) × (news.new ≡ news.old)) handle.old.machine }
     ensures same { IsSameNode handle.old handle.new }
@@ -302,6 +318,7 @@ pub extern "C" fn revroute_node_ways(
 ) -> u32
     ensures same { IsSameNode handle.old handle.new }
     ensures gives { GivesList (AreWaysOf handle.old.machine) (outcome result ways.old ways.new size.new) }
+    // The number that confirms them.
     ensures state { IsStateOf handle.old.machine state.old state.new }
     ensures no_network { (result ≡ REVROUTE_NO_NETWORK) ↔ (handle.old.machine ≡ None) }
     ensures status { (result ≡ REVROUTE_ANSWERED) ⊎ (result ≡ REVROUTE_TOO_SHORT) ⊎ (result ≡ REVROUTE_NO_NETWORK) }
@@ -324,6 +341,7 @@ pub extern "C" fn revroute_node_gates(
 ) -> u32
     ensures same { IsSameNode handle.old handle.new }
     ensures gives { GivesList (AreGatesOf handle.old.machine) (outcome result gates.old gates.new size.new) }
+    // The number that confirms them.
     ensures state { IsStateOf handle.old.machine state.old state.new }
     ensures no_network { (result ≡ REVROUTE_NO_NETWORK) ↔ (handle.old.machine ≡ None) }
     ensures status { (result ≡ REVROUTE_ANSWERED) ⊎ (result ≡ REVROUTE_TOO_SHORT) ⊎ (result ≡ REVROUTE_NO_NETWORK) }
@@ -344,6 +362,7 @@ pub extern "C" fn revroute_node_gates(
 /// In both cases `distance` is unchanged. O(d).
 #[unsafe(no_mangle)]
 pub extern "C" fn revroute_node_distance(handle: &mut NodeHandle, distance: &mut u32) -> u32
+    // `NO_ROUTE` only without a distance.
     ensures distance { OfNode (TellsNodeDistance result distance.old distance.new)
         ((result ≡ REVROUTE_NO_NETWORK) × (distance.new ≡ distance.old)) handle.old.machine }
     ensures same { IsSameNode handle.old handle.new }
@@ -374,6 +393,7 @@ pub extern "C" fn revroute_node_height(handle: &mut NodeHandle, height: &mut u64
 #[unsafe(no_mangle)]
 pub extern "C" fn revroute_node_lets_in(handle: &mut NodeHandle, neighbour: u32) -> u32
     ensures open { OfNode (λ k. result ≡ number_of_flag (lets_in k neighbour)) (result ≡ 0) handle.old.machine }
+    // An open gate is one of `routers_law`.
     ensures safe { OfNode (IsSafeGate neighbour result) ⊤ handle.old.machine }
     ensures same { IsSameNode handle.old handle.new }
 {
@@ -387,6 +407,7 @@ pub extern "C" fn revroute_node_lets_in(handle: &mut NodeHandle, neighbour: u32)
 #[unsafe(no_mangle)]
 pub extern "C" fn revroute_node_sends_to(handle: &mut NodeHandle, neighbour: u32) -> u32
     ensures way { OfNode (λ k. result ≡ number_of_flag (sends_to k neighbour)) (result ≡ 0) handle.old.machine }
+    // A way is one of `routers_law`.
     ensures safe { OfNode (IsSafeWay neighbour result) ⊤ handle.old.machine }
     ensures same { IsSameNode handle.old handle.new }
 {

@@ -28,6 +28,7 @@ use std::alloc::Global;
 /// and any session. O(1).
 #[unsafe(no_mangle)]
 pub extern "C" fn revroute_next_hop(handle: &mut Handle, node: u32) -> u32
+    // Without a network it is the value for no network.
     ensures hop { TellsHop handle.old.session node result }
     ensures same { IsUnchanged handle.old handle.new }
 {
@@ -98,7 +99,9 @@ pub extern "C" fn revroute_pushes(
     ensures same { IsUnchanged handle.old handle.new }
     ensures gives { GivesList (ArePushesOf handle.old.session table.now) (outcome result nodes.old nodes.new size.new) }
     ensures no_network { (result ≡ REVROUTE_NO_NETWORK) ↔ (handle.old.session ≡ None) }
+    // Only for another number of hops, or a hop that does not name a node.
     ensures no_table { result ≡ REVROUTE_NO_TABLE → IsNoTable handle.old.session table.now }
+    // Never for such a table.
     ensures no_memory { result ≡ REVROUTE_NO_MEMORY → ¬ IsNoTable handle.old.session table.now }
     ensures status { (result ≡ REVROUTE_ANSWERED) ⊎ ((REVROUTE_TOO_SHORT ≤ result) × (result ≤ REVROUTE_NO_NETWORK))
         ⊎ (result ≡ REVROUTE_NO_TABLE) }
@@ -132,6 +135,10 @@ pub extern "C" fn revroute_push_order(
     size: &mut usize,
     refusal: &mut Refusal,
 ) -> u32
+    // Exactly the nodes at which the tables differ. A number past the end of the shorter table counts as cut off
+    // there. `REFUSED` for too many hops, the first number that is not a hop, or a loop of the new table, which the
+    // call writes. `TOO_SHORT` comes with the wanted length, and `NO_MEMORY` only for tables within the limit whose
+    // numbers are hops. After any status but `ANSWERED` and a refusal for a loop, `nodes` is unchanged.
     ensures { OrdersPushes old.now new.now (outcome result nodes.old nodes.new size.new) refusal.old refusal.new }
 {
     *size = 0;
@@ -174,7 +181,9 @@ pub extern "C" fn revroute_walk(
     ensures same { IsUnchanged handle.old handle.new }
     ensures gives { GivesList (IsRouteFrom handle.old.session node) (outcome result nodes.old nodes.new size.new) }
     ensures no_network { (result ≡ REVROUTE_NO_NETWORK) ↔ (handle.old.session ≡ None) }
+    // Only for a number that is cut off or not a node.
     ensures no_route { result ≡ REVROUTE_NO_ROUTE → IfSome handle.old.session (λ s. HasNoRoute s node) }
+    // Only for a node with a route.
     ensures no_memory { result ≡ REVROUTE_NO_MEMORY → IfSome handle.old.session (λ s. HasRoute s node) }
     ensures status { (result ≡ REVROUTE_ANSWERED) ⊎ ((REVROUTE_TOO_SHORT ≤ result) × (result ≤ REVROUTE_NO_ROUTE)) }
 {
@@ -220,6 +229,7 @@ pub extern "C" fn revroute_report(handle: &mut Handle, round: &mut Round) -> u32
     ensures report { result ≡ REVROUTE_ANSWERED
         → IfSome handle.old.session (λ s. IsReport s round.new.turned round.new.cut_off) }
     ensures no_network { (result ≡ REVROUTE_NO_NETWORK) ↔ (handle.old.session ≡ None) }
+    // Without a network both numbers are 0.
     ensures none { result ≡ REVROUTE_NO_NETWORK → (round.new.turned ≡ 0) × (round.new.cut_off ≡ 0) }
     ensures status { (result ≡ REVROUTE_ANSWERED) ⊎ (result ≡ REVROUTE_NO_NETWORK) }
 {
@@ -253,6 +263,7 @@ pub extern "C" fn revroute_size(handle: &mut Handle, nodes: &mut u32, links: &mu
     ensures size { result ≡ REVROUTE_ANSWERED
         → IfSome handle.old.session (λ s. (nodes.new ≡ s.nodes) × (links.new ≡ length s.links)) }
     ensures no_network { (result ≡ REVROUTE_NO_NETWORK) ↔ (handle.old.session ≡ None) }
+    // Without a network both numbers are 0.
     ensures none { result ≡ REVROUTE_NO_NETWORK → (nodes.new ≡ 0) × (links.new ≡ 0) }
     ensures status { (result ≡ REVROUTE_ANSWERED) ⊎ (result ≡ REVROUTE_NO_NETWORK) }
 {

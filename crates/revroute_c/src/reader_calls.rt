@@ -35,7 +35,10 @@ pub extern "C" fn revroute_reader_open(
     handle: &mut Handle,
     reader: &mut ReaderHandle,
 ) -> u32
+    // The session is unchanged. A table that is already open stays as it is.
     ensures opens { OpensTable (held_by handle.old) (held_by handle.new) }
+    // The reader knows all pushes made before it was opened. Each accepted round is then pushed, in push order,
+    // before its call returns.
     ensures reader { result ≡ REVROUTE_ANSWERED → ReadsTableOf (held_by handle.new) reader.new.reading }
     ensures kept { ¬ (result ≡ REVROUTE_ANSWERED) → reader.new ≡ reader.old }
     ensures handle { (handle.new.at ≡ handle.old.at) ⊎ ((handle.old.at ≡ null_ptr) × (result ≡ REVROUTE_ANSWERED)) }
@@ -68,6 +71,7 @@ pub extern "C" fn revroute_reader_copy(
     other: &mut ReaderHandle,
 ) -> u32
     ensures same { IsSameReader reader.old reader.new }
+    // It knows what the reader knows that it copies.
     ensures copied { result ≡ REVROUTE_ANSWERED → other.new.reading ≡ reader.old.reading }
     ensures kept { ¬ (result ≡ REVROUTE_ANSWERED) → other.new ≡ other.old }
     ensures no_network { (result ≡ REVROUTE_NO_NETWORK) ↔ (reader.old.at ≡ null_ptr) }
@@ -93,12 +97,16 @@ pub extern "C" fn revroute_reader_copy(
 /// a table. It makes three loads, and does not allocate or wait. O(1).
 #[unsafe(no_mangle)]
 pub extern "C" fn revroute_reader_learn(reader: &mut ReaderHandle, other: &mut ReaderHandle) -> u32
+    // Both readers read the same table.
     requires one_table { reader.old.at ≢ null_ptr → other.old.at ≢ null_ptr
         → other.old.reading.table ≡ reader.old.reading.table }
+    // The reader then answers from the last table that the other reader knew, or from a later one. So it sees a
+    // change of the session, if the other reader was opened after that change.
     ensures learns { TellsLearned (LearnsPast reader.old.reading (past_of other.old.reading) reader.new.reading)
         reader.old.reading reader.new.reading result }
     ensures same { IsSameReader other.old other.new }
     ensures same_handle { reader.new.at ≡ reader.old.at }
+    // Exactly if one of the readers is null.
     ensures no_network { (result ≡ REVROUTE_NO_NETWORK) ↔ ((reader.old.at ≡ null_ptr) ⊎ (other.old.at ≡ null_ptr)) }
     ensures status { (result ≡ REVROUTE_ANSWERED) ⊎ (result ≡ REVROUTE_NO_NETWORK) }
 {
@@ -118,6 +126,8 @@ pub extern "C" fn revroute_reader_learn(reader: &mut ReaderHandle, other: &mut R
 #[unsafe(no_mangle)]
 pub extern "C" fn revroute_reader_next_hop(reader: &mut ReaderHandle, node: u32) -> u32
     ensures null { reader.old.at ≡ null_ptr → (result ≡ no_network) × (reader.new.reading ≡ reader.old.reading) }
+    // The hop in the last table that the reader then knows. Its tables continue what it knew, and none has a loop,
+    // even after the session is closed.
     ensures hop { reader.old.at ≢ null_ptr → TellsHopRead reader.old.reading reader.new.reading node result }
     ensures same_handle { reader.new.at ≡ reader.old.at }
 {
@@ -145,6 +155,9 @@ pub extern "C" fn revroute_reader_walk(
     nodes: &mut [u32],
     size: &mut usize,
 ) -> u32
+    // Each hop is from a table that the reader then knew. `ANSWERED` only if the last node is the destination.
+    // `NO_ROUTE` only if the walk ends at a number that is cut off or not a node, `TOO_SHORT` only if the buffer is
+    // full. The rest of the buffer is unchanged.
     ensures walk { TellsWalk reader.old.reading reader.new.reading node
         (outcome result nodes.old nodes.new size.new) }
     ensures reads_on { ReadsOn reader.old.reading reader.new.reading }

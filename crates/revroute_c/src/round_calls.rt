@@ -43,10 +43,15 @@ pub extern "C" fn revroute_open(
     round: &mut Round,
     refusal: &mut Refusal,
 ) -> u32
+    // State, rerouted nodes, report and pushes to readers are those of the request. `REFUSED` as the request, with
+    // the exact nodes that a JSON answer names. After any status but `ANSWERED` everything is unchanged.
     ensures begins { BeginsRound (new_network nodes dest (map link_of links.now))
         (IsNewRefused nodes dest (map link_of links.now)) (held_by handle.old) (held_by handle.new)
         (round_outcome result round.old round.new refusal.old refusal.new) }
+    // Never for too many nodes or links, a link to a number that is not a node, or a link from a node to itself. It
+    // can hide other faults.
     ensures no_memory { result ≡ REVROUTE_NO_MEMORY → PassFirstTests nodes (map link_of links.now) }
+    // They are kept as by `revroute_change`.
     ensures pushes { handle.new.pushes ≡ handle.old.pushes }
     ensures kept { ¬ (result ≡ REVROUTE_ANSWERED) → handle.new.at ≡ handle.old.at }
     ensures status { (result ≡ REVROUTE_ANSWERED) ⊎ (result ≡ REVROUTE_NO_MEMORY) ⊎ (result ≡ REVROUTE_REFUSED) }
@@ -81,12 +86,18 @@ pub extern "C" fn revroute_change(
     round: &mut Round,
     refusal: &mut Refusal,
 ) -> u32
+    // As for `revroute_open`. `REFUSED` comes with the index of the first bad edit.
     ensures begins { BeginsRound (make_edits (map edit_of edits.now)) (IsChangeRefused handle.old.session edits.now)
         (held_by handle.old) (held_by handle.new) (round_outcome result round.old round.new refusal.old refusal.new) }
+    // Only for edits of known kinds.
     ensures known { result ≡ REVROUTE_ANSWERED → AreKnown edits.now }
+    // The pushes of an earlier `revroute_change_with_ways` are kept.
     ensures pushes { handle.new.pushes ≡ handle.old.pushes }
+    // Never for too many edits.
     ensures no_memory { result ≡ REVROUTE_NO_MEMORY → length edits.now ≤ most_edits }
+    // An edit of an unknown kind is always refused.
     ensures unknown { ¬ AreKnown edits.now → result ≡ REVROUTE_REFUSED }
+    // Exactly without a network, if all kinds are known.
     ensures no_network { (result ≡ REVROUTE_NO_NETWORK) ↔ (AreKnown edits.now × (handle.old.session ≡ None)) }
     ensures kept { handle.new.at ≡ handle.old.at }
     ensures status { (result ≡ REVROUTE_ANSWERED) ⊎ (result ≡ REVROUTE_NO_MEMORY) ⊎ (result ≡ REVROUTE_NO_NETWORK)
@@ -123,9 +134,12 @@ pub extern "C" fn revroute_change_with_ways(
     round: &mut Round,
     refusal: &mut Refusal,
 ) -> u32
+    // Everything is as for `revroute_change`.
     ensures begins { BeginsRound (make_edits (map edit_of edits.now)) (IsChangeRefused handle.old.session edits.now)
         (held_by handle.old) (held_by handle.new) (round_outcome result round.old round.new refusal.old refusal.new) }
     ensures known { result ≡ REVROUTE_ANSWERED → AreKnown edits.now }
+    // The pushes lead from the ways of all nodes before the change to those after it. The session keeps them until
+    // the next change by this call, or until it ends.
     ensures pushes { result ≡ REVROUTE_ANSWERED
         → LeadsBetween handle.old.session handle.new.session handle.new.pushes }
     ensures no_memory { result ≡ REVROUTE_NO_MEMORY → length edits.now ≤ most_edits }
@@ -163,8 +177,10 @@ pub extern "C" fn revroute_move_dest(
 ) -> u32
     ensures begins { BeginsRound (move_dest dest) (IsMoveRefused handle.old.session dest)
         (held_by handle.old) (held_by handle.new) (round_outcome result round.old round.new refusal.old refusal.new) }
+    // They are kept as by `revroute_change`.
     ensures pushes { handle.new.pushes ≡ handle.old.pushes }
     ensures no_network { (result ≡ REVROUTE_NO_NETWORK) ↔ (handle.old.session ≡ None) }
+    // Never for a destination that is not a node.
     ensures no_memory { result ≡ REVROUTE_NO_MEMORY → IfSome handle.old.session (λ s. dest < s.nodes) }
     ensures kept { handle.new.at ≡ handle.old.at }
     ensures status { (result ≡ REVROUTE_ANSWERED) ⊎ (result ≡ REVROUTE_NO_MEMORY) ⊎ (result ≡ REVROUTE_NO_NETWORK)

@@ -34,7 +34,9 @@ pub extern "C" fn revroute_ways(
     ensures same { IsUnchanged handle.old handle.new }
     ensures gives { GivesList (AreWaysFrom handle.old.session node) (outcome result ways.old ways.new size.new) }
     ensures no_network { (result ≡ REVROUTE_NO_NETWORK) ↔ (handle.old.session ≡ None) }
+    // Only for a number that is cut off or not a node.
     ensures no_route { result ≡ REVROUTE_NO_ROUTE → IfSome handle.old.session (λ s. HasNoRoute s node) }
+    // Only for a node with a route.
     ensures no_memory { result ≡ REVROUTE_NO_MEMORY → IfSome handle.old.session (λ s. HasRoute s node) }
     ensures status { (result ≡ REVROUTE_ANSWERED) ⊎ ((REVROUTE_TOO_SHORT ≤ result) × (result ≤ REVROUTE_NO_ROUTE)) }
 {
@@ -50,6 +52,7 @@ pub extern "C" fn revroute_ways(
 /// any session. O(1).
 #[unsafe(no_mangle)]
 pub extern "C" fn revroute_distance(handle: &mut Handle, node: u32) -> u32
+    // If it has none, a named value says why.
     ensures distance { TellsDistance handle.old.session node result }
     ensures same { IsUnchanged handle.old handle.new }
 {
@@ -71,9 +74,12 @@ pub extern "C" fn revroute_nearest(
     size: &mut usize,
 ) -> u32
     ensures same { IsUnchanged handle.old handle.new }
+    // Each node is the first way of the node before it.
     ensures gives { GivesList (IsNearestFrom handle.old.session node) (outcome result nodes.old nodes.new size.new) }
     ensures no_network { (result ≡ REVROUTE_NO_NETWORK) ↔ (handle.old.session ≡ None) }
+    // Only for a number that is cut off or not a node.
     ensures no_route { result ≡ REVROUTE_NO_ROUTE → IfSome handle.old.session (λ s. HasNoRoute s node) }
+    // Only for a node with a route.
     ensures no_memory { result ≡ REVROUTE_NO_MEMORY → IfSome handle.old.session (λ s. HasRoute s node) }
     ensures status { (result ≡ REVROUTE_ANSWERED) ⊎ ((REVROUTE_TOO_SHORT ≤ result) × (result ≤ REVROUTE_NO_ROUTE)) }
 {
@@ -103,6 +109,7 @@ pub extern "C" fn revroute_all_ways(
     size: &mut usize,
 ) -> u32
     ensures same { IsUnchanged handle.old handle.new }
+    // The destination and nodes that are cut off have no ways. `TOO_SHORT` comes with the number of all ways.
     ensures gives { GivesAllWays handle.old.session (outcome result starts.old starts.new size.new)
         (outcome result ways.old ways.new size.new) }
     ensures no_network { (result ≡ REVROUTE_NO_NETWORK) ↔ (handle.old.session ≡ None) }
@@ -140,10 +147,13 @@ pub extern "C" fn revroute_shrink(
     size: &mut usize,
 ) -> u32
     ensures same { IsUnchanged handle.old handle.new }
+    // Exactly the nodes that lose a way, each with the ways that it keeps.
     ensures gives { GivesList (AreShrinks handle.old.session starts.now ways.now)
         (outcome result pushes.old pushes.new size.new) }
     ensures no_network { (result ≡ REVROUTE_NO_NETWORK) ↔ (handle.old.session ≡ None) }
+    // Only if the caller's arrays hold no table with a list for each node.
     ensures no_table { result ≡ REVROUTE_NO_TABLE → HoldNoTable handle.old.session starts.now ways.now }
+    // Only if they hold one.
     ensures no_memory { result ≡ REVROUTE_NO_MEMORY → ¬ HoldNoTable handle.old.session starts.now ways.now }
     ensures status { (result ≡ REVROUTE_ANSWERED) ⊎ ((REVROUTE_TOO_SHORT ≤ result) × (result ≤ REVROUTE_NO_NETWORK))
         ⊎ (result ≡ REVROUTE_NO_TABLE) }
@@ -178,10 +188,13 @@ pub extern "C" fn revroute_grow(
     size: &mut usize,
 ) -> u32
     ensures same { IsUnchanged handle.old handle.new }
+    // Exactly the nodes whose list still differs, each with its new list.
     ensures gives { GivesList (AreGrowths handle.old.session starts.now ways.now)
         (outcome result pushes.old pushes.new size.new) }
     ensures no_network { (result ≡ REVROUTE_NO_NETWORK) ↔ (handle.old.session ≡ None) }
+    // As for `revroute_shrink`.
     ensures no_table { result ≡ REVROUTE_NO_TABLE → HoldNoTable handle.old.session starts.now ways.now }
+    // As for `revroute_shrink`.
     ensures no_memory { result ≡ REVROUTE_NO_MEMORY → ¬ HoldNoTable handle.old.session starts.now ways.now }
     ensures status { (result ≡ REVROUTE_ANSWERED) ⊎ ((REVROUTE_TOO_SHORT ≤ result) × (result ≤ REVROUTE_NO_NETWORK))
         ⊎ (result ≡ REVROUTE_NO_TABLE) }
@@ -220,6 +233,7 @@ pub extern "C" fn revroute_change_shrink(
     size: &mut usize,
 ) -> u32
     ensures same { IsUnchanged handle.old handle.new }
+    // The kept pushes of the first phase.
     ensures gives { GivesList (λ numbers. numbers ≡ numbers_of handle.old.pushes.shrink)
         (outcome result pushes.old pushes.new size.new) }
     ensures status { (result ≡ REVROUTE_ANSWERED) ⊎ (result ≡ REVROUTE_TOO_SHORT) ⊎ (result ≡ REVROUTE_NO_MEMORY) }
@@ -241,6 +255,7 @@ pub extern "C" fn revroute_change_grow(
     size: &mut usize,
 ) -> u32
     ensures same { IsUnchanged handle.old handle.new }
+    // The kept pushes of the second phase.
     ensures gives { GivesList (λ numbers. numbers ≡ numbers_of handle.old.pushes.grow)
         (outcome result pushes.old pushes.new size.new) }
     ensures status { (result ≡ REVROUTE_ANSWERED) ⊎ (result ≡ REVROUTE_TOO_SHORT) ⊎ (result ≡ REVROUTE_NO_MEMORY) }

@@ -36,7 +36,10 @@ pub extern "C" fn revroute_way_reader_open(
     handle: &mut Handle,
     reader: &mut WayReaderHandle,
 ) -> u32
+    // The session is unchanged. A table that is already open stays as it is.
     ensures opens { OpensWays (held_by handle.old) (held_by handle.new) }
+    // The reader knows all pushes made before it was opened, and reads the session's first ways. Each accepted line
+    // or round then pushes exactly the shrinks and then the grows to the new ways, before its call returns.
     ensures reader { result ≡ REVROUTE_ANSWERED → ReadsWaysOf (held_by handle.new) reader.new.reading }
     ensures kept { ¬ (result ≡ REVROUTE_ANSWERED) → reader.new ≡ reader.old }
     ensures handle { (handle.new.at ≡ handle.old.at) ⊎ ((handle.old.at ≡ null_ptr) × (result ≡ REVROUTE_ANSWERED)) }
@@ -64,6 +67,7 @@ pub extern "C" fn revroute_way_reader_copy(
     other: &mut WayReaderHandle,
 ) -> u32
     ensures same { IsSameWayReader reader.old reader.new }
+    // It knows what the reader knows that it copies.
     ensures copied { result ≡ REVROUTE_ANSWERED → other.new.reading ≡ reader.old.reading }
     ensures kept { ¬ (result ≡ REVROUTE_ANSWERED) → other.new ≡ other.old }
     ensures no_network { (result ≡ REVROUTE_NO_NETWORK) ↔ (reader.old.at ≡ null_ptr) }
@@ -87,12 +91,15 @@ pub extern "C" fn revroute_way_reader_learn(
     reader: &mut WayReaderHandle,
     other: &mut WayReaderHandle,
 ) -> u32
+    // Both readers read the same table.
     requires one_table { reader.old.at ≢ null_ptr → other.old.at ≢ null_ptr
         → other.old.reading.table ≡ reader.old.reading.table }
+    // The reader then answers from the last table that the other reader knew, or from a later one.
     ensures learns { TellsLearned (LearnsPast reader.old.reading (past_of other.old.reading) reader.new.reading)
         reader.old.reading reader.new.reading result }
     ensures same { IsSameWayReader other.old other.new }
     ensures same_handle { reader.new.at ≡ reader.old.at }
+    // Exactly if one of the readers is null.
     ensures no_network { (result ≡ REVROUTE_NO_NETWORK) ↔ ((reader.old.at ≡ null_ptr) ⊎ (other.old.at ≡ null_ptr)) }
     ensures status { (result ≡ REVROUTE_ANSWERED) ⊎ (result ≡ REVROUTE_NO_NETWORK) }
 {
@@ -123,9 +130,13 @@ pub extern "C" fn revroute_way_reader_ways(
     ways: &mut [u32],
     size: &mut usize,
 ) -> u32
+    // The ways are those in the last table that the reader then knows, read by one load. Its tables continue what it
+    // knew, and none has a cycle. `TOO_SHORT` comes with the number of ways, at most five. `NO_ROUTE` only for a
+    // number that no table has.
     ensures ways { TellsWaysRead reader.old.reading reader.new.reading node
         (outcome result ways.old ways.new size.new) }
     ensures same_handle { reader.new.at ≡ reader.old.at }
+    // Exactly for a null reader.
     ensures no_network { (result ≡ REVROUTE_NO_NETWORK) ↔ (reader.old.at ≡ null_ptr) }
     ensures status { (result ≡ REVROUTE_ANSWERED) ⊎ (result ≡ REVROUTE_TOO_SHORT) ⊎ (result ≡ REVROUTE_NO_NETWORK)
         ⊎ (result ≡ REVROUTE_NO_ROUTE) }
@@ -147,7 +158,9 @@ pub extern "C" fn revroute_way_reader_way(
     node: u32,
     choice: u32,
 ) -> u32
+    // A null reader has no network.
     ensures null { reader.old.at ≡ null_ptr → (result ≡ no_network) × (reader.new.reading ≡ reader.old.reading) }
+    // The way at the index `choice` modulo the number of first ways, as `revroute_way_reader_ways` would read them.
     ensures way { reader.old.at ≢ null_ptr
         → TellsWayRead reader.old.reading reader.new.reading node choice result }
     ensures same_handle { reader.new.at ≡ reader.old.at }

@@ -27,15 +27,15 @@ pub enum Kind {
 pub enum Promise {
     /// That routers use no loop.
     NoLoop,
-    /// Besides, routers that are joined to a gateway come to rest, and are served then.
+    /// Besides, routers that are connected to a gateway come to rest, and are served then.
     Served,
     /// Besides, none of them announces more heights than there are links on a path to a gateway, and announcements that
     /// were not heard along it.
     Bounded,
-    /// All routers come to rest, and those that are joined to a gateway are served then.
+    /// All routers come to rest, and those that are connected to a gateway are served then.
     AllRest,
     /// All routers come to rest. Those with a route to a gateway are served then, over a route of least cost, and those
-    /// that are not joined to a gateway know it.
+    /// that are not connected to a gateway know it.
     Shortest,
 }
 

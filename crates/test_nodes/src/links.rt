@@ -120,7 +120,7 @@ impl Links {
         least
     }
 
-    /// The routers that are joined to one of these by links that work both ways, a bit for each.
+    /// The routers that are connected to one of these by links that work both ways, a bit for each.
     pub fn joined_to(&self, some: u32, routers: u32) -> u32 {
         let mut joined = some;
         for _ in 0..routers {

@@ -8,7 +8,7 @@
 //!
 //! The program prints what happened, how often a tick ended that a link counted as up, in how many steps the library
 //! differed from the rules (rules.rt), and in how many routers used a loop. Of histories it also prints how many did
-//! not come to rest, after how many a router that is joined to a gateway was not served, after how many a router had
+//! not come to rest, after how many a router that is connected to a gateway was not served, after how many a router had
 //! not the least cost, and in how many a router announced more heights than it may. Then it looks for what four kinds
 //! of routers do not keep, and one kind without ticks, and has to see that in at most ten times as many histories.
 #![tactic(auto)]

@@ -21,15 +21,15 @@ pub const PATIENCE: u32 = 3;
 #[derive(Clone, Copy, Default)]
 pub struct Rests {
     pub found: Found,
-    /// How many routers that are no gateways were joined to one.
+    /// How many routers that are no gateways were connected to one.
     pub joined: u32,
-    /// Histories in which joined routers still changed after `MOST_ROUNDS`.
+    /// Histories in which connected routers still changed after `MOST_ROUNDS`.
     pub restless: u32,
-    /// Histories at whose end a joined router has no way, or a way on which its packets are not let in.
+    /// Histories at whose end a connected router has no way, or a way on which its packets are not let in.
     pub unserved: u32,
     /// Histories at whose end a router's height or distance is not the least cost, or its first way is on no such route.
     pub longer: u32,
-    /// Histories in which a joined router announced more heights than it may.
+    /// Histories in which a connected router announced more heights than it may.
     pub above: u32,
 }
 

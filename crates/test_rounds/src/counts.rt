@@ -46,7 +46,7 @@ fn is_first_sink(net: &Net, none: &Turns, x: u32) -> bool
     is_sink(net, none.counts(), x)
 }
 
-/// The sinks of a network, in increasing order.
+/// The sinks of a network, in ascending order.
 fn sinks(alloc: Global, net: &Net, dest: u32) -> Result<Vec<u32>, Fault>
     ensures { IfOk result (λ sinks. HoldsSinks net.now dest sinks.items) }
 {

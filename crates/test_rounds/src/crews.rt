@@ -170,7 +170,7 @@ pub fn wave(alloc: Global, nodes: u32) -> Result<Net, Fault> {
 }
 
 /// How often each node of the long chain turns if node 0 is the destination: as often as its number says, or as often
-/// as there are nodes if node 0 is not joined to the chain.
+/// as there are nodes if node 0 is not connected to the chain.
 pub fn chain_counts(alloc: Global, nodes: u32, first: u32) -> Result<Vec<u64>, Fault> {
     let mut counts = Vec::new(alloc);
     for x in 0..nodes {

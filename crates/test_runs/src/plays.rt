@@ -54,7 +54,7 @@ fn net_on_line(alloc: Global, line: &str) -> Option<Net> {
     }
 }
 
-/// The links as counts leave them, in rising order: a link points the other way if its ends turned differently often.
+/// The links as counts leave them, in ascending order: a link points the other way if its ends turned differently often.
 fn links_at(alloc: Global, net: &Net, counts: &[u64]) -> Option<Vec<(u32, u32)>> {
     let mut links = Vec::new(alloc);
     for (tail, head) in net.links() {

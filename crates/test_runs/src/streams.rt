@@ -85,7 +85,7 @@ impl NarrowWriter {
         }
     }
 
-    /// Whether everything was written and then flushed if all calls succeeded; otherwise a beginning was written, with
+    /// Whether everything was written and then flushed if all calls succeeded; otherwise a prefix was written, with
     /// no flush after the failure. If a flush at the end failed, everything was written.
     fn fits(&self, end: &Result<u64, RunFault>, whole: &Outcome, flushes_once: bool) -> bool {
         match end {
