@@ -6,22 +6,25 @@ use Rattle.revroute_c.specs.NodeCalls.{ActsAgain, InNode, number_of_flag}
 use Rattle.revroute_c.specs.contracts.node_state.NodeState.{the_view}
 use Rattle.revroute_c.proofs.node_state.NodeState.act.Goals as goal
 
+unset : ¬ IsTrue false
+unset set = cc
+
 acts_again : (flag : Bool) (k j : Node) → Acts k j.own → j.links ≡ k.links → IsTrue flag ↔ (j.own ≢ k.own)
     → (IsTrue flag → IsAfterEvent [] k j) → (¬ IsTrue flag → j ≡ k) → ActsAgain (number_of_flag flag) k j
 acts_again true k j policy links changed after kept = record {
   policy = policy;
   links = links;
-  changed = (λ set. changed.0 (record {}), λ other. refl);
-  after = λ set. after (record {});
-  kept = λ unset. omega (arith, unset);
+  changed = (λ one. changed.0 refl, λ other. refl);
+  after = λ one. after refl;
+  kept = λ zero. absurd (omega (arith, zero));
   flags = inr refl;
 }
 acts_again false k j policy links changed after kept = record {
   policy = policy;
   links = links;
-  changed = (λ set. omega (arith, set), λ other. absurd (changed.1 other));
-  after = λ set. omega (arith, set);
-  kept = λ unset. kept (λ t. t);
+  changed = (λ one. absurd (omega (arith, one)), λ other. absurd (unset (changed.1 other)));
+  after = λ one. absurd (omega (arith, one));
+  kept = λ zero. kept unset;
   flags = inl refl;
 }
 
