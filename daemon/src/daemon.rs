@@ -350,7 +350,7 @@ impl Daemon {
             // What has come is taken before silence counts: this process itself may have been stopped.
             self.listen();
             self.try_again();
-            self.machine.turn(self.begun.elapsed());
+            self.machine.turn(|| self.begun.elapsed());
             self.send();
         }
         self.control.tell(&self.machine.journal);

@@ -20,7 +20,8 @@
 //!          40 to 55  the session and the random number of that router
 //!          56 to 63  the greatest number of its news that arrived
 //!          64 to 71  which of the 64 numbers before that one arrived, the highest number in the lowest bit
-//!          72..      records: flags (1), the length of a prefix (1), as many of its bytes as the length needs, and
+//!          72 to 75  for how many microseconds the sender has had the greatest number
+//!          76..      records: flags (1), the length of a prefix (1), as many of its bytes as the length needs, and
 //!                    the message of a node if the flag 1 is set. The flag 2 is set for IPv6, 4 if the sender has left
 //!                    the prefix, and 8 if it knows a router that announces it
 //! the end            16 bytes of HMAC-SHA256 over all before them, if the number of the key is not 0
@@ -40,7 +41,7 @@ const HELLO: u8 = 1;
 const NEWS: u8 = 2;
 const HEAD: usize = 36;
 const HELLO_HEAD: usize = 44;
-const NEWS_HEAD: usize = 72;
+const NEWS_HEAD: usize = 76;
 const HEARD: usize = 20;
 const SEAL: usize = 16;
 const IS_COMPLETE: u8 = 1;
@@ -101,6 +102,8 @@ pub struct Arrived {
 pub struct Address {
     pub to: Heard,
     pub arrived: Arrived,
+    /// For how long the sender has had the greatest number that arrived.
+    pub waited: Duration,
     /// Whether the list of the prefixes that the sender knew has arrived at the receiver.
     pub is_complete: bool,
     /// Whether it has to be acknowledged.
@@ -172,6 +175,7 @@ pub fn read<'a>(data: &'a [u8], keys: &Keys) -> Option<(Head, Body<'a>)> {
                     greatest: u64::from_be_bytes(array(data, 56)?),
                     before: u64::from_be_bytes(array(data, 64)?),
                 },
+                waited: Duration::from_micros(u32::from_be_bytes(array(data, 72)?).into()),
                 is_complete: data[5] & IS_COMPLETE != 0,
                 wants_answer: data[5] & WANTS_ANSWER != 0,
             };
@@ -309,6 +313,8 @@ impl News {
         data.extend_from_slice(&address.to.process.to_be_bytes());
         data.extend_from_slice(&address.arrived.greatest.to_be_bytes());
         data.extend_from_slice(&address.arrived.before.to_be_bytes());
+        let waited = u32::try_from(address.waited.as_micros()).unwrap_or(u32::MAX);
+        data.extend_from_slice(&waited.to_be_bytes());
         News { data }
     }
 
@@ -450,6 +456,7 @@ mod tests {
                 greatest: 70,
                 before: 5,
             },
+            waited: Duration::from_micros(1234),
             is_complete: true,
             wants_answer: false,
         }

@@ -371,7 +371,7 @@ impl<K: Kernel> Machine<K> {
         let Some(it) = self.neighbours.get_mut(&head.from).filter(|it| it.is_up) else {
             return false;
         };
-        it.news.acknowledge(address.arrived);
+        it.news.acknowledge(address.arrived, address.waited, now);
         for prefix in it.news.arrived_leaves() {
             if let Some(all) = self
                 .destinations
@@ -388,7 +388,7 @@ impl<K: Kernel> Machine<K> {
             }
         }
         if let Some(it) = self.neighbours.get_mut(&head.from) {
-            it.news.heard(head.number, address.wants_answer);
+            it.news.heard(head.number, address.wants_answer, now);
             if address.is_complete && !it.has_told_all {
                 it.has_told_all = true;
                 self.changed.extend(self.destinations.keys());

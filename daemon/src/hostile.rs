@@ -33,7 +33,7 @@ const MOST_TEXTS: u64 = 200_000;
 const HELLO: u8 = 1;
 const HEAD: usize = 36;
 const HELLO_HEAD: usize = 44;
-const NEWS_HEAD: usize = 72;
+const NEWS_HEAD: usize = 76;
 const HEARD: usize = 20;
 const SEAL: usize = 16;
 const NUMBERS: [usize; 7] = [12, 20, 28, 40, 48, 56, 64];
@@ -202,7 +202,7 @@ impl Target {
 
     fn exchange(&mut self, other: &mut Machine<Willing>) {
         self.now += STEP;
-        other.turn(self.now);
+        other.turn(|| self.now);
         for (device, data) in std::mem::take(&mut other.outbox) {
             if device == DEVICE {
                 self.machine.take(DEVICE, address(2), &data, self.now);
@@ -222,7 +222,7 @@ impl Target {
     }
 
     fn turn(&mut self) {
-        self.machine.turn(self.now);
+        self.machine.turn(|| self.now);
         // The daemon would start again. Here the same process goes on.
         self.machine.later_session = None;
     }

@@ -507,14 +507,16 @@ impl<K: Kernel> Machine<K> {
 
     /// Does what is to be done now, and writes datagrams to the outbox. Nothing, once a neighbour knows a later session of
     /// this router.
-    pub fn turn(&mut self, now: Duration) {
+    pub fn turn(&mut self, clock: impl Fn() -> Duration) {
         if self.later_session.is_some() {
             return;
         }
+        let now = clock();
         self.look_around(now);
         self.settle(now);
         self.release();
-        self.speak(now);
+        // What is said is as old as it looks only after the writes.
+        self.speak(clock());
     }
 
     /// When the next turn is due, even if nothing happens.

@@ -17,6 +17,7 @@ mod neighbour;
 mod netlink;
 mod news;
 mod prefix;
+mod round_trip;
 mod senders;
 mod speaking;
 mod system;

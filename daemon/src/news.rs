@@ -5,6 +5,7 @@
 
 use crate::datagram::Arrived;
 use crate::prefix::Prefix;
+use crate::round_trip::RoundTrip;
 use std::collections::{BTreeMap, BTreeSet};
 use std::time::Duration;
 
@@ -42,6 +43,9 @@ pub struct News {
     list: List,
     says_complete: bool,
     arrived: Arrived,
+    /// When the greatest number that arrived did.
+    arrived_at: Duration,
+    pub round_trip: RoundTrip,
     owes: bool,
     left: Vec<Prefix>,
 }
@@ -63,6 +67,8 @@ impl News {
             says_complete: false,
             unlisted,
             arrived: Arrived::default(),
+            arrived_at: Duration::ZERO,
+            round_trip: RoundTrip::default(),
             owes: false,
             left: Vec::new(),
         }
@@ -126,6 +132,11 @@ impl News {
         self.arrived
     }
 
+    /// For how long this router has had the greatest number that arrived.
+    pub fn waited(&self, now: Duration) -> Duration {
+        now.saturating_sub(self.arrived_at)
+    }
+
     /// Whether a datagram with these prefixes has to be acknowledged.
     pub fn wants_answer(&self, prefixes: &[Prefix]) -> bool {
         !prefixes.is_empty() || self.list == List::Arrived
@@ -138,6 +149,7 @@ impl News {
         if self.wants_answer(&prefixes) {
             let says_complete = self.list == List::Arrived;
             self.says_complete |= says_complete;
+            self.round_trip.sent(self.number, now);
             let due = now + self.patience;
             self.flights.insert(
                 self.number,
@@ -151,8 +163,9 @@ impl News {
         }
     }
 
-    /// What the neighbour says of the datagrams that arrived there.
-    pub fn acknowledge(&mut self, arrived: Arrived) {
+    /// What the neighbour says of the datagrams that arrived there, and how long the last of them waited for that.
+    pub fn acknowledge(&mut self, arrived: Arrived, waited: Duration, now: Duration) {
+        self.round_trip.answered(arrived.greatest, waited, now);
         let numbers: Vec<u64> = self
             .flights
             .keys()
@@ -229,7 +242,10 @@ impl News {
     }
 
     /// A datagram of the neighbour has been heard. It is to be acknowledged if it has something to acknowledge.
-    pub fn heard(&mut self, number: u64, owes: bool) {
+    pub fn heard(&mut self, number: u64, owes: bool, now: Duration) {
+        if number > self.arrived.greatest {
+            self.arrived_at = now;
+        }
         self.arrived.add(number);
         self.owes |= owes;
     }

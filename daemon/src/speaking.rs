@@ -90,10 +90,6 @@ impl<K: Kernel> Machine<K> {
 
     /// Says to a neighbour what is new, what was lost, and what has arrived.
     fn say_news(&mut self, number: u32, now: Duration) {
-        let Some(it) = self.neighbours.get_mut(&number) else {
-            return;
-        };
-        it.news.expire(now);
         while self
             .neighbours
             .get(&number)
@@ -122,8 +118,12 @@ impl<K: Kernel> Machine<K> {
         // Each datagram takes the next one of several links, so one that loses all does not hold up the others.
         it.turns = it.turns.wrapping_add(1);
         let device = up[it.turns % up.len()];
-        let (to, arrived, is_complete) =
-            (it.heard(number), it.news.arrived(), it.news.is_complete());
+        let (to, arrived, waited, is_complete) = (
+            it.heard(number),
+            it.news.arrived(),
+            it.news.waited(now),
+            it.news.is_complete(),
+        );
         let count = it.news.next_number();
         let head = self.head(count);
         let mut data = News::new(
@@ -131,6 +131,7 @@ impl<K: Kernel> Machine<K> {
             Address {
                 to,
                 arrived,
+                waited,
                 is_complete,
                 wants_answer: false,
             },

@@ -5,7 +5,8 @@ use crate::datagram::Mac;
 use crate::kernel::{Kernel, Refusal, Write};
 use crate::machine::{GATES, LONGEST_DEAD, Machine, SENDERS, Settings};
 use crate::prefix::Prefix;
-use std::cell::RefCell;
+use crate::view::neighbours_text;
+use std::cell::{Cell, RefCell};
 use std::collections::{BTreeMap, BTreeSet};
 use std::net::{IpAddr, Ipv6Addr};
 use std::rc::Rc;
@@ -626,7 +627,7 @@ impl Lab {
         let Some(machine) = self.machines.get_mut(&router) else {
             return;
         };
-        machine.turn(self.now);
+        machine.turn(|| self.now);
         for (device, data) in std::mem::take(&mut machine.outbox) {
             self.sent += 1;
             let ends = self.world.borrow().ends[&(router, device)].clone();
@@ -1255,6 +1256,35 @@ fn no_storm_on_lans_makes_a_loop() {
         println!("seed {seed}");
         let checks = storm(Lab::with_lans(&[(0, 2)], &LANS, seed));
         assert!(checks > 100, "{checks}");
+    }
+}
+
+/// Each datagram is on its way for 3 ms, and each router writes for 20 ms before it speaks.
+#[test]
+fn the_round_trip_is_without_the_waits_of_both_ends() {
+    let (way, writes) = (Duration::from_millis(3), Duration::from_millis(20));
+    let mut lab = Lab::new(&[(0, 1)], 20);
+    lab.start_all();
+    for router in [0, 1].repeat(30) {
+        let (begun, clock) = (lab.now, Cell::new(lab.now));
+        let machine = lab.machines.get_mut(&router).unwrap();
+        machine.turn(|| clock.replace(begun + writes));
+        let said = std::mem::take(&mut machine.outbox);
+        lab.now += writes + way;
+        for (device, data) in said {
+            let other = lab.machines.get_mut(&(1 - router)).unwrap();
+            other.take(device, address(router, device), &data, lab.now);
+        }
+    }
+    for machine in lab.machines.values() {
+        let views = machine.neighbour_views(lab.now);
+        assert_eq!(views[0].round_trip_seconds, Some(0.006));
+        assert!(neighbours_text(&views).contains("  6.0 ms  "));
+        let line = format!(
+            "\nrevrouted_round_trip_seconds{{neighbour=\"{}\"}} 0.006000\n",
+            views[0].router
+        );
+        assert!(machine.metrics(lab.now).contains(&line));
     }
 }
 

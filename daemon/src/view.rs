@@ -1,7 +1,10 @@
 //! What one sees of a machine: as JSON, as text, and as counters for Prometheus.
 
+use crate::destination::Destination;
 use crate::kernel::Kernel;
-use crate::machine::{Counts, GATES, Machine};
+use crate::machine::{Counts, Device, GATES, Hold, Machine};
+use crate::neighbour::{Adjacency, Neighbour};
+use crate::prefix::Prefix;
 use serde::{Deserialize, Serialize};
 use std::fmt::Write as _;
 use std::time::Duration;
@@ -40,6 +43,10 @@ pub struct NeighbourView {
     pub seconds: f64,
     pub session: u64,
     pub listed: bool,
+    /// The time until a datagram to it is answered, as of the last news. `None` if none was answered yet.
+    pub round_trip_seconds: Option<f64>,
+    /// How far single times are from it.
+    pub round_trip_variation_seconds: Option<f64>,
     /// How much is to be said to it, or is not acknowledged.
     pub pending: usize,
     pub links: Vec<LinkView>,
@@ -91,59 +98,63 @@ impl<K: Kernel> Machine<K> {
     }
 
     fn interface_views(&self) -> Vec<Interface> {
-        let view = |it: &crate::machine::Device| Interface {
+        let view = |it: &Device| Interface {
             name: it.name.clone(),
             carrier: it.has_carrier,
             gates: it.is_ready,
-            held: it.hold != crate::machine::Hold::Open && !it.is_lan,
+            held: it.hold != Hold::Open && !it.is_lan,
             lan: it.is_lan,
         };
         self.devices.values().map(view).collect()
     }
 
     pub fn neighbour_views(&self, now: Duration) -> Vec<NeighbourView> {
-        let view = |(number, it): (&u32, &crate::neighbour::Neighbour)| NeighbourView {
-            router: *number,
+        let all = self.neighbours.iter();
+        all.map(|(number, it)| self.neighbour_view(*number, it, now))
+            .collect()
+    }
+
+    fn neighbour_view(&self, number: u32, it: &Neighbour, now: Duration) -> NeighbourView {
+        let round_trip = it.news.round_trip.smoothed();
+        let link_view = |(device, link): (&u32, &Adjacency)| LinkView {
+            interface: self.name_of(*device).into(),
+            address: link.address.to_string(),
+            cost: self.cost_of(*device),
+            heard: link.is_heard,
+            hears_us: link.hears_me,
+            up: link.is_up,
+        };
+        NeighbourView {
+            router: number,
             up: it.is_up,
             seconds: now.saturating_sub(it.since).as_secs_f64(),
             session: it.session,
             listed: it.has_told_all,
+            round_trip_seconds: round_trip.map(|it| it.mean.as_secs_f64()),
+            round_trip_variation_seconds: round_trip.map(|it| it.variation.as_secs_f64()),
             pending: it.news.pending(),
-            links: it
-                .links
-                .iter()
-                .map(|(device, link)| LinkView {
-                    interface: self.name_of(*device).into(),
-                    address: link.address.to_string(),
-                    cost: self.cost_of(*device),
-                    heard: link.is_heard,
-                    hears_us: link.hears_me,
-                    up: link.is_up,
-                })
-                .collect(),
-        };
-        self.neighbours.iter().map(view).collect()
+            links: it.links.iter().map(link_view).collect(),
+        }
     }
 
     pub fn routes(&self, now: Duration) -> Vec<Route> {
-        let view =
-            |(prefix, it): (&crate::prefix::Prefix, &crate::destination::Destination)| Route {
-                prefix: prefix.to_string(),
-                announced_here: it.is_own,
-                height: it.node.height(),
-                distance: it.node.distance(),
-                ways: it
-                    .node
-                    .table()
-                    .map(|it| it.ways().to_vec())
-                    .unwrap_or_default(),
-                gates: it
-                    .open_gates()
-                    .map(|table| self.name_of_gates(table))
-                    .collect(),
-                written: it.is_written,
-                seconds: now.saturating_sub(it.since).as_secs_f64(),
-            };
+        let view = |(prefix, it): (&Prefix, &Destination)| Route {
+            prefix: prefix.to_string(),
+            announced_here: it.is_own,
+            height: it.node.height(),
+            distance: it.node.distance(),
+            ways: it
+                .node
+                .table()
+                .map(|it| it.ways().to_vec())
+                .unwrap_or_default(),
+            gates: it
+                .open_gates()
+                .map(|table| self.name_of_gates(table))
+                .collect(),
+            written: it.is_written,
+            seconds: now.saturating_sub(it.since).as_secs_f64(),
+        };
         self.destinations.iter().map(view).collect()
     }
 
@@ -189,8 +200,22 @@ impl<K: Kernel> Machine<K> {
                 );
             }
         }
-        text
+        text + &round_trip_metrics(&it.neighbours)
     }
+}
+
+/// The round trips as metrics with a label for each neighbour.
+fn round_trip_metrics(all: &[NeighbourView]) -> String {
+    let mut text = String::from("# TYPE revrouted_round_trip_seconds gauge\n");
+    for it in all {
+        if let Some(seconds) = it.round_trip_seconds {
+            text += &format!(
+                "revrouted_round_trip_seconds{{neighbour=\"{}\"}} {seconds:.6}\n",
+                it.router
+            );
+        }
+    }
+    text
 }
 
 /// A span of time as a reader wants it.
@@ -201,6 +226,15 @@ fn span(seconds: f64) -> String {
         120..=7199 => format!("{} min", whole / 60),
         7200..=172_799 => format!("{} h", whole / 3600),
         _ => format!("{} days", whole / 86_400),
+    }
+}
+
+/// A short time, in microseconds below a millisecond.
+fn short_span(seconds: f64) -> String {
+    if seconds < 0.001 {
+        format!("{:.0} us", seconds * 1e6)
+    } else {
+        format!("{:.1} ms", seconds * 1e3)
     }
 }
 
@@ -268,6 +302,7 @@ pub fn neighbours_text(all: &[NeighbourView]) -> String {
         "INTERFACE",
         "ADDRESS",
         "COST",
+        "ROUND TRIP",
         "HEARD",
         "HEARS US",
         "LISTED",
@@ -283,6 +318,7 @@ pub fn neighbours_text(all: &[NeighbourView]) -> String {
                 &link.interface,
                 &link.address,
                 &link.cost.to_string(),
+                &it.round_trip_seconds.map_or("-".into(), short_span),
                 yes(link.heard),
                 yes(link.hears_us),
                 yes(it.listed),

@@ -89,6 +89,9 @@ impl<K: Kernel> Machine<K> {
         for index in waiting {
             self.prepare_device(index, now);
         }
+        for it in self.neighbours.values_mut().filter(|it| it.is_up) {
+            it.news.expire(now);
+        }
         self.forget_former(now);
         self.leave(now);
     }
