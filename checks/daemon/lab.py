@@ -213,12 +213,18 @@ def wrong_words():
 
 
 def check():
+    first_network()
+    took, started = lost_link(), killed_process()
+    ended_process()
+    reloaded()
+    wrong_words()
+    return f"daemon: three routers reach each other by IPv4 and IPv6, {took:.1f} s after a link is cut, {1000 * started:.0f} ms after a start"
+
+
+def checked(check):
+    """Runs a check of the three routers, which returns what it has seen. Returns the status."""
     try:
-        first_network()
-        took, started = lost_link(), killed_process()
-        ended_process()
-        reloaded()
-        wrong_words()
+        print(check())
     except Wrong as it:
         for router in ROUTERS:
             log = STATE / f"{router}.log"
@@ -227,11 +233,10 @@ def check():
         return 1
     finally:
         call("down")
-    print(f"daemon: three routers reach each other by IPv4 and IPv6, {took:.1f} s after a link is cut, {1000 * started:.0f} ms after a start")
     return 0
 
 
-def main():
+def main(check):
     os.environ["REVROUTED"] = str(Path(sys.argv[1]).resolve())
     os.environ["STATE"] = str(STATE)
     signal.signal(signal.SIGALRM, inside.take_too_long)
@@ -242,8 +247,8 @@ def main():
     except inside.LeftOut as it:
         print(f"skipped: the lab of the daemon, since {' '.join(str(it.why).split())}: {it.package}")
         return 0
-    return check()
+    return checked(check)
 
 
 if __name__ == "__main__":
-    sys.exit(main())
+    sys.exit(main(check))

@@ -473,6 +473,106 @@ fn what_an_earlier_session_said_changes_nothing() {
     }
 }
 
+/// What one sender sends as fast as it can.
+#[derive(Clone, Copy, Debug)]
+enum Flood {
+    Strangers,
+    Replays,
+    /// Hellos and news of a neighbour, with right seals and rising numbers.
+    Neighbour,
+}
+
+/// So many datagrams come between two turns of the router, which is 50,000 in a second, for so many turns, which is 2 seconds.
+const FLOOD: usize = 1000;
+const TURNS: u64 = 100;
+/// What the router may keep of a flood, in bytes.
+const MOST_KEPT: i64 = 4096;
+
+impl Target {
+    fn flood(&self, kind: Flood, dice: &mut Dice) -> Vec<(u32, Ipv6Addr, Vec<u8>)> {
+        let one = |dice: &mut Dice| match kind {
+            Flood::Strangers => self.of_stranger(false, dice),
+            Flood::Replays => self.of_stranger(true, dice),
+            Flood::Neighbour => (DEVICE, address(2), one_of(&self.present, dice).clone()),
+        };
+        (0..FLOOD).map(|_| one(dice)).collect()
+    }
+}
+
+/// Gives a datagram another number and the seal that it has to have then.
+fn renumber(data: &mut Vec<u8>, number: u64) {
+    data.truncate(data.len() - SEAL);
+    data[28..HEAD].copy_from_slice(&number.to_be_bytes());
+    *data = datagram::sealed(std::mem::take(data), &keys());
+}
+
+/// Between the datagrams of the flood, the neighbour says what it always says. It stays up at both ends, and the hellos of
+/// both come in time.
+fn bear_flood(kind: Flood, dice: &mut Dice) {
+    let mut target = Target::new(dice);
+    let mut other = started(2, SESSION + 1, target.now, dice);
+    for _ in 0..TURNS {
+        target.exchange(&mut other);
+    }
+    // what was said before it heard this router is not what it says now
+    target.present.clear();
+    for it in 0..TURNS {
+        if it % 20 == 10 {
+            other.configure(told(2, dice), target.now);
+        }
+        target.exchange(&mut other);
+    }
+    let recorded = target.present.len();
+    target.present.reserve(FLOOD);
+    let mut flood = target.flood(kind, dice);
+    let (held, events, mut number) = (taken().1, target.machine.journal.count(), 1 << 40);
+    for _ in 0..TURNS {
+        for (device, source, data) in &mut flood {
+            if matches!(kind, Flood::Neighbour) {
+                number += 1;
+                renumber(data, number);
+            }
+            target.machine.take(*device, *source, data, target.now);
+        }
+        target.exchange(&mut other);
+        target.present.truncate(recorded);
+        for (it, neighbour) in [(&target.machine, 2), (&other, 1)] {
+            let (link, settings) = (&it.neighbours[&neighbour].links[&DEVICE], &it.settings);
+            let since = target.now + settings.dead - link.until;
+            assert!(
+                link.is_up && since <= settings.hello + 2 * STEP,
+                "{kind:?}: {since:?}"
+            );
+        }
+    }
+    assert_eq!(
+        target.machine.journal.count(),
+        events,
+        "{kind:?}: it makes events"
+    );
+    let kept = taken().1 - held;
+    assert!(kept <= MOST_KEPT, "{kind:?}: {kept} bytes are kept");
+    let counts = target.machine.counts;
+    let most = if matches!(kind, Flood::Neighbour) {
+        0
+    } else {
+        FLOOD as u64 * TURNS
+    };
+    assert!(
+        counts.datagrams_ignored >= most,
+        "{kind:?}: {} ignored",
+        counts.datagrams_ignored
+    );
+}
+
+#[test]
+fn a_flood_takes_no_memory_and_holds_up_no_hello() {
+    let mut dice = dice();
+    for kind in [Flood::Strangers, Flood::Replays, Flood::Neighbour] {
+        bear_flood(kind, &mut dice);
+    }
+}
+
 #[test]
 fn hostile_configurations_are_read_or_refused() {
     let text = "router = 3\ninterfaces = [\"eth*\"]\nannounce = [\"10.0.3.0/24\", \"fd00::/48\"]\nhello = 1.0\ndead = 4.0\n\
