@@ -95,6 +95,9 @@ impl<'de> Deserialize<'de> for Prefix {
     }
 }
 
+/// A key of the file, and what is wrong with it.
+type WrongKey = (&'static str, String);
+
 /// What is wrong with a file: the line, counted from 1, if one is, and why.
 #[derive(Debug, PartialEq, Eq)]
 pub struct Fault {
@@ -163,13 +166,30 @@ impl Config {
     }
 
     /// The settings, or a key of the file and what is wrong with it.
-    fn settings(&self) -> Result<Settings, (&'static str, String)> {
+    fn settings(&self) -> Result<Settings, WrongKey> {
         if self.interfaces.is_empty() {
-            return Err((
-                "interfaces",
-                "no interface is named, so there are no neighbours".into(),
-            ));
+            let why = "no interface is named, so there are no neighbours";
+            return Err(("interfaces", why.into()));
         }
+        self.look_at_timers()?;
+        self.look_at_routes()?;
+        let costs = self.interface.iter();
+        let lans = self.interface.iter().filter(|(_, it)| it.lan);
+        Ok(Settings {
+            router: self.router,
+            hello: Duration::from_secs_f64(self.hello),
+            dead: Duration::from_secs_f64(self.dead),
+            forget: Duration::from_secs_f64(self.forget),
+            ceiling: self.ceiling,
+            table: self.table,
+            keys: self.keys().map_err(|why| ("key", why))?,
+            announce: self.announce.iter().copied().collect(),
+            costs: costs.map(|(name, it)| (name.clone(), it.cost)).collect(),
+            lans: lans.map(|(name, _)| name.clone()).collect(),
+        })
+    }
+
+    fn look_at_timers(&self) -> Result<(), WrongKey> {
         if !(SHORTEST_HELLO..=10.0).contains(&self.hello) {
             return Err((
                 "hello",
@@ -186,6 +206,10 @@ impl Config {
         if !(1.0..=86_400.0).contains(&self.forget) {
             return Err(("forget", "`forget` is from 1 to 86400 seconds".into()));
         }
+        Ok(())
+    }
+
+    fn look_at_routes(&self) -> Result<(), WrongKey> {
         if self.ceiling == 0 {
             return Err((
                 "ceiling",
@@ -201,34 +225,14 @@ impl Config {
                 ),
             ));
         }
-        let announce: BTreeSet<Prefix> = self.announce.iter().copied().collect();
-        if announce.len() < self.announce.len() {
+        let different: BTreeSet<Prefix> = self.announce.iter().copied().collect();
+        if different.len() < self.announce.len() {
             return Err(("announce", "a prefix is announced twice".into()));
         }
         if self.interface.values().any(|it| it.cost == 0) {
             return Err(("interface", "a cost is at least 1".into()));
         }
-        Ok(Settings {
-            router: self.router,
-            hello: Duration::from_secs_f64(self.hello),
-            dead: Duration::from_secs_f64(self.dead),
-            forget: Duration::from_secs_f64(self.forget),
-            ceiling: self.ceiling,
-            table: self.table,
-            keys: self.keys().map_err(|why| ("key", why))?,
-            announce,
-            costs: self
-                .interface
-                .iter()
-                .map(|(name, it)| (name.clone(), it.cost))
-                .collect(),
-            lans: self
-                .interface
-                .iter()
-                .filter(|(_, it)| it.lan)
-                .map(|(name, _)| name.clone())
-                .collect(),
-        })
+        Ok(())
     }
 
     fn keys(&self) -> Result<Vec<Key>, String> {

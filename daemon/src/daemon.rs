@@ -100,6 +100,31 @@ fn kernel() -> Result<Netlink, String> {
     }
 }
 
+/// Puts what an error of the system is about before it.
+fn fails(what: &str) -> impl FnOnce(std::io::Error) -> String {
+    move |it| format!("{what}: {it}")
+}
+
+/// Has the loop wake up once something can be read.
+fn follow(poll: &Poll, descriptor: i32, token: Token) -> std::io::Result<()> {
+    let mut source = SourceFd(&descriptor);
+    poll.registry()
+        .register(&mut source, token, Interest::READABLE)
+}
+
+/// The machine of a process that starts.
+fn machine(settings: Settings, session: u64, kernel: Netlink) -> Result<Machine<Netlink>, String> {
+    let why = "the kernel does not let go what an earlier process has left";
+    let mut machine = Machine::new(settings, session, kernel, Duration::ZERO)
+        .map_err(|it| format!("{why}: {it}"))?;
+    machine.journal.is_printed = true;
+    machine.journal.add(format!(
+        "router {} starts with boot number {session}",
+        machine.settings.router
+    ));
+    Ok(machine)
+}
+
 /// Reads a file of the configuration. The error has its line and cause.
 pub fn read_config(file: &Path) -> Result<(Config, Settings), String> {
     let name = file.display();
@@ -118,45 +143,24 @@ impl Daemon {
         let lock = lock()?;
         let kernel = kernel()?;
         let session = next_session(&config.state, 0)?;
-        let fails = |what: &str| {
-            let what = what.to_string();
-            move |it: std::io::Error| format!("{what}: {it}")
-        };
         let poll = Poll::new().map_err(fails("poll"))?;
-        let registry = poll.registry();
-        let control = Control::open(&config.control, registry, LISTENER, CLIENTS)
+        let control = Control::open(&config.control, poll.registry(), LISTENER, CLIENTS)
             .map_err(fails(&config.control.display().to_string()))?;
         let reader = DeviceReader::new().map_err(fails("netlink"))?;
-        let (ends, reloads) = (
-            signal_hook_pipe::of(&[SIGTERM, SIGINT]),
-            signal_hook_pipe::of(&[SIGHUP]),
-        );
-        let (ends, reloads) = (
-            ends.map_err(fails("signals"))?,
-            reloads.map_err(fails("signals"))?,
-        );
-        for (descriptor, token) in [
+        let ends = signal_hook_pipe::of(&[SIGTERM, SIGINT]).map_err(fails("signals"))?;
+        let reloads = signal_hook_pipe::of(&[SIGHUP]).map_err(fails("signals"))?;
+        let all = [
             (reader.descriptor(), DEVICES),
             (fd(&ends), END),
             (fd(&reloads), RELOAD),
-        ] {
-            registry
-                .register(&mut SourceFd(&descriptor), token, Interest::READABLE)
-                .map_err(fails("poll"))?;
+        ];
+        for (descriptor, token) in all {
+            follow(&poll, descriptor, token).map_err(fails("poll"))?;
         }
-        let mut machine =
-            Machine::new(settings, session, kernel, Duration::ZERO).map_err(|it| {
-                format!("the kernel does not let go what an earlier process has left: {it}")
-            })?;
-        machine.journal.is_printed = true;
-        machine.journal.add(format!(
-            "router {} starts with boot number {session}",
-            machine.settings.router
-        ));
         let mut daemon = Daemon {
             file: file.into(),
             config,
-            machine,
+            machine: machine(settings, session, kernel)?,
             begun,
             poll,
             reader,
@@ -271,11 +275,7 @@ impl Daemon {
         let now = self.now();
         let opened = Port::open(&it.name, it.index).and_then(|port| {
             let token = Token(PORTS + it.index as usize);
-            self.poll.registry().register(
-                &mut SourceFd(&port.descriptor()),
-                token,
-                Interest::READABLE,
-            )?;
+            follow(&self.poll, port.descriptor(), token)?;
             Ok(port)
         });
         match opened {

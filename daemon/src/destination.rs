@@ -2,7 +2,7 @@
 
 use crate::kernel::{Batch, Refusal, Write};
 use crate::prefix::Prefix;
-use revroute::{Node, NodeTable};
+use revroute::{MESSAGE_LENGTH, Node, NodeTable};
 use std::collections::{BTreeMap, BTreeSet};
 use std::time::Duration;
 
@@ -33,6 +33,35 @@ enum Place {
     Unknown,
 }
 
+impl Place {
+    /// The lines that give a place another way, or none.
+    fn changed_to(
+        self,
+        hop: Option<u32>,
+        (table, prefix, at): (u32, Prefix, usize),
+    ) -> impl Iterator<Item = (WayWrite, Write)> {
+        let place = at as u32;
+        // Another one's route with the same metric must not be replaced: only a way that is there is.
+        let replaces = matches!(self, Place::Hop(_));
+        let is_removed = hop.is_none() || self == Place::Unknown;
+        let removal = is_removed.then_some(Write::RemoveWay {
+            table,
+            prefix,
+            place,
+        });
+        let way = hop.map(|hop| Write::AddWay {
+            table,
+            prefix,
+            place,
+            hop,
+            replaces,
+        });
+        let removal = removal.map(|line| (WayWrite { at, hop: None }, line));
+        let way = way.map(|line| (WayWrite { at, hop }, line));
+        removal.into_iter().chain(way)
+    }
+}
+
 #[derive(Clone, Copy, PartialEq, Eq)]
 enum Gate {
     Open,
@@ -51,6 +80,7 @@ pub enum Becomes {
 }
 
 /// What the kernel is to have: the nexthop objects of the ways, and the tables of gates in which it is to be open.
+#[derive(Default)]
 pub struct Plan {
     /// What the node handed out, unless the table is to be emptied.
     pub table: Option<NodeTable>,
@@ -137,6 +167,13 @@ impl Destination {
                 return;
             }
         }
+    }
+
+    /// What its node says to a neighbour. Nothing is said that is not written. Then the neighbour learns only that there is
+    /// this prefix.
+    pub fn message_to(&mut self, neighbour: u32) -> Option<[u8; MESSAGE_LENGTH]> {
+        let it = self.is_written.then(|| self.node.say(neighbour).ok());
+        it.flatten().flatten()
     }
 
     /// The ways that the kernel is known to have.
@@ -239,34 +276,14 @@ impl Destination {
         let count = wanted.len().max(self.places.len());
         self.places.resize(count, Place::Empty);
         for (at, held) in self.places.iter_mut().enumerate() {
-            let (place, hop) = (at as u32, wanted.get(at).copied());
-            if hop.map_or(Place::Empty, Place::Hop) == *held {
-                continue;
+            let hop = wanted.get(at).copied();
+            if hop.map_or(Place::Empty, Place::Hop) != *held {
+                for (what, line) in held.changed_to(hop, (table, prefix, at)) {
+                    batch.push((prefix, what), line);
+                }
+                *held = Place::Unknown;
+                is_changed = true;
             }
-            // Another one's route with the same metric must not be replaced: only a way that is there is.
-            let replaces = matches!(held, Place::Hop(_));
-            if hop.is_none() || *held == Place::Unknown {
-                batch.push(
-                    (prefix, WayWrite { at, hop: None }),
-                    Write::RemoveWay {
-                        table,
-                        prefix,
-                        place,
-                    },
-                );
-            }
-            if let Some(hop) = hop {
-                let line = Write::AddWay {
-                    table,
-                    prefix,
-                    place,
-                    hop,
-                    replaces,
-                };
-                batch.push((prefix, WayWrite { at, hop: Some(hop) }), line);
-            }
-            *held = Place::Unknown;
-            is_changed = true;
         }
         is_changed
     }

@@ -372,16 +372,8 @@ impl<K: Kernel> Machine<K> {
             return false;
         };
         it.news.acknowledge(address.arrived, address.waited, now);
-        for prefix in it.news.arrived_leaves() {
-            if let Some(all) = self
-                .destinations
-                .get_mut(&prefix)
-                .and_then(|it| it.leaves.as_mut())
-            {
-                all.remove(&head.from);
-                self.changed.insert(prefix);
-            }
-        }
+        let left = it.news.arrived_leaves();
+        self.has_heard_leaves(head.from, left);
         for record in records {
             if self.take_record(head, record, now).is_err() {
                 return false;
@@ -395,6 +387,17 @@ impl<K: Kernel> Machine<K> {
             }
         }
         true
+    }
+
+    /// A neighbour has acknowledged that this router leaves some prefixes.
+    fn has_heard_leaves(&mut self, number: u32, some: Vec<Prefix>) {
+        for prefix in some {
+            let it = self.destinations.get_mut(&prefix);
+            if let Some(all) = it.and_then(|it| it.leaves.as_mut()) {
+                all.remove(&number);
+                self.changed.insert(prefix);
+            }
+        }
     }
 
     fn take_record(
@@ -459,10 +462,8 @@ impl<K: Kernel> Machine<K> {
                 Err(NotTaken)
             }
             Err(_) => {
-                let text = format!(
-                    "router {} says what this version does not understand",
-                    head.from
-                );
+                let why = "says what this version does not understand";
+                let text = format!("router {} {why}", head.from);
                 self.journal.add_rarely(text, now);
                 Err(NotTaken)
             }

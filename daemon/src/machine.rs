@@ -2,6 +2,7 @@
 
 use crate::datagram::{Key, Mac};
 use crate::destination::{Becomes, Destination, Link};
+use crate::former::{self, Former};
 use crate::journal::Journal;
 use crate::kernel::{Kernel, Refusal, Write};
 use crate::neighbour::Neighbour;
@@ -94,13 +95,6 @@ pub struct Sender {
     pub hold: Hold,
 }
 
-/// A device that this process does not use any more, or an earlier one had.
-pub struct Former {
-    pub until: Duration,
-    pub table: u32,
-    pub lines: Vec<Write>,
-}
-
 pub struct Machine<K> {
     pub settings: Settings,
     pub session: u64,
@@ -157,7 +151,7 @@ impl<K: Kernel> Machine<K> {
         mut kernel: K,
         now: Duration,
     ) -> Result<Machine<K>, Refusal> {
-        let former = crate::writing::clear(&mut kernel, now)?;
+        let former = former::clear(&mut kernel, now)?;
         let mut machine = Machine {
             session,
             process: random(),

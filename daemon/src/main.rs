@@ -6,12 +6,15 @@ mod control;
 mod daemon;
 mod datagram;
 mod destination;
+mod former;
+mod gates;
 mod hearing;
 #[cfg(test)]
 mod hostile;
 mod interfaces;
 mod journal;
 mod kernel;
+mod leaving;
 mod machine;
 mod neighbour;
 mod netlink;

@@ -106,37 +106,23 @@ impl<K: Kernel> Machine<K> {
         let Some(it) = self.neighbours.get_mut(&number) else {
             return false;
         };
-        let up: Vec<u32> = it
-            .links
-            .iter()
-            .filter(|(_, it)| it.is_up)
-            .map(|(it, _)| *it)
-            .collect();
+        let up = it.links.iter().filter(|(_, it)| it.is_up);
+        let up: Vec<u32> = up.map(|(it, _)| *it).collect();
         if up.is_empty() {
             return false;
         }
         // Each datagram takes the next one of several links, so one that loses all does not hold up the others.
         it.turns = it.turns.wrapping_add(1);
         let device = up[it.turns % up.len()];
-        let (to, arrived, waited, is_complete) = (
-            it.heard(number),
-            it.news.arrived(),
-            it.news.waited(now),
-            it.news.is_complete(),
-        );
+        let address = Address {
+            to: it.heard(number),
+            arrived: it.news.arrived(),
+            waited: it.news.waited(now),
+            is_complete: it.news.is_complete(),
+            wants_answer: false,
+        };
         let count = it.news.next_number();
-        let head = self.head(count);
-        let mut data = News::new(
-            head,
-            Address {
-                to,
-                arrived,
-                waited,
-                is_complete,
-                wants_answer: false,
-            },
-            &self.settings.keys,
-        );
+        let mut data = News::new(self.head(count), address, &self.settings.keys);
         let (prefixes, leaves) = self.add_records(number, &mut data);
         let Some(it) = self.neighbours.get_mut(&number) else {
             return false;
@@ -169,10 +155,8 @@ impl<K: Kernel> Machine<K> {
             };
             if let Some(all) = &it.leaves {
                 if all.contains(&number) {
-                    data.push(Record {
-                        prefix,
-                        says: Says::Left,
-                    });
+                    let says = Says::Left;
+                    data.push(Record { prefix, says });
                     told.push(prefix);
                     leaves.push(prefix);
                 } else {
@@ -180,20 +164,14 @@ impl<K: Kernel> Machine<K> {
                 }
                 continue;
             }
-            // Nothing is said that is not written. Then the neighbour learns only that there is this prefix.
-            let message = if it.is_written {
-                it.node.say(number).ok().flatten()
-            } else {
-                None
-            };
+            let message = it.message_to(number);
             if message.is_none() && !neighbour.news.is_unlisted(&prefix) {
                 continue;
             }
             self.counts.messages_said += u64::from(message.is_some());
             let is_alive = it.node.distance().is_some();
-            let says = message
-                .as_ref()
-                .map_or(Says::Name, |it| Says::Message(it, is_alive));
+            let said = message.as_ref();
+            let says = said.map_or(Says::Name, |it| Says::Message(it, is_alive));
             data.push(Record { prefix, says });
             told.push(prefix);
         }
