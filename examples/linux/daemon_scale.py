@@ -10,6 +10,8 @@ from daemon_network import Announced, Network, announced_by_all, memory_of, seco
 from namespaces import beside
 
 SECONDS_TO_SETTLE, SECONDS_BETWEEN = 600, 0.2
+# What a daemon says of a neighbour that is silent. If nothing fails, the machine is too busy for the timers.
+SILENT = "nothing is heard from it"
 LONGEST_ANSWER = 1 << 16
 # What all daemons of the usual network may take together while nothing happens, and the KiB that one of them may take.
 MOST_PROCESSORS, MOST_MEMORY = 0.04, 2048
@@ -86,6 +88,7 @@ def measured(asked, program, names, links):
         figures["one starts again"] = seconds_to_settle(network, len(prefixes))
         figures["bytes for that"] = network.sent()[0] - sent
     finally:
+        figures["silences"] = sum(network.log(it).read_text().count(SILENT) for it in names if network.log(it).exists())
         figures["load"] = round(os.getloadavg()[0], 1)
         print(json.dumps(figures), flush=True)
         network.close()
