@@ -3,7 +3,6 @@
 use crate::datagram::Mac;
 use crate::kernel::{Kernel, Refusal, Write};
 use crate::machine::{GATES, Hold, Machine, Sender};
-use crate::neighbour::Neighbour;
 use crate::writing::{LONGEST, all_done, both};
 use std::collections::BTreeSet;
 use std::time::Duration;
@@ -90,12 +89,6 @@ impl<K: Kernel> Machine<K> {
         written.is_ok()
     }
 
-    fn is_up_on(&self, router: u32, device: u32) -> bool {
-        let it = self.neighbours.get(&router);
-        it.and_then(|it| it.links.get(&device))
-            .is_some_and(|it| it.is_up)
-    }
-
     /// Writes the gates of a sender, closed, and then has the kernel mark what it sends.
     fn write_sender(&mut self, one: (u32, u32), mac: Mac) -> Result<(), Refusal> {
         if !self.has_senders {
@@ -140,29 +133,32 @@ impl<K: Kernel> Machine<K> {
         Ok(())
     }
 
-    /// Whether the neighbour on a device is up, and has named all prefixes that it knows. Never, if it has several.
-    fn is_told(&self, device: u32) -> bool {
-        if self.is_lan(device) {
-            return false;
-        }
-        let is_up = |it: &Neighbour| it.links.get(&device).is_some_and(|link| link.is_up);
-        self.neighbours
-            .values()
-            .any(|it| it.has_told_all && is_up(it))
+    /// The links that are up, each as its device and its neighbour, to neighbours that have named all prefixes that they know.
+    fn links_told(&self) -> BTreeSet<(u32, u32)> {
+        let told = self.neighbours.iter().filter(|(_, it)| it.has_told_all);
+        told.flat_map(|(router, it)| {
+            let up = it.links.iter().filter(|(_, link)| link.is_up);
+            up.map(|(device, _)| (*device, *router))
+        })
+        .collect()
     }
 
-    /// The same for one of several neighbours.
-    fn has_sender_told(&self, (device, router): (u32, u32)) -> bool {
-        let it = self.neighbours.get(&router);
-        it.is_some_and(|it| it.has_told_all) && self.is_up_on(router, device)
-    }
-
-    /// All tables of gates that are in use: how each holds, and whether its neighbour has told all.
+    /// All tables of gates that are in use: how each holds, and whether its neighbour has told all. That of a device with
+    /// several neighbours holds always.
     pub fn holds(&self) -> Vec<(u32, Hold, bool)> {
+        let told = self.links_told();
+        let is_told = |device: u32| {
+            told.range((device, 0)..=(device, u32::MAX))
+                .next()
+                .is_some()
+        };
         let devices = self.devices.iter().filter(|(_, it)| it.is_ready);
-        let of_devices = devices.map(|(index, it)| (GATES + index, it.hold, self.is_told(*index)));
+        let of_devices = devices.map(|(index, it)| {
+            let is_told = !it.is_lan && is_told(*index);
+            (GATES + index, it.hold, is_told)
+        });
         let senders = self.senders.iter();
-        let of_senders = senders.map(|(one, it)| (it.table, it.hold, self.has_sender_told(*one)));
+        let of_senders = senders.map(|(one, it)| (it.table, it.hold, told.contains(one)));
         of_devices.chain(of_senders).collect()
     }
 

@@ -136,6 +136,8 @@ pub struct Counts {
     pub bytes_sent: u64,
     pub datagrams_received: u64,
     pub datagrams_ignored: u64,
+    /// Those that were not answered in time, so what they said was said again.
+    pub datagrams_unanswered: u64,
     pub messages_heard: u64,
     pub messages_said: u64,
     pub lines_written: u64,

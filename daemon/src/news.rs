@@ -200,19 +200,20 @@ impl News {
             .retain(|_, it| !it.prefixes.is_empty() || it.says_complete && !is_known);
     }
 
-    /// Has said again what was not acknowledged in time.
-    pub fn expire(&mut self, now: Duration) {
+    /// Has said again what was not acknowledged in time. Returns how many datagrams that are.
+    pub fn expire(&mut self, now: Duration) -> u64 {
         let late: Vec<u64> = self
             .flights
             .iter()
             .filter(|(_, it)| it.due <= now)
             .map(|(it, _)| *it)
             .collect();
-        if late.is_empty() {
-            return;
+        let count = late.len() as u64;
+        if count > 0 {
+            self.patience = (self.patience * 2).min(LONGEST);
         }
-        self.patience = (self.patience * 2).min(LONGEST);
         self.recall(late);
+        count
     }
 
     /// The link is down: what is on its way is lost.

@@ -43,7 +43,7 @@ pub struct NeighbourView {
     pub seconds: f64,
     pub session: u64,
     pub listed: bool,
-    /// The time until a datagram to it is answered, as of the last news. `None` if none was answered yet.
+    /// The time until a datagram to it is answered, as of the last news. `None` if it is not up, or none was answered yet.
     pub round_trip_seconds: Option<f64>,
     /// How far single times are from it.
     pub round_trip_variation_seconds: Option<f64>,
@@ -115,7 +115,7 @@ impl<K: Kernel> Machine<K> {
     }
 
     fn neighbour_view(&self, number: u32, it: &Neighbour, now: Duration) -> NeighbourView {
-        let round_trip = it.news.round_trip.smoothed();
+        let round_trip = it.news.round_trip.smoothed().filter(|_| it.is_up);
         let link_view = |(device, link): (&u32, &Adjacency)| LinkView {
             interface: self.name_of(*device).into(),
             address: link.address.to_string(),
@@ -184,6 +184,7 @@ impl<K: Kernel> Machine<K> {
             ("bytes_sent_total", counts.bytes_sent),
             ("datagrams_received_total", counts.datagrams_received),
             ("datagrams_ignored_total", counts.datagrams_ignored),
+            ("datagrams_unanswered_total", counts.datagrams_unanswered),
             ("messages_said_total", counts.messages_said),
             ("messages_heard_total", counts.messages_heard),
             ("kernel_lines_total", counts.lines_written),

@@ -58,7 +58,7 @@ impl<K: Kernel> Machine<K> {
             self.prepare_device(index, now);
         }
         for it in self.neighbours.values_mut().filter(|it| it.is_up) {
-            it.news.expire(now);
+            self.counts.datagrams_unanswered += it.news.expire(now);
         }
         self.forget_former(now);
         self.leave(now);
@@ -111,9 +111,10 @@ impl<K: Kernel> Machine<K> {
     fn prepare(&mut self, now: Duration) {
         let is_new = |it: &&Prefix| self.destinations.get(it).is_some_and(|it| !it.is_prepared);
         let some: Vec<Prefix> = self.changed.iter().filter(is_new).copied().collect();
+        let gates: Vec<u32> = self.holds().into_iter().map(|it| it.0).collect();
         let mut batch = Batch::new();
         for prefix in &some {
-            self.add_drops(*prefix, &mut batch);
+            self.add_drops(*prefix, &gates, &mut batch);
         }
         let mut refused = BTreeMap::new();
         for (prefix, result) in self.done(batch) {
@@ -136,8 +137,8 @@ impl<K: Kernel> Machine<K> {
         }
     }
 
-    /// Adds the lines that have the kernel drop what has no way to a prefix, or comes in by any closed gate.
-    fn add_drops(&self, prefix: Prefix, batch: &mut Batch<Prefix>) {
+    /// Adds the lines that have the kernel drop what has no way to a prefix, or comes in by a closed gate of some tables.
+    fn add_drops(&self, prefix: Prefix, gates: &[u32], batch: &mut Batch<Prefix>) {
         let table = self.settings.table;
         let is_own = self.destinations.get(&prefix).is_some_and(|it| it.is_own);
         let prefix_table = if is_own { MAIN } else { table };
@@ -150,7 +151,7 @@ impl<K: Kernel> Machine<K> {
             // There it would come before the network of an interface, if a rule looks up in that table first.
             batch.push(prefix, Write::RemoveLast { table, prefix });
         }
-        for (table, ..) in self.holds() {
+        for table in gates.iter().copied() {
             batch.push(prefix, Write::Shut { table, prefix });
         }
     }

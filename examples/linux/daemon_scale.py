@@ -88,6 +88,8 @@ def measured(asked, program, names, links):
         figures["one starts again"] = seconds_to_settle(network, len(prefixes))
         figures["bytes for that"] = network.sent()[0] - sent
     finally:
+        for key in "datagrams_sent", "datagrams_unanswered":
+            figures[key] = sum((status(network, it) or {"counts": {key: 0}})["counts"][key] for it in names)
         figures["silences"] = sum(network.log(it).read_text().count(SILENT) for it in names if network.log(it).exists())
         figures["load"] = round(os.getloadavg()[0], 1)
         print(json.dumps(figures), flush=True)
