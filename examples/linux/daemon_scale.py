@@ -58,6 +58,12 @@ def seconds_to_settle(network, count):
     return round(time.monotonic() - begun, 1)
 
 
+def silences(network):
+    """How often a daemon has noticed that a neighbour was silent, also in earlier parts."""
+    logs = [network.log(it) for it in network.names]
+    return sum(it.read_text().count(SILENT) for it in logs if it.exists())
+
+
 def idle(network, seconds):
     """What daemons take while nothing happens: processors of all and the most of one, and bytes and packets of all."""
     processes = [it.pid for it in network.running.values()]
@@ -74,6 +80,7 @@ def measured(asked, program, names, links):
     prefixes = announced(names, asked.prefixes)
     network = Network(names, links, prefixes, program, (asked.hello, asked.dead))
     degrees = sorted(len(beside(it, links)) for it in names)
+    before = silences(network)
     figures = {"routers": len(names), "links": len(links), "neighbours": [statistics.median(degrees), degrees[-1]], "prefixes": len(prefixes)}
     try:
         network.start(*names)
@@ -90,7 +97,7 @@ def measured(asked, program, names, links):
     finally:
         for key in "datagrams_sent", "datagrams_unanswered":
             figures[key] = sum((status(network, it) or {"counts": {key: 0}})["counts"][key] for it in names)
-        figures["silences"] = sum(network.log(it).read_text().count(SILENT) for it in names if network.log(it).exists())
+        figures["silences"] = silences(network) - before
         figures["load"] = round(os.getloadavg()[0], 1)
         print(json.dumps(figures), flush=True)
         network.close()
