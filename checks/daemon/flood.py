@@ -29,7 +29,7 @@ GROUP, PORT, HOP_LIMIT, ALL_PROTOCOLS = "ff12::7276:7274", 6465, 255, 0x0003
 HEADS, SEAL, MOST_BYTES, KIND_AT, KEY_AT, COUNT_AT, HELLO = 14 + 40 + 8, 16, 1232, 3, 4, 28, 1
 SECONDS_OF_FLOOD, MOST_IN_A_FLOOD, SECONDS_TO_RECORD, WAYS = 5, 250_000, 3, ("strangers", "replays", "a neighbour")
 # Hellos come each second. A busy machine may be late by as much again, and more would be a cause to doubt.
-MOST_SECONDS_BETWEEN, MOST_GROWTH, LEAST_A_SECOND = 2.5, 256, 2000
+MOST_SECONDS_BETWEEN, MOST_GROWTH, LEAST_A_SECOND, TRIES, SECONDS_IN_ALL = 2.5, 256, 2000, 4, 400
 
 
 class Ear(threading.Thread):
@@ -123,7 +123,7 @@ def with_key():
 
 
 def bear(ear, kind):
-    """One flood. Returns how many datagrams there were in a second."""
+    """One flood. Returns how many datagrams there were in a second, and what came too late, if anything did."""
     before, downs = resident(), [events(it).count("is down") for it in ROUTERS]
     prepared = [*islice(datagrams(kind, ear.said), MOST_IN_A_FLOOD)]
     ear.hellos.clear()
@@ -136,13 +136,26 @@ def bear(ear, kind):
     os.close(reader)
     times = [begun, *ear.hellos, time.monotonic()]
     gap = max(after - it for it, after in zip(times, times[1:]))
-    expect(rate > LEAST_A_SECOND, f"a flood of only {rate} datagrams a second")
-    expect(gap < MOST_SECONDS_BETWEEN, f"{kind}: {gap:.1f} seconds between two hellos of router 1")
-    expect(answered < SECONDS_OF_FLOOD, f"{kind}: a command is answered after {answered:.1f} seconds")
-    now = [events(it).count("is down") for it in ROUTERS]
-    expect(now == downs, f"{kind}: a neighbour is lost: {events(1)}{events(2)}")
     expect(resident() <= before + MOST_GROWTH, f"{kind}: router 1 takes {resident()} KiB, and took {before}")
-    return rate
+    if rate < LEAST_A_SECOND:
+        return rate, f"a flood of only {rate} datagrams a second"
+    if gap > MOST_SECONDS_BETWEEN:
+        return rate, f"{kind}: {gap:.1f} seconds between two hellos of router 1"
+    if answered > SECONDS_OF_FLOOD:
+        return rate, f"{kind}: a command is answered after {answered:.1f} seconds"
+    if [events(it).count("is down") for it in ROUTERS] != downs:
+        return rate, f"{kind}: a neighbour is lost: {events(1)}{events(2)}"
+    return rate, None
+
+
+def bear_in_time(ear, kind):
+    """The same, once more if something came too late: other work on the machine may be the cause. Returns the datagrams in a second."""
+    for _ in range(TRIES):
+        rate, late = bear(ear, kind)
+        if not late:
+            return rate
+        expect(soon(lambda: lab.all_arrive(*ROUTERS)), "not all arrive after a flood")
+    raise lab.Wrong(late)
 
 
 def check():
@@ -152,10 +165,10 @@ def check():
     time.sleep(SECONDS_TO_RECORD)
     ear.records = False
     expect(ear.said, f"router 2 says nothing in {SECONDS_TO_RECORD} seconds")
-    rates = ", ".join(f"{bear(ear, it):,} of {it}" for it in WAYS)
+    rates = ", ".join(f"{bear_in_time(ear, it):,} of {it}" for it in WAYS)
     expect(lab.all_arrive(*ROUTERS), "not all arrive after the floods")
     return f"daemon: floods of datagrams in a second do no harm: {rates}"
 
 
 if __name__ == "__main__":
-    sys.exit(lab.main(check))
+    sys.exit(lab.main(check, SECONDS_IN_ALL))

@@ -236,11 +236,11 @@ def checked(check):
     return 0
 
 
-def main(check):
+def main(check, seconds=SECONDS_IN_ALL):
     os.environ["REVROUTED"] = str(Path(sys.argv[1]).resolve())
     os.environ["STATE"] = str(STATE)
     signal.signal(signal.SIGALRM, inside.take_too_long)
-    signal.alarm(SECONDS_IN_ALL)
+    signal.alarm(seconds)
     try:
         inside.go_inside()
         inside.try_out()
