@@ -4,7 +4,7 @@ use Rattle.std.proofs.Common.{Contains, List, [], arith, eqb, false, inl, inr, r
 use Rattle.std.proofs.Common.{◌<◌, ◌≡◌}
 use Rattle.std.specs.List.{IsDistinct}
 use Rattle.fr_node.specs.declared.message.Message.{Message}
-use Rattle.fr_node.specs.Heights.{FallsBeside, KeepsLinks, RisesBeside, SomeHeightComesBack, knows_low}
+use Rattle.fr_node.specs.Heights.{FallsBeside, KeepsActing, RisesBeside, SomeHeightComesBack, knows_low}
 use Rattle.fr_node.specs.Lowerings.{Falls, SomeRouterFalls}
 use Rattle.fr_node.specs.Paths.{Stays, is_below}
 use Rattle.fr_node.specs.Rests.{KeepsBelow, SomeRoutersAnnounce, unheard_beside}
@@ -271,7 +271,7 @@ rises_again = record {
   none_low = of_both (λ w. knows_low (is_below 0) 4 w a6 ≡ false) refl refl;
 }
 
-beside_both : KeepsLinks (is_below 0) 0 both (net a2 b1 c4 pool7) later
+beside_both : KeepsActing (is_below 0) 0 both (net a2 b1 c4 pool7) later
 beside_both = (
   refl,
   inr (inr falls_to_four),

@@ -5,7 +5,7 @@ use Rattle.std.specs.List.{list_any}
 use Rattle.std.proofs.lemmas.Bool.{cases_eq, cases_lt}
 use Rattle.std.proofs.lemmas.Bool.Decides.{nat_tests}
 use Rattle.std.proofs.lemmas.List.Folds.{Any-from_list_any, list_any_at}
-use Rattle.fr_node.specs.Heights.{ActsBeside, FallsBeside, KeepsLinks, RisesBeside, SameHeightIsBounded, announces}
+use Rattle.fr_node.specs.Heights.{ActsBeside, FallsBeside, KeepsActing, RisesBeside, SameHeightIsBounded, announces}
 use Rattle.fr_node.specs.Heights.{announces_below, hears_low, knows_low, steps_with}
 use Rattle.fr_node.specs.Paths.{is_below}
 use Rattle.fr_node.specs.Routers.{GoesOn, IsBelow, IsRun, IsStep, Net, Router, last}
@@ -223,7 +223,7 @@ module _ (low : (e w h : ℕ) → Bool) (e x : ℕ) (ws : List ℕ) (s t : Net) 
   bound_is b = b
 
 module _ (low : (e w h : ℕ) → Bool) (e x : ℕ) (ws : List ℕ) where
-  run_bound : (s : Net) (ts : List Net) → Holds s → IsRun s ts → KeepsLinks low x ws s ts
+  run_bound : (s : Net) (ts : List Net) → Holds s → IsRun s ts → KeepsActing low x ws s ts
       → steps_with (announces e) x s ts ≤ one (may_return low e ws (s.router x))
       + steps_with (announces_below e) x s ts + steps_with (hears_low low e ws) x s ts
   unfolding one
@@ -241,7 +241,7 @@ module _ (low : (e w h : ℕ) → Bool) (e x : ℕ) (ws : List ℕ) where
           + steps_with (announces_below e) x s (t ∷ ts) + steps_with (hears_low low e ws) x s (t ∷ ts)
       add a b = omega (arith, a, b)
 
-  pub height_bound : (s : Net) (ts : List Net) → Holds s → IsRun s ts → KeepsLinks low x ws s ts
+  pub height_bound : (s : Net) (ts : List Net) → Holds s → IsRun s ts → KeepsActing low x ws s ts
       → steps_with (announces e) x s ts ≤ 1 + steps_with (announces_below e) x s ts
       + steps_with (hears_low low e ws) x s ts
   height_bound s ts holds run keeps = omega (

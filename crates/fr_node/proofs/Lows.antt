@@ -5,7 +5,7 @@ use Rattle.std.proofs.Common.{true, zero, ℕ, ⊎_elim, ◌∷◌, ◌&&◌, �
 use Rattle.std.proofs.lemmas.Bool.{cases_Bool, cases_lt}
 use Rattle.std.proofs.lemmas.Bool.Decides.{nat_tests}
 use Rattle.fr_node.specs.declared.message.Message.{Message}
-use Rattle.fr_node.specs.Heights.{FallsBeside, KeepsLinks, RisesBeside, steps_with}
+use Rattle.fr_node.specs.Heights.{FallsBeside, KeepsActing, RisesBeside, steps_with}
 use Rattle.fr_node.specs.Paths.{is_below, is_low, unheard}
 use Rattle.fr_node.specs.Routers.{GoesOn, IsFrom, IsRun, IsStep, Net, Router, last}
 use Rattle.fr_node.proofs.Counting.{one, one_facts}
@@ -149,7 +149,7 @@ GoesSlowly x s (t ∷ ts) = ((t.router x).boot ≡ (s.router x).boot)
     × GoesSlowly x t ts
 
 pub goes_slowly : (low : (e w h : ℕ) → Bool) (x : ℕ) (ws : List ℕ) (s : Net) (ts : List Net)
-    → KeepsLinks low x ws s ts → GoesSlowly x s ts
+    → KeepsActing low x ws s ts → GoesSlowly x s ts
 goes_slowly low x ws s [] keeps = tt
 goes_slowly low x ws s (t ∷ ts) keeps = (
   keeps.0,

@@ -3,7 +3,7 @@ use Rattle.std.proofs.Common.{Bool, Contains, List, [], ap, arith, false, inl, i
 use Rattle.std.proofs.Common.{◌∷◌, ◌≡◌, ◌≤◌, ◌∙◌}
 use Rattle.fr_node.specs.declared.message.Message.{Message}
 use Rattle.fr_node.specs.Routers.{GoesOn, IsBelow, IsSaidBy, Net, Router}
-use Rattle.fr_node.specs.Tables.{Forwarder, IsLoopFree, IsMet, IsPlaneRun, IsPlaneStart, IsPlaneStep, IsTableWalk}
+use Rattle.fr_node.specs.Tables.{Forwarder, HasNoTableLoop, IsMet, IsPlaneRun, IsPlaneStart, IsPlaneStep, IsTableWalk}
 use Rattle.fr_node.specs.Tables.{Plane, TablesHaveNoLoop, last_plane}
 use Rattle.fr_node.proofs.Going.{goes_nowhere}
 use Rattle.fr_node.proofs.Rule.{KeepsRule, at_start, step_kept}
@@ -78,7 +78,7 @@ below_before : (a w b c x : ℕ) → IsBelow a w b x → b ≤ c → IsBelow a w
 below_before a w b c x (inl l) least = inl (omega (arith, l, least))
 below_before a w b c x (inr e) least = grind (arith, e, least)
 
-pub loop_free : (s : Plane Router) → IsBacked s → IsLoopFree s
+pub loop_free : (s : Plane Router) → IsBacked s → HasNoTableLoop s
 loop_free s b = no_return (IsMet ways gates) (IsTableWalk ways gates) (λ u v vs walk. walk) top down
   where
     ways : ℕ → ℕ → Bool

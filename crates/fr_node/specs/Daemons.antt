@@ -7,7 +7,7 @@ use Rattle.fr_node.specs.declared.node.Node.{Node}
 use Rattle.fr_node.specs.Histories.{IsHistory}
 use Rattle.fr_node.specs.Links.{Says, after_tick, unknown}
 use Rattle.fr_node.specs.Nodes.{IsMessageTo, Steps, lets_in, sends_to}
-use Rattle.fr_node.specs.Tables.{Forwarder, HasAnotherState, IsLoopFree, IsPlaneRun, IsSilent, Plane, Writes}
+use Rattle.fr_node.specs.Tables.{Forwarder, HasAnotherState, HasNoTableLoop, IsPlaneRun, IsSilent, Plane, Writes}
 use Rattle.fr_node.specs.Tables.{last_plane}
 
 -- a node that starts knows no neighbours, and can have announced something
@@ -70,4 +70,4 @@ pub record IsDaemonStart (s : Plane Node) : Type 0 where
 -- writing by `sends_to` and `lets_in`.
 abbrev pub DaemonsHaveNoLoop : Type 0
 DaemonsHaveNoLoop = (s : Plane Node) (ts : List (Plane Node)) → IsDaemonStart s → IsPlaneRun IsDaemonStep s ts
-    → IsLoopFree (last_plane s ts)
+    → HasNoTableLoop (last_plane s ts)

@@ -38,10 +38,10 @@ abbrev pub ActsBeside : ((e w h : ℕ) → Bool) → List ℕ → Router → Rou
 ActsBeside low ws r t = (t.number ≡ r.number) ⊎ RisesBeside low ws r t ⊎ FallsBeside low ws r t
 
 -- in these networks, which follow one another, router x does not restart, and acts so
-abbrev pub KeepsLinks : ((e w h : ℕ) → Bool) → ℕ → List ℕ → Net → List Net → Type 0
-KeepsLinks low x ws s [] = Unit {0}
-KeepsLinks low x ws s (t ∷ ts) = ((t.router x).boot ≡ (s.router x).boot)
-    × ActsBeside low ws (s.router x) (t.router x) × KeepsLinks low x ws t ts
+abbrev pub KeepsActing : ((e w h : ℕ) → Bool) → ℕ → List ℕ → Net → List Net → Type 0
+KeepsActing low x ws s [] = Unit {0}
+KeepsActing low x ws s (t ∷ ts) = ((t.router x).boot ≡ (s.router x).boot)
+    × ActsBeside low ws (s.router x) (t.router x) × KeepsActing low x ws t ts
 
 -- the router has announced height e, or one below it
 abbrev pub announces : ℕ → Router → Router → Bool
@@ -65,7 +65,7 @@ steps_with p x s (t ∷ ts) = (if p (s.router x) (t.router x) then 1 else 0) + s
 -- height, and falls to a height only if one is known to be low enough for that. Any test may say what is low enough.
 abbrev pub SameHeightIsBounded : Type 0
 SameHeightIsBounded = (s : Net) (past future : List Net) (x e : ℕ) (low : (e w h : ℕ) → Bool) (ws : List ℕ)
-    → IsStart s → IsRun s past → IsRun (last s past) future → KeepsLinks low x ws (last s past) future
+    → IsStart s → IsRun s past → IsRun (last s past) future → KeepsActing low x ws (last s past) future
     → steps_with (announces e) x (last s past) future
     ≤ 1 + steps_with (announces_below e) x (last s past) future
     + steps_with (hears_low low e ws) x (last s past) future
@@ -73,7 +73,7 @@ SameHeightIsBounded = (s : Net) (past future : List Net) (x e : ℕ) (low : (e w
 -- In some run a height comes back because the router has heard a lower one.
 abbrev pub SomeHeightComesBack : Type 0
 SomeHeightComesBack = (s : Net) × (past future : List Net) × (x e : ℕ) × (ws : List ℕ) × IsStart s × IsRun s past
-    × IsRun (last s past) future × KeepsLinks (is_below x) x ws (last s past) future
+    × IsRun (last s past) future × KeepsActing (is_below x) x ws (last s past) future
     × (steps_with (announces e) x (last s past) future ≡ 2)
     × (steps_with (announces_below e) x (last s past) future ≡ 0)
     × (steps_with (hears_low (is_below x) e ws) x (last s past) future ≡ 1)

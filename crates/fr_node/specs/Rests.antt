@@ -8,7 +8,7 @@ use Rattle.fr_node.specs.declared.node.Node.{Node}
 use Rattle.fr_node.specs.declared.message.TheConstants.{CUT_OFF}
 use Rattle.fr_node.specs.declared.policy.Rise.{Rise}
 use Rattle.fr_node.specs.declared.policy.Rise.TheVariants.{Top}
-use Rattle.fr_node.specs.Heights.{KeepsLinks, test_of}
+use Rattle.fr_node.specs.Heights.{KeepsActing, test_of}
 use Rattle.fr_node.specs.Histories.{IsHistory}
 use Rattle.fr_node.specs.Paths.{is_below, times, unheard}
 use Rattle.fr_node.specs.Policies.{Acts}
@@ -41,7 +41,7 @@ pub record KeepsBelow (ceiling top routers most x : ℕ) (low : (e w h : ℕ) �
   pub down : LeadsDown x low
   pub neighbours : (w : ℕ) → Contains ws w → w < routers
   pub once : IsDistinct eqb (x ∷ ws)
-  pub links : KeepsLinks low x ws s ts
+  pub links : KeepsActing low x ws s ts
   pub below : StaysBelow ceiling top x ts
   pub unheard : unheard_beside s x ws ≤ most
 

@@ -126,8 +126,8 @@ last_plane s [] = s
 last_plane s (t ∷ ts) = last_plane t ts
 
 -- the tables of the plane have no loop
-abbrev pub IsLoopFree : {S : Type 0} → Plane S → Type 0
-IsLoopFree s = HaveNoLoop (λ y. (s.forwarder y).ways) (λ y. (s.forwarder y).gates)
+abbrev pub HasNoTableLoop : {S : Type 0} → Plane S → Type 0
+HasNoTableLoop s = HaveNoLoop (λ y. (s.forwarder y).ways) (λ y. (s.forwarder y).gates)
 
 -- The laws
 
@@ -140,7 +140,7 @@ IsLoopFree s = HaveNoLoop (λ y. (s.forwarder y).ways) (λ y. (s.forwarder y).ga
 -- table as it was, and writes it by the same rule.
 abbrev pub TablesHaveNoLoop : Type 0
 TablesHaveNoLoop = (s : Plane Router) (ts : List (Plane Router)) → IsPlaneStart s → IsPlaneRun IsPlaneStep s ts
-    → IsLoopFree (last_plane s ts)
+    → HasNoTableLoop (last_plane s ts)
 
 -- In some run packets get through to a router that is not a gateway.
 abbrev pub SomeTablesLetThrough : Type 0

@@ -15,7 +15,7 @@ ghost use Rattle.fr_node.specs.OneWay.{DeafLinksAreLost, DeafLinksHoldNothingBac
 ghost use Rattle.fr_node.specs.Paths.{BoundIsReached, CallsKeepLinks, DownPathIsQuiet, LinkBoundsAnnouncements};
 ghost use Rattle.fr_node.specs.Paths.{PathBoundsAnnouncements, UnheardAreAnnouncements};
 
-/// At no moment do the links that routers use contain a cycle, whatever happens to messages and whichever routers
+/// At no moment do the links that routers use contain a loop, whatever happens to messages and whichever routers
 /// restart. In some run a router restarts, and a link is used then.
 pub fn routers_law()
     ensures safe { NeverALoop }

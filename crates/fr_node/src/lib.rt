@@ -2,7 +2,7 @@
 //!
 //! Each router has a height, which it announces to its neighbours. It sends packets to neighbours that it knows to be
 //! lower, and lets packets in only from neighbours that have acknowledged its height. At no moment do the links that
-//! routers use contain a cycle, whatever happens to their messages and whichever routers restart ([`laws`]).
+//! routers use contain a loop, whatever happens to their messages and whichever routers restart ([`laws`]).
 //!
 //! A [`Node`] takes events: a link comes up or goes down, a [`Message`] is heard. After an event the caller writes the
 //! ways and gates into its forwarding table, and says so. Only then can a message leave.
