@@ -13,6 +13,7 @@ use rand_core::SeedableRng;
 use rand_core::utils::NextWord;
 use rand_pcg::Lcg64Xsh32;
 use std::alloc::{AllocError, Global};
+use std::thread::yield_now;
 
 /// How often a steal is tried while others take from the same deque. After that, the deque is skipped.
 const TRIES: u32 = 64;
@@ -20,42 +21,73 @@ const TRIES: u32 = 64;
 /// The handle with which other workers steal from a deque.
 pub(crate) type Stealer<J> = crossbeam_deque::Stealer<u32, Global, (), CandidateProtocol<J>>;
 
-/// How many candidates a worker puts into its queue before it puts one into its deque. The deque takes five atomic
-/// operations for a candidate, and the queue takes none.
-const KEPT_FOR_ONE_SHARED: u8 = 7;
+/// How many calls a worker makes before it lets other threads run, if another worker rests and nobody steals what it
+/// shares.
+const CALLS_BEFORE_YIELD: u8 = 4;
+
+/// Which candidates of a worker others can steal.
+#[derive(Clone, Copy, PartialEq, Eq)]
+pub(crate) enum Sharing {
+    /// None: it is the only worker of its crew.
+    Nothing,
+    /// Half of them, as soon as another worker has none.
+    Half,
+    /// All of them at any time, since its gate may wait for another worker.
+    All,
+}
+
+impl Sharing {
+    /// How much each of so many workers shares, whose gate may wait or not.
+    pub fn of(workers: usize, may_wait: bool) -> Sharing {
+        if workers == 1 {
+            Sharing::Nothing
+        } else if may_wait {
+            Sharing::All
+        } else {
+            Sharing::Half
+        }
+    }
+}
+
+/// How the deques of a crew are made: for how many candidates each has room at first, the seed of the draws, and how
+/// much the workers share.
+#[derive(Clone, Copy)]
+pub(crate) struct DequePlan {
+    pub room: usize,
+    pub seed: u64,
+    pub sharing: Sharing,
+}
 
 /// The candidates of a worker: those in its deque, from which others steal, and those in its queue, from which nobody
-/// does. Then the draws of the deque from which the worker steals first. The only worker of a crew has all its
-/// candidates in the queue.
+/// does. Then the draws of the deque from which the worker steals first.
 #[derive(Drop)]
 pub(crate) struct Deque<J: Naming> {
     own: Worker<u32, Global, (), CandidateProtocol<J>>,
     queue: LocalQueue<J>,
-    // How many candidates were put into the queue since the last one was shared.
-    kept: u8,
-    is_only: bool,
+    sharing: Sharing,
+    // How many calls it made since candidates were in the deque, while another worker had none.
+    not_stolen: u8,
     number: usize,
     draws: Lcg64Xsh32,
 }
 
 impl<J: Naming> Deque<J> {
-    /// No candidates yet, for the worker with this number. The deque has room for so many.
+    /// No candidates yet, for the worker with this number.
     pub fn new(
         alloc: Global,
         round: &Round,
-        room: usize,
-        seed: u64,
+        plan: DequePlan,
         number: u32,
     ) -> Result<Deque<J>, AllocError>
         requires { round.now.setup ≡ J.setup }
     {
         Ok(Deque {
-            own: Worker::fifo_as(alloc, room)?,
+            own: Worker::fifo_as(alloc, plan.room)?,
             queue: LocalQueue::new(alloc, round)?,
-            kept: 0,
-            is_only: false,
+            sharing: plan.sharing,
+            not_stolen: 0,
             number: number as usize,
-            draws: Lcg64Xsh32::seed_from_u64(seed.wrapping_add(u64::from(number))),
+            draws: Lcg64Xsh32::seed_from_u64(plan.seed.wrapping_add(u64::from(number))),
         })
     }
 
@@ -64,37 +96,55 @@ impl<J: Naming> Deque<J> {
         self.own.stealer()
     }
 
-    /// Makes it share nothing from now on: for the only worker of a crew, before any candidate is put.
-    pub fn share_nothing(&mut self) {
-        self.is_only = true;
-    }
-
     /// Puts a candidate into the deque, unless it is in a deque already. A candidate for which there is no memory is
     /// dropped. It is left to the finisher, or to the worker that puts it next.
     pub fn put_shared(&mut self, shared_nodes: &SharedNodes<J>, x: u32)
         requires { IsCandidate J.setup x }
     {
-        if self.is_only {
+        if self.sharing == Sharing::Nothing {
             self.queue.put(x);
         } else if shared_nodes.mark_shared(x) {
             self.push_shared(shared_nodes, x);
         }
     }
 
-    /// Puts a candidate that follows from a call into the queue, or now and then into the deque, unless it is there
+    /// Puts a candidate that follows from a call into the queue, or into the deque if it shares all, unless it is there
     /// already. Other workers may have the same node in their queues. A call for it fails if it cannot turn any more.
     #[inline(always)]
     pub fn put(&mut self, shared_nodes: &SharedNodes<J>, x: u32)
         requires { IsCandidate J.setup x }
     {
-        if self.kept < KEPT_FOR_ONE_SHARED {
+        if self.sharing == Sharing::All {
+            self.put_shared(shared_nodes, x);
+        } else {
             self.queue.put(x);
-            if !self.is_only {
-                self.kept += 1;
+        }
+    }
+
+    /// Lets a worker steal that has no candidate: moves half of the queue to the deque, if nothing is in the deque. If
+    /// nobody steals what is there, the other worker may be waiting for this processor. So now and then it lets other
+    /// threads run. If its queue has no two candidates, it does nothing.
+    pub fn share(&mut self, shared_nodes: &SharedNodes<J>) {
+        if self.queue.len() < 2 {
+            return;
+        }
+        if self.own.len_as::<CandidateProtocol<J>>() == 0 {
+            self.move_half(shared_nodes);
+            self.not_stolen = 0;
+        } else if self.not_stolen < CALLS_BEFORE_YIELD {
+            self.not_stolen += 1;
+        } else {
+            self.not_stolen = 0;
+            yield_now();
+        }
+    }
+
+    /// Moves the first half of the queue to the deque.
+    fn move_half(&mut self, shared_nodes: &SharedNodes<J>) {
+        for _ in 0..self.queue.len() / 2 {
+            if let Some(x) = self.queue.take() {
+                self.put_shared(shared_nodes, x);
             }
-        } else if shared_nodes.mark_shared(x) {
-            self.kept = 0;
-            self.push_shared(shared_nodes, x);
         }
     }
 

@@ -18,6 +18,12 @@ pub trait Gate {
     /// A fact that each call of `after` establishes for this worker and this call. An implementation may choose one.
     ghost passed: { Self → ℕ → ℕ → Type 0 } = { λ _ _ _. Unit {0} };
 
+    /// Whether a call of the gate may wait for what another worker does. Then other workers can steal each candidate of a
+    /// worker during its calls of the gate. If the gate never waits, the crew is faster.
+    fn may_wait(&self) -> bool {
+        true
+    }
+
     /// A worker calls this before its call with this number.
     fn before(&self, worker: u32, call: u64)
         // A worker's calls are numbered from 1.
@@ -38,6 +44,10 @@ pub trait Gate {
 pub struct OpenGate;
 
 impl Gate for OpenGate {
+    fn may_wait(&self) -> bool {
+        false
+    }
+
     fn before(&self, _worker: u32, _call: u64) {}
 
     fn after(&self, _worker: u32, _call: u64) {}

@@ -21,6 +21,7 @@ mod local_queue;
 mod members;
 mod naming;
 mod plan;
+mod resting;
 mod settlement;
 mod shared_nodes;
 mod threads;

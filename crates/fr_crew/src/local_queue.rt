@@ -44,6 +44,11 @@ impl<J: Naming> LocalQueue<J> {
         }
     }
 
+    /// How many candidates it has.
+    pub fn len(&self) -> usize {
+        self.queue.len()
+    }
+
     /// Takes the first candidate.
     #[inline(always)]
     pub fn take(&mut self) -> Option<u32>

@@ -5,7 +5,7 @@ ghost use Rattle.std.specs.List.{AllByRecursion as Each};
 ghost use Rattle.fr_round.specs.Knowledge.{OpenRound};
 ghost use Rattle.fr_crew.specs.Crews.{IsNew, IsOwnMember};
 
-use crate::deques::{Deque, Stealer};
+use crate::deques::{Deque, DequePlan, Stealer};
 use crate::naming::Naming;
 use crate::shared_nodes::SharedNodes;
 use fr_round::{Round, Worker};
@@ -25,14 +25,12 @@ pub(crate) struct Members<J: Naming> {
     pub stealers: Vec<Stealer<J>>,
 }
 
-/// Gives each worker a deque of its own, with room for so many candidates at first. The only worker of a crew shares
-/// nothing.
+/// Gives each worker a deque of its own.
 pub(crate) fn make_deques<J: Naming>(
     alloc: Global,
     round: &Round,
     workers: Vec<Worker>,
-    room: usize,
-    seed: u64,
+    plan: DequePlan,
 ) -> Result<Members<J>, AllocError>
     requires named { round.now.setup ≡ J.setup }
     ensures own { IfOk result (λ all. (round : OpenRound) → Each (IsNew round) workers.items
@@ -40,14 +38,10 @@ pub(crate) fn make_deques<J: Naming>(
     ensures members { IfOk result (λ all. vec_len all.members ≡ vec_len workers) }
     ensures stealers { IfOk result (λ all. vec_len all.stealers ≡ vec_len workers) }
 {
-    let is_only = workers.len() == 1;
     let mut members = Vec::with_capacity(alloc, workers.len())?;
     let mut stealers = Vec::with_capacity(alloc, workers.len())?;
     for worker in workers {
-        let mut deque = Deque::new(alloc, round, room, seed, worker.number())?;
-        if is_only {
-            deque.share_nothing();
-        }
+        let deque = Deque::new(alloc, round, plan, worker.number())?;
         stealers.push_reserved(deque.stealer()?);
         members.push_reserved(Member { worker, deque });
     }

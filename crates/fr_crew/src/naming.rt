@@ -3,7 +3,7 @@
 ghost use Rattle.std.specs.Prelude.{[]};
 ghost use Rattle.fr_round.specs.declared.view.Setup.{Setup};
 
-use crossbeam_deque::protocol::{Outcome, Protocol};
+use crossbeam_deque::protocol::{Lesson, Outcome, Protocol};
 use std::marker::{Brand, PhantomData};
 
 /// The setup of a round, as the type of its deques names it. It is chosen where the round is settled.
@@ -27,6 +27,13 @@ impl<J: Naming> Protocol<u32, ()> for CandidateProtocol<J> {
     ghost first = { tt };
 
     ghost guest = { tt };
+}
+
+// What the length of a deque shows: nothing.
+impl<J: Naming> Lesson<u32, ()> for CandidateProtocol<J> {
+    ghost use Rattle.std.specs.Prelude.{⊤};
+
+    ghost fact = { λ _ _. ⊤ };
 }
 
 impl<J: Naming> Outcome<u32, ()> for CandidateProtocol<J> {

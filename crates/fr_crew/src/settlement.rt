@@ -54,9 +54,11 @@ pub struct CrewWork {
 /// with a link except the destination, each in the deque of the worker whose number is the node's modulo the number of
 /// workers. A worker takes a candidate of its queue, or else of its deque, or else steals one, and tries to turn it. If
 /// it does, all neighbours except the destination become its candidates; if another worker was faster, the node itself
-/// does. Most go into the queue, unless they are in it, and one of eight into the deque, unless it is in any. The only
-/// worker of a crew has all its candidates in the queue. A worker ends when it finds no candidate, or when its budget is
-/// spent.
+/// does. They go into the queue, unless they are in it. When another worker has no candidate, the worker moves half of
+/// its queue to its deque. If the gate may wait for another worker, all candidates go into the deque, unless they are in
+/// any, so that others can steal them during its calls. The only worker of a crew has all its candidates in the queue. A
+/// worker that finds no candidate looks again while others work. It ends when all workers are without one, or when its
+/// budget is spent.
 /// No thread is started for a crew of one, if no node can turn, or if no worker may make a call. There is no lock, and
 /// the crew waits only for its threads to end.
 ///
@@ -67,7 +69,7 @@ pub struct CrewWork {
 /// dropped. It waits for its threads, which end once the calls of the gate return.
 ///
 /// If no node can turn or no worker may make a call, the cost is that of [`settle_alone`]. Otherwise it is O(m + k n +
-/// T d (d + k)) steps of k workers for T turns.
+/// T d (d + k)) steps of k workers for T turns, besides looks of workers without a candidate.
 pub fn settle<R: Threads + Wait + Sync, G: Gate + Sync>(
     rt: &R,
     alloc: Global,

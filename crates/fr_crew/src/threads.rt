@@ -9,12 +9,13 @@ ghost use Rattle.fr_crew.specs.Crews.{IsOwnThread, Shift, calls_of, shift};
 ghost use Rattle.fr_crew.specs.Gates.{EachBefore};
 ghost use Rattle.fr_crew.specs.declared.fault.CrewFault.TheVariants.{Range, Start};
 
-use crate::deques::{Deque, Stealer};
+use crate::deques::{Deque, DequePlan, Sharing, Stealer};
 use crate::fault::CrewFault;
 use crate::gate::Gate;
 use crate::members::{Member, Members, deal_first_candidates, deque_room, make_deques};
 use crate::naming::Naming;
 use crate::plan::Crew;
+use crate::resting::Resting;
 use crate::shared_nodes::SharedNodes;
 use fr_core::Reply;
 use fr_round::{Round, Worker};
@@ -30,6 +31,7 @@ struct Job<J: Naming> {
     round: Round,
     stealers: Vec<Stealer<J>>,
     shared_nodes: SharedNodes<J>,
+    resting: Resting,
     budget: u64,
     ghost some_stealer: { 0 < vec_len stealers },
 }
@@ -65,14 +67,38 @@ struct Started<G: Gate> {
     all: bool,
 }
 
-/// The next candidate of a worker: one of its own, or one stolen from another worker.
+/// How often a worker without a candidate looks for one, if it finds none and another worker still works. This takes
+/// minutes, and is only reached if a call of the gate takes as long.
+const LOOKS: u64 = 1_000_000_000;
+
+/// The next candidate of a worker: one of its own, or one stolen from another worker. If another worker has none, this
+/// worker shares first.
 fn next_candidate<J: Naming>(job: &Job<J>, deque: &mut Deque<J>) -> Option<u32>
     ensures { IfSome result (IsCandidate J.setup) }
 {
+    if job.resting.is_any() {
+        deque.share(&job.shared_nodes);
+    }
     match deque.take(&job.shared_nodes) {
         Some(x) => Some(x),
-        None => deque.steal(&job.shared_nodes, &job.stealers),
+        None => stolen_candidate(job, deque),
     }
+}
+
+/// A candidate stolen from another worker. While others work, a worker that finds none looks again, because their calls
+/// make candidates. Between two looks it lets other threads run.
+fn stolen_candidate<J: Naming>(job: &Job<J>, deque: &mut Deque<J>) -> Option<u32>
+    ensures { IfSome result (IsCandidate J.setup) }
+{
+    for _ in 0..LOOKS {
+        if let Some(x) = deque.steal(&job.shared_nodes, &job.stealers) {
+            return Some(x);
+        }
+        if job.resting.rest() {
+            return None;
+        }
+    }
+    None
 }
 
 /// Makes a worker's call with this number on a candidate, and puts the candidates that follow from the reply.
@@ -107,12 +133,13 @@ fn try_candidate<J: Naming, G: Gate>(
     }
 }
 
-/// The work of one worker: it takes candidates and tries to turn them, until it finds none or its budget is spent.
+/// The work of one worker: it takes candidates and tries to turn them, until there is none or its budget is spent.
 fn run_worker<J: Naming, G: Gate>(job: &Job<J>, gate: &G, mut member: Member<J>) -> Worker
     requires named { job.now.round.setup ≡ J.setup }
     requires new { IsNew job.now.round member.worker }
     ensures { HasWorked G.passed gate.now job.now.budget member.worker result }
 {
+    job.resting.begin();
     for made in 0..job.budget {
         // The candidate is taken out before the call. So if a neighbour turns during the call, the node becomes a
         // candidate again.
@@ -121,6 +148,7 @@ fn run_worker<J: Naming, G: Gate>(job: &Job<J>, gate: &G, mut member: Member<J>)
         };
         try_candidate(job, gate, &mut member, made + 1, x);
     }
+    job.resting.end();
     member.worker
 }
 
@@ -278,8 +306,12 @@ fn members_with_candidates<J: Naming, R: Threads, G: Gate>(
     ensures members { IfOk result (λ all. vec_len all.members ≡ vec_len workers) }
     ensures stealers { IfOk result (λ all. vec_len all.stealers ≡ vec_len workers) }
 {
-    let room = deque_room(round, from, workers.len());
-    let mut all = make_deques::<J>(crew.alloc, round, workers, room, crew.plan.seed())?;
+    let plan = DequePlan {
+        room: deque_room(round, from, workers.len()),
+        seed: crew.plan.seed(),
+        sharing: Sharing::of(workers.len(), crew.gate.may_wait()),
+    };
+    let mut all = make_deques::<J>(crew.alloc, round, workers, plan)?;
     deal_first_candidates(round, shared_nodes, &mut all.members, from);
     Ok(all)
 }
@@ -299,6 +331,7 @@ fn make_job<J: Naming, R: Threads, G: Gate>(
     ensures len { IfOk result (λ made. vec_len made.1 ≡ vec_len workers) }
 {
     let shared_nodes = SharedNodes::none(crew.alloc, &round)?;
+    let resting = Resting::all_of(workers.len());
     let Members { members, stealers } = members_with_candidates(
         crew,
         &round,
@@ -310,6 +343,7 @@ fn make_job<J: Naming, R: Threads, G: Gate>(
         round,
         stealers,
         shared_nodes,
+        resting,
         budget: crew.plan.budget(),
     };
     Ok((job, members))

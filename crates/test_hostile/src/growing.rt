@@ -8,8 +8,7 @@ use std::sync::Wait;
 use std::sync::atomic::{AtomicU64, Ordering};
 use std::thread::{Threads, yield_now};
 
-/// How many nodes the network has. With so many, the first node for which the deque has no room is put again when it is
-/// again the turn of the deque.
+/// How many nodes the network has. The deque of worker 0 has room for less than half of them at first.
 const NODES: u32 = 1161;
 
 /// The two hubs. Both are dealt to worker 0, as the nodes whose numbers are multiples of 3.
@@ -18,8 +17,8 @@ const HUBS: [u32; 2] = [3, 6];
 /// How many nodes worker 1 is dealt, and worker 2.
 const DEALT: u64 = 387;
 
-/// The first call of worker 0 after it has turned both hubs.
-const BOTH_TURNED: u64 = 906;
+/// The first call of worker 0 after it has turned both hubs, which are the first nodes that it is dealt.
+const BOTH_TURNED: u64 = 3;
 
 /// The longest that a worker is held, in turns of a loop.
 const LIMIT: u64 = 100_000_000;

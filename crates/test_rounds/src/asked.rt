@@ -9,7 +9,7 @@ use std::alloc::Global;
 use std::sync::Wait;
 use std::thread::Threads;
 
-/// What a case can ask for. The last fourteen are about threads and gates, which are not data.
+/// What a case can ask for. The last sixteen are about threads and gates, which are not data.
 #[derive(Clone, Copy)]
 enum Asked {
     Open,
@@ -37,12 +37,14 @@ enum Asked {
     TriedAgain,
     Together,
     Shared,
+    LooksAgain,
+    EachTurns,
     Logs,
     Plans,
 }
 
 /// The words that ask.
-const WORDS: [(&str, Asked); 27] = [
+const WORDS: [(&str, Asked); 29] = [
     ("open", Asked::Open),
     ("calls", Asked::Calls),
     ("refused", Asked::Refused),
@@ -68,6 +70,8 @@ const WORDS: [(&str, Asked); 27] = [
     ("tried again", Asked::TriedAgain),
     ("together", Asked::Together),
     ("shared", Asked::Shared),
+    ("looks again", Asked::LooksAgain),
+    ("each turns", Asked::EachTurns),
     ("logs", Asked::Logs),
     ("plans", Asked::Plans),
 ];
@@ -119,6 +123,8 @@ fn put_answer<R: Threads + Wait + Sync + Alloc<A = Global>>(
         Asked::TriedAgain => gates::tried_again(rt, text),
         Asked::Together => stealing::together(rt, text, case),
         Asked::Shared => stealing::shared(rt, text),
+        Asked::LooksAgain => stealing::looks_again(rt, text),
+        Asked::EachTurns => stealing::each_turns(rt, text, case),
         Asked::Logs => logs::logs(rt, text, case),
         Asked::Plans => logs::plans_followed(rt, text, case),
     }

@@ -45,12 +45,12 @@ enum Held {
     Odd,
 }
 
-/// A gate that holds workers until a call of another worker is answered. It counts the calls, how often a worker was
-/// held, and how often a worker was held up to the limit.
+/// A gate that holds workers until so many calls of the others are answered. It counts the calls, those of the others,
+/// and how often a worker was held up to the limit.
 #[derive(Drop)]
 struct HoldingGate {
     held: Held,
-    until: (u32, u64),
+    until: u64,
     answered: AtomicU64,
     reached: AtomicU64,
     before: AtomicU64,
@@ -58,7 +58,7 @@ struct HoldingGate {
 }
 
 impl HoldingGate {
-    fn new(held: Held, until: (u32, u64)) -> HoldingGate {
+    fn new(held: Held, until: u64) -> HoldingGate {
         HoldingGate {
             held,
             until,
@@ -77,7 +77,7 @@ impl HoldingGate {
     }
 
     fn wait(&self) {
-        if !reaches(&self.answered, 1) {
+        if !reaches(&self.answered, self.until) {
             self.reached.fetch_add(1, Ordering::SeqCst);
         }
     }
@@ -98,9 +98,9 @@ impl Gate for HoldingGate {
         }
     }
 
-    fn after(&self, worker: u32, call: u64) {
+    fn after(&self, worker: u32, _call: u64) {
         self.after.fetch_add(1, Ordering::SeqCst);
-        if (worker, call) == self.until {
+        if !self.holds(worker) {
             self.answered.fetch_add(1, Ordering::SeqCst);
         }
     }
@@ -328,17 +328,17 @@ fn settled_square<R: Threads + Wait + Sync + Alloc<A = Global>>(
     Ok(settle(rt, rt.alloc(), net, 0, &plan, gate)?)
 }
 
-/// `["held", worker, other]`: one of two workers is held until the first call of the other is answered. Whether the
-/// gate was passed, and the counts of the square.
+/// `["held", worker]`: one of two workers is held until the first call of the other is answered. Whether the gate was
+/// passed, and the counts of the square.
 pub fn one_held<R: Threads + Wait + Sync + Alloc<A = Global>>(
     rt: &R,
     text: &mut Answer,
     asked: &[Value],
 ) -> Result<(), Fault> {
-    let [held, until] = asked else {
+    let [held] = asked else {
         return Err(Fault::NoCase);
     };
-    let gate = HoldingGate::new(Held::One(small_number(held)?), (small_number(until)?, 1));
+    let gate = HoldingGate::new(Held::One(small_number(held)?), 1);
     let it = settled_square(rt, &gate)?;
     text.put("counts ", &it.counts);
     text.put(", passed ", &gate.was_passed());
@@ -363,19 +363,18 @@ fn settle_long_chain<R: Threads + Wait + Sync + Alloc<A = Global>, G: Gate + Syn
     settle_from_zero(&crew, text, long_chain(alloc, 1024, 0)?, &wanted)
 }
 
-/// `["chain held", workers, worker, other, call]`: the long chain, where one worker is held until this call of the
-/// other is answered. Who made how many turns, and whether the gate was passed.
+/// `["chain held", worker, calls]`: the long chain by two workers, where one is held until so many calls of the other
+/// are answered. Who made how many turns, and whether the gate was passed.
 pub fn chain_held<R: Threads + Wait + Sync + Alloc<A = Global>>(
     rt: &R,
     text: &mut Answer,
     asked: &[Value],
 ) -> Result<(), Fault> {
-    let [workers, held, until, call] = asked else {
+    let [held, calls] = asked else {
         return Err(Fault::NoCase);
     };
-    let plan = plan(small_number(workers)?, 1_000_000)?;
-    let until = (small_number(until)?, number(call)?);
-    let gate = HoldingGate::new(Held::One(small_number(held)?), until);
+    let plan = plan(2, 1_000_000)?;
+    let gate = HoldingGate::new(Held::One(small_number(held)?), number(calls)?);
     settle_long_chain(rt, text, &plan, &gate)?;
     text.put(", passed ", &gate.was_passed());
     Ok(())
@@ -405,14 +404,17 @@ pub fn in_turn<R: Threads + Wait + Sync + Alloc<A = Global>>(
     Ok(())
 }
 
-/// The long chain, where the odd ones of eight workers are held until the tenth call of worker 0 is answered.
+/// The long chain, where the odd ones of eight workers are held until ten calls of the others are answered. Who made
+/// how many turns, and whether the gate was passed.
 pub fn odd_held<R: Threads + Wait + Sync + Alloc<A = Global>>(
     rt: &R,
     text: &mut Answer,
 ) -> Result<(), Fault> {
     let plan = plan(8, 1_000_000)?;
-    let gate = HoldingGate::new(Held::Odd, (0, 10));
-    settle_long_chain(rt, text, &plan, &gate)
+    let gate = HoldingGate::new(Held::Odd, 10);
+    settle_long_chain(rt, text, &plan, &gate)?;
+    text.put(", passed ", &gate.was_passed());
+    Ok(())
 }
 
 /// The long chain, where one of eight workers is slow.

@@ -1,17 +1,18 @@
-//! Crews in which one worker has all candidates, so each call of another worker is on a candidate that it stole.
+//! Who makes the turns of a crew. In most cases one worker has all candidates, so each call of another worker is on a
+//! candidate that it stole.
 
 use crate::answers::Answer;
-use crate::crews::{plan, put_turns};
+use crate::crews::{long_chain, plan, put_turns};
 use crate::fault::Fault;
 use crate::gates::reaches;
 use crate::values::small_number;
-use fr_crew::{Crew, CrewWork, Gate, settle, settle_telling};
+use fr_crew::{Crew, CrewWork, Gate, OpenGate, Plan, settle, settle_telling};
 use fr_net::Net;
 use serde_json::Value;
 use std::alloc::Global;
 use std::sync::Wait;
 use std::sync::atomic::{AtomicU64, Ordering};
-use std::thread::Threads;
+use std::thread::{Threads, yield_now};
 
 /// A gate at which so many workers meet before each of their first calls. Once a worker has waited up to the limit,
 /// nobody waits any more.
@@ -181,5 +182,137 @@ pub fn shared<R: Threads + Wait + Sync + Alloc<A = Global>>(
     put_turns(text, &it);
     text.put(", counts ", &it.counts);
     text.put(", all came ", &gate.all_came());
+    Ok(())
+}
+
+/// How often a gate lets other threads run, so that a worker that looks for a candidate finds none.
+const LONGER: u32 = 1000;
+
+/// A gate for two workers. It holds worker 1 before its ninth call until worker 0 comes to its first one. It holds worker
+/// 0 before that call until worker 1 has made nine calls and looked for another candidate, and before its second call
+/// until worker 1 comes to its tenth one.
+#[derive(Drop)]
+struct LookingGate {
+    began: AtomicU64,
+    came: AtomicU64,
+    answered: AtomicU64,
+    missed: AtomicU64,
+}
+
+impl LookingGate {
+    fn new() -> LookingGate {
+        LookingGate {
+            began: AtomicU64::new(0),
+            came: AtomicU64::new(0),
+            answered: AtomicU64::new(0),
+            missed: AtomicU64::new(0),
+        }
+    }
+
+    fn wait(&self, counted: &AtomicU64, count: u64) {
+        if !reaches(counted, count) {
+            self.missed.fetch_add(1, Ordering::SeqCst);
+        }
+    }
+
+    /// Whether each call came that another one was held for.
+    fn all_came(&self) -> bool {
+        self.missed.load(Ordering::SeqCst) == 0
+    }
+}
+
+impl Gate for LookingGate {
+    fn before(&self, worker: u32, call: u64) {
+        if worker == 1 {
+            self.came.fetch_add(1, Ordering::SeqCst);
+        }
+        match (worker, call) {
+            (0, 1) => {
+                self.began.fetch_add(1, Ordering::SeqCst);
+                self.wait(&self.answered, 9);
+                for _ in 0..LONGER {
+                    yield_now();
+                }
+            }
+            (0, 2) => self.wait(&self.came, 10),
+            (1, 9) => self.wait(&self.began, 1),
+            _ => {}
+        }
+    }
+
+    fn after(&self, worker: u32, _call: u64) {
+        if worker == 1 {
+            self.answered.fetch_add(1, Ordering::SeqCst);
+        }
+    }
+}
+
+/// `["looks again"]`: the hub by two workers. Worker 1 has tried all its candidates and found no other one before worker
+/// 0 turns the hub. Who made how many turns, the counts, and whether worker 1 came to another call.
+pub fn looks_again<R: Threads + Wait + Sync + Alloc<A = Global>>(
+    rt: &R,
+    text: &mut Answer,
+) -> Result<(), Fault> {
+    let plan = plan(2, 1000)?;
+    let gate = LookingGate::new();
+    let it = settle(rt, rt.alloc(), hub(rt.alloc())?, 0, &plan, &gate)?;
+    put_turns(text, &it);
+    text.put(", counts ", &it.counts);
+    text.put(", all came ", &gate.all_came());
+    Ok(())
+}
+
+/// How often the runs are repeated, since a busy machine may leave a thread no time.
+const REPEATS: u32 = 10;
+
+/// How many workers make less than one of a hundred turns, in so many runs on the chain of 1,024 nodes.
+fn count_idle<R: Threads + Wait + Sync + Alloc<A = Global>>(
+    rt: &R,
+    plan: &Plan,
+    runs: u32,
+) -> Result<u32, Fault> {
+    let alloc = rt.alloc();
+    let crew = Crew {
+        rt,
+        alloc,
+        plan,
+        gate: &OpenGate,
+    };
+    let mut idle = 0u32;
+    for _ in 0..runs {
+        let CrewWork {
+            settled,
+            turned,
+            ..
+        } = settle_telling(&crew, long_chain(alloc, 1024, 0)?, 0)?;
+        for (_, turns) in &turned {
+            if turns.saturating_mul(100) < settled.by_workers {
+                idle = idle.saturating_add(1);
+            }
+        }
+    }
+    Ok(idle)
+}
+
+/// `["each turns", workers, runs]`: the chain of 1,024 nodes by so many workers, so often. Whether at most two of a hundred
+/// workers make less than one of a hundred turns.
+pub fn each_turns<R: Threads + Wait + Sync + Alloc<A = Global>>(
+    rt: &R,
+    text: &mut Answer,
+    asked: &[Value],
+) -> Result<(), Fault> {
+    let [workers, runs] = asked else {
+        return Err(Fault::NoCase);
+    };
+    let (workers, runs) = (small_number(workers)?, small_number(runs)?);
+    let plan = plan(workers, 1_000_000)?;
+    let mut is_shared = false;
+    for _ in 0..REPEATS {
+        if !is_shared {
+            let idle = count_idle(rt, &plan, runs)?;
+            is_shared = idle.saturating_mul(50) <= workers.saturating_mul(runs);
+        }
+    }
+    text.put("each turns ", &is_shared);
     Ok(())
 }
