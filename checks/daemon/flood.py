@@ -26,7 +26,7 @@ from namespaces import entered
 SECRET, NUMBER, DEVICE = "a secret of the flood", 1, "to1"
 GROUP, PORT, HOP_LIMIT, ALL_PROTOCOLS = "ff12::7276:7274", 6465, 255, 0x0003
 # The parts of a datagram, as daemon/src/datagram.rs has them, behind the heads of Ethernet, IPv6 and UDP.
-HEADS, SEAL, MOST_BYTES, KIND_AT, KEY_AT, COUNT_AT, HELLO = 14 + 40 + 8, 16, 1232, 3, 4, 28, 1
+HEADS, SEAL, MOST_BYTES, KEY_AT, COUNT_AT, HELLO, NEWS = 14 + 40 + 8, 16, 1232, 2, 17, b"RH", b"RN"
 SECONDS_OF_FLOOD, MOST_IN_A_FLOOD, SECONDS_TO_RECORD, WAYS = 5, 250_000, 3, ("strangers", "replays", "a neighbour")
 # Hellos come each second. A busy machine may be late by as much again, and more would be a cause to doubt.
 MOST_SECONDS_BETWEEN, MOST_GROWTH, LEAST_A_SECOND, TRIES, SECONDS_IN_ALL = 2.5, 256, 2000, 4, 400
@@ -52,12 +52,12 @@ class Ear(threading.Thread):
         while True:
             data, at = self.socket.recvfrom(2048)
             content = data[HEADS:]
-            if content[:KIND_AT] != b"RRD":
+            if content[:KEY_AT] not in (HELLO, NEWS):
                 continue
             if at[2] == socket.PACKET_OUTGOING:
                 if self.records:
                     self.said.append(content)
-            elif content[KIND_AT] == HELLO:
+            elif content.startswith(HELLO):
                 self.hellos.append(time.monotonic())
 
 
@@ -67,7 +67,7 @@ def sealed(content):
 
 def datagrams(kind, said):
     """What a flood consists of, without an end."""
-    hellos = [it[:-SEAL] for it in said if it[KIND_AT] == HELLO]
+    hellos = [it[:-SEAL] for it in said if it.startswith(HELLO)]
     stranger = hellos[-1][: KEY_AT + 1] + bytes(MOST_BYTES - KEY_AT - 1)
     series, count = os.urandom(4), 0
     while True:

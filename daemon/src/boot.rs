@@ -6,14 +6,12 @@ use std::path::Path;
 use std::time::{SystemTime, UNIX_EPOCH};
 
 const FILE: &str = "boot";
-/// Sessions are below this, so that a session and the number of a node in it are one number of 64 bits.
-const LIMIT: u64 = 1 << 32;
-
 /// A session that is greater than all before it, and than `above`. A first start takes the seconds of the clock, so that a
-/// folder that is lost does little harm.
+/// folder that is lost does little harm. A session has 32 bits, since it and the number of a node in it are one number of 64
+/// bits.
 ///
 /// The error is the text for the operator: without a number that grows the daemon must not start.
-pub fn next_session(folder: &Path, above: u64) -> Result<u64, String> {
+pub fn next_session(folder: &Path, above: u32) -> Result<u32, String> {
     let file = folder.join(FILE);
     let fails = |error: io::Error| {
         format!(
@@ -31,29 +29,30 @@ pub fn next_session(folder: &Path, above: u64) -> Result<u64, String> {
         Err(error) if error.kind() == io::ErrorKind::NotFound => seconds(),
         Err(error) => return Err(fails(error)),
     };
-    let session = before.max(above) + 1;
-    if session >= LIMIT {
-        return Err(format!(
-            "the boot number {session} in {} is too great",
+    let before = before.max(above);
+    let session = before.checked_add(1).ok_or_else(|| {
+        format!(
+            "the boot number {before} in {} is too great",
             file.display()
-        ));
-    }
+        )
+    })?;
     keep(folder, &file, session).map_err(fails)?;
     Ok(session)
 }
 
-fn number_in(text: &str) -> Option<u64> {
+fn number_in(text: &str) -> Option<u32> {
     text.strip_suffix('\n')?.parse().ok()
 }
 
-fn seconds() -> u64 {
-    SystemTime::now()
+fn seconds() -> u32 {
+    let clock = SystemTime::now()
         .duration_since(UNIX_EPOCH)
-        .map_or(0, |it| it.as_secs())
+        .map_or(0, |it| it.as_secs());
+    u32::try_from(clock).unwrap_or(u32::MAX)
 }
 
 /// Replaces the file. After this, a loss of power brings back no earlier number.
-fn keep(folder: &Path, file: &Path, session: u64) -> io::Result<()> {
+fn keep(folder: &Path, file: &Path, session: u32) -> io::Result<()> {
     let new = folder.join("boot.new");
     let mut made = File::create(&new)?;
     made.write_all(format!("{session}\n").as_bytes())?;
@@ -98,6 +97,8 @@ mod tests {
             "-1\n",
             "5\n6\n",
             "99999999999999999999\n",
+            "18446744073709551615\n",
+            "4294967296\n",
             "4294967295\n",
         ] {
             fs::write(it.join(FILE), text).unwrap();

@@ -113,7 +113,7 @@ fn follow(poll: &Poll, descriptor: i32, token: Token) -> std::io::Result<()> {
 }
 
 /// The machine of a process that starts.
-fn machine(settings: Settings, session: u64, kernel: Netlink) -> Result<Machine<Netlink>, String> {
+fn machine(settings: Settings, session: u32, kernel: Netlink) -> Result<Machine<Netlink>, String> {
     let why = "the kernel does not let go what an earlier process has left";
     let mut machine = Machine::new(settings, session, kernel, Duration::ZERO)
         .map_err(|it| format!("{why}: {it}"))?;
@@ -455,12 +455,12 @@ impl Daemon {
     }
 
     /// A neighbour knows a later start of this router. Empties the tables, and starts again with a greater number.
-    fn start_again(&mut self, later: u64) {
+    fn start_again(&mut self, later: u32) {
         let (now, router) = (self.now(), self.machine.settings.router);
         let why = format!(
             "a neighbour knows start {later} of router {router}, and this is {}. Either the boot number has gone back, or another \
              router has this number. Trying again in {} s",
-            self.machine.session,
+            self.machine.start.session,
             self.pause.as_secs()
         );
         self.machine.journal.add(why);

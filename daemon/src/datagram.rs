@@ -3,29 +3,33 @@
 //! Numbers have their highest byte first.
 //!
 //! ```text
-//! all      0 to 3    52 52 44 kind      the letters RRD, and what it is: 1 hello, 2 news
-//!          4         the number of the key with which it is sealed; 0 without a key
-//!          5         flags: 1 if the list of the sender's prefixes has arrived, 2 if it has to be acknowledged
-//!          6 to 7    the hold time in units of 10 milliseconds: a sender that is silent for so long is gone
-//!          8 to 11   the router that sends it
-//!          12 to 19  its session, a number that grows at each start
-//!          20 to 27  a random number of its process
-//!          28 to 35  the number of the datagram: of hellos on one device, with a random number of that device in the
+//! all      0 to 1    the letters RH (52 48) of a hello, or RN (52 4e) of news
+//!          2         the number of the key with which it is sealed; 0 without a key
+//!          3 to 4    the hold time in units of 10 milliseconds: a sender that is silent for so long is gone
+//!          5 to 8    the router that sends it
+//!          9 to 12   its session, a number that grows at each start
+//!          13 to 16  a random number of its process
+//!          17 to 24  the number of the datagram: of hellos on one device, with a random number of that device in the
 //!                    upper half; or of news to one neighbour
-//! hello    36 to 41  the hardware address of the sender's device, by which its packets are known; 0 if it has none
-//!          42 to 43  how many routers the sender hears on this link
-//!          44..      for each of them: its number (4), its session (8) and the random number of its process (8); and then
-//!                    the same for routers that it does not hear, if another one with that number says hello here
-//! news     36 to 39  the router that it is for
-//!          40 to 55  the session and the random number of that router
-//!          56 to 63  the greatest number of its news that arrived
-//!          64 to 71  which of the 64 numbers before that one arrived, the highest number in the lowest bit
-//!          72 to 75  for how many microseconds the sender has had the greatest number
-//!          76..      records: flags (1), the length of a prefix (1), as many of its bytes as the length needs, and
+//! hello    25 to 30  the hardware address of the sender's device, by which its packets are known; 0 if it has none
+//!          31        how many routers the sender hears on this link
+//!          32..      for each of them: its session (4) and the random number of its process (4). A router knows itself by
+//!                    these two, so its number is not there.
+//!                    Then, for each router that the sender knows by a number with which another process says something
+//!                    on this link: that number (4), the session (4) and the random number (4) of the router that is known
+//! news     25 to 28  the router that it is for
+//!          29 to 36  the session and the random number of that router
+//!          37 to 44  the greatest number of its news that arrived
+//!          45 to 52  which of the 64 numbers before that one arrived, the highest number in the lowest bit
+//!          53 to 56  for how many microseconds the sender has had the greatest number
+//!          57        flags: 1 if the list of the sender's prefixes has arrived, 2 if it has to be acknowledged
+//!          58..      records: flags (1), the length of a prefix (1), as many of its bytes as the length needs, and
 //!                    the message of a node if the flag 1 is set. The flag 2 is set for IPv6, 4 if the sender has left
 //!                    the prefix, and 8 if it knows a router that announces it
 //! the end            16 bytes of HMAC-SHA256 over all before them, if the number of the key is not 0
 //! ```
+//!
+//! Datagrams of an earlier form begin with RRD. They are ignored, as those of strangers are.
 
 use crate::prefix::Prefix;
 use hmac::{Hmac, Mac as _};
@@ -36,13 +40,15 @@ use std::time::Duration;
 
 /// What fits into one packet on each link that IPv6 runs on (1,280 bytes), beside the headers of IPv6 and UDP.
 pub const MOST_BYTES: usize = 1232;
-const LETTERS: [u8; 3] = *b"RRD";
-const HELLO: u8 = 1;
-const NEWS: u8 = 2;
-const HEAD: usize = 36;
-const HELLO_HEAD: usize = 44;
-const NEWS_HEAD: usize = 76;
-const HEARD: usize = 20;
+const HELLO: [u8; 2] = *b"RH";
+const NEWS: [u8; 2] = *b"RN";
+const KEY_AT: usize = 2;
+const HEAD: usize = 25;
+const HELLO_HEAD: usize = 32;
+const FLAGS_AT: usize = 57;
+const NEWS_HEAD: usize = 58;
+const START: usize = 8;
+const PEER: usize = 12;
 const SEAL: usize = 16;
 const IS_COMPLETE: u8 = 1;
 const WANTS_ANSWER: u8 = 2;
@@ -51,8 +57,9 @@ const IS_IPV6: u8 = 2;
 const HAS_LEFT: u8 = 4;
 const IS_ALIVE: u8 = 8;
 const HOLD_UNIT: u64 = 10;
-/// The most routers that a hello lists. No link has more.
-pub const MOST_HEARD: usize = (MOST_BYTES - HELLO_HEAD - SEAL) / HEARD;
+/// The most routers that a hello lists as heard, and the most that it lists as known. No link has more.
+pub const MOST_HEARD: usize = 59;
+const _: () = assert!(HELLO_HEAD + MOST_HEARD * (START + PEER) + SEAL <= MOST_BYTES);
 
 /// A hardware address of Ethernet.
 pub type Mac = [u8; 6];
@@ -69,23 +76,29 @@ pub struct Key {
 /// what is not sealed.
 pub type Keys = [Key];
 
+/// One start of a router.
+#[derive(Clone, Copy, Debug, PartialEq, Eq)]
+pub struct Start {
+    /// Greater than that of each earlier start of the router.
+    pub session: u32,
+    /// A random number, by which two processes are told apart that have one number and one session by mistake.
+    pub process: u32,
+}
+
+/// A router, and its start that is known.
+#[derive(Clone, Copy, Debug, PartialEq, Eq)]
+pub struct Peer {
+    pub router: u32,
+    pub start: Start,
+}
+
 /// What each datagram begins with.
 #[derive(Clone, Copy, Debug, PartialEq, Eq)]
 pub struct Head {
     pub from: u32,
-    pub session: u64,
-    /// Different for two processes that have one number and one session by mistake.
-    pub process: u64,
+    pub start: Start,
     pub number: u64,
     pub hold: Duration,
-}
-
-/// A router that is heard on a link.
-#[derive(Clone, Copy, Debug, PartialEq, Eq)]
-pub struct Heard {
-    pub router: u32,
-    pub session: u64,
-    pub process: u64,
 }
 
 /// What arrived at the sender of news.
@@ -100,7 +113,7 @@ pub struct Arrived {
 /// What news are about, beside their records.
 #[derive(Clone, Copy, Debug, PartialEq, Eq)]
 pub struct Address {
-    pub to: Heard,
+    pub to: Peer,
     pub arrived: Arrived,
     /// For how long the sender has had the greatest number that arrived.
     pub waited: Duration,
@@ -131,9 +144,10 @@ pub enum Says<'a> {
 #[derive(Debug, PartialEq, Eq)]
 pub struct Hello {
     pub mac: Option<Mac>,
-    pub heard: Vec<Heard>,
-    /// Routers that are known by numbers with which others say hello.
-    pub known: Vec<Heard>,
+    /// The starts of the routers that are heard.
+    pub heard: Vec<Start>,
+    /// Routers that are known by numbers with which other processes say something.
+    pub known: Vec<Peer>,
 }
 
 #[derive(Debug, PartialEq, Eq)]
@@ -144,44 +158,28 @@ pub enum Body<'a> {
 
 /// Whom a datagram is for, before its seal is looked at: `None` for all.
 pub fn receiver(data: &[u8]) -> Option<u32> {
-    (data.get(3) == Some(&NEWS)).then(|| Some(u32::from_be_bytes(array(data, HEAD)?)))?
+    data.starts_with(&NEWS).then(|| number(data, HEAD))?
 }
 
 /// Reads a datagram that was sealed by one of the keys. `None` if anything is wrong with it. It takes memory only after
 /// the seal was right.
 pub fn read<'a>(data: &'a [u8], keys: &Keys) -> Option<(Head, Body<'a>)> {
-    let data = unsealed(data, keys)?;
-    if data.get(..3)? != LETTERS {
+    let letters = array(data, 0)?;
+    if ![HELLO, NEWS].contains(&letters) {
         return None;
     }
-    let hold = u16::from_be_bytes(array(data, 6)?);
+    let data = unsealed(data, keys)?;
+    let hold = u16::from_be_bytes(array(data, 3)?);
     let head = Head {
-        from: u32::from_be_bytes(array(data, 8)?),
-        session: u64::from_be_bytes(array(data, 12)?),
-        process: u64::from_be_bytes(array(data, 20)?),
-        number: u64::from_be_bytes(array(data, 28)?),
+        from: number(data, 5)?,
+        start: start(data, 9)?,
+        number: u64::from_be_bytes(array(data, 17)?),
         hold: Duration::from_millis(u64::from(hold) * HOLD_UNIT),
     };
-    let body = match data[3] {
-        HELLO => Body::Hello(hello_in(data)?),
-        NEWS => {
-            let address = Address {
-                to: Heard {
-                    router: u32::from_be_bytes(array(data, HEAD)?),
-                    session: u64::from_be_bytes(array(data, 40)?),
-                    process: u64::from_be_bytes(array(data, 48)?),
-                },
-                arrived: Arrived {
-                    greatest: u64::from_be_bytes(array(data, 56)?),
-                    before: u64::from_be_bytes(array(data, 64)?),
-                },
-                waited: Duration::from_micros(u32::from_be_bytes(array(data, 72)?).into()),
-                is_complete: data[5] & IS_COMPLETE != 0,
-                wants_answer: data[5] & WANTS_ANSWER != 0,
-            };
-            Body::News(address, records_in(data.get(NEWS_HEAD..)?)?)
-        }
-        _ => return None,
+    let body = if letters == HELLO {
+        Body::Hello(hello_in(data)?)
+    } else {
+        Body::News(address_in(data)?, records_in(data.get(NEWS_HEAD..)?)?)
     };
     Some((head, body))
 }
@@ -191,7 +189,7 @@ fn unsealed<'a>(data: &'a [u8], keys: &Keys) -> Option<&'a [u8]> {
     if data.len() > MOST_BYTES || data.len() < HEAD {
         return None;
     }
-    let number = data[4];
+    let number = data[KEY_AT];
     if keys.is_empty() || number == 0 {
         return (keys.is_empty() && number == 0).then_some(data);
     }
@@ -211,31 +209,50 @@ fn array<const N: usize>(data: &[u8], at: usize) -> Option<[u8; N]> {
     data.get(at..at + N)?.try_into().ok()
 }
 
-fn hello_in(data: &[u8]) -> Option<Hello> {
-    let mac = Some(array(data, HEAD)?).filter(|it| *it != Mac::default());
-    let count = usize::from(u16::from_be_bytes(array(data, HEAD + 6)?));
-    let (heard, known) = split(data.get(HELLO_HEAD..)?, count * HEARD)?;
-    Some(Hello {
-        mac,
-        heard: heard_in(heard)?,
-        known: heard_in(known)?,
+fn number(data: &[u8], at: usize) -> Option<u32> {
+    Some(u32::from_be_bytes(array(data, at)?))
+}
+
+fn start(data: &[u8], at: usize) -> Option<Start> {
+    Some(Start {
+        session: number(data, at)?,
+        process: number(data, at + 4)?,
     })
 }
 
-fn heard_in(data: &[u8]) -> Option<Vec<Heard>> {
-    let parts = data.chunks_exact(HEARD);
-    if !parts.remainder().is_empty() {
-        return None;
-    }
-    parts
-        .map(|it| {
-            Some(Heard {
-                router: u32::from_be_bytes(array(it, 0)?),
-                session: u64::from_be_bytes(array(it, 4)?),
-                process: u64::from_be_bytes(array(it, 12)?),
-            })
-        })
-        .collect()
+fn peer(data: &[u8], at: usize) -> Option<Peer> {
+    Some(Peer {
+        router: number(data, at)?,
+        start: start(data, at + 4)?,
+    })
+}
+
+fn hello_in(data: &[u8]) -> Option<Hello> {
+    let mac = Some(array(data, HEAD)?).filter(|it| *it != Mac::default());
+    let count = usize::from(*data.get(HELLO_HEAD - 1)?);
+    let (heard, known) = split(data.get(HELLO_HEAD..)?, count * START)?;
+    // If the end of the list is cut, its last entry cannot be read.
+    let heard = heard.chunks(START).map(|it| start(it, 0));
+    let known = known.chunks(PEER).map(|it| peer(it, 0));
+    Some(Hello {
+        mac,
+        heard: heard.collect::<Option<_>>()?,
+        known: known.collect::<Option<_>>()?,
+    })
+}
+
+fn address_in(data: &[u8]) -> Option<Address> {
+    let flags = *data.get(FLAGS_AT)?;
+    Some(Address {
+        to: peer(data, HEAD)?,
+        arrived: Arrived {
+            greatest: u64::from_be_bytes(array(data, 37)?),
+            before: u64::from_be_bytes(array(data, 45)?),
+        },
+        waited: Duration::from_micros(number(data, 53)?.into()),
+        is_complete: flags & IS_COMPLETE != 0,
+        wants_answer: flags & WANTS_ANSWER != 0,
+    })
 }
 
 fn records_in(mut data: &[u8]) -> Option<Vec<Record<'_>>> {
@@ -288,15 +305,26 @@ fn address_of(bytes: &[u8], is_ipv6: bool) -> Option<IpAddr> {
 /// A hello, as bytes.
 pub fn hello(head: Head, said: &Hello, keys: &Keys) -> Vec<u8> {
     let heard = &said.heard[..said.heard.len().min(MOST_HEARD)];
-    let mut data = begun(HELLO, 0, head, keys);
+    let mut data = begun(HELLO, head, keys);
     data.extend_from_slice(&said.mac.unwrap_or_default());
-    data.extend_from_slice(&(heard.len() as u16).to_be_bytes());
-    for it in heard.iter().chain(&said.known).take(MOST_HEARD) {
-        data.extend_from_slice(&it.router.to_be_bytes());
-        data.extend_from_slice(&it.session.to_be_bytes());
-        data.extend_from_slice(&it.process.to_be_bytes());
+    data.push(heard.len() as u8);
+    for it in heard {
+        push_start(&mut data, *it);
+    }
+    for it in said.known.iter().take(MOST_HEARD) {
+        push_peer(&mut data, *it);
     }
     sealed(data, keys)
+}
+
+fn push_start(data: &mut Vec<u8>, it: Start) {
+    data.extend_from_slice(&it.session.to_be_bytes());
+    data.extend_from_slice(&it.process.to_be_bytes());
+}
+
+fn push_peer(data: &mut Vec<u8>, it: Peer) {
+    data.extend_from_slice(&it.router.to_be_bytes());
+    push_start(data, it.start);
 }
 
 /// News, to which records are added as long as there is space for them.
@@ -306,15 +334,13 @@ pub struct News {
 
 impl News {
     pub fn new(head: Head, address: Address, keys: &Keys) -> News {
-        let flags = if address.is_complete { IS_COMPLETE } else { 0 };
-        let mut data = begun(NEWS, flags, head, keys);
-        data.extend_from_slice(&address.to.router.to_be_bytes());
-        data.extend_from_slice(&address.to.session.to_be_bytes());
-        data.extend_from_slice(&address.to.process.to_be_bytes());
+        let mut data = begun(NEWS, head, keys);
+        push_peer(&mut data, address.to);
         data.extend_from_slice(&address.arrived.greatest.to_be_bytes());
         data.extend_from_slice(&address.arrived.before.to_be_bytes());
         let waited = u32::try_from(address.waited.as_micros()).unwrap_or(u32::MAX);
         data.extend_from_slice(&waited.to_be_bytes());
+        data.push(if address.is_complete { IS_COMPLETE } else { 0 });
         News { data }
     }
 
@@ -350,23 +376,22 @@ impl News {
     /// The bytes. Only now it is known whether they have to be acknowledged.
     pub fn sealed(mut self, wants_answer: bool, keys: &Keys) -> Vec<u8> {
         if wants_answer {
-            self.data[5] |= WANTS_ANSWER;
+            self.data[FLAGS_AT] |= WANTS_ANSWER;
         }
         sealed(self.data, keys)
     }
 }
 
-fn begun(kind: u8, flags: u8, head: Head, keys: &Keys) -> Vec<u8> {
+fn begun(letters: [u8; 2], head: Head, keys: &Keys) -> Vec<u8> {
     let key = keys.first().map_or(0, |it| it.number);
     let units = head.hold.as_millis() / u128::from(HOLD_UNIT);
     let hold = u16::try_from(units).unwrap_or(u16::MAX);
     let mut data = Vec::with_capacity(MOST_BYTES);
-    data.extend_from_slice(&LETTERS);
-    data.extend_from_slice(&[kind, key, flags]);
+    data.extend_from_slice(&letters);
+    data.push(key);
     data.extend_from_slice(&hold.to_be_bytes());
     data.extend_from_slice(&head.from.to_be_bytes());
-    data.extend_from_slice(&head.session.to_be_bytes());
-    data.extend_from_slice(&head.process.to_be_bytes());
+    push_start(&mut data, head.start);
     data.extend_from_slice(&head.number.to_be_bytes());
     data
 }

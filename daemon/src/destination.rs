@@ -18,7 +18,7 @@ pub struct Link {
     /// Whether the link is up for the node.
     pub is_up: bool,
     /// The session and the number of the last datagram that told of this destination. 0 if none did.
-    pub session: u64,
+    pub session: u32,
     pub number: u64,
     /// Whether the neighbour has left the destination. The node has heard nothing from it since.
     pub has_left: bool,

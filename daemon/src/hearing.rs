@@ -1,6 +1,6 @@
 //! What a machine does with a datagram.
 
-use crate::datagram::{self, Address, Body, Head, Heard, Hello, Mac, Record, Says};
+use crate::datagram::{self, Address, Body, Head, Hello, Mac, Peer, Record, Says, Start};
 use crate::destination::Becomes;
 use crate::kernel::{Kernel, Write};
 use crate::machine::{HOLD, MOST_NEIGHBOURS, Machine};
@@ -77,15 +77,11 @@ impl<K: Kernel> Machine<K> {
     /// Whether a datagram is from the present session of its sender, which may have begun with it. Only a sender that
     /// knows a key comes so far.
     fn has_session(&mut self, device: u32, source: Ipv6Addr, head: Head, now: Duration) -> bool {
-        let known = self
-            .neighbours
-            .get(&head.from)
-            .map(|it| (it.session, it.process));
-        let has = (head.session, head.process);
+        let known = self.neighbours.get(&head.from).map(|it| it.start);
         match known {
-            Some(it) if it == has => true,
+            Some(it) if it == head.start => true,
             // To mix what two processes say of one number and one session would make loops.
-            Some((session, _)) if head.session <= session => {
+            Some(it) if head.start.session <= it.session => {
                 if let Some(it) = self.devices.get_mut(&device) {
                     it.outdated.insert(head.from);
                 }
@@ -101,7 +97,7 @@ impl<K: Kernel> Machine<K> {
                 false
             }
             _ => {
-                self.begin_session(head.from, has, now);
+                self.begin_session(head.from, head.start, now);
                 true
             }
         }
@@ -128,16 +124,8 @@ impl<K: Kernel> Machine<K> {
         {
             return false;
         }
-        let me = self.as_heard();
-        let mut told = said.heard.iter().chain(&said.known);
-        let told = told.find(|it| it.router == me.router);
-        // A later session, or another process with this one: a boot number that did not grow.
-        let is_later =
-            |it: &&Heard| it.session > me.session || it.session == me.session && **it != me;
-        if let Some(it) = told.filter(is_later) {
-            self.later_session = Some(it.session);
-        }
-        let (hears_me, mac) = (said.heard.contains(&me), said.mac);
+        self.look_for_another(&said.known);
+        let (hears_me, mac) = (said.heard.contains(&self.start), said.mac);
         if self.is_lan(device) && self.link(head.from, device).and_then(|it| it.mac) != mac {
             self.take_down_link(head.from, device, "it has another hardware address", now);
         }
@@ -163,13 +151,22 @@ impl<K: Kernel> Machine<K> {
             })
     }
 
-    /// This process, as its neighbours name it.
-    fn as_heard(&self) -> Heard {
-        Heard {
-            router: self.settings.router,
-            session: self.session,
-            process: self.process,
+    /// Looks whether a neighbour knows another process by the number of this router: one of a later session, or one of
+    /// this session, so that the boot number has not grown.
+    fn look_for_another(&mut self, known: &[Peer]) {
+        let (router, me) = (self.settings.router, self.start);
+        let is_later =
+            |it: &Start| it.session > me.session || it.session == me.session && *it != me;
+        let known = known.iter().find(|it| it.router == router);
+        if let Some(it) = known.map(|it| it.start).filter(is_later) {
+            self.later_session = Some(it.session);
         }
+    }
+
+    /// This process, as its neighbours name it.
+    fn me(&self) -> Peer {
+        let (router, start) = (self.settings.router, self.start);
+        Peer { router, start }
     }
 
     fn link(&self, number: u32, device: u32) -> Option<&Adjacency> {
@@ -357,7 +354,7 @@ impl<K: Kernel> Machine<K> {
         now: Duration,
     ) -> bool {
         let is_here = |it: &Adjacency| it.address == source;
-        if address.to != self.as_heard() || !self.link(head.from, device).is_some_and(is_here) {
+        if address.to != self.me() || !self.link(head.from, device).is_some_and(is_here) {
             return false;
         }
         let Some(it) = self.neighbours.get(&head.from) else {
@@ -451,14 +448,14 @@ impl<K: Kernel> Machine<K> {
         let Some(link) = it.link_to(head.from) else {
             return Err(NotTaken);
         };
-        if (link.session, link.number) > (head.session, head.number) {
+        if (link.session, link.number) > (head.start.session, head.number) {
             // A datagram was overtaken. An older message with the same announcement would bring an older distance back.
             return Ok(());
         }
         match it.node.hear(message) {
             Ok(()) => self.heard(prefix, head),
             Err(HearFault::LaterStart) => {
-                self.later_session = Some(self.later_session.unwrap_or(self.session));
+                self.later_session = Some(self.later_session.unwrap_or(self.start.session));
                 Err(NotTaken)
             }
             Err(_) => {
@@ -488,12 +485,12 @@ impl<K: Kernel> Machine<K> {
         let Some(link) = it.link_to(head.from) else {
             return Err(NotTaken);
         };
-        if (link.session, link.number) > (head.session, head.number) {
+        if (link.session, link.number) > (head.start.session, head.number) {
             return Ok(());
         }
         // The node of an own prefix sends to nobody.
         let has_to_forget = !is_own && !link.has_left && link.session > 0;
-        (link.session, link.number, link.has_left) = (head.session, head.number, true);
+        (link.session, link.number, link.has_left) = (head.start.session, head.number, true);
         it.is_written &= !it.set_link(head.from, false);
         if has_to_forget && !is_busy {
             it.becomes = Some(Becomes::Other);
@@ -512,7 +509,8 @@ impl<K: Kernel> Machine<K> {
         let is_up = self.neighbours.get(&head.from).is_some_and(|it| it.is_up);
         if let Some(it) = self.destinations.get_mut(&prefix) {
             if let Some(link) = it.link_to(head.from) {
-                (link.session, link.number, link.has_left) = (head.session, head.number, false);
+                (link.session, link.number, link.has_left) =
+                    (head.start.session, head.number, false);
             }
             it.set_link(head.from, is_up);
             it.is_written = false;

@@ -19,7 +19,7 @@ const STEP: Duration = Duration::from_millis(20);
 const DEVICE: u32 = 1;
 const OTHER_DEVICE: u32 = 2;
 /// The session of the neighbour that is recorded last.
-const SESSION: u64 = 4;
+const SESSION: u32 = 4;
 /// So many datagrams come to one pair of routers, and so many at once.
 const ROUND: u64 = 4000;
 const BURST: u64 = 50;
@@ -30,13 +30,16 @@ const LONG: u64 = 1_000_000;
 /// A text takes much longer than a datagram.
 const MOST_TEXTS: u64 = 200_000;
 /// The parts of a datagram, as datagram.rs has them.
-const HELLO: u8 = 1;
-const HEAD: usize = 36;
-const HELLO_HEAD: usize = 44;
-const NEWS_HEAD: usize = 76;
-const HEARD: usize = 20;
+const HELLO: &[u8] = b"RH";
+const KEY_AT: usize = 2;
+const NUMBER_AT: usize = 17;
+const HEAD: usize = 25;
+const HELLO_HEAD: usize = 32;
+const NEWS_HEAD: usize = 58;
+const START: usize = 8;
 const SEAL: usize = 16;
-const NUMBERS: [usize; 7] = [12, 20, 28, 40, 48, 56, 64];
+/// Where there are numbers, and their lengths.
+const NUMBERS: [(usize, usize); 7] = [(9, 4), (13, 4), (17, 8), (29, 4), (33, 4), (37, 8), (45, 8)];
 
 /// Counts what each thread takes.
 struct Counting;
@@ -155,7 +158,7 @@ fn told(router: u32, dice: &mut Dice) -> Settings {
 }
 
 /// A router that starts, with its devices.
-fn started(router: u32, session: u64, now: Duration, dice: &mut Dice) -> Machine<Willing> {
+fn started(router: u32, session: u32, now: Duration, dice: &mut Dice) -> Machine<Willing> {
     let mut it =
         Machine::new(told(router, dice), session, Willing, now).expect("nothing is refused");
     it.device_is(DEVICE, "eth1", None, true, now);
@@ -245,10 +248,7 @@ impl Target {
             });
             let links: Vec<_> = links.collect();
             let news = (it.news.pending(), it.news.arrived(), it.news.is_due());
-            text += &format!(
-                "\n{number} {} {} {links:?} {news:?}",
-                it.session, it.process
-            );
+            text += &format!("\n{number} {:?} {links:?} {news:?}", it.start);
         }
         for (prefix, it) in &it.destinations {
             let links: Vec<_> = it.links.iter().map(|it| (it.is_up, it.number)).collect();
@@ -260,7 +260,7 @@ impl Target {
 
     /// Whether the session that was recorded is still the one that is known. An insider may begin a later one.
     fn is_present(&self) -> bool {
-        self.machine.neighbours[&2].session == SESSION
+        self.machine.neighbours[&2].start.session == SESSION
     }
 
     /// A burst of datagrams, each of which the router has to ignore. It takes memory for none that has a wrong seal, and
@@ -323,14 +323,14 @@ impl Target {
             if dice.chance(80) {
                 // otherwise it would be a replay
                 self.number += 1 + dice.below(3);
-                data[28..HEAD].copy_from_slice(&self.number.to_be_bytes());
+                data[NUMBER_AT..HEAD].copy_from_slice(&self.number.to_be_bytes());
             }
             if dice.chance(80) {
                 mutate(&mut data, dice);
             }
             let seal = &keys()[dice.below(2) as usize..];
-            if data.len() > 4 {
-                data[4] = seal[0].number;
+            if data.len() > KEY_AT {
+                data[KEY_AT] = seal[0].number;
             }
             let device = [DEVICE, OTHER_DEVICE][usize::from(dice.chance(5))];
             self.machine
@@ -350,17 +350,11 @@ fn one_of<'a>(all: &'a [Vec<u8>], dice: &mut Dice) -> &'a Vec<u8> {
 
 /// Where the entries of a datagram are: the routers of a hello, or the records of news.
 fn entries(data: &[u8]) -> Vec<std::ops::Range<usize>> {
-    let (mut all, mut at) = (
-        Vec::new(),
-        if data.get(3) == Some(&HELLO) {
-            HELLO_HEAD
-        } else {
-            NEWS_HEAD
-        },
-    );
+    let is_hello = data.starts_with(HELLO);
+    let (mut all, mut at) = (Vec::new(), if is_hello { HELLO_HEAD } else { NEWS_HEAD });
     while at + 2 <= data.len() {
-        let size = if data[3] == HELLO {
-            HEARD
+        let size = if is_hello {
+            START
         } else {
             let message = if data[at] & 1 == 1 { MESSAGE_LENGTH } else { 0 };
             2 + usize::from(data[at + 1].div_ceil(8)) + message
@@ -386,10 +380,10 @@ fn mutate(data: &mut Vec<u8>, dice: &mut Dice) {
             3 => data.extend((0..dice.below(40)).map(|_| dice.below(256) as u8)),
             4 => drop(data.drain(at..end)),
             5 => {
-                let place = NUMBERS[dice.below(NUMBERS.len() as u64) as usize];
-                if let Some(number) = data.get_mut(place..place + 8) {
+                let (place, length) = NUMBERS[dice.below(NUMBERS.len() as u64) as usize];
+                if let Some(number) = data.get_mut(place..place + length) {
                     let value = [0, 1, u64::MAX, 1 << 63, dice.0][dice.below(5) as usize];
-                    number.copy_from_slice(&value.to_be_bytes());
+                    number.copy_from_slice(&value.to_be_bytes()[8 - length..]);
                 }
             }
             6 if !entries.is_empty() => {
@@ -502,7 +496,7 @@ impl Target {
 /// Gives a datagram another number and the seal that it has to have then.
 fn renumber(data: &mut Vec<u8>, number: u64) {
     data.truncate(data.len() - SEAL);
-    data[28..HEAD].copy_from_slice(&number.to_be_bytes());
+    data[NUMBER_AT..HEAD].copy_from_slice(&number.to_be_bytes());
     *data = datagram::sealed(std::mem::take(data), &keys());
 }
 

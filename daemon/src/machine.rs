@@ -1,6 +1,6 @@
 //! The state of the daemon, without sockets and clocks: events come in, lines for the kernel and datagrams go out.
 
-use crate::datagram::{Key, Mac};
+use crate::datagram::{Key, Mac, Start};
 use crate::destination::{Becomes, Destination, Link};
 use crate::former::{self, Former};
 use crate::journal::Journal;
@@ -10,7 +10,7 @@ use crate::news::News;
 use crate::prefix::Prefix;
 use revroute::{Node, Policy, Rise};
 use std::collections::{BTreeMap, BTreeSet};
-use std::hash::{BuildHasher, Hasher, RandomState};
+use std::hash::{BuildHasher, RandomState};
 use std::time::Duration;
 
 /// The table in which the system finds what it delivers by itself: the networks of its interfaces.
@@ -31,9 +31,11 @@ pub const MOST_NEIGHBOURS: usize = 512;
 pub const LONGEST_DEAD: Duration = Duration::from_secs(30);
 pub const HOLD: Duration = Duration::from_secs(60);
 
-/// A number that no other process draws, as far as chance can see to that.
-fn random() -> u64 {
-    RandomState::new().build_hasher().finish()
+/// A random number that differs between the processes of a router, as far as chance can see to that. The number of the router
+/// is mixed in: so two routers draw different ones also if their systems are alike and have no randomness yet, as early at a
+/// boot.
+pub fn drawn(router: u32, keys: &RandomState) -> u64 {
+    keys.hash_one(router)
 }
 
 /// What a machine is told at its start, and at a reload.
@@ -97,9 +99,7 @@ pub struct Sender {
 
 pub struct Machine<K> {
     pub settings: Settings,
-    pub session: u64,
-    /// A random number, by which a neighbour tells apart two processes with one number and one session.
-    pub process: u64,
+    pub start: Start,
     pub kernel: K,
     pub journal: Journal,
     pub devices: BTreeMap<u32, Device>,
@@ -121,7 +121,7 @@ pub struct Machine<K> {
     /// Datagrams to be sent over devices.
     pub outbox: Vec<(u32, Vec<u8>)>,
     /// A later session of this router that a neighbour knows. Then the machine has to end.
-    pub later_session: Option<u64>,
+    pub later_session: Option<u32>,
     pub counts: Counts,
     /// How many nodes this process has started.
     starts: u32,
@@ -149,14 +149,16 @@ impl<K: Kernel> Machine<K> {
     /// first, and then removed.
     pub fn new(
         settings: Settings,
-        session: u64,
+        session: u32,
         mut kernel: K,
         now: Duration,
     ) -> Result<Machine<K>, Refusal> {
         let former = former::clear(&mut kernel, now)?;
         let mut machine = Machine {
-            session,
-            process: random(),
+            start: Start {
+                session,
+                process: drawn(settings.router, &RandomState::new()) as u32,
+            },
             kernel,
             journal: Journal::default(),
             devices: BTreeMap::new(),
@@ -188,7 +190,7 @@ impl<K: Kernel> Machine<K> {
         self.starts = self.starts.checked_add(1)?;
         let (me, boot) = (
             self.settings.router,
-            self.session << 32 | u64::from(self.starts),
+            u64::from(self.start.session) << 32 | u64::from(self.starts),
         );
         if is_own {
             return Node::gateway(me, boot).ok();
@@ -261,6 +263,7 @@ impl<K: Kernel> Machine<K> {
         now: Duration,
     ) {
         let is_lan = self.settings.lans.contains(name);
+        let router = self.settings.router;
         let it = self.devices.entry(index).or_insert_with(|| Device {
             name: name.into(),
             mac,
@@ -268,7 +271,7 @@ impl<K: Kernel> Machine<K> {
             has_carrier: false,
             is_ready: false,
             hold: Hold::Unknown,
-            hello: random() << 32,
+            hello: drawn(router, &RandomState::new()) << 32,
             next_hello: now,
             outdated: BTreeSet::new(),
         });
@@ -401,7 +404,7 @@ impl<K: Kernel> Machine<K> {
             let session = it.link_to(number).map_or(0, |it| it.session);
             // What was heard of an earlier session would make a way at once, and its packets would be lost. The neighbour
             // says first what it has now: it knows nothing of an earlier session of its own.
-            if session == 0 || session == neighbour.session {
+            if session == 0 || session == neighbour.start.session {
                 it.is_written &= !it.set_link(number, true);
             }
         }
@@ -438,7 +441,7 @@ impl<K: Kernel> Machine<K> {
     }
 
     /// A neighbour has started again, or is new.
-    pub fn begin_session(&mut self, number: u32, session: (u64, u64), now: Duration) {
+    pub fn begin_session(&mut self, number: u32, start: Start, now: Duration) {
         let devices: Vec<u32> = match self.neighbours.get(&number) {
             Some(it) => it.links.keys().copied().collect(),
             None => Vec::new(),
@@ -459,7 +462,7 @@ impl<K: Kernel> Machine<K> {
             .filter(|(_, it)| it.leaves.is_none());
         let news = News::new(known.map(|(prefix, _)| *prefix));
         self.neighbours
-            .insert(number, Neighbour::new(session, news, now));
+            .insert(number, Neighbour::new(start, news, now));
     }
 
     pub fn write(&mut self, lines: &[Write]) -> Vec<Result<(), Refusal>> {

@@ -1,6 +1,6 @@
 //! A neighbour, and the links to it.
 
-use crate::datagram::{Heard, Mac};
+use crate::datagram::{Mac, Peer, Start};
 use crate::news::News;
 use std::collections::BTreeMap;
 use std::net::Ipv6Addr;
@@ -74,9 +74,7 @@ impl Hellos {
 }
 
 pub struct Neighbour {
-    pub session: u64,
-    /// The random number of its process.
-    pub process: u64,
+    pub start: Start,
     /// The links by the index of the device.
     pub links: BTreeMap<u32, Adjacency>,
     pub hellos: Hellos,
@@ -94,10 +92,9 @@ pub struct Neighbour {
 }
 
 impl Neighbour {
-    pub fn new((session, process): (u64, u64), news: News, since: Duration) -> Neighbour {
+    pub fn new(start: Start, news: News, since: Duration) -> Neighbour {
         Neighbour {
-            session,
-            process,
+            start,
             links: BTreeMap::new(),
             hellos: Hellos::default(),
             is_up: false,
@@ -109,11 +106,8 @@ impl Neighbour {
         }
     }
 
-    pub fn heard(&self, number: u32) -> Heard {
-        Heard {
-            router: number,
-            session: self.session,
-            process: self.process,
-        }
+    pub fn peer(&self, router: u32) -> Peer {
+        let start = self.start;
+        Peer { router, start }
     }
 }

@@ -33,8 +33,7 @@ impl<K: Kernel> Machine<K> {
     fn head(&self, number: u64) -> Head {
         Head {
             from: self.settings.router,
-            session: self.session,
-            process: self.process,
+            start: self.start,
             number,
             hold: self.settings.dead,
         }
@@ -52,9 +51,10 @@ impl<K: Kernel> Machine<K> {
         let (mut heard, mut known) = (Vec::new(), Vec::new());
         for (number, it) in &self.neighbours {
             if is_heard(it) {
-                heard.push(it.heard(*number));
-            } else if outdated.contains(number) {
-                known.push(it.heard(*number));
+                heard.push(it.start);
+            }
+            if outdated.contains(number) {
+                known.push(it.peer(*number));
             }
         }
         let said = Hello { mac, heard, known };
@@ -115,7 +115,7 @@ impl<K: Kernel> Machine<K> {
         it.turns = it.turns.wrapping_add(1);
         let device = up[it.turns % up.len()];
         let address = Address {
-            to: it.heard(number),
+            to: it.peer(number),
             arrived: it.news.arrived(),
             waited: it.news.waited(now),
             is_complete: it.news.is_complete(),

@@ -2,6 +2,7 @@
 //! kernel, the tables of all kernels must have no loop.
 
 mod lab;
+mod starts;
 mod world;
 
 pub use lab::{Dice, settings};
@@ -344,7 +345,7 @@ fn a_boot_number_that_goes_back_is_noticed() {
     lab.start_as(1, 3);
     lab.run(seconds(1));
     assert_eq!(
-        lab.machines[&1].session, 9,
+        lab.machines[&1].start.session, 9,
         "greater than what its neighbours know"
     );
     lab.expect_all_arrive();
@@ -353,7 +354,7 @@ fn a_boot_number_that_goes_back_is_noticed() {
     lab.run(seconds(10));
     lab.start_as(1, 3);
     lab.run(seconds(3));
-    assert_eq!(lab.machines[&1].session, 10);
+    assert_eq!(lab.machines[&1].start.session, 10);
     lab.expect_all_arrive();
 }
 

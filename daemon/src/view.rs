@@ -12,7 +12,7 @@ use std::time::Duration;
 #[derive(Serialize, Deserialize)]
 pub struct Status {
     pub router: u32,
-    pub session: u64,
+    pub session: u32,
     pub seconds: f64,
     pub interfaces: Vec<Interface>,
     pub neighbours: Vec<NeighbourView>,
@@ -41,7 +41,7 @@ pub struct NeighbourView {
     pub router: u32,
     pub up: bool,
     pub seconds: f64,
-    pub session: u64,
+    pub session: u32,
     pub listed: bool,
     /// The time until a datagram to it is answered, as of the last news. `None` if it is not up, or none was answered yet.
     pub round_trip_seconds: Option<f64>,
@@ -86,7 +86,7 @@ impl<K: Kernel> Machine<K> {
             .count();
         Status {
             router: self.settings.router,
-            session: self.session,
+            session: self.start.session,
             seconds: now.as_secs_f64(),
             interfaces: self.interface_views(),
             neighbours: self.neighbour_views(now),
@@ -128,7 +128,7 @@ impl<K: Kernel> Machine<K> {
             router: number,
             up: it.is_up,
             seconds: now.saturating_sub(it.since).as_secs_f64(),
-            session: it.session,
+            session: it.start.session,
             listed: it.has_told_all,
             round_trip_seconds: round_trip.map(|it| it.mean.as_secs_f64()),
             round_trip_variation_seconds: round_trip.map(|it| it.variation.as_secs_f64()),

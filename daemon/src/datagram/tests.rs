@@ -3,17 +3,29 @@ use std::collections::BTreeSet;
 
 const HEAD_OF_ALL: Head = Head {
     from: 7,
-    session: 8,
-    process: 10,
+    start: Start {
+        session: 8,
+        process: 10,
+    },
     number: 9,
     hold: Duration::from_millis(4000),
 };
 
-fn said(heard: &[Heard]) -> Hello {
+const ONE: Start = Start {
+    session: 2,
+    process: 5,
+};
+
+/// A hello with routers that are heard, and with as many that are known.
+fn said(heard: &[Start]) -> Hello {
+    let peer = |start: &Start| Peer {
+        router: 1,
+        start: *start,
+    };
     Hello {
         mac: Some([2, 0, 0, 0, 0, 7]),
         heard: heard.to_vec(),
-        known: heard[..heard.len().min(1)].to_vec(),
+        known: heard.iter().map(peer).collect(),
     }
 }
 
@@ -26,10 +38,12 @@ fn key(number: u8, secret: &str) -> Key {
 
 fn address() -> Address {
     Address {
-        to: Heard {
+        to: Peer {
             router: 3,
-            session: 4,
-            process: 5,
+            start: Start {
+                session: 4,
+                process: 5,
+            },
         },
         arrived: Arrived {
             greatest: 70,
@@ -47,20 +61,12 @@ fn prefix(text: &str) -> Prefix {
 
 #[test]
 fn a_hello_is_read_as_it_was_written() {
-    let heard = [
-        Heard {
-            router: 1,
-            session: 2,
-            process: 5,
-        },
-        Heard {
-            router: u32::MAX,
-            session: u64::MAX,
-            process: 5,
-        },
-    ];
+    let last = Start {
+        session: u32::MAX,
+        process: u32::MAX - 1,
+    };
     for keys in [vec![], vec![key(1, "one"), key(2, "two")]] {
-        let said = said(&heard);
+        let said = said(&[ONE, last]);
         let data = hello(HEAD_OF_ALL, &said, &keys);
         assert_eq!(read(&data, &keys), Some((HEAD_OF_ALL, Body::Hello(said))));
         assert_eq!(receiver(&data), None);
@@ -122,13 +128,90 @@ fn a_datagram_takes_no_more_than_it_may() {
         });
     }
     assert!(news.sealed(false, &[key(1, "one")]).len() <= MOST_BYTES);
-    let one = Heard {
-        router: 1,
-        session: 1,
-        process: 5,
-    };
-    let most = hello(HEAD_OF_ALL, &said(&[one; 1000]), &[key(1, "one")]);
+    let keys = [key(1, "one")];
+    let most = hello(HEAD_OF_ALL, &said(&[ONE; 1000]), &keys);
     assert!(most.len() <= MOST_BYTES);
+    let (_, Body::Hello(read)) = read(&most, &keys).unwrap() else {
+        panic!("not a hello")
+    };
+    assert_eq!(read, said(&[ONE; MOST_HEARD]), "each list has its space");
+}
+
+/// A hello goes over each link each second. Beside the headers of Ethernet, IPv6 and UDP, which take 62 bytes, it has these.
+#[test]
+fn a_hello_with_one_neighbour_is_short() {
+    let said = Hello {
+        known: Vec::new(),
+        ..said(&[ONE])
+    };
+    assert_eq!(hello(HEAD_OF_ALL, &said, &[]).len(), 40);
+    assert_eq!(hello(HEAD_OF_ALL, &said, &[key(1, "one")]).len(), 56);
+}
+
+fn bytes(text: &str) -> Vec<u8> {
+    let text: String = text.split_whitespace().collect();
+    let pairs = (0..text.len()).step_by(2);
+    pairs
+        .map(|at| u8::from_str_radix(&text[at..at + 2], 16).unwrap())
+        .collect()
+}
+
+/// The bytes are those that the top of datagram.rs describes. Python has made the seals.
+#[test]
+fn the_form_is_the_one_that_is_described() {
+    let keys = [key(3, "0123456789abcdef")];
+    let head = "03 0190 00000007 00000008 0000000a 0000000000000009";
+    let of_hello = bytes(&format!(
+        "5248 {head} 020000000007 01 00000002 00000005 00000001 00000002 00000005 39da8579bbba88d522cdbad710e3b7ab"
+    ));
+    assert_eq!(hello(HEAD_OF_ALL, &said(&[ONE]), &keys), of_hello);
+    let of_news = bytes(&format!(
+        "524e {head} 00000003 00000004 00000005 0000000000000046 0000000000000005 000004d2 03 00 18 0a0900 fcc4cc7cdf141e06a38dfae8412346f6"
+    ));
+    let mut news = News::new(HEAD_OF_ALL, address(), &keys);
+    news.push(Record {
+        prefix: prefix("10.9.0.0/24"),
+        says: Says::Name,
+    });
+    assert_eq!(news.sealed(true, &keys), of_news);
+}
+
+/// What revrouted said before its form became shorter, sealed by the same key: a hello that lists one router, and news. Their
+/// ends could be records of news, if their first letters were those of news.
+#[test]
+fn a_datagram_of_the_earlier_form_is_not_read() {
+    let head = "0190 00000007 0000000000000008 000000000000000a 0000000000000009";
+    let of_hello = "020000000007 0001 00000001 0000000000000002 0000000000000000";
+    let of_news =
+        "00000001 0000000000000002 0000000000000000 0000000000000000 0000000000000000 00000000";
+    for (kind, flags, body) in [("01", "00", of_hello), ("02", "03", of_news)] {
+        // The number of the key was in the byte 4. In the byte 2, where it is now, there was a letter.
+        for (in_it, number) in [("00", None), ("03", Some(3)), ("03", Some(0x44))] {
+            let data = bytes(&format!("525244 {kind} {in_it} {flags} {head} {body}"));
+            let keys: Vec<Key> = number.map(|it| key(it, "one")).into_iter().collect();
+            let data = sealed(data, &keys);
+            assert_eq!((read(&data, &keys), receiver(&data)), (None, None));
+        }
+    }
+}
+
+#[test]
+fn lists_that_are_cut_or_longer_than_the_hello_are_not_read() {
+    let whole = hello(HEAD_OF_ALL, &said(&[ONE, ONE]), &[]);
+    let (lists, peers) = (HELLO_HEAD, HELLO_HEAD + 2 * START);
+    let ends = [lists, lists + START, peers, peers + PEER, peers + 2 * PEER];
+    for end in 0..=whole.len() {
+        // The heard ones are as many as the count says. The known ones end with the datagram.
+        let is_read = end >= peers && ends.contains(&end);
+        assert_eq!(read(&whole[..end], &[]).is_some(), is_read, "{end} bytes");
+    }
+    let mut other = whole.clone();
+    for count in 0..=u8::MAX {
+        other[HELLO_HEAD - 1] = count;
+        let rest = (whole.len() - HELLO_HEAD).checked_sub(usize::from(count) * START);
+        let is_read = rest.is_some_and(|it| it % PEER == 0);
+        assert_eq!(read(&other, &[]).is_some(), is_read, "{count} of them");
+    }
 }
 
 #[test]

@@ -39,7 +39,7 @@ pub struct Datagram {
 pub struct Lab {
     pub world: Rc<RefCell<World>>,
     pub machines: BTreeMap<u32, Machine<Handle>>,
-    pub sessions: BTreeMap<u32, u64>,
+    pub sessions: BTreeMap<u32, u32>,
     pub announced: BTreeMap<u32, BTreeSet<Prefix>>,
     pub links: Vec<((u32, u32), (u32, u32))>,
     /// Devices of several routers that are on one LAN.
@@ -143,7 +143,7 @@ impl Lab {
         self.start_as(router, session);
     }
 
-    pub fn start_as(&mut self, router: u32, session: u64) {
+    pub fn start_as(&mut self, router: u32, session: u32) {
         self.machines.remove(&router);
         let kernel = Handle {
             world: self.world.clone(),
@@ -337,7 +337,7 @@ impl Lab {
     pub fn told(&self, prefix: Prefix) -> String {
         let mut text = String::new();
         for (router, machine) in &self.machines {
-            text += &format!("\n{router} in session {}:", machine.session);
+            text += &format!("\n{router} in session {}:", machine.start.session);
             for (number, it) in &machine.neighbours {
                 text += &told_of_neighbour(*number, it);
             }
@@ -371,7 +371,7 @@ pub fn told_of_neighbour(number: u32, it: &Neighbour) -> String {
         .map(|(at, it)| (*at, it.is_heard, it.hears_me, it.is_up))
         .collect();
     let news = (it.news.pending(), it.news.is_complete());
-    let (session, told) = (it.session, it.has_told_all);
+    let (session, told) = (it.start.session, it.has_told_all);
     format!("\n    {number}.{session} told {told} news {news:?} {links:?}")
 }
 
