@@ -186,29 +186,32 @@ impl Daemon {
 
     /// Says what the system does not have that a router needs.
     fn look_at_system(&mut self) {
-        let is = |name: &str, value: &str| {
-            std::fs::read_to_string(format!("/proc/sys/net/{name}"))
-                .is_ok_and(|it| it.trim() == value)
-        };
         let wrong = [
             (
-                is("ipv4/ip_forward", "0"),
+                "ipv4/ip_forward",
                 "net.ipv4.ip_forward is 0: this router forwards no IPv4",
             ),
             (
-                is("ipv6/conf/all/forwarding", "0"),
+                "ipv6/conf/all/forwarding",
                 "net.ipv6.conf.all.forwarding is 0: this router forwards no IPv6",
             ),
-            (
-                is("ipv4/conf/all/rp_filter", "1"),
-                "net.ipv4.conf.all.rp_filter is 1: packets that come by another link than \
-             they would go are dropped. 0 or 2 lets them pass",
-            ),
         ];
-        for (is_wrong, text) in wrong {
-            if is_wrong {
+        for (name, text) in wrong {
+            if setting(name) == Some(0) {
                 self.machine.journal.add(text.into());
             }
+        }
+    }
+
+    /// Says if the kernel drops packets that come in by this device and would go by another one. Of the setting of the
+    /// device and that of all, the greater one counts.
+    fn look_at_filter(&mut self, device: &str) {
+        let filter = |it: &str| setting(&format!("ipv4/conf/{it}/rp_filter"));
+        if filter("all").max(filter(device)) == Some(1) {
+            self.machine.journal.add(format!(
+                "rp_filter is 1 for {device}: packets that come in there, but would go by another link, are dropped. \
+                 Set net.ipv4.conf.{device}.rp_filter to 2"
+            ));
         }
     }
 
@@ -279,7 +282,10 @@ impl Daemon {
             Ok(port)
         });
         match opened {
-            Ok(port) => drop(self.ports.insert(it.index, port)),
+            Ok(port) => {
+                self.ports.insert(it.index, port);
+                self.look_at_filter(&it.name);
+            }
             Err(error) => {
                 self.machine.journal.add_rarely(
                     format!("{}: its socket cannot be opened: {error}", it.name),
@@ -506,6 +512,12 @@ impl Daemon {
             .add("ended, but the kernel refuses to close gates or to remove ways".into());
         false
     }
+}
+
+/// A number to which the kernel's networks are set.
+fn setting(name: &str) -> Option<u32> {
+    let text = std::fs::read_to_string(format!("/proc/sys/net/{name}")).ok()?;
+    text.trim().parse().ok()
 }
 
 fn fd(it: &impl std::os::fd::AsRawFd) -> i32 {

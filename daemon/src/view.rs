@@ -283,7 +283,7 @@ pub fn status_text(it: &Status) -> String {
         let state = match (it.carrier, it.gates, it.held) {
             (false, _, _) => "no carrier",
             (_, false, _) => "not used: the kernel refuses its gates",
-            (_, _, true) => "waits for the list of a neighbour; drops what comes in",
+            (_, _, true) => "held: what comes in is not forwarded",
             _ if it.lan => "used for several neighbours",
             _ => "used",
         };
