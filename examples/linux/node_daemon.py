@@ -392,7 +392,7 @@ def opened(device):
     where = struct.pack("=4s4si", socket.inet_aton(GROUP), bytes(4), socket.if_nametoindex(device))
     for option in (socket.IP_ADD_MEMBERSHIP, socket.IP_MULTICAST_IF):
         it.setsockopt(socket.IPPROTO_IP, option, where)
-    # it must not hear what it sends itself: then the silence of a neighbour would not be noticed
+    # it need not hear what it sends itself
     it.setsockopt(socket.IPPROTO_IP, socket.IP_MULTICAST_LOOP, 0)
     it.bind((GROUP, PORT))
     it.setblocking(False)
