@@ -265,6 +265,10 @@ impl World {
         if goes_on && !both.rests()? {
             self.found.differ = self.found.differ.wrapping_add(1);
         }
+        // Until then it says nothing.
+        if !matches!(both.node.say(x), Err(NodeFault::Unwritten)) {
+            self.found.differ = self.found.differ.wrapping_add(1);
+        }
         both.node.written(both.node.state())
     }
 
