@@ -745,10 +745,10 @@ typedef enum revroute_rise {
     REVROUTE_TOP = 1
 } revroute_rise;
 
-/* When a node changes its height. No policy can make a loop. `rise` is one of the two kinds, and a call refuses any
- * other number. `ceiling` is the ceiling of REVROUTE_TOP. If `lower` is not 0, a node with REVROUTE_FULL lowers its height to
- * its distance once its nearest way stays a way. If `wait` is not 0, a node keeps its old height and ways until the
- * neighbours that it lets in have acknowledged a greater height. */
+/* When a node changes its height. No policy can make a loop. `rise` is one of the two kinds, and a call refuses
+ * any other number. `ceiling` is the ceiling of REVROUTE_TOP. If `lower` is not 0, a node with REVROUTE_FULL
+ * lowers its height to its distance if a way with a smaller distance stays a way. If `wait` is not 0, a node keeps
+ * its old height and ways until the neighbours that it lets in have acknowledged a greater height. */
 typedef struct revroute_policy {
     uint32_t rise;
     uint32_t ceiling;

@@ -1,4 +1,4 @@
--- What the functions that make the program's command say of it.
+-- What a function says that makes a command of the program.
 use Rattle.std.specs.Prelude.{◌≡◌, false, Result, IfOk}
 use Rattle.std.specs.declared.alloc.AllocError.{AllocError}
 use Rattle.clap.specs.Simple.{App, app_of}

@@ -78,13 +78,6 @@ impl Conversation {
         self.responder.session()
     }
 
-    /// How many of the lines that have ended were refused, at most [`u64::MAX`]. O(1).
-    pub fn refused(&self) -> u64
-        ensures { result ≡ self.now.refused }
-    {
-        self.tally().refused
-    }
-
     /// How many of the lines that have ended were answered, and how many of these were refused.
     pub(crate) fn tally(&self) -> Tally
         ensures answered { result.answered ≡ self.now.answered }

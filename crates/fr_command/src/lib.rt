@@ -2,7 +2,7 @@
 //!
 //! [`run`] answers the lines of an input as text, and [`play_drawn`] plays the schedule of a [`Draw`] on its network.
 //! [`serve`] answers each line of a [`Stream`] as soon as it has ended. It uses a [`Conversation`], to which a caller can
-//! pass bytes from any source. [`run_in`] and [`serve_in`] answer in either [`Form`], as text or as JSON, and return a
+//! pass bytes from any source. [`run_in`] and [`serve_in`] answer in any [`Form`], as text or as JSON, and return a
 //! [`Tally`] of the answered and the refused lines. [`program`] does what the words of a command line ask for.
 //!
 //! Parts of [`run`] are public, for programs that read an input and write another text: [`read_input`], [`Lines`],

@@ -21,8 +21,8 @@ const TRIES: u32 = 64;
 /// The handle with which other workers steal from a deque.
 pub(crate) type Stealer<J> = crossbeam_deque::Stealer<u32, Global, (), CandidateProtocol<J>>;
 
-/// How many calls a worker makes before it lets other threads run, if another worker rests and nobody steals what it
-/// shares.
+/// How many calls in a row a worker makes while another worker rests and nobody steals what it shares. At the next one
+/// it lets other threads run.
 const CALLS_BEFORE_YIELD: u8 = 4;
 
 /// Which candidates of a worker others can steal.

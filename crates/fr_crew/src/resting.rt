@@ -42,7 +42,7 @@ impl Resting {
     }
 
     /// A worker that found no candidate rests, while other threads run. Returns whether all workers rested at one moment.
-    /// None of them had a candidate then, so none is left.
+    /// Those that can still make calls had no candidate then. So what is left is for the finisher.
     pub fn rest(&self) -> bool {
         self.end();
         let is_over = self.all_rest_soon();

@@ -57,8 +57,9 @@ pub struct CrewWork {
 /// does. They go into the queue, unless they are in it. When another worker has no candidate, the worker moves half of
 /// its queue to its deque. If the gate may wait for another worker, all candidates go into the deque, unless they are in
 /// any, so that others can steal them during its calls. The only worker of a crew has all its candidates in the queue. A
-/// worker that finds no candidate looks again while others work. It ends when all workers are without one, or when its
-/// budget is spent.
+/// worker that finds no candidate looks again while others work. It ends when its budget is spent, or when each of the
+/// others is without a candidate too or has spent its budget.
+///
 /// No thread is started for a crew of one, if no node can turn, or if no worker may make a call. There is no lock, and
 /// the crew waits only for its threads to end.
 ///

@@ -163,15 +163,6 @@ impl Distances {
         distance_of_number(self.of[x as usize])
     }
 
-    /// The distance that node `x` had before the last update, or the same as now if there was none. The node must be in
-    /// the network. O(1).
-    pub fn distance_before(&self, x: u32) -> Option<u32>
-        requires { x < length self.now.before }
-        ensures { result ≡ distance_of (slice_index self.now.before x) }
-    {
-        distance_of_number(self.changes.before[x as usize])
-    }
-
     /// The nodes whose distance the last update has changed, each once, in no particular order. They are `u16`, as in
     /// the rows of a network. O(1).
     pub fn changed(&self) -> &[u16]

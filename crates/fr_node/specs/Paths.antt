@@ -104,9 +104,9 @@ abbrev pub UnheardAreAnnouncements : Type 0
 UnheardAreAnnouncements = (s : Net) (x w : ℕ) → (s.router x).peer w ≡ (s.router w).boot
     → unheard s x w ≡ (s.router w).number - (s.router x).heard w
 
--- While a path to a gateway stays up, a router of it announces at most one height for each link of the path, and one
--- for each announcement that a router of the path has not heard of the next one. The routers of the path use
--- `Rise::Full` without `lower`. Other links may go up and down, other routers restart, and messages be lost, delayed,
+-- While a path to a gateway stays up and none of its routers restarts, a router of it announces at most one height for
+-- each link of the path, and one for each announcement that a router of the path has not heard of the next one. The
+-- routers of the path use `Rise::Full` without `lower`. Other links may go up and down, other routers restart, and messages be lost, delayed,
 -- repeated and reordered. Before that anything may have happened, and no router has to have forgotten what is
 -- outdated.
 abbrev pub PathBoundsAnnouncements : Type 0

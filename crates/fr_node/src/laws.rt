@@ -41,8 +41,8 @@ pub fn prefixes_law()
     ensures possible { SomePrefixIsLonger }
 {}
 
-/// Once messages have arrived and no router raises its height, packets of each router with a link come to a gateway. The
-/// routers have `Rise::Full`. Packets arrive whichever ways they take, and each router that they reach lets them in.
+/// Once all messages have arrived and no router changes its height, packets of each router with a link come to a
+/// gateway. The routers have `Rise::Full`. Packets arrive whichever ways they take, and each router that they reach lets them in.
 pub fn ways_law()
     ensures { PacketsArrive }
 {}
@@ -73,8 +73,8 @@ pub fn ceiling_law()
     ensures calls { CallsStayBelow }
 {}
 
-/// While a path to a gateway stays up, its routers announce a bounded number of heights. They have `Rise::Full`
-/// without `lower`. After anything that can have happened, and whatever happens to other links and routers meanwhile,
+/// While a path to a gateway stays up and none of its routers restarts, they announce a bounded number of heights. They
+/// have `Rise::Full` without `lower`. After anything that can have happened, and whatever happens to other links and routers meanwhile,
 /// each of them announces at most one height for each link of the path, and one for each announcement that a router
 /// of the path has not heard of the next one. If the path leads down, and all of it is heard, none of them announces
 /// anything. In some run two heights are due, and announced. Each call of a `Node` is a step of these laws beside

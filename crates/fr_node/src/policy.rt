@@ -18,8 +18,8 @@ pub enum Rise {
 pub struct Policy {
     /// When the router raises its height.
     pub rise: Rise,
-    /// Whether a router with [`Rise::Full`] lowers its height to its distance, if its nearest way stays a way. One with
-    /// [`Rise::Top`] comes down in any case.
+    /// Whether a router with [`Rise::Full`] lowers its height to its distance, if a way with a smaller distance stays
+    /// a way then. One with [`Rise::Top`] comes down in any case.
     pub lower: bool,
     /// Whether the router keeps its old height, and so its old ways, until the neighbours that it lets in have
     /// acknowledged a greater one. If not, it uses the greater height at once, and lets a neighbour in only once that

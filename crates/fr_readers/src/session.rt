@@ -6,7 +6,6 @@ ghost use Rattle.fr_readers.specs.Inside.{pushes_in};
 ghost use Rattle.fr_readers.specs.Published.{HasHopsOf, HasWaysOf, no_pushes, published};
 ghost use Rattle.std.specs.Option.{option_map};
 ghost use Rattle.fr_shared.specs.Knowledge.{past_of};
-ghost use Rattle.fr_shared_ways.specs.Knowledge.{past_of as ways_past_of};
 ghost use Rattle.fr_ways.specs.PushLists.{AreListed};
 ghost use Rattle.fr_route.specs.NodeWays.{AreNodeWays, HasDistance, IsNearest};
 ghost use Rattle.fr_route.specs.declared.fault.RouteFault.TheVariants.{Memory};
@@ -163,20 +162,6 @@ impl PublishedSession {
         let reader = ways.reader()?;
         self.ways = Some(ways);
         Ok(reader)
-    }
-
-    /// What readers of ways can learn: all pushes so far, with those of the last change. `None` if there is no such
-    /// reader yet. It is for [`Reader::learn`](fr_shared_ways::Reader::learn) what [`past`](PublishedSession::past) is
-    /// for readers of hops.
-    ///
-    /// It makes one load, and does not allocate or wait. O(1).
-    pub fn ways_past(&mut self) -> Option<shared_ways::Past>
-        ensures kept { self.new ≡ self.old }
-        // After a change, a reader of ways learns all pushes by it.
-        ensures past { result ≡ option_map ways_past_of self.old.ways }
-    {
-        let ways = self.ways.as_mut()?;
-        Some(ways.past())
     }
 
     /// What readers can learn: all pushes so far, with those of the last change. `None` if there is no reader yet.

@@ -7,7 +7,7 @@ ghost use Rattle.fr_graph.specs.Limits.{most_nodes};
 ghost use Rattle.fr_route.specs.NodeWays.{AreNodeWays};
 ghost use Rattle.fr_ways.specs.Ways.{ways};
 ghost use Rattle.fr_shared_ways.specs.Histories.{IsTable, ListsChanges};
-ghost use Rattle.fr_shared_ways.specs.Knowledge.{last_table, past_of};
+ghost use Rattle.fr_shared_ways.specs.Knowledge.{last_table};
 ghost use Rattle.fr_readers.specs.Inside.{pushes_in};
 ghost use Rattle.fr_readers.specs.Published.{AreFirstWays, HasWaysOf};
 ghost use Rattle.fr_readers.specs.Publishing.{AlterWays, IsSettled, IsSettledSession, PublishesWays};
@@ -17,7 +17,7 @@ use crate::noting::{grow_of, push_nodes, shrink_of};
 use crate::publishing::router_law;
 use fr_graph::MAX_NODES;
 use fr_route::{Reroutes, Router, Session};
-use fr_shared_ways::{FirstWays, Past, Publisher, Reader, open};
+use fr_shared_ways::{FirstWays, Publisher, Reader, open};
 use std::alloc::{AllocError, Global};
 use std::marker::Model;
 
@@ -92,14 +92,6 @@ impl WayTables {
         ensures reader { IfOk result (λ reader. reader ≡ self.old) }
     {
         self.publisher.reader()
-    }
-
-    /// All pushes made so far.
-    pub(crate) fn past(&mut self) -> Past
-        ensures kept { self.new ≡ self.old }
-        ensures past { result ≡ past_of self.old }
-    {
-        self.publisher.past()
     }
 }
 

@@ -23,7 +23,7 @@ use std::alloc::Global;
 /// number. The destination has none. Returns as [`revroute_walk`] does, and `NO_MEMORY` only for a node with a route.
 ///
 /// It puts the ways together in a list that the session keeps, so it allocates only if no node asked about before had
-/// as many. The cost is that of [`Router::ways`](fr_route::Router::ways).
+/// as many links. The cost is that of [`Router::ways`](fr_route::Router::ways).
 #[unsafe(no_mangle)]
 pub extern "C" fn revroute_ways(
     handle: &mut Handle,

@@ -33,7 +33,8 @@ pub enum Rise {
 pub struct Policy {
     /// When it raises its height.
     pub rise: Rise,
-    /// Whether a node with [`Rise::Full`] lowers its height to its distance, if its nearest way stays a way.
+    /// Whether a node with [`Rise::Full`] lowers its height to its distance, if a way with a smaller distance stays a
+    /// way.
     pub lower: bool,
     /// Whether it keeps its old height and ways until the neighbours that it lets in have acknowledged a greater
     /// height.

@@ -93,14 +93,14 @@ class Node:
     `me` is the number of the router, which no other router has. `boot` is greater than at all earlier starts of this
     router. `height` is the height at which it starts: without it 0, or 2^32 - 1 with a `ceiling`.
 
-    Without a `ceiling`, a router that has no way rises above all its neighbours: this is full link reversal, and routers
-    that are cut off from all gateways rise for ever. With `lower`, such a router lowers its height to its distance if its
-    nearest way stays a way. With a `ceiling`, a router rises if no neighbour offers its height, and at once to 2^32 - 1,
-    the height of a router without a route. A neighbour offers its own height and the cost of the link together, if that
-    is below the ceiling. The router comes down to its best offer once each neighbour at a link that is up is let in. So
-    once all is quiet, routes have the least costs, if these are below the ceiling, and routers that are cut off are
-    silent. With `wait`, a router keeps its old height and ways until the neighbours that it lets in have acknowledged a
-    greater height. No choice can make a loop.
+    Without a `ceiling`, a router that has no way rises above all its neighbours: this is full link reversal, and
+    routers that are cut off from all gateways rise for ever. With `lower`, such a router lowers its height to its
+    distance if a way with a smaller distance stays a way. With a `ceiling`, a router rises if no neighbour offers its
+    height, and at once to 2^32 - 1, the height of a router without a route. A neighbour offers its own height and the
+    cost of the link together, if that is below the ceiling. The router comes down to its best offer once each
+    neighbour at a link that is up is let in. So once all is quiet, routes have the least costs, if these are below
+    the ceiling, and routers that are cut off are silent. With `wait`, a router keeps its old height and ways until
+    the neighbours that it lets in have acknowledged a greater height. No choice can make a loop.
 
     Raises OverflowError if `boot` or `height` has more than 64 bits or another number has more than 32, ValueError if
     `height` is 2^63 or more, since neighbours have to be able to rise above it, and MemoryError if memory runs out. A call on a
