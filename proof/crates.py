@@ -14,6 +14,8 @@ CRATES = TOP / "crates"
 BUILT = TOP / "out"
 # The most memory that one job of a check needs, in bytes. The highest value measured was 2.3 GB.
 ROOM_OF_A_JOB = 2_500_000_000
+# A line that is only a comment, of code or of antt's text.
+COMMENT = re.compile(rb"^[ \t]*(?://|--).*\n", re.M)
 # The status if something cannot be proved or built.
 FAILED = 70
 NO_TOOLCHAIN = "There is no command rt. Rattle's toolchain proves and builds revroute: README.md says where to get it, and what to do without it."
@@ -76,14 +78,16 @@ def functions(name):
 
 
 @cache
-def stamp(name):
-    """A hash of everything that the proof of a crate reads: its files, the toolchain, and the crates below it."""
+def stamp(name, has_comments=True):
+    """A hash of everything that the proof of a crate reads: its files, the toolchain, and the crates below it. Without
+    comments, lines that are nothing else do not count: no verdict depends on them."""
     uses, static = listed()
     made = hashlib.sha256(f"{uses[name]} {name in static} {(kit() / 'KIT-ID').read_text()}".encode())
     for file in sources(name):
-        made.update(f"\0{file.relative_to(CRATES)}\0".encode() + file.read_bytes())
+        text = file.read_bytes()
+        made.update(f"\0{file.relative_to(CRATES)}\0".encode() + (text if has_comments else COMMENT.sub(b"", text)))
     for it in below(name):
-        made.update(stamp(it).encode())
+        made.update(stamp(it, has_comments).encode())
     return made.hexdigest()
 
 

@@ -371,10 +371,13 @@ impl<K: Kernel> Machine<K> {
         it.news.acknowledge(address.arrived, address.waited, now);
         let left = it.news.arrived_leaves();
         self.has_heard_leaves(head.from, left);
+        // One that is not taken keeps none of the others from being taken. The datagram is not acknowledged then.
+        let mut are_taken = true;
         for record in records {
-            if self.take_record(head, record, now).is_err() {
-                return false;
-            }
+            are_taken &= self.take_record(head, record, now).is_ok();
+        }
+        if !are_taken {
+            return false;
         }
         if let Some(it) = self.neighbours.get_mut(&head.from) {
             it.news.heard(head.number, address.wants_answer, now);

@@ -65,7 +65,7 @@ impl<K: Kernel> Machine<K> {
                 .is_some_and(|it| it.leaves.is_some())
         };
         let is_done = |it: &Prefix| some.contains(it) || leaves(it);
-        let is_calm = self.is_held() && refused.is_empty() && self.refused.keys().all(is_done);
+        let is_calm = self.is_held() && refused.is_empty() && self.retries.keys().all(is_done);
         for prefix in over {
             let result = if is_calm {
                 self.forget(prefix)

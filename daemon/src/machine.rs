@@ -78,6 +78,14 @@ pub struct Device {
     pub outdated: BTreeSet<u32>,
 }
 
+/// A destination that is not written whole: when it is tried again, and how long this has waited.
+pub struct Retry {
+    pub at: Duration,
+    pub wait: Duration,
+    /// Whether the kernel refused a write. If not, other writes have to come first.
+    pub is_refused: bool,
+}
+
 /// Whether a device drops all that comes in and is not let in.
 #[derive(Clone, Copy, PartialEq, Eq)]
 pub enum Hold {
@@ -111,8 +119,8 @@ pub struct Machine<K> {
     pub destinations: BTreeMap<Prefix, Destination>,
     /// The destinations whose tables may have to be written.
     pub changed: BTreeSet<Prefix>,
-    /// Those of which the kernel refused a write: when to try again, and how long to wait after that.
-    pub refused: BTreeMap<Prefix, (Duration, Duration)>,
+    /// Those that are not written whole.
+    pub retries: BTreeMap<Prefix, Retry>,
     /// Those for which the kernel refused the routes that drop.
     pub unprepared: BTreeSet<Prefix>,
     pub former: Vec<Former>,
@@ -167,7 +175,7 @@ impl<K: Kernel> Machine<K> {
             neighbours: BTreeMap::new(),
             destinations: BTreeMap::new(),
             changed: BTreeSet::new(),
-            refused: BTreeMap::new(),
+            retries: BTreeMap::new(),
             unprepared: BTreeSet::new(),
             fading: BTreeMap::new(),
             former,
@@ -428,12 +436,17 @@ impl<K: Kernel> Machine<K> {
     }
 
     /// The cost of a neighbour may have changed. A node keeps the costs that it knows, so each one that knows another cost
-    /// starts again. A gateway sends to no neighbour.
+    /// starts again.
     fn compare_cost(&mut self, number: u32) {
         let cost = self.cost_to(number);
+        self.renew(|it| it.link_to(number).is_some_and(|link| link.cost != cost));
+    }
+
+    /// The nodes of some destinations start again. That of an own one does not: it sends to no neighbour.
+    fn renew(&mut self, is_chosen: impl Fn(&mut Destination) -> bool) {
         for (prefix, it) in &mut self.destinations {
-            let is_other = it.link_to(number).is_some_and(|link| link.cost != cost);
-            if is_other && !it.is_own && it.leaves.is_none() && it.becomes.is_none() {
+            let may_start = !it.is_own && it.leaves.is_none() && it.becomes.is_none();
+            if may_start && is_chosen(it) {
                 it.becomes = Some(Becomes::Other);
                 self.changed.insert(*prefix);
             }
@@ -488,6 +501,10 @@ impl<K: Kernel> Machine<K> {
         for number in self.costs().into_keys() {
             self.compare_cost(number);
         }
+        if self.settings.ceiling != before.ceiling {
+            // A node keeps the ceiling that it starts with.
+            self.renew(|_| true);
+        }
         self.changed.extend(self.destinations.keys());
     }
 
@@ -535,7 +552,7 @@ impl<K: Kernel> Machine<K> {
             .values()
             .filter(|it| it.is_up)
             .filter_map(|it| it.news.next_time());
-        let refused = self.refused.values().map(|it| it.0);
+        let retries = self.retries.values().map(|it| it.at);
         let former = self
             .former
             .iter()
@@ -544,7 +561,7 @@ impl<K: Kernel> Machine<K> {
         let all = hellos
             .chain(silence)
             .chain(news)
-            .chain(refused)
+            .chain(retries)
             .chain(former);
         all.min().unwrap_or(Duration::MAX)
     }

@@ -69,7 +69,7 @@ enum Command {
     /// Show what has happened, and follow what happens
     Events(Asked),
     /// Show counters in the text form of Prometheus
-    Metrics(Asked),
+    Metrics(Socket),
 }
 
 #[derive(clap::Args)]
@@ -77,6 +77,12 @@ struct Asked {
     /// Print JSON
     #[arg(long)]
     json: bool,
+    #[command(flatten)]
+    socket: Socket,
+}
+
+#[derive(clap::Args)]
+struct Socket {
     /// The socket of the daemon
     #[arg(long, value_name = "SOCKET", default_value_os_t = config::default_control())]
     control: PathBuf,
@@ -131,7 +137,7 @@ fn show<T: DeserializeOwned>(
     line: &str,
     text: impl Fn(&T) -> String,
 ) -> Result<(), String> {
-    let mut answer = asked(&words.control, line)?;
+    let mut answer = asked(&words.socket.control, line)?;
     if words.json {
         answer.push(b'\n');
         return print(&answer);
@@ -151,9 +157,10 @@ fn events(words: &Asked) -> Result<(), String> {
             Err(_) => writeln!(io::stdout(), "{line}"),
         }
     };
-    match control::follow(&words.control, each) {
+    let control = &words.socket.control;
+    match control::follow(control, each) {
         Err(error) if error.kind() == io::ErrorKind::BrokenPipe => Ok(()),
-        other => other.map_err(|it| format!("{}: {it}", words.control.display())),
+        other => other.map_err(|it| format!("{}: {it}", control.display())),
     }
 }
 

@@ -7,8 +7,10 @@ mod world;
 
 pub use lab::{Dice, settings};
 
+use crate::kernel::Refusal;
 use crate::machine::{LONGEST_DEAD, Machine, SENDERS};
 use crate::view::neighbours_text;
+use crate::writing::LATER;
 use lab::{Lab, own, prefix, seconds};
 use std::cell::Cell;
 use std::time::Duration;
@@ -208,6 +210,35 @@ fn routes_have_the_least_costs() {
     lab.run(seconds(1));
     lab.expect_all_arrive();
     assert_eq!(lab.path(0, own(1).address()), [0, 1]);
+}
+
+/// Routes of two links do not count for router 0, so its height is at the top. Then they count again.
+#[test]
+fn a_new_ceiling_counts_at_once() {
+    let mut lab = Lab::new(&RING, 8);
+    lab.start_all();
+    lab.run(seconds(1));
+    for (ceiling, height) in [(2, u32::MAX.into()), (64, 2)] {
+        let mut settings = lab.settings(0);
+        settings.ceiling = ceiling;
+        let now = lab.now;
+        lab.machines.get_mut(&0).unwrap().configure(settings, now);
+        lab.run(seconds(1));
+        let known = &lab.machines[&0].destinations;
+        let heights = [1, 2].map(|it| known[&own(it)].node.height());
+        assert_eq!(heights, [1, height]);
+    }
+}
+
+#[test]
+fn status_lists_what_the_kernel_refuses_and_not_what_waits() {
+    let mut lab = Lab::new(&RING, 8);
+    lab.start_all();
+    lab.run(seconds(1));
+    let (now, machine) = (lab.now, lab.machines.get_mut(&0).unwrap());
+    machine.try_again(own(1), LATER, now);
+    machine.try_again(own(2), Refusal(libc::EEXIST), now);
+    assert_eq!(machine.status(now).refused, [own(2).to_string()]);
 }
 
 #[test]

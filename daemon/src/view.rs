@@ -92,9 +92,14 @@ impl<K: Kernel> Machine<K> {
             neighbours: self.neighbour_views(now),
             prefixes: self.destinations.len(),
             reached,
-            refused: self.refused.keys().map(ToString::to_string).collect(),
+            refused: self.refused_prefixes(),
             counts: self.counts,
         }
+    }
+
+    fn refused_prefixes(&self) -> Vec<String> {
+        let some = self.retries.iter().filter(|(_, it)| it.is_refused);
+        some.map(|(prefix, _)| prefix.to_string()).collect()
     }
 
     fn interface_views(&self) -> Vec<Interface> {

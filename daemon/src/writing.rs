@@ -2,7 +2,7 @@
 
 use crate::destination::{Becomes, Plan, WayWrite};
 use crate::kernel::{Batch, Kernel, Refusal, Write};
-use crate::machine::{MAIN, Machine};
+use crate::machine::{MAIN, Machine, Retry};
 use crate::prefix::Prefix;
 use revroute::NodeTable;
 use std::collections::{BTreeMap, BTreeSet};
@@ -67,9 +67,9 @@ impl<K: Kernel> Machine<K> {
     /// Writes the tables of the destinations that have changed: closes gates, changes ways, and then opens gates.
     pub fn settle(&mut self, now: Duration) {
         let due = self
-            .refused
+            .retries
             .iter()
-            .filter(|(_, it)| it.0 <= now)
+            .filter(|(_, it)| it.at <= now)
             .map(|(it, _)| *it);
         self.changed.extend(due.collect::<Vec<Prefix>>());
         self.hold();
@@ -88,17 +88,30 @@ impl<K: Kernel> Machine<K> {
         }
         self.forget_left(&some, &mut refused);
         for prefix in some.into_iter().filter(|it| !refused.contains_key(it)) {
-            self.refused.remove(&prefix);
+            self.retries.remove(&prefix);
         }
         for (prefix, why) in refused {
             self.try_again(prefix, why, now);
         }
     }
 
-    fn try_again(&mut self, prefix: Prefix, why: Refusal, now: Duration) {
-        let (at, wait) = self.refused.entry(prefix).or_insert((now, SHORTEST));
-        (*at, *wait) = (now + *wait, (*wait * 2).min(LONGEST));
-        if why == LATER {
+    /// A destination that is not written whole is tried again later.
+    pub fn try_again(&mut self, prefix: Prefix, why: Refusal, now: Duration) {
+        let wait = self
+            .retries
+            .get(&prefix)
+            .map_or(SHORTEST, |it| (it.wait * 2).min(LONGEST));
+        let is_refused = why != LATER;
+        let at = now + wait;
+        self.retries.insert(
+            prefix,
+            Retry {
+                at,
+                wait,
+                is_refused,
+            },
+        );
+        if !is_refused {
             return;
         }
         self.journal.add_rarely(

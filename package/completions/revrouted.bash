@@ -12,7 +12,8 @@ _revrouted() {
         case $task in
             run) words='--config --help' ;;
             check) mapfile -t COMPREPLY < <(compgen -f -W '--help' -- "$word"); return ;;
-            status | routes | neighbours | events | metrics) words='--json --control --help' ;;
+            status | routes | neighbours | events) words='--json --control --help' ;;
+            metrics) words='--control --help' ;;
             help) words=$tasks ;;
         esac
     fi

@@ -11,7 +11,7 @@ complete -c revrouted -n __fish_use_subcommand -a help -d 'Print help'
 complete -c revrouted -n '__fish_seen_subcommand_from help' -a 'run check status routes neighbours events metrics'
 complete -c revrouted -n '__fish_seen_subcommand_from run' -r -F -l config -d 'The configuration'
 complete -c revrouted -n '__fish_seen_subcommand_from check' -F
-complete -c revrouted -n '__fish_seen_subcommand_from status routes neighbours events metrics' -l json -d 'Print JSON'
+complete -c revrouted -n '__fish_seen_subcommand_from status routes neighbours events' -l json -d 'Print JSON'
 complete -c revrouted -n '__fish_seen_subcommand_from status routes neighbours events metrics' -r -F -l control -d 'The socket of the daemon'
 complete -c revrouted -s h -l help -d 'Print help'
 complete -c revrouted -n __fish_use_subcommand -s V -l version -d 'Print the version'

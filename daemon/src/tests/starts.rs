@@ -1,10 +1,11 @@
 //! Which start of a router a datagram is from, is for, or names: what one router makes of datagrams that another one could
 //! have said.
 
-use super::lab::{Lab, seconds};
+use super::lab::{Lab, prefix, seconds};
 use super::world::{Handle, address, mac};
-use crate::datagram::{self, Address, Arrived, Body, Head, Hello, News, Peer, Start};
+use crate::datagram::{self, Address, Arrived, Body, Head, Hello, News, Peer, Record, Says, Start};
 use crate::machine::{Machine, drawn};
+use revroute::MESSAGE_LENGTH;
 use std::collections::BTreeSet;
 use std::hash::RandomState;
 use std::time::Duration;
@@ -82,8 +83,11 @@ impl Pair {
         self.takes(&datagram::hello(head, &said, &[]))
     }
 
-    /// News without records.
     fn hears_news(&mut self, from: Start, to: Peer) -> bool {
+        self.hears_records(from, to, &[])
+    }
+
+    fn hears_records(&mut self, from: Start, to: Peer, records: &[Record<'_>]) -> bool {
         let head = self.head(from);
         let address = Address {
             to,
@@ -92,7 +96,11 @@ impl Pair {
             is_complete: true,
             wants_answer: false,
         };
-        self.takes(&News::new(head, address, &[]).sealed(true, &[]))
+        let mut news = News::new(head, address, &[]);
+        for it in records {
+            news.push(*it);
+        }
+        self.takes(&news.sealed(true, &[]))
     }
 
     fn is_up(&mut self) -> bool {
@@ -152,6 +160,29 @@ fn news_are_for_one_process_and_from_one() {
     }
     assert!(!pair.has_told_all());
     assert!(pair.hears_news(KNOWN, me) && pair.has_told_all());
+}
+
+/// The datagram is not acknowledged, so the other router says it again.
+#[test]
+fn a_record_that_is_not_understood_keeps_no_other_one_from_being_taken() {
+    let mut pair = Pair::new();
+    let (router, start) = (ME, pair.me());
+    let me = Peer { router, start };
+    assert!(pair.hears(KNOWN, &[start], &[]));
+    let [first, last] = ["10.9.1.0/24", "10.9.2.0/24"].map(prefix);
+    let records = [
+        Record {
+            prefix: first,
+            says: Says::Message(&[0; MESSAGE_LENGTH], true),
+        },
+        Record {
+            prefix: last,
+            says: Says::Name,
+        },
+    ];
+    assert!(!pair.hears_records(KNOWN, me, &records) && !pair.has_told_all());
+    assert!(pair.machine().destinations.contains_key(&last));
+    assert!(pair.hears_records(KNOWN, me, &records[1..]) && pair.has_told_all());
 }
 
 #[test]
