@@ -3,6 +3,15 @@
 use crate::sys;
 
 /// Where a node forwards traffic for the destination.
+///
+/// ```
+/// use revroute::{Hop, Network, Refused};
+///
+/// let network = Network::new(3, 0, &[(1, 0)])?;
+/// assert_eq!(network.hops()?, [Hop::Here, Hop::To(0), Hop::CutOff]);
+/// assert_eq!(network.next_hop(1).node(), Some(0));
+/// # Ok::<(), Refused>(())
+/// ```
 #[derive(Debug, Clone, Copy, PartialEq, Eq, Hash)]
 #[non_exhaustive]
 pub enum Hop {
@@ -44,6 +53,15 @@ impl Hop {
 }
 
 /// The report of a round.
+///
+/// ```
+/// use revroute::{Network, Refused, Report};
+///
+/// let mut network = Network::new(3, 0, &[(1, 0), (2, 1)])?;
+/// assert_eq!(network.cut(2, 1)?, Report { turned: 0, cut_off: 1 });
+/// assert_eq!(network.add(0, 2)?, Report { turned: 1, cut_off: 0 });
+/// # Ok::<(), Refused>(())
+/// ```
 #[derive(Debug, Clone, Copy, PartialEq, Eq, Hash)]
 pub struct Report {
     /// The number of turns. In a turn, a node reverses all its links.
@@ -53,6 +71,13 @@ pub struct Report {
 }
 
 /// The size of a network.
+///
+/// ```
+/// use revroute::{Network, Refused, Size};
+///
+/// assert_eq!(Network::new(3, 0, &[(1, 0)])?.size(), Size { nodes: 3, links: 1 });
+/// # Ok::<(), Refused>(())
+/// ```
 #[derive(Debug, Clone, Copy, PartialEq, Eq, Hash)]
 pub struct Size {
     /// The number of nodes. They are numbered from 0.

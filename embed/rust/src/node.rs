@@ -14,6 +14,14 @@ pub const MESSAGE_LENGTH: usize = 64;
 const FEW: usize = 16;
 
 /// When a node raises its height.
+///
+/// ```
+/// use revroute::{Node, NodeFault, Policy, Rise};
+///
+/// let policy = Policy { rise: Rise::Top(64), ..Policy::default() };
+/// assert_eq!(Node::new(1, 1, u32::MAX.into(), policy)?.height(), u64::from(u32::MAX));
+/// # Ok::<(), NodeFault>(())
+/// ```
 #[derive(Debug, Clone, Copy, PartialEq, Eq)]
 #[non_exhaustive]
 pub enum Rise {
@@ -44,7 +52,7 @@ pub struct Policy {
 /// The policy to start with: [`Rise::Full`], with `lower` and with `wait`.
 ///
 /// Full reversal needs no number that depends on the network, and packets arrive once messages have arrived and no
-/// router raises its height. With `lower`, routers come down to their distances, so routes are short. With `wait`, a
+/// router changes its height. With `lower`, routers come down to their distances, so routes are short. With `wait`, a
 /// router keeps its gates open while its neighbours learn of its new height, so it drops fewer packets. Choose another
 /// policy if routes are to have the least costs, or if routers that are cut off from all gateways have to fall silent:
 /// [`Rise::Top`].
@@ -80,6 +88,16 @@ impl Policy {
 }
 
 /// Why a router cannot start, or a neighbour cannot be made known. Nothing has changed.
+///
+/// ```
+/// use revroute::{Node, NodeFault, Policy};
+///
+/// assert!(matches!(Node::new(1, 1, 1 << 63, Policy::default()), Err(NodeFault::TooHigh)));
+/// let mut node = Node::gateway(0, 1)?;
+/// assert_eq!(node.know(0, 1), Err(NodeFault::Itself));
+/// assert_eq!(node.know(1, 0), Err(NodeFault::FreeLink));
+/// # Ok::<(), NodeFault>(())
+/// ```
 #[derive(Debug, Clone, Copy, PartialEq, Eq)]
 #[non_exhaustive]
 pub enum NodeFault {
@@ -113,6 +131,13 @@ impl From<NoMemory> for NodeFault {
 }
 
 /// Why a message is not heard. Nothing has changed, and it was no event.
+///
+/// ```
+/// use revroute::{HearFault, Node, NodeFault};
+///
+/// assert_eq!(Node::gateway(0, 1)?.hear(b"hello"), Err(HearFault::NotAMessage));
+/// # Ok::<(), NodeFault>(())
+/// ```
 #[derive(Debug, Clone, Copy, PartialEq, Eq)]
 #[non_exhaustive]
 pub enum HearFault {
@@ -136,6 +161,16 @@ impl fmt::Display for HearFault {
 impl Error for HearFault {}
 
 /// The ways and gates of the node have to be written first, and then [`Node::written`] has to be called.
+///
+/// ```
+/// use revroute::{Node, Unwritten};
+///
+/// let mut node = Node::gateway(0, 1)?;
+/// node.know(1, 1)?;
+/// node.link_up(1);
+/// assert_eq!(node.say(1), Err(Unwritten));
+/// # Ok::<(), Box<dyn std::error::Error>>(())
+/// ```
 #[derive(Debug, Clone, Copy, PartialEq, Eq)]
 pub struct Unwritten;
 
@@ -149,6 +184,17 @@ impl Error for Unwritten {}
 
 /// An event came after the table was handed out, or another node handed it out. Nothing has changed: ask for the
 /// [`table`](Node::table) again, and write that.
+///
+/// ```
+/// use revroute::{Node, Outdated};
+///
+/// let mut node = Node::gateway(0, 1)?;
+/// node.know(1, 1)?;
+/// let table = node.table()?;
+/// node.link_up(1);
+/// assert_eq!(node.written(table), Err(Outdated));
+/// # Ok::<(), Box<dyn std::error::Error>>(())
+/// ```
 #[derive(Debug, Clone, Copy, PartialEq, Eq)]
 pub struct Outdated;
 

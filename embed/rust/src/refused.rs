@@ -5,6 +5,15 @@ use std::error::Error;
 use std::fmt;
 
 /// Why a network, a change or a table is refused, with the nodes that show it. Nothing has changed.
+///
+/// ```
+/// use revroute::{Network, Refused};
+///
+/// let mut network = Network::new(3, 0, &[(1, 0), (2, 1)])?;
+/// assert_eq!(network.cut(2, 0), Err(Refused::NoLink(2, 0)));
+/// assert_eq!(network.add(0, 2), Err(Refused::ClosedWalk(vec![0, 2, 1, 0])));
+/// # Ok::<(), Refused>(())
+/// ```
 #[derive(Debug, Clone, PartialEq, Eq)]
 #[non_exhaustive]
 pub enum Refused {
@@ -53,6 +62,16 @@ impl From<NoMemory> for Refused {
 }
 
 /// Why a batch is refused. Nothing has changed.
+///
+/// ```
+/// use revroute::{Edit, Network, Refused, RefusedEdit};
+///
+/// let mut network = Network::new(3, 0, &[(1, 0), (2, 1)])?;
+/// let edits = [Edit::Cut(2, 1), Edit::Cut(1, 2)];
+/// assert_eq!(network.batch(&edits), Err(RefusedEdit { at: 1, why: Refused::NoLink(1, 2) }));
+/// assert_eq!(network.links()?, [(1, 0), (2, 1)]);
+/// # Ok::<(), Refused>(())
+/// ```
 #[derive(Debug, Clone, PartialEq, Eq)]
 pub struct RefusedEdit {
     /// The index of the first edit that cannot be made after those before it. If there are too many, it is the

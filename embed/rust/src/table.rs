@@ -5,6 +5,15 @@ use std::error::Error;
 use std::fmt;
 
 /// Why a table is refused.
+///
+/// ```
+/// use revroute::{Hop, Network, Refused, TableFault};
+///
+/// let network = Network::new(2, 0, &[(1, 0)])?;
+/// assert_eq!(network.pushes(&[Hop::Here]), Err(TableFault::Length));
+/// assert_eq!(network.pushes(&[Hop::Here, Hop::To(2)]), Err(TableFault::NoSuchNode(2)));
+/// # Ok::<(), Refused>(())
+/// ```
 #[derive(Debug, Clone, Copy, PartialEq, Eq)]
 #[non_exhaustive]
 pub enum TableFault {

@@ -22,16 +22,38 @@ _nodes: weakref.WeakValueDictionary[int, Node] = weakref.WeakValueDictionary()
 
 
 class Unwritten(Exception):
-    """The ways and gates of the node have to be written first, and then `Node.written` has to be called."""
+    """The ways and gates of the node have to be written first, and then `Node.written` has to be called.
+
+    >>> node = Node.gateway(0, boot=1)
+    >>> node.know(1)
+    >>> node.link_up(1)
+    >>> node.say(1)
+    Traceback (most recent call last):
+    revroute.node.Unwritten: write the ways and gates, and then call `written`
+    """
 
 
 class Outdated(Exception):
     """An event came after the ways and gates were handed out. Nothing has changed: write the `Node.table` as it is
-    now."""
+    now.
+
+    >>> node = Node.gateway(0, boot=1)
+    >>> node.know(1)
+    >>> table = node.table()
+    >>> node.link_up(1)
+    >>> node.written(table.state)
+    Traceback (most recent call last):
+    revroute.node.Outdated: an event came after the ways and gates were handed out
+    """
 
 
 class NotAMessage(ValueError):
-    """The bytes are not a message of a node. Nothing has changed."""
+    """The bytes are not a message of a node. Nothing has changed.
+
+    >>> Node.gateway(0, boot=1).hear(b"hello")
+    Traceback (most recent call last):
+    revroute.node.NotAMessage: the bytes are not a message
+    """
 
 
 class LaterStart(Exception):
@@ -41,7 +63,11 @@ class LaterStart(Exception):
 
 
 class NodeTable(NamedTuple):
-    """What a router writes to its forwarding table."""
+    """What a router writes to its forwarding table.
+
+    >>> Node.gateway(0, boot=1).table()
+    NodeTable(ways=[], gates=[], state=0)
+    """
 
     ways: list[int]
     """The neighbours to which packets may be sent, the nearest first, and equally near ones by number."""

@@ -56,11 +56,22 @@ class AnswerLost(Exception):
 
 
 class LineTooLong(ValueError):
-    """A line has more than 16,777,216 bytes."""
+    """A line has more than 16,777,216 bytes.
+
+    >>> Session().take(16_777_217 * b" ")
+    Traceback (most recent call last):
+    revroute.session.LineTooLong: a line has more than 16,777,216 bytes
+    """
 
 
 class NoSuchNode(KeyError, IndexError):
-    """The network has no such node. `node` is the name or number that was asked for."""
+    """The network has no such node. `node` is the name or number that was asked for.
+
+    >>> from revroute import Network
+    >>> Network(2, 0, [(1, 0)]).walk(2)
+    Traceback (most recent call last):
+    revroute.session.NoSuchNode: there is no node 2 in the network
+    """
 
     def __init__(self, node: object) -> None:
         super().__init__(node)
@@ -71,7 +82,12 @@ class NoSuchNode(KeyError, IndexError):
 
 
 class NoHop(enum.Enum):
-    """What a node has instead of a next hop."""
+    """What a node has instead of a next hop.
+
+    >>> from revroute import Network
+    >>> Network(3, 0, [(1, 0)]).hops()
+    [<NoHop.HERE: 'here'>, 0, <NoHop.CUT_OFF: 'cut'>]
+    """
 
     HERE = "here"
     """The node is the destination."""
@@ -83,7 +99,15 @@ _VALUES = {NoHop.HERE: _calls.HERE, NoHop.CUT_OFF: _calls.CUT_OFF}
 
 
 class Report(NamedTuple):
-    """The report of a round."""
+    """The report of a round.
+
+    >>> from revroute import Network
+    >>> network = Network(3, 0, [(1, 0), (2, 1)])
+    >>> network.cut(2, 1)
+    Report(turned=0, cut_off=1)
+    >>> network.add(0, 2)
+    Report(turned=1, cut_off=0)
+    """
 
     turned: int
     """The number of turns. In a turn, a node reverses all its links."""
@@ -97,7 +121,12 @@ class Report(NamedTuple):
 
 
 class Size(NamedTuple):
-    """The size of a network."""
+    """The size of a network.
+
+    >>> from revroute import Network
+    >>> Network(3, 0, [(1, 0)]).size
+    Size(nodes=3, links=1)
+    """
 
     nodes: int
     """The number of nodes. They are numbered from 0."""
