@@ -8,6 +8,7 @@ import itertools
 import json
 import random
 
+import viewed
 from said import same, stop
 
 BEGIN, MOST_ON_A_LINK = 64, 4
@@ -774,21 +775,21 @@ def check_cut_off(page):
     page.end()
 
 
-def check_screens(page, pages):
+def check_screens(page):
     """On each screen nothing is cut off, and in both modes of colour all can be read."""
     page.start(MESH)
-    for width, height in pages.SCREENS:
+    for width, height in viewed.SCREENS:
         for dark in (False, True):
             told = f"routers on {width} by {height}"
             page.chrome.screen(width, height, dark)
-            pages.check_sides(told, page.chrome)
-            pages.check_texts(told, page.chrome)
-            same(f"{told}: what is cut off", pages.steady(page.chrome, CUT), [])
+            viewed.check_sides(told, page.chrome)
+            viewed.check_texts(told, page.chrome)
+            same(f"{told}: what is cut off", viewed.steady(page.chrome, CUT), [])
     for dark in (False, True):
         page.chrome.screen(1280, 720, dark)
         page.chrome.value("document.getElementById('fold').open = true")
         for name, least, colour, back in page.chrome.value(COLOURS):
-            low, high = sorted(map(pages.light, (colour, back)))
+            low, high = sorted(map(viewed.light, (colour, back)))
             same(f"{'dark' if dark else 'light'}: the contrast of {name}", (high + 0.05) / (low + 0.05) >= least or f"{colour} on {back}", True)
         page.chrome.value("document.getElementById('fold').open = false")
     page.chrome.screen(1280, 720, False)
@@ -815,7 +816,7 @@ def check_another_page(page):
     page.end()
 
 
-def check_page(person, pages):
+def check_page(person):
     page = Page(person)
     check_another_page(page)
     check_repair(page)
@@ -827,4 +828,4 @@ def check_page(person, pages):
     check_cut_off(page)
     check_boxes(page)
     check_sessions(page, 50)
-    check_screens(page, pages)
+    check_screens(page)
