@@ -14,6 +14,8 @@ CRATES = TOP / "crates"
 BUILT = TOP / "out"
 # The most memory that one job of a check needs, in bytes. The highest value measured was 2.3 GB.
 ROOM_OF_A_JOB = 2_500_000_000
+# The folders of a crate that a proof reads.
+PARTS = "src", "specs", "proofs"
 # A line that is only a comment, of code or of antt's text.
 COMMENT = re.compile(rb"^[ \t]*(?://|--).*\n", re.M)
 # The status if something cannot be proved or built.
@@ -66,9 +68,9 @@ def is_program(name):
     return (CRATES / name / "src" / "main.rt").is_file()
 
 
-def sources(name):
+def sources(name, parts=PARTS):
     """The files that a crate is proved from."""
-    for part in ("src", "specs", "proofs"):
+    for part in parts:
         yield from (it for it in sorted((CRATES / name / part).rglob("*")) if it.is_file())
 
 
@@ -78,16 +80,16 @@ def functions(name):
 
 
 @cache
-def stamp(name, has_comments=True):
-    """A hash of everything that the proof of a crate reads: its files, the toolchain, and the crates below it. Without
-    comments, lines that are nothing else do not count: no verdict depends on them."""
+def stamp(name, is_of_contracts=False):
+    """A hash of everything that the proof of a crate reads: its files, the toolchain, and the crates below it. The stamp
+    of its contracts has less, what decides which bodies meet them: no proof, and no line that is only a comment."""
     uses, static = listed()
     made = hashlib.sha256(f"{uses[name]} {name in static} {(kit() / 'KIT-ID').read_text()}".encode())
-    for file in sources(name):
+    for file in sources(name, ("src", "specs") if is_of_contracts else PARTS):
         text = file.read_bytes()
-        made.update(f"\0{file.relative_to(CRATES)}\0".encode() + (text if has_comments else COMMENT.sub(b"", text)))
+        made.update(f"\0{file.relative_to(CRATES)}\0".encode() + (COMMENT.sub(b"", text) if is_of_contracts else text))
     for it in below(name):
-        made.update(stamp(it, has_comments).encode())
+        made.update(stamp(it, is_of_contracts).encode())
     return made.hexdigest()
 
 
