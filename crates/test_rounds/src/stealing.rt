@@ -262,15 +262,14 @@ pub fn looks_again<R: Threads + Wait + Sync + Alloc<A = Global>>(
     Ok(())
 }
 
-/// How often the runs are repeated, since a busy machine may leave a thread no time.
-const REPEATS: u32 = 10;
+/// How many times as many runs are made at most, since a busy machine may leave a thread no time.
+const REPEATS: u32 = 50;
 
-/// How many workers make less than one of a hundred turns, in so many runs on the chain of 1,024 nodes.
-fn count_idle<R: Threads + Wait + Sync + Alloc<A = Global>>(
+/// Whether each worker makes at least one of a hundred turns, in a run on the chain of 1,024 nodes.
+fn each_takes_part<R: Threads + Wait + Sync + Alloc<A = Global>>(
     rt: &R,
     plan: &Plan,
-    runs: u32,
-) -> Result<u32, Fault> {
+) -> Result<bool, Fault> {
     let alloc = rt.alloc();
     let crew = Crew {
         rt,
@@ -278,24 +277,17 @@ fn count_idle<R: Threads + Wait + Sync + Alloc<A = Global>>(
         plan,
         gate: &OpenGate,
     };
-    let mut idle = 0u32;
-    for _ in 0..runs {
-        let CrewWork {
-            settled,
-            turned,
-            ..
-        } = settle_telling(&crew, long_chain(alloc, 1024, 0)?, 0)?;
-        for (_, turns) in &turned {
-            if turns.saturating_mul(100) < settled.by_workers {
-                idle = idle.saturating_add(1);
-            }
-        }
-    }
-    Ok(idle)
+    let CrewWork {
+        settled,
+        turned,
+        ..
+    } = settle_telling(&crew, long_chain(alloc, 1024, 0)?, 0)?;
+    let is_part = |turns: u64| turns.saturating_mul(100) >= settled.by_workers;
+    Ok(turned.iter().all(|(_, turns)| is_part(*turns)))
 }
 
-/// `["each turns", workers, runs]`: the chain of 1,024 nodes by so many workers, so often. Whether at most two of a hundred
-/// workers make less than one of a hundred turns.
+/// `["each turns", workers, runs]`: the chain of 1,024 nodes by so many workers. Whether each worker makes at least one of a
+/// hundred turns in so many runs. Up to [`REPEATS`] times as many are made.
 pub fn each_turns<R: Threads + Wait + Sync + Alloc<A = Global>>(
     rt: &R,
     text: &mut Answer,
@@ -306,13 +298,12 @@ pub fn each_turns<R: Threads + Wait + Sync + Alloc<A = Global>>(
     };
     let (workers, runs) = (small_number(workers)?, small_number(runs)?);
     let plan = plan(workers, 1_000_000)?;
-    let mut is_shared = false;
-    for _ in 0..REPEATS {
-        if !is_shared {
-            let idle = count_idle(rt, &plan, runs)?;
-            is_shared = idle.saturating_mul(50) <= workers.saturating_mul(runs);
+    let mut shared = 0u32;
+    for _ in 0..runs.saturating_mul(REPEATS) {
+        if shared < runs && each_takes_part(rt, &plan)? {
+            shared = shared.saturating_add(1);
         }
     }
-    text.put("each turns ", &is_shared);
+    text.put("each turns ", &(shared == runs));
     Ok(())
 }
