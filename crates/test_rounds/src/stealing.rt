@@ -262,14 +262,15 @@ pub fn looks_again<R: Threads + Wait + Sync + Alloc<A = Global>>(
     Ok(())
 }
 
-/// How many times as many runs are made at most, since a busy machine may leave a thread no time.
-const REPEATS: u32 = 50;
+/// How often the runs are repeated, since a busy machine may leave a thread no time.
+const REPEATS: u32 = 10;
 
-/// Whether each worker makes at least one of a hundred turns, in a run on the chain of 1,024 nodes.
-fn each_takes_part<R: Threads + Wait + Sync + Alloc<A = Global>>(
+/// How many workers make less than one of a hundred turns, in so many runs on the chain of 1,024 nodes.
+fn count_idle<R: Threads + Wait + Sync + Alloc<A = Global>>(
     rt: &R,
     plan: &Plan,
-) -> Result<bool, Fault> {
+    runs: u32,
+) -> Result<u32, Fault> {
     let alloc = rt.alloc();
     let crew = Crew {
         rt,
@@ -277,17 +278,24 @@ fn each_takes_part<R: Threads + Wait + Sync + Alloc<A = Global>>(
         plan,
         gate: &OpenGate,
     };
-    let CrewWork {
-        settled,
-        turned,
-        ..
-    } = settle_telling(&crew, long_chain(alloc, 1024, 0)?, 0)?;
-    let is_part = |turns: u64| turns.saturating_mul(100) >= settled.by_workers;
-    Ok(turned.iter().all(|(_, turns)| is_part(*turns)))
+    let mut idle = 0u32;
+    for _ in 0..runs {
+        let CrewWork {
+            settled,
+            turned,
+            ..
+        } = settle_telling(&crew, long_chain(alloc, 1024, 0)?, 0)?;
+        for (_, turns) in &turned {
+            if turns.saturating_mul(100) < settled.by_workers {
+                idle = idle.saturating_add(1);
+            }
+        }
+    }
+    Ok(idle)
 }
 
-/// `["each turns", workers, runs]`: the chain of 1,024 nodes by so many workers. Whether each worker makes at least one of a
-/// hundred turns in so many runs. Up to [`REPEATS`] times as many are made.
+/// `["each turns", workers, runs]`: the chain of 1,024 nodes by so many workers, so often. Whether at most two of a hundred
+/// workers make less than one of a hundred turns.
 pub fn each_turns<R: Threads + Wait + Sync + Alloc<A = Global>>(
     rt: &R,
     text: &mut Answer,
@@ -298,12 +306,13 @@ pub fn each_turns<R: Threads + Wait + Sync + Alloc<A = Global>>(
     };
     let (workers, runs) = (small_number(workers)?, small_number(runs)?);
     let plan = plan(workers, 1_000_000)?;
-    let mut shared = 0u32;
-    for _ in 0..runs.saturating_mul(REPEATS) {
-        if shared < runs && each_takes_part(rt, &plan)? {
-            shared = shared.saturating_add(1);
+    let mut is_shared = false;
+    for _ in 0..REPEATS {
+        if !is_shared {
+            let idle = count_idle(rt, &plan, runs)?;
+            is_shared = idle.saturating_mul(50) <= workers.saturating_mul(runs);
         }
     }
-    text.put("each turns ", &(shared == runs));
+    text.put("each turns ", &is_shared);
     Ok(())
 }
