@@ -55,6 +55,7 @@ gateway  | revroute_node_open_gateway | Node::gateway | Node.gateway
 know     | revroute_node_know | Node::know | Node.know
 link_up  | revroute_node_link_up | Node::link_up | Node.link_up
 link_down | revroute_node_link_down | Node::link_down | Node.link_down
+set_cost | revroute_node_set_cost | Node::set_cost | Node.set_cost
 tick     | revroute_node_tick | Node::tick | Node.tick
 act      | revroute_node_act | Node::act | Node.act
 hear     | revroute_node_hear | Node::hear | Node.hear

@@ -126,7 +126,7 @@ impl Destination {
     }
 
     /// Makes a neighbour known. Returns whether there was memory for it. Without it the neighbour is not used here. A
-    /// neighbour that is known keeps its cost.
+    /// neighbour that is known keeps its cost, until [`set_cost`](Destination::set_cost).
     pub fn know(&mut self, neighbour: u32, cost: u32) -> bool {
         if self.links.iter().any(|it| it.neighbour == neighbour) {
             return true;
@@ -142,6 +142,21 @@ impl Destination {
             number: 0,
             has_left: false,
         });
+        true
+    }
+
+    /// The cost to a neighbour, if it is known. Returns whether that is an event. The ways stay until there are better ones.
+    pub fn set_cost(&mut self, neighbour: u32, cost: u32) -> bool {
+        let is_other = self
+            .links
+            .iter()
+            .any(|it| it.neighbour == neighbour && it.cost != cost);
+        if !is_other || self.node.set_cost(neighbour, cost).is_err() {
+            return false;
+        }
+        if let Some(link) = self.link_to(neighbour) {
+            link.cost = cost;
+        }
         true
     }
 

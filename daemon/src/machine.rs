@@ -435,18 +435,21 @@ impl<K: Kernel> Machine<K> {
         all.map(|number| (*number, self.cost_to(*number))).collect()
     }
 
-    /// The cost of a neighbour may have changed. A node keeps the costs that it knows, so each one that knows another cost
-    /// starts again.
+    /// The cost of a neighbour may have changed.
     fn compare_cost(&mut self, number: u32) {
         let cost = self.cost_to(number);
-        self.renew(|it| it.link_to(number).is_some_and(|link| link.cost != cost));
+        for (prefix, it) in &mut self.destinations {
+            if it.set_cost(number, cost) {
+                it.is_written = false;
+                self.changed.insert(*prefix);
+            }
+        }
     }
 
-    /// The nodes of some destinations start again. That of an own one does not: it sends to no neighbour.
-    fn renew(&mut self, is_chosen: impl Fn(&mut Destination) -> bool) {
+    /// The nodes of all destinations start again. That of an own one does not: it sends to no neighbour.
+    fn renew(&mut self) {
         for (prefix, it) in &mut self.destinations {
-            let may_start = !it.is_own && it.leaves.is_none() && it.becomes.is_none();
-            if may_start && is_chosen(it) {
+            if !it.is_own && it.leaves.is_none() && it.becomes.is_none() {
                 it.becomes = Some(Becomes::Other);
                 self.changed.insert(*prefix);
             }
@@ -503,7 +506,7 @@ impl<K: Kernel> Machine<K> {
         }
         if self.settings.ceiling != before.ceiling {
             // A node keeps the ceiling that it starts with.
-            self.renew(|_| true);
+            self.renew();
         }
         self.changed.extend(self.destinations.keys());
     }

@@ -9,9 +9,12 @@ use crate::round_trip::RoundTrip;
 use std::collections::{BTreeMap, BTreeSet};
 use std::time::Duration;
 
-/// After this time a datagram counts as lost. The time doubles up to LONGEST as long as nothing is acknowledged.
+/// After this time a datagram counts as lost, or after the time that TCP would wait (RFC 6298), if that is longer: so a far
+/// neighbour is not told everything twice. It waits for at most MOST_USUAL so. The time doubles up to LONGEST as long as
+/// nothing is acknowledged.
 const SHORTEST: Duration = Duration::from_millis(50);
 const LONGEST: Duration = Duration::from_millis(400);
+const MOST_USUAL: Duration = Duration::from_secs(1);
 /// The most datagrams that are not acknowledged. The receiver can tell apart the last 65 numbers.
 const MOST_FLIGHTS: usize = 32;
 
@@ -165,7 +168,9 @@ impl News {
 
     /// What the neighbour says of the datagrams that arrived there, and how long the last of them waited for that.
     pub fn acknowledge(&mut self, arrived: Arrived, waited: Duration, now: Duration) {
-        self.round_trip.answered(arrived.greatest, waited, now);
+        if self.round_trip.answered(arrived.greatest, waited, now) {
+            self.patience = self.usual_patience();
+        }
         let numbers: Vec<u64> = self
             .flights
             .keys()
@@ -173,11 +178,17 @@ impl News {
             .filter(|it| arrived.has(*it))
             .collect();
         for number in numbers {
-            self.patience = SHORTEST;
             if let Some(flight) = self.flights.remove(&number) {
                 self.landed(number, flight);
             }
         }
+    }
+
+    /// For how long an answer is awaited where the ones before came.
+    fn usual_patience(&self) -> Duration {
+        let usual = self.round_trip.smoothed();
+        let usual = usual.map_or(SHORTEST, |it| it.mean + 4 * it.variation);
+        usual.clamp(SHORTEST, MOST_USUAL)
     }
 
     /// A later datagram says what is so later, so earlier ones about the same prefixes need not be said again.
@@ -210,7 +221,8 @@ impl News {
             .collect();
         let count = late.len() as u64;
         if count > 0 {
-            self.patience = (self.patience * 2).min(LONGEST);
+            let most = LONGEST.max(self.usual_patience());
+            self.patience = (self.patience * 2).min(most);
         }
         self.recall(late);
         count
@@ -218,7 +230,7 @@ impl News {
 
     /// The link is down: what is on its way is lost.
     pub fn recall_all(&mut self) {
-        self.patience = SHORTEST;
+        self.patience = self.usual_patience();
         self.recall(self.flights.keys().copied().collect());
     }
 
@@ -259,5 +271,40 @@ impl News {
                 .values()
                 .map(|it| it.prefixes.len())
                 .sum::<usize>()
+    }
+}
+
+#[cfg(test)]
+mod tests {
+    use super::*;
+
+    fn ms(count: u64) -> Duration {
+        Duration::from_millis(count)
+    }
+
+    /// Answers to a far neighbour take 120 ms. The first datagram is said again before its answer can come, and none after it.
+    #[test]
+    fn a_far_neighbour_is_not_told_twice() {
+        let one: Prefix = "10.0.0.0/8".parse().unwrap();
+        let mut it = News::new(std::iter::empty());
+        let mut heard = Arrived::default();
+        for (begun, said_again) in [(0, true), (1000, false), (2000, false)] {
+            it.want(one);
+            let prefix = it.next_prefix().unwrap();
+            it.sent(vec![prefix], Vec::new(), ms(begun));
+            assert_eq!(it.expire(ms(begun + 110)) > 0, said_again);
+            heard.add(it.next_number() - 1);
+            it.acknowledge(heard, Duration::ZERO, ms(begun + 120));
+            it.queue.clear();
+        }
+        // Its answers stay away: the time doubles.
+        it.want(one);
+        it.next_prefix().unwrap();
+        it.sent(vec![one], Vec::new(), ms(3000));
+        let first = it.next_time().unwrap() - ms(3000);
+        assert!(ms(120) < first && first < LONGEST);
+        it.expire(ms(4000));
+        it.sent(vec![one], Vec::new(), ms(4000));
+        assert_eq!(it.next_time(), Some(ms(4000) + (2 * first).min(LONGEST)));
     }
 }

@@ -31,17 +31,21 @@ impl RoundTrip {
         self.timed.push_back((number, now));
     }
 
-    /// The greatest number that arrived at the neighbour, and how long it waited there for this answer.
-    pub fn answered(&mut self, greatest: u64, waited: Duration, now: Duration) {
+    /// The greatest number that arrived at the neighbour, and how long it waited there for this answer. Returns whether
+    /// that was not known before.
+    pub fn answered(&mut self, greatest: u64, waited: Duration, now: Duration) -> bool {
+        let mut is_news = false;
         while let Some((number, at)) = self.timed.front().copied() {
             if number > greatest {
-                return;
+                break;
             }
             self.timed.pop_front();
             if number == greatest {
                 self.take(now.saturating_sub(at).saturating_sub(waited));
+                is_news = true;
             }
         }
+        is_news
     }
 
     fn take(&mut self, measured: Duration) {

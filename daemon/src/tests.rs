@@ -192,7 +192,8 @@ fn two_links_between_two_routers_are_one_way() {
     lab.expect_all_arrive();
 }
 
-/// The link between routers 0 and 1 is dear for router 0 alone. Then it becomes cheaper than the way round the ring.
+/// The link between routers 0 and 1 is dear for router 0 alone. Then it becomes cheaper than the way round the ring, and dear
+/// again. No packet is lost meanwhile.
 #[test]
 fn routes_have_the_least_costs() {
     let mut lab = Lab::new(&RING, 8);
@@ -203,13 +204,47 @@ fn routes_have_the_least_costs() {
     assert_eq!(lab.path(0, own(1).address()), [0, 4, 3, 2, 1]);
     assert_eq!(lab.path(0, own(2).address()), [0, 4, 3, 2]);
     assert_eq!(lab.path(1, own(0).address()), [1, 0]);
-    lab.costs.insert((0, 1), 2);
-    let settings = lab.settings(0);
-    let now = lab.now;
-    lab.machines.get_mut(&0).unwrap().configure(settings, now);
-    lab.run(seconds(1));
-    lab.expect_all_arrive();
-    assert_eq!(lab.path(0, own(1).address()), [0, 1]);
+    for (cost, path) in [(2, &[0, 1][..]), (5, &[0, 4, 3, 2, 1])] {
+        lab.set_cost(0, 1, cost);
+        let end = lab.now + seconds(1);
+        while lab.now < end {
+            lab.run(lab::STEP);
+            lab.expect_all_arrive();
+        }
+        assert_eq!(lab.path(0, own(1).address()), path);
+    }
+}
+
+/// All costs of all routers change again and again, while datagrams are lost and reordered.
+#[test]
+fn costs_that_change_everywhere_make_no_loop() {
+    let links: Vec<(u32, u32)> = (0..9)
+        .map(|it| (it, (it + 1) % 9))
+        .chain([(0, 3), (1, 5), (2, 7), (4, 8), (3, 6)])
+        .collect();
+    for seed in 0..storms() / 4 {
+        println!("seed {seed}");
+        let mut lab = Lab::new(&links, seed);
+        (lab.lost_percent, lab.late_percent) = (5, 20);
+        lab.start_all();
+        lab.run(seconds(2));
+        for _ in 0..20 {
+            for router in lab.routers() {
+                for (_, device) in lab.devices(router) {
+                    let cost = 1 + lab.dice.below(5) as u32;
+                    lab.set_cost(router, device, cost);
+                }
+                if lab.dice.chance(50) {
+                    lab.run(lab::STEP);
+                }
+            }
+            let time = lab.dice.below(200);
+            lab.run(Duration::from_millis(time));
+        }
+        (lab.lost_percent, lab.late_percent) = (0, 0);
+        lab.run(seconds(3));
+        lab.expect_all_arrive();
+    }
 }
 
 /// Routes of two links do not count for router 0, so its height is at the top. Then they count again.
@@ -401,8 +436,8 @@ const LINKS: [(u32, u32); 8] = [
 ];
 const LANS: [&[u32]; 2] = [&[0, 1, 2, 3, 4], &[1, 3, 4]];
 
-/// One storm: links that are cut and joined, processes that are killed and started again, prefixes that come and go, writes
-/// that are refused, while datagrams are lost, repeated and reordered, and each router has a default route.
+/// One storm: links that are cut and joined and whose costs change, processes that are killed and started again, prefixes
+/// that come and go, writes that are refused, while datagrams are lost, repeated and reordered, and each router has a default route.
 fn storm(mut lab: Lab) -> u64 {
     for router in lab.routers() {
         let devices = lab.devices(router);
@@ -429,7 +464,7 @@ fn happen(lab: &mut Lab) {
     let others = ["10.0.0.0/8", "10.0.2.0/25", "0.0.0.0/0", "10.0.1.128/26"].map(prefix);
     let router = lab.dice.below(5) as u32;
     let one = others[lab.dice.below(4) as usize];
-    match lab.dice.below(12) {
+    match lab.dice.below(14) {
         0..=6 if !lab.lans.is_empty() && lab.dice.chance(70) => some_of_a_lan(lab),
         what @ 0..=6 if !lab.links.is_empty() => {
             let link = lab.dice.below(lab.links.len() as u64) as usize;
@@ -437,6 +472,12 @@ fn happen(lab: &mut Lab) {
         }
         7 => drop(lab.machines.remove(&router)),
         8 => lab.start(router),
+        10..=11 => {
+            let devices = lab.devices(router);
+            let at = lab.dice.below(devices.len() as u64) as usize;
+            let cost = 1 + lab.dice.below(9) as u32;
+            lab.set_cost(router, devices[at].1, cost);
+        }
         9 => {
             let other = lab.dice.below(5) as u32;
             lab.doubles.insert(router, other);

@@ -689,8 +689,8 @@ void revroute_way_reader_close(revroute_way_reader *reader);
  * 1. Write, then say that it is written, then send. After an event, the program writes the ways and gates to the
  *    forwarding table, and only then calls revroute_node_written. Until then revroute_node_say returns
  *    REVROUTE_UNWRITTEN. More events may come before. Events are revroute_node_link_up, revroute_node_link_down,
- *    revroute_node_tick if a link is lost, revroute_node_act if it changes something, and revroute_node_hear if the
- *    message is taken.
+ *    revroute_node_set_cost, revroute_node_tick if a link is lost, revroute_node_act if it changes something, and
+ *    revroute_node_hear if the message is taken.
  * 2. Write in this order: close the gates that are not listed any more, change the ways, then open gates.
  * 3. Drop what comes through a closed gate: packets from each neighbour that revroute_node_gates does not list.
  * 4. The boot number grows at each start of a router.
@@ -738,10 +738,11 @@ typedef enum revroute_rise {
     /* If it has no way: above all neighbours. This is full link reversal. Routers that are cut off from all gateways
      * raise their heights for ever. */
     REVROUTE_FULL = 0,
-    /* If no neighbour offers its height: at once to UINT32_MAX, the height of a router without a route. A neighbour offers
-     * its own height and the cost of the link together, if that is below `ceiling`. The node comes down to its best offer
-     * once each neighbour at a link that is up is let in. So once all is quiet, routes have the least costs, if these are
-     * below the ceiling, and routers that are cut off from all gateways are silent. Start such nodes at UINT32_MAX. */
+    /* If no neighbour offers its height or less: at once to UINT32_MAX, the height of a router without a route. A
+     * neighbour offers its own height and the cost of the link together, if that is below `ceiling`. The node comes down
+     * to its best offer once each neighbour at a link that is up is let in. So once all is quiet, routes have the least
+     * costs, if these are below the ceiling, and routers that are cut off from all gateways are silent. Start such nodes
+     * at UINT32_MAX. */
     REVROUTE_TOP = 1
 } revroute_rise;
 
@@ -779,6 +780,11 @@ revroute_status revroute_node_know(revroute_node *node, uint32_t neighbour, uint
  * policy may change the height. O(d). */
 revroute_status revroute_node_link_up(revroute_node *node, uint32_t neighbour);
 revroute_status revroute_node_link_down(revroute_node *node, uint32_t neighbour);
+
+/* An event. It costs this router something else to send a packet to a neighbour: `cost` is 1 or more. What was heard on
+ * the link stays. If the neighbour is not known, no link changes. REVROUTE_ANSWERED; REVROUTE_REFUSED if the cost is 0.
+ * O(d). */
+revroute_status revroute_node_set_cost(revroute_node *node, uint32_t neighbour, uint32_t cost);
 
 /* Notices links that do not work both ways. Call this at a steady interval, such as that at which you say messages
  * again. A link counts as up no longer once its neighbour has said nothing to this start of the router for `patience`

@@ -12,6 +12,8 @@ Event = namedtuple("Event", "time kind links live")
 SECONDS_OF_A_FLAP, SECONDS_OF_A_STOP = 0.05, 2
 # What a start takes, beyond the time between events, and how long one end of a link is deaf.
 SECONDS_OF_A_START, SECONDS_OF_DEAFNESS = 1, 2
+# What a link costs once it is dear. In a storm, costs are drawn from some.
+DEAR, SOME_COSTS = 3, (1, 2, 4)
 
 
 class Events:
@@ -103,6 +105,14 @@ class Events:
         self.network.deafen(u, v, False)
         self.wait()
 
+    def costs(self):
+        """All links get dear, router by router, and then cheap. Paths of the fewest links stay the cheapest in the end."""
+        for kind, cost in (("dear", DEAR), ("cheap", 1)):
+            self.note(kind)
+            for name in self.network.names:
+                self.network.set_costs(name, {it: cost for it in beside(name, self.network.links)})
+            self.wait()
+
     def stop(self):
         """A daemon stands still for a while. Its kernel goes on."""
         name = self.draw.choice(self.network.names)
@@ -131,6 +141,7 @@ KINDS = {
     "stop": (2, 3),
     "fill": (1, 2),
     "double": (1, 2),
+    "cost": (2, 1),
 }
 # The daemons of a storm lose datagrams, write slowly and are refused writes: see storm.c.
 STORM = "lost=0.2 late=0.2 mute=0.01 slow=0.02 refused=0.02"
@@ -230,6 +241,11 @@ class Storm:
             u, v = self.draw.choice([link, link[::-1]])
             self.network.deafen(u, v, True)
             self.last("deafen", [link], lambda _: self.network.deafen(u, v, False))
+
+    def cost(self):
+        for name in self.free(self.network.names)[:1]:
+            other = self.draw.choice([*beside(name, self.network.links)])
+            self.network.set_costs(name, {other: self.draw.choice(SOME_COSTS)})
 
     def stop(self):
         for name in self.free(self.network.names)[:1]:

@@ -1,6 +1,7 @@
 """A network of routers in namespaces, each with a daemon revrouted, and what is seen of them: probes, loops, bytes and processors."""
 
 import os
+import signal
 import socket
 import subprocess
 from collections import namedtuple
@@ -74,6 +75,8 @@ class Network:
     def __init__(self, names, links, announced, program, timers):
         self.names, self.links, self.announced, self.program, self.timers = names, links, announced, program, timers
         self.running, self.ended, self.starts, self.taken = {}, [], 0, 0
+        # the number with which each router has started last, and its costs that are not 1, by the device
+        self.numbers, self.costs = {}, {it: {} for it in names}
         run("mkdir", "-p", FOLDER)
         ip(*(f"netns add {name}" for name in names))
         for name in names:
@@ -139,15 +142,27 @@ class Network:
     def start(self, *some, number=None, environment=None):
         """Starts daemons, perhaps with the number of another router."""
         for name in some:
-            at = self.names.index(name) if number is None else number
-            file = FOLDER / f"{name}.toml"
-            prefixes = [it.prefix for it in self.announced if name in it.routers]
-            file.write_text(revrouted.configuration(at + 1, self.state(name), prefixes, self.timers))
+            self.numbers[name] = self.names.index(name) if number is None else number
+            file = self.write_configuration(name)
             with open(self.log(name), "ab") as log, entered(name):
                 how = {"stdin": subprocess.DEVNULL, "stdout": log, "stderr": log, "preexec_fn": die_with_parent}
                 how["env"] = {**os.environ, **(environment or {})}
                 self.running[name] = subprocess.Popen([*map(str, revrouted.words(self.program, file))], **how)
             self.starts += 1
+
+    def write_configuration(self, name):
+        """Writes the configuration in one step: a daemon may read it at any time."""
+        file, new = FOLDER / f"{name}.toml", FOLDER / f"{name}.toml.new"
+        prefixes = [it.prefix for it in self.announced if name in it.routers]
+        new.write_text(revrouted.configuration(self.numbers[name] + 1, self.state(name), prefixes, self.timers, self.costs[name]))
+        return new.replace(file)
+
+    def set_costs(self, name, costs):
+        """It costs a router something else to send packets over some devices. Its daemon reads that, once it takes the signal."""
+        self.costs[name] |= costs
+        self.write_configuration(name)
+        if name in self.running and takes(self.running[name].pid, signal.SIGHUP):
+            self.signal(name, signal.SIGHUP)
 
     def kill(self, *some):
         """Kills daemons. Their kernels keep what they were told."""
@@ -200,6 +215,13 @@ def seconds_of(pid):
         return int(Path("/proc", str(pid), "schedstat").read_text().split()[0]) / TICKS
     except (OSError, IndexError):
         return 0
+
+
+def takes(pid, number):
+    """Whether a process has a handler for a signal."""
+    lines = Path("/proc", str(pid), "status").read_text().splitlines()
+    caught = next((line.split()[1] for line in lines if line.startswith("SigCgt")), "0")
+    return bool(int(caught, 16) >> number - 1 & 1)
 
 
 def memory_of(pid):

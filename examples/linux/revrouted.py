@@ -46,11 +46,12 @@ def made():
     return ran.stdout.splitlines()[-1]
 
 
-def configuration(number, folder, announced, timers):
-    """The text of a configuration: the number of the router, the folder of what it keeps, its prefixes, and the seconds between
-    two hellos and of silence until a neighbour is gone."""
+def configuration(number, folder, announced, timers, costs={}):
+    """The text of a configuration: the number of the router, the folder of what it keeps, its prefixes, the seconds between two
+    hellos and of silence until a neighbour is gone, and the costs of interfaces."""
     listed = ", ".join(f'"{it}"' for it in announced)
-    return CONFIGURATION.format(number=number, state=folder, announced=listed, hello=timers[0], dead=timers[1])
+    text = CONFIGURATION.format(number=number, state=folder, announced=listed, hello=timers[0], dead=timers[1])
+    return text + "".join(f"[interface.{name}]\ncost = {cost}\n" for name, cost in costs.items())
 
 
 def words(program, file):

@@ -40,6 +40,7 @@ static void ask_null(void) {
     memset(message, UNTOUCHED, REVROUTE_MESSAGE_LENGTH);
     expect(revroute_node_know(&none, 1, 1) == REVROUTE_NO_NETWORK, "no node knows a neighbour");
     expect(revroute_node_link_up(&none, 1) == REVROUTE_NO_NETWORK, "no node has a link up");
+    expect(revroute_node_set_cost(&none, 1, 0) == REVROUTE_NO_NETWORK, "no node has a cost");
     expect(revroute_node_link_down(&none, 1) == REVROUTE_NO_NETWORK, "no node has a link down");
     expect(revroute_node_hear(&none, message, REVROUTE_MESSAGE_LENGTH) == REVROUTE_NO_NETWORK, "no node hears");
     expect(revroute_node_written(&none, 0) == REVROUTE_NO_NETWORK, "no node is written");
@@ -160,6 +161,7 @@ static void open_two(revroute_node *two) {
         expect(revroute_node_know(&two[me], 1 - me, 1) == REVROUTE_ANSWERED, "a known neighbour is refused");
         length = 99;
         expect(revroute_node_say(&two[me], 1 - me, message, REVROUTE_MESSAGE_LENGTH, &length) == REVROUTE_LINK_DOWN && !length, "a link that is down gets a message");
+        expect(revroute_node_set_cost(&two[me], 1 - me, 0) == REVROUTE_REFUSED, "a link becomes free");
         expect(revroute_node_link_up(&two[me], 1 - me) == REVROUTE_ANSWERED, "a link does not come up");
         expect(confirm(&two[me]) == 1, "the first event has another number");
     }
@@ -518,6 +520,10 @@ static void step(router *it, uint32_t me, int is_wrong, int is_gateway, const re
             it->is_stale = 1;
             it->events++;
         }
+    } else if (what == 14) {
+        expect(revroute_node_set_cost(&it->node, other, 1 + drawn(3)) == REVROUTE_ANSWERED, "a cost stays");
+        it->is_stale = 1;
+        it->events++;
     } else if (what < 28) {
         if (is_wrong && revroute_node_written(&it->node, it->events) != REVROUTE_ANSWERED) stop("a node is not written");
         if (is_wrong && drawn(5)) return;

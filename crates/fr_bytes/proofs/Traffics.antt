@@ -1,28 +1,20 @@
 -- What was done with a stream, one thing after the other.
-use Rattle.std.proofs.Common.{◌≡◌, ◌∙◌, ℕ, List, [], ◌++◌, Option, Some, None, append-nil, append_assoc, option_map, refl, sym, ap}
+use Rattle.std.proofs.Common.{◌≡◌, ◌∙◌, ℕ, List, [], ◌++◌, Option, Some, None, append-nil, append_assoc, option_map}
+use Rattle.std.proofs.Common.{refl, sym, ap}
 use Rattle.std.proofs.KnownBytes.{Appends-nil, Appends-trans}
-use Rattle.std.specs.Io.KnownBytes.{Appends, Consumes, Keeps}
 use Rattle.fr_bytes.specs.Streams.{Log, Traffic, Flushes, ReadsNothing, Writes, after_flush, after_write}
-
-pub keeps_consumes : (a b : Option (List ℕ)) → Keeps a b → Consumes a b []
-keeps_consumes None b kept = tt
-keeps_consumes (Some xs) None kept = absurd kept
-keeps_consumes (Some xs) (Some ys) kept = sym kept
-
-pub keeps_appends : (a b : Option (List ℕ)) → Keeps a b → Appends a b []
-keeps_appends None b kept = tt
-keeps_appends (Some xs) None kept = absurd kept
-keeps_appends (Some xs) (Some ys) kept = kept ∙ sym (append-nil xs)
 
 log_still : (log : Option Log) → log ≡ option_map (after_write []) log
 log_still None = refl
-log_still (Some l) = ap (λ (bytes : List ℕ). Some (record l { now = record l.now { written = bytes } })) (sym (append-nil l.now.written))
+log_still (Some l) =
+    ap (λ (bytes : List ℕ). Some (record l { now = record l.now { written = bytes } })) (sym (append-nil l.now.written))
 
 log_on : (log : Option Log) (xs ys : List ℕ)
     → option_map (after_write ys) (option_map (after_write xs) log) ≡ option_map (after_write (xs ++ ys)) log
 log_on None xs ys = refl
 log_on (Some l) xs ys =
-    ap (λ (bytes : List ℕ). Some (record l { now = record l.now { written = bytes } })) (append_assoc l.now.written xs ys)
+    ap (λ (bytes : List ℕ). Some (record l { now = record l.now { written = bytes } }))
+    (append_assoc l.now.written xs ys)
 
 log_unread : (log : Option Log) (xs : List ℕ)
     → option_map (λ (l : Log). l.reads) (option_map (after_write xs) log) ≡ option_map (λ (l : Log). l.reads) log

@@ -30,7 +30,7 @@ pub fn read_input<R: Read>(alloc: Global, reader: &mut R) -> Result<Vec<u8>, Run
     read_by_pieces(alloc, reader, &mut piece)
 }
 
-/// Does the same, by reads of at most as many bytes as `piece` has.
+/// Reads all bytes of the reader as [`read_input`] does, by reads of at most as many bytes as `piece` has.
 fn read_by_pieces<R: Read>(
     alloc: Global,
     reader: &mut R,

@@ -17,7 +17,8 @@ use Rattle.fr_cli.specs.declared.task.TaskFault.TheVariants.{Usage, Version, Mem
 pub taken_subcommand : (app : App) (words : List Text) (r : Result ArgMatches Error) → app ≡ command
     → IfOk r (HasMatchesOf app words) → IfOk r (λ m. subcommand_rows_of m ≡ subcommand_of command words)
 taken_subcommand app words (Ok m) same has =
-    subst (λ (a : App). subcommand_rows_of m ≡ subcommand_of a words) same (has (subst (λ (a : App). is_simple a ≡ true) (sym same) refl)).1
+    subst (λ (a : App). subcommand_rows_of m
+    ≡ subcommand_of a words) same (has (subst (λ (a : App). is_simple a ≡ true) (sym same) refl)).1
 taken_subcommand app words (Err e) same has = tt
 
 module _ {T : Type 0} where
@@ -25,7 +26,8 @@ module _ {T : Type 0} where
   pub taken_faultless : (app : App) (words : List Text) (r : Result T Error) → app ≡ command
       → (is_simple_and_free app ≡ true → FailsBy (fault_of app words) r) → IfOk r (λ _. fault_of command words ≡ [])
   taken_faultless app words (Ok m) same kinds =
-      subst (λ (a : App). fault_of a words ≡ []) same (kinds (subst (λ (a : App). is_simple_and_free a ≡ true) (sym same) refl))
+      subst (λ (a : App). fault_of a words
+      ≡ []) same (kinds (subst (λ (a : App). is_simple_and_free a ≡ true) (sym same) refl))
   taken_faultless app words (Err e) same kinds = tt
 
   -- an error of the command has one of its kinds
@@ -33,12 +35,15 @@ module _ {T : Type 0} where
       → (is_simple_and_free app ≡ true → FailsBy (fault_of app words) r) → IfErr r (HasKind (fault_of command words))
   refused_kinds app words (Ok m) same kinds = tt
   refused_kinds app words (Err e) same kinds =
-      subst (λ (a : App). HasKind (fault_of a words) e) same (kinds (subst (λ (a : App). is_simple_and_free a ≡ true) (sym same) refl))
+      subst (λ (a : App). HasKind (fault_of a words) e) same (kinds (subst (λ (a : App). is_simple_and_free a
+      ≡ true) (sym same) refl))
 
 -- the fault says whether help or the version was asked for
-pub said_fault : (words : List Text) (e : Error) (fault : TaskFault) → HasKind (fault_of command words) e → IsUsageOf (kind_of e) fault → IsFaultOf words fault
+pub said_fault : (words : List Text) (e : Error) (fault : TaskFault) → HasKind (fault_of command words) e
+    → IsUsageOf (kind_of e) fault → IsFaultOf words fault
 said_fault words e (Usage text asked) (inl none) said = absurd (said.0 none)
 said_fault words e (Usage text asked) (inr among) said = inl (kind_of e, among, said.1, said.2)
 said_fault words e (Version text) (inl none) said = absurd (cc (none, said))
-said_fault words e (Version text) (inr among) said = subst (λ (kind : ErrorKind). IsAmong kind (fault_of command words)) said among
+said_fault words e (Version text) (inr among) said =
+    subst (λ (kind : ErrorKind). IsAmong kind (fault_of command words)) said among
 said_fault words e Memory kinds said = tt

@@ -8,20 +8,28 @@ use Rattle.clap.specs.declared.builder.value_parser.ValueParser.{ValueParser}
 use Rattle.fr_cli.specs.Commands.{flag, option}
 
 -- a name on the command line and one value
-named : (name word : Bor (List ℕ)) (a b c : Arg) → rule_of a ≡ new_rule name.now → b ≡ record a { long = Some name } → c ≡ record b { val_names = One word }
+named : (name word : Bor (List ℕ)) (a b c : Arg) → rule_of a ≡ new_rule name.now → b ≡ record a { long = Some name }
+    → c ≡ record b { val_names = One word }
     → rule_of c ≡ record (new_rule name.now) { long = Some name.now; value_names = 1 }
 named name word a b c new long one = (λ i. rule_of (one i))
-    ∙ ((λ i. record (rule_of (long i)) { value_names = 1 }) ∙ (λ i. record (new i) { long = Some name.now; value_names = 1 }))
+    ∙ ((λ i. record (rule_of (long i)) { value_names = 1 }) ∙ (λ i. record (new i) {
+      long = Some name.now;
+      value_names = 1;
+    }))
 
 -- a default, numbers and a text
 pub option_rule : (name word default help : Bor (List ℕ)) (numbers : ValueParser) (a b c d e f : Arg)
     → rule_of a ≡ new_rule name.now → b ≡ record a { long = Some name } → c ≡ record b { val_names = One word }
     → d ≡ record c { default_vals = One default } → e ≡ record d { value_parser = e.value_parser }
-    → e.value_parser ≡ Some numbers → f ≡ record e { help = Some help } → rule_of f ≡ option name.now default.now numbers
+    → e.value_parser ≡ Some numbers → f ≡ record e { help = Some help }
+    → rule_of f ≡ option name.now default.now numbers
 option_rule name word default help numbers a b c d e f new long one stands others parser helped =
     let so_far = named name word a b c new long one in
     (λ i. rule_of (helped i)) ∙ ((λ i. rule_of (others i))
-    ∙ ((λ i. record (rule_of (stands i)) { parser = parser i }) ∙ (λ i. record (so_far i) { defaults = default.now ∷ []; parser = Some numbers })))
+    ∙ ((λ i. record (rule_of (stands i)) { parser = parser i }) ∙ (λ i. record (so_far i) {
+      defaults = default.now ∷ [];
+      parser = Some numbers;
+    })))
 
 -- no value, and a text
 pub flag_rule : (name help : Bor (List ℕ)) (a b c d : Arg)

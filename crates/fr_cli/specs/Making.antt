@@ -1,4 +1,4 @@
--- What a function says that makes a command of the program.
+-- What a function says that makes a command of the program. The definition is this project's own.
 use Rattle.std.specs.Prelude.{◌≡◌, false, Result, IfOk}
 use Rattle.std.specs.declared.alloc.AllocError.{AllocError}
 use Rattle.clap.specs.Simple.{App, app_of}

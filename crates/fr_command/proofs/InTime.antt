@@ -1,5 +1,6 @@
 -- When a service answers.
-use Rattle.std.proofs.Common.{◌≡◌, ◌∙◌, List, ℕ, [], ◌∷◌, ◌++◌, Option, Some, None, IfSome, Result, Ok, Err, OnOk, OnErr}
+use Rattle.std.proofs.Common.{◌≡◌, ◌∙◌, List, ℕ, [], ◌∷◌, ◌++◌, Option, Some, None, IfSome, Result, Ok, Err, OnOk}
+use Rattle.std.proofs.Common.{OnErr}
 use Rattle.std.proofs.Common.{option_map, refl, sym, ap, subst, take, length, ◌≤◌}
 use Rattle.std.proofs.lemmas.List.{take-append-le}
 use Rattle.std.specs.List.{AllByRecursion as Each}
@@ -36,7 +37,8 @@ each_on : {A : Type 0} (P : A → Type 0) (xs : List A) (x : A) → Each P xs �
 each_on P [] x all is = (is, tt)
 each_on P (y ∷ ys) x all is = (all.0, each_on P ys x all.1 is)
 
-reads_more : (form : Form) (log : Log) (talk : Talk) → IsInTime form log talk → Each (IsAnsweredAt form) (log.reads ++ log.now ∷ [])
+reads_more : (form : Form) (log : Log) (talk : Talk) → IsInTime form log talk
+    → Each (IsAnsweredAt form) (log.reads ++ log.now ∷ [])
 reads_more form log talk h = each_on (IsAnsweredAt form) log.reads log.now h.reads (talk, h.takes, h.flushed)
 
 -- a read gave some bytes, and these were answered
@@ -70,7 +72,8 @@ read_in_time form first old read new talk bytes h is nothing known =
     go old.log (h known) new.log (nothing.1 ∙ ap (option_map (λ (l : Log). l.reads)) is.2)
   where
     go : (l : Option Log) → IfSome l (λ log. IsInTime form log talk) → (m : Option Log)
-        → option_map (λ (log : Log). log.reads) m ≡ option_map (λ (log : Log). log.reads) (option_map (after_read bytes) l)
+        → option_map (λ (log : Log). log.reads) m
+        ≡ option_map (λ (log : Log). log.reads) (option_map (after_read bytes) l)
         → IfSome m (λ log. Each (IsAnsweredAt form) log.reads)
     go l was None same = tt
     go None was (Some m) same = cc

@@ -143,7 +143,8 @@ module _ (first mid : Talk) (piece : List ℕ) (done : ℕ) (u v : Option (List 
 
   -- or it stops there
   stops_later : (fault : RunFault) (new : Talk) (w : Option (List ℕ)) → new ≡ mid → Keeps v w
-      → IsTakeFault (point_of mid) (carried mid (drop done piece)) (drop done piece) fault → StopsInPiece fault first piece new u w
+      → IsTakeFault (point_of mid) (carried mid (drop done piece)) (drop done piece) fault
+      → StopsInPiece fault first piece new u w
   stops_later fault new w same kept why = record {
     count = done;
     says = subst (λ (t : Talk). Says first (take done piece) t u w) (sym same)
@@ -315,7 +316,8 @@ module _ (form : Form) (bytes : List ℕ) (talk : Talk) (a : Traffic) (v : Optio
       -- this is all that the bytes have after the last newline, if there were few
       stopped_at_last : length talk.begun + length piece ≤ most_bytes + 1
           → most_bytes < length (carried new (drop k.count piece))
-          → (last : Talk) × Says (silence_in form) (bytes ++ piece) last a.written b.written × (length last.begun ≡ most_bytes + 1)
+          → (last : Talk) × Says (silence_in form) (bytes ++ piece) last a.written b.written
+          × (length last.begun ≡ most_bytes + 1)
       stopped_at_last few long =
           let front = take k.count piece in
           let rest = drop k.count piece in

@@ -61,8 +61,8 @@ pub fn run<T: Threads + Wait + Sync, R: Read, W: Write, G: Gate + Sync>(
     }
 }
 
-/// Does the same with answers in this form, and also returns how many lines were refused. It reads and writes, fails
-/// and costs as [`run`] does.
+/// Answers the whole input as [`run`] does, in this form, and also returns how many lines were refused. It reads and
+/// writes, fails and costs as `run` does.
 pub fn run_in<T: Threads + Wait + Sync, R: Read, W: Write, G: Gate + Sync>(
     crew: &Crew<'_, T, G>,
     form: Form,

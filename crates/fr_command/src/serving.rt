@@ -55,8 +55,8 @@ pub fn serve<T: Threads + Wait + Sync, S: Stream, G: Gate + Sync>(
     }
 }
 
-/// Does the same with answers in this form, and returns how many lines were answered and refused. It reads and writes,
-/// fails and costs as [`serve`] does.
+/// Answers each line of the stream as [`serve`] does, in this form, and returns how many lines were answered and
+/// refused. It reads and writes, fails and costs as `serve` does.
 pub fn serve_in<T: Threads + Wait + Sync, S: Stream, G: Gate + Sync>(
     crew: &Crew<'_, T, G>,
     form: Form,

@@ -19,8 +19,12 @@ climbs_from_meets first c meets = record {
 pub walk_climbs : (first : List (ℕ × ℕ)) (c : List ℕ) → Climbs first c → (u : ℕ) (vs : List ℕ) (away x : ℕ)
     → IsUndirectedWalk first u vs away x → slice_index c x ≤ slice_index c u + away
 walk_climbs first c climbs u [] away x h = omega (arith, ap (slice_index c) h.0)
-walk_climbs first c climbs u (v ∷ vs) away x (inl h) = omega (arith, climbs.along u v h.0, walk_climbs first c climbs v vs h.1.0 x h.1.2, h.1.1)
-walk_climbs first c climbs u (v ∷ vs) away x (inr h) = omega (arith, climbs.against u v h.0, walk_climbs first c climbs v vs away x h.1)
+walk_climbs first c climbs u (v ∷ vs) away x (inl h) =
+    omega (arith, climbs.along u v h.0, walk_climbs first c climbs v vs h.1.0 x h.1.2, h.1.1)
+walk_climbs first c climbs u (v ∷ vs) away x (inr h) =
+    omega (arith, climbs.against u v h.0, walk_climbs first c climbs v vs away x h.1)
 
-pub lawful_at_most : (n d : ℕ) (first : List (ℕ × ℕ)) (c : List ℕ) → AreLawful n d first c → (x k : ℕ) → HasUndirectedWalk first d x k → slice_index c x ≤ k
-lawful_at_most n d first c lawful x k walk = omega (arith, walk_climbs first c (climbs_from_meets first c lawful.kept) d walk.0 k x walk.1, lawful.destination)
+pub lawful_at_most : (n d : ℕ) (first : List (ℕ × ℕ)) (c : List ℕ) → AreLawful n d first c → (x k : ℕ)
+    → HasUndirectedWalk first d x k → slice_index c x ≤ k
+lawful_at_most n d first c lawful x k walk =
+    omega (arith, walk_climbs first c (climbs_from_meets first c lawful.kept) d walk.0 k x walk.1, lawful.destination)

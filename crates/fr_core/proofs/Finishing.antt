@@ -1,6 +1,7 @@
 -- Each run can be carried on by turns alone until no node can turn.
 use Rattle.fr_core.proofs.Settling.{settled_from_none}
-use Rattle.std.proofs.Common.{List, [], ap, arith, cond, inl, inr, length, refl, replicate, slice_index, subst, suc, sum, sym, zero, ℕ, ⊎_elim, ◌*◌}
+use Rattle.std.proofs.Common.{List, [], ap, arith, cond, inl, inr, length, refl, replicate, slice_index, subst, suc}
+use Rattle.std.proofs.Common.{sum, sym, zero, ℕ, ⊎_elim, ◌*◌}
 use Rattle.std.proofs.Common.{◌+◌, ◌<◌, ◌∙◌, ◌∷◌, ◌≡◌, ◌⊎◌}
 use Rattle.std.proofs.lemmas.Bool.{cases_eq, cases_lt}
 use Rattle.std.proofs.lemmas.List.{get_or-replicate, get_or_past, length-replicate}
@@ -37,7 +38,8 @@ pub cases_can_turn : (n d : ℕ) (m : Moment) (x : ℕ) → CanTurn n d m x ⊎ 
 cases_can_turn n d m x = ⊎_elim
     (λ e. inr (λ can. can.not_destination e))
     (λ ne. ⊎_elim
-    (λ l. ⊎_elim (λ s. inl (record { not_destination = ne; below_cap = l; sink = s })) (λ ns. inr (λ can. ns can.sink)) (cases_sink m.links x))
+    (λ l. ⊎_elim (λ s. inl (record { not_destination = ne; below_cap = l; sink = s })) (λ ns. inr (λ can. ns can.sink))
+    (cases_sink m.links x))
     (λ high. inr (λ can. omega (arith, can.below_cap)))
     (cases_lt (count_at m x) n))
     (cases_eq x d)
@@ -68,7 +70,11 @@ unfolding turn_entry
 turn_first n d m End x can below rest = record {
   entries = turn_entry m x ∷ rest.entries;
   run = ((below, (can, refl)), rest.run);
-  turns_alone = sum_by-cons (λ (e : Entry). cond (is_turned e.reply) 1 0) (turn_entry m x) rest.entries ∙ omega (arith, rest.turns_alone);
+  turns_alone =
+      sum_by-cons (λ (e : Entry). cond (is_turned e.reply) 1 0) (turn_entry m x) rest.entries ∙ omega (
+        arith,
+        rest.turns_alone,
+      );
   ends = rest.ends;
 }
 
@@ -76,7 +82,8 @@ turn_first n d m End x can below rest = record {
 abbrev pub Finish : ℕ → ℕ → Moment → Type 0
 Finish n d m = TurnsTo n d m (NoneCanTurn n d)
 
-finish_by : (n d : ℕ) (first : List (ℕ × ℕ)) → IsNet n first → (fuel : ℕ) (m : Moment) → IsLawfulAt n d first m → n * n < sum m.counts + fuel → Finish n d m
+finish_by : (n d : ℕ) (first : List (ℕ × ℕ)) → IsNet n first → (fuel : ℕ) (m : Moment) → IsLawfulAt n d first m
+    → n * n < sum m.counts + fuel → Finish n d m
 finish_by n d first net zero m at l = absurd (omega (arith, lawful_sum n d first m.counts at.lawful))
 finish_by n d first net (suc fuel) m at l = ⊎_elim {C = Finish n d m}
     (λ f.
@@ -85,7 +92,11 @@ finish_by n d first net (suc fuel) m at l = ⊎_elim {C = Finish n d m}
     let k : ℕ = count_at m x + 1 in
     let below = can_turn_below n d first net m at.links x can in
     let adds = sum_after_reply m x (Turned k) (omega (arith, below, at.lawful.one_each)) in
-    let rest = finish_by n d first net fuel (after_reply m x (Turned k)) (turn_keeps n d first net m at x k can) (omega (arith, adds)) in
+    let rest =
+    finish_by n d first net fuel (after_reply m x (Turned k)) (turn_keeps n d first net m at x k can) (omega (
+      arith,
+      adds,
+    )) in
     turn_first n d m (NoneCanTurn n d) x can below rest)
     (λ none_left. no_turns n d m (NoneCanTurn n d) none_left)
     (cases_none n d first net m at.links)
@@ -95,7 +106,11 @@ finish n d first net m at = finish_by n d first net (suc (n * n)) m at (omega ar
 
 -- all counts 0: the first links, lawful
 pub index-zeros : (n x : ℕ) → slice_index (replicate n 0) x ≡ 0
-index-zeros n x = ⊎_elim (λ l. get_or-replicate n x 0 0 l) (λ h. get_or_past (replicate n 0) x 0 (omega (arith, length-replicate {A = ℕ} n 0))) (cases_lt x n)
+index-zeros n x =
+    ⊎_elim (λ l. get_or-replicate n x 0 0 l) (λ h. get_or_past (replicate n 0) x 0 (omega (
+      arith,
+      length-replicate {A = ℕ} n 0,
+    ))) (cases_lt x n)
 
 pub links_at-zeros : (n : ℕ) (first : List (ℕ × ℕ)) → links_at first (replicate n 0) ≡ first
 links_at-zeros n [] = refl
@@ -123,7 +138,8 @@ settled_at_end n d first net below m at none_left = settled_from_none n d first 
 
 pub settled_exists : (n d : ℕ) (first : List (ℕ × ℕ)) → IsNet n first → d < n → (c : List ℕ) × AreSettled n d first c
 settled_exists n d first net below =
-    let start : IsLawfulAt n d first (moment_of first (replicate n 0)) = record { links = refl; lawful = zeros_lawful n d first } in
+    let start : IsLawfulAt n d first (moment_of first (replicate n 0)) =
+    record { links = refl; lawful = zeros_lawful n d first } in
     let f = finish n d first net (moment_of first (replicate n 0)) start in
     let end = run_keeps n d first net (moment_of first (replicate n 0)) start f.entries f.run in (
       (after_all (moment_of first (replicate n 0)) f.entries).counts,
@@ -138,5 +154,7 @@ moment_path m k e f = λ i. record { links = e i; counts = f i }
 pub ends_alike : (n d : ℕ) (first : List (ℕ × ℕ)) → IsNet n first → d < n → (m k : Moment) → IsLawfulAt n d first m
     → IsLawfulAt n d first k → NoneCanTurn n d m → NoneCanTurn n d k → m ≡ k
 ends_alike n d first net below m k at bt sm sk =
-    let same = settled_unique n d first m.counts k.counts (settled_at_end n d first net below m at sm) (settled_at_end n d first net below k bt sk) in
+    let same =
+    settled_unique n d first m.counts k.counts (settled_at_end n d first net below m at sm)
+    (settled_at_end n d first net below k bt sk) in
     moment_path m k (at.links ∙ ap (links_at first) same ∙ sym bt.links) same

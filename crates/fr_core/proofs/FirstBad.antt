@@ -1,5 +1,6 @@
 -- A history is a run or has one first bad entry, and never both.
-use Rattle.std.proofs.Common.{List, [], ap, arith, inl, inr, length, refl, subst, suc, sym, ℕ, ⊎_elim, ◌++◌, ◌+◌, ◌∙◌, ◌∷◌, ◌≡◌, ◌⊎◌}
+use Rattle.std.proofs.Common.{List, [], ap, arith, inl, inr, length, refl, subst, suc, sym, ℕ, ⊎_elim, ◌++◌, ◌+◌, ◌∙◌}
+use Rattle.std.proofs.Common.{◌∷◌, ◌≡◌, ◌⊎◌}
 use Rattle.std.proofs.lemmas.Bool.{cases_eq, cases_lt}
 use Rattle.fr_core.proofs.Finishing.{cases_sink}
 use Rattle.fr_core.proofs.Rounds.{run_parts}
@@ -8,13 +9,15 @@ use Rattle.fr_core.specs.Checks.{Fails, FailsReply, FailsTurn, IsBadAt}
 use Rattle.fr_core.specs.History.{Moment, after, after_all, count_at}
 use Rattle.fr_core.specs.Legal.{IsLegal, IsLegalReply, IsRun}
 use Rattle.fr_core.specs.declared.check.fault.Why.{Why}
-use Rattle.fr_core.specs.declared.check.fault.Why.TheVariants.{Capped, Destination, NoNode, NotCut, NotHeld, NotMoved, NotSink, WrongCount}
+use Rattle.fr_core.specs.declared.check.fault.Why.TheVariants.{Capped, Destination, NoNode, NotCut, NotHeld, NotMoved}
+use Rattle.fr_core.specs.declared.check.fault.Why.TheVariants.{NotSink, WrongCount}
 use Rattle.fr_core.specs.declared.entry.Entry.{Entry}
 use Rattle.fr_core.specs.declared.entry.Reply.{Reply}
 use Rattle.fr_core.specs.declared.entry.Reply.TheVariants.{Cut, Held, Moved, Sink, Turned}
 
 -- what fails a test is not legal
-turn_not_legal : (n d : ℕ) (m : Moment) (x k : ℕ) (why : Why) → FailsTurn n d m x k why → ¬ IsLegalReply n d m x (Turned k)
+turn_not_legal : (n d : ℕ) (m : Moment) (x k : ℕ) (why : Why) → FailsTurn n d m x k why
+    → ¬ IsLegalReply n d m x (Turned k)
 turn_not_legal n d m x k Destination f l = l.0.not_destination f
 turn_not_legal n d m x k Capped f l = let below = l.0.below_cap in omega (arith, f.1)
 turn_not_legal n d m x k NotSink f l = f.2 l.0.sink
@@ -24,7 +27,8 @@ turn_not_legal n d m x k NotHeld f l = f
 turn_not_legal n d m x k NotMoved f l = f
 turn_not_legal n d m x k NotCut f l = f
 
-reply_not_legal : (n d : ℕ) (m : Moment) (x : ℕ) (r : Reply) (why : Why) → FailsReply n d m x r why → ¬ IsLegalReply n d m x r
+reply_not_legal : (n d : ℕ) (m : Moment) (x : ℕ) (r : Reply) (why : Why) → FailsReply n d m x r why
+    → ¬ IsLegalReply n d m x r
 reply_not_legal n d m x (Turned k) why f l = turn_not_legal n d m x k why f l
 reply_not_legal n d m x (Held by) why f l = f.1 l
 reply_not_legal n d m x (Moved had k) why f l = f.1 l
@@ -35,7 +39,8 @@ not_legal : (n d : ℕ) (m : Moment) (e : Entry) (why : Why) → Fails n d m e w
 not_legal n d m e why (inl f) l = omega (arith, f.1, l.0)
 not_legal n d m e why (inr f) l = reply_not_legal n d m e.node e.reply why f.1 l.1
 
-pub bad_is_no_run : (n d : ℕ) (m : Moment) (entries : List Entry) (index : ℕ) (why : Why) → IsBadAt n d m entries index why → ¬ IsRun n d m entries
+pub bad_is_no_run : (n d : ℕ) (m : Moment) (entries : List Entry) (index : ℕ) (why : Why)
+    → IsBadAt n d m entries index why → ¬ IsRun n d m entries
 bad_is_no_run n d m entries index why bad run =
     let parts = run_parts n d m bad.front (bad.bad ∷ bad.back) (subst (IsRun n d m) bad.parted run) in
     not_legal n d (after_all m bad.front) bad.bad why bad.fails parts.1.0
@@ -57,11 +62,13 @@ test_turn n d m x k =
       ]
     ]
 
-test_reply : (n d : ℕ) (m : Moment) (x : ℕ) (r : Reply) → IsLegalReply n d m x r ⊎ ((why : Why) × FailsReply n d m x r why)
+test_reply : (n d : ℕ) (m : Moment) (x : ℕ) (r : Reply)
+    → IsLegalReply n d m x r ⊎ ((why : Why) × FailsReply n d m x r why)
 test_reply n d m x (Turned k) = test_turn n d m x k
 test_reply n d m x (Held by) = ⊎_elim (λ p. inl p) (λ no. inr (NotHeld, (refl, no))) (cases_points m.links x by)
 test_reply n d m x (Moved had k) = ⊎_elim
-    (λ is. ⊎_elim (λ l. inl (is, l)) (λ high. inr (NotMoved, (refl, λ both. omega (arith, high, both.1)))) (cases_lt had k))
+    (λ is. ⊎_elim (λ l. inl (is, l)) (λ high. inr (NotMoved, (refl, λ both. omega (arith, high, both.1))))
+    (cases_lt had k))
     (λ no. inr (NotMoved, (refl, λ both. no both.0)))
     (cases_eq k (count_at m x))
 test_reply n d m x Cut = ⊎_elim (λ e. inl e) (λ no. inr (NotCut, (refl, no))) (cases_eq (count_at m x) n)
@@ -73,7 +80,8 @@ test n d m e = ⊎_elim
     (λ out. inr (NoNode, inl (refl, omega (arith, out))))
     (cases_lt e.node n)
 
-pub run_or_bad : (n d : ℕ) (m : Moment) (entries : List Entry) → IsRun n d m entries ⊎ ((index : ℕ) × (why : Why) × IsBadAt n d m entries index why)
+pub run_or_bad : (n d : ℕ) (m : Moment) (entries : List Entry)
+    → IsRun n d m entries ⊎ ((index : ℕ) × (why : Why) × IsBadAt n d m entries index why)
 run_or_bad n d m [] = inl tt
 run_or_bad n d m (e ∷ es) = ⊎_elim
     (λ legal. ⊎_elim
@@ -96,7 +104,8 @@ run_or_bad n d m (e ∷ es) = ⊎_elim
     (test n d m e)
 
 -- an entry fails one test alone
-one_turn_why : (n d : ℕ) (m : Moment) (x k : ℕ) (why other : Why) → FailsTurn n d m x k why → FailsTurn n d m x k other → why ≡ other
+one_turn_why : (n d : ℕ) (m : Moment) (x k : ℕ) (why other : Why) → FailsTurn n d m x k why → FailsTurn n d m x k other
+    → why ≡ other
 one_turn_why n d m x k Destination Destination f g = refl
 one_turn_why n d m x k Destination Capped f g = absurd (g.0 f)
 one_turn_why n d m x k Destination NotSink f g = absurd (g.0 f)
@@ -122,7 +131,8 @@ one_turn_why n d m x k why NotHeld f g = absurd g
 one_turn_why n d m x k why NotMoved f g = absurd g
 one_turn_why n d m x k why NotCut f g = absurd g
 
-one_reply_why : (n d : ℕ) (m : Moment) (x : ℕ) (r : Reply) (why other : Why) → FailsReply n d m x r why → FailsReply n d m x r other → why ≡ other
+one_reply_why : (n d : ℕ) (m : Moment) (x : ℕ) (r : Reply) (why other : Why) → FailsReply n d m x r why
+    → FailsReply n d m x r other → why ≡ other
 one_reply_why n d m x (Turned k) why other f g = one_turn_why n d m x k why other f g
 one_reply_why n d m x (Held by) why other f g = f.0 ∙ sym g.0
 one_reply_why n d m x (Moved had k) why other f g = f.0 ∙ sym g.0
@@ -138,7 +148,8 @@ one_why n d m e why other (inr f) (inr g) = one_reply_why n d m e.node e.reply w
 -- and so does a history
 one_place : (n d : ℕ) (m : Moment) (p : List Entry) (a : Entry) (r : List Entry) (q : List Entry) (b : Entry)
     (s : List Entry) (why other : Why) → p ++ a ∷ r ≡ q ++ b ∷ s
-    → IsRun n d m p → IsRun n d m q → Fails n d (after_all m p) a why → Fails n d (after_all m q) b other → (length p ≡ length q) × (why ≡ other)
+    → IsRun n d m p → IsRun n d m q → Fails n d (after_all m p) a why → Fails n d (after_all m q) b other
+    → (length p ≡ length q) × (why ≡ other)
 one_place n d m [] a r [] b s why other e run_p run_q f g =
     let same : a ≡ b = cc in
     (refl, one_why n d m a why other f (rw (← same) at g))
@@ -152,11 +163,14 @@ one_place n d m (c ∷ p) a r (h ∷ q) b s why other e run_p run_q f g =
     let same : h ≡ c = cc in
     let rest : p ++ a ∷ r ≡ q ++ b ∷ s = cc in
     let there = one_place n d (after m c) p a r q b s why other rest run_p.1
-    (subst (λ (z : Entry). IsRun n d (after m z) q) same run_q.1) f (subst (λ (z : Entry). Fails n d (after_all (after m z) q) b other) same g) in
+    (subst (λ (z : Entry). IsRun n d (after m z) q) same run_q.1) f
+    (subst (λ (z : Entry). Fails n d (after_all (after m z) q) b other) same g) in
     (ap suc there.0, there.1)
 
 pub one_bad : (n d : ℕ) (m : Moment) (entries : List Entry) (i j : ℕ) (why other : Why) → IsBadAt n d m entries i why
     → IsBadAt n d m entries j other → (i ≡ j) × (why ≡ other)
 one_bad n d m entries i j why other a b =
-    let one = one_place n d m a.front a.bad a.back b.front b.bad b.back why other (sym a.parted ∙ b.parted) a.run b.run a.fails b.fails in
+    let one =
+    one_place n d m a.front a.bad a.back b.front b.bad b.back why other (sym a.parted
+    ∙ b.parted) a.run b.run a.fails b.fails in
     (sym a.place ∙ one.0 ∙ b.place, one.1)

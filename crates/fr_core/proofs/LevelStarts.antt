@@ -1,5 +1,6 @@
 -- How the search by levels starts.
-use Rattle.std.proofs.Common.{List, [], ap, arith, cond, eq-eqb, inl, inr, length, ne_eqb, refl, slice_index, slice_set, subst, sym, ℕ, ⊎_elim, ◌+◌}
+use Rattle.std.proofs.Common.{List, [], ap, arith, cond, eq-eqb, inl, inr, length, ne_eqb, refl, slice_index, slice_set}
+use Rattle.std.proofs.Common.{subst, sym, ℕ, ⊎_elim, ◌+◌}
 use Rattle.std.proofs.Common.{◌<◌, ◌==◌, ◌∙◌, ◌∷◌, ◌≡◌, ◌≤◌}
 use Rattle.std.proofs.lemmas.Bool.{cases_eq, cond-false, cond-true}
 use Rattle.std.proofs.lemmas.List.{get_or-set_other, get_or-set_same, length-set}
@@ -53,7 +54,8 @@ module _ (n d : ℕ) (first : List (ℕ × ℕ)) (c : List ℕ) (one_each : leng
         (λ ne. seen_other x ne (cleared x l))
         (cases_eq x d);
     nodes = λ i l. omega (arith, only i l);
-    walks = λ i l. subst (HasUndirectedWalk first d (slice_index queue i)) (sym (count_only i l)) ([], (only i l, refl));
+    walks =
+        λ i l. subst (HasUndirectedWalk first d (slice_index queue i)) (sym (count_only i l)) ([], (only i l, refl));
     most = λ i l. omega (arith, count_only i l);
     reached = λ i l. omega (arith, count_only i l);
     before = λ i a b. absurd (omega arith);
@@ -69,7 +71,8 @@ module _ (n d : ℕ) (first : List (ℕ × ℕ)) (c : List ℕ) (one_each : leng
 
 -- one node more has the most that its count can be
 pub most_counts_more : (n : ℕ) (first : List (ℕ × ℕ)) (c : List ℕ) (x v : ℕ) → x < length c → IsMostCount n first x v
-    → ((y : ℕ) → y < x → IsMostCount n first y (slice_index c y)) → (y : ℕ) → y < x + 1 → IsMostCount n first y (slice_index (slice_set c x v) y)
+    → ((y : ℕ) → y < x → IsMostCount n first y (slice_index c y)) → (y : ℕ) → y < x + 1
+    → IsMostCount n first y (slice_index (slice_set c x v) y)
 most_counts_more n first c x v l at below y m = ⊎_elim {C = IsMostCount n first y (slice_index (slice_set c x v) y)}
     (λ e. subst (λ (z : ℕ). IsMostCount n first z (slice_index (slice_set c x v) z)) (sym e)
     (subst (IsMostCount n first x) (sym (get_or-set_same c x v 0 l)) at))

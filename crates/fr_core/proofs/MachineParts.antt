@@ -1,6 +1,8 @@
 -- Each worker's part of what a machine decides.
-use Rattle.std.proofs.Common.{List, None, Option, Some, [], ap, eq-eqb, false, length, map, nat_lt, ne_eqb, option_to_list, refl, slice_index}
-use Rattle.std.proofs.Common.{slice_index_or, slice_set, subst, suc, sym, true, zero, Bool, ℕ, if◌then◌else◌, ⊎_elim, ◌+◌, ◌++◌, ◌<◌, ◌==◌, ◌∙◌, ◌∷◌}
+use Rattle.std.proofs.Common.{List, None, Option, Some, [], ap, eq-eqb, false, length, map, nat_lt, ne_eqb}
+use Rattle.std.proofs.Common.{option_to_list, refl, slice_index}
+use Rattle.std.proofs.Common.{slice_index_or, slice_set, subst, suc, sym, true, zero, Bool, ℕ, if◌then◌else◌, ⊎_elim}
+use Rattle.std.proofs.Common.{◌+◌, ◌++◌, ◌<◌, ◌==◌, ◌∙◌, ◌∷◌}
 use Rattle.std.proofs.Common.{◌≡◌, ◌≤◌}
 use Rattle.std.proofs.lemmas.Bool.{cases_eq, cases_lt, cond-false, cond-true, cond_both}
 use Rattle.std.proofs.lemmas.List.{append_assoc, get_or-set_other, get_or-set_same, get_or_past, map-append, set_past}
@@ -10,8 +12,10 @@ use Rattle.fr_graph.specs.Rows.{row}
 use Rattle.fr_graph.specs.declared.first.First.{First}
 use Rattle.fr_core.proofs.MachineRuns.{machine_runs}
 use Rattle.fr_core.specs.History.{part}
-use Rattle.fr_core.specs.Machine.{Outcome, MachineState, WorkerState, all_but_first, begin_call, bound_of, confirm, decided_by, decides, entries_of}
-use Rattle.fr_core.specs.Machine.{entry_of, exchange, fresh, goes_on, load_neighbour, load_own, neighbour_at, outcome, outcome_of, phase_unheld}
+use Rattle.fr_core.specs.Machine.{Outcome, MachineState, WorkerState, all_but_first, begin_call, bound_of, confirm}
+use Rattle.fr_core.specs.Machine.{decided_by, decides, entries_of}
+use Rattle.fr_core.specs.Machine.{entry_of, exchange, fresh, goes_on, load_neighbour, load_own, neighbour_at, outcome}
+use Rattle.fr_core.specs.Machine.{outcome_of, phase_unheld}
 use Rattle.fr_core.specs.Machine.{start, state_after, step, step_idle, worker_of}
 use Rattle.fr_core.specs.Played.{HasPart, IsPlay, answer_of}
 use Rattle.fr_core.specs.Replies.{AreAnswersTo, IsAnswerTo}
@@ -25,7 +29,8 @@ use Rattle.fr_core.specs.declared.targets.Target.TheVariants.{Look, Turn}
 use Rattle.fr_core.specs.declared.worker.Phase.{Phase}
 use Rattle.fr_core.specs.declared.worker.Phase.TheVariants.{Confirming, Idle, Looking, Swapping}
 
-one_entry : {B : Type 0} (f : Entry → B) (b : Bool) (e : Entry) → map f (if b then e ∷ [] else []) ≡ (if b then f e ∷ [] else [])
+one_entry : {B : Type 0} (f : Entry → B) (b : Bool) (e : Entry)
+    → map f (if b then e ∷ [] else []) ≡ (if b then f e ∷ [] else [])
 one_entry f true e = refl
 one_entry f false e = refl
 
@@ -33,11 +38,13 @@ no_entry : {B : Type 0} (b : Bool) → ◌≡◌ {A = List B} (if b then [] else
 no_entry true = refl
 no_entry false = refl
 
-part_answers : (j k : ℕ) (o : Option (ℕ × Reply)) → map answer_of (part k (entry_of j o)) ≡ (if j == k then option_to_list o else [])
+part_answers : (j k : ℕ) (o : Option (ℕ × Reply))
+    → map answer_of (part k (entry_of j o)) ≡ (if j == k then option_to_list o else [])
 part_answers j k None = sym (no_entry (j == k))
 part_answers j k (Some p) = one_entry answer_of (j == k) (record { worker = j; node = p.0; reply = p.1 })
 
-part_append : {B : Type 0} (f : Entry → B) (k : ℕ) (a b : List Entry) → map f (part k (a ++ b)) ≡ map f (part k a) ++ map f (part k b)
+part_append : {B : Type 0} (f : Entry → B) (k : ℕ) (a b : List Entry)
+    → map f (part k (a ++ b)) ≡ map f (part k a) ++ map f (part k b)
 part_append f k a b = ap (map f) (filter-append (λ (e : Entry). e.worker == k) a b) ∙ map-append f (part k a) (part k b)
 
 replies : (n : ℕ) (first : List (ℕ × ℕ)) (m : MachineState) (k : ℕ) (schedule : List ℕ)
@@ -83,22 +90,30 @@ record UsesUp (left : List Target) (made : Outcome) : Type 0 where
   answers : Answers left made.worker.left (option_to_list made.decided)
   on_first : IsOnFirst made.worker.left made.worker.phase
 
-stays : (counts : List ℕ) (left : List Target) (phase : Phase) → IsOnFirst left phase → UsesUp left (goes_on counts left phase)
+stays : (counts : List ℕ) (left : List Target) (phase : Phase) → IsOnFirst left phase
+    → UsesUp left (goes_on counts left phase)
 stays counts left phase b = record { answers = no_answer left; on_first = b }
 
 decides_uses : (counts : List ℕ) (left : List Target) (t : Target) (reply : Reply) → IsAnswerTo t (node_of t, reply)
     → (ts : List Target) × (left ≡ t ∷ ts) → UsesUp left (decides counts left (node_of t) reply)
 decides_uses counts left t reply answer (ts, e) = record {
-  answers = record { used = t ∷ []; parted = subst (λ (l : List Target). t ∷ all_but_first l ≡ l) (sym e) refl; answered = (answer, tt) };
+  answers =
+      record {
+        used = t ∷ [];
+        parted = subst (λ (l : List Target). t ∷ all_but_first l ≡ l) (sym e) refl;
+        answered = (answer, tt);
+      };
   on_first = tt;
 }
 
-load_own_uses : (n : ℕ) (counts : List ℕ) (left : List Target) (x : ℕ) → (ts : List Target) × (left ≡ Turn x ∷ ts) → UsesUp left (load_own n counts left x)
+load_own_uses : (n : ℕ) (counts : List ℕ) (left : List Target) (x : ℕ) → (ts : List Target) × (left ≡ Turn x ∷ ts)
+    → UsesUp left (load_own n counts left x)
 load_own_uses n counts left x b = cond_both (slice_index counts x == n) _ _ (UsesUp left)
     (λ t. decides_uses counts left (Turn x) Cut (refl, tt) b)
     (λ f. stays counts left (Looking (Turn x) (slice_index counts x) 0) b)
 
-begin_uses : (n : ℕ) (counts : List ℕ) (t : Target) (ts : List Target) → UsesUp (t ∷ ts) (begin_call n counts (t ∷ ts) t)
+begin_uses : (n : ℕ) (counts : List ℕ) (t : Target) (ts : List Target)
+    → UsesUp (t ∷ ts) (begin_call n counts (t ∷ ts) t)
 begin_uses n counts (Turn x) ts = load_own_uses n counts (Turn x ∷ ts) x (ts, refl)
 begin_uses n counts (Look x) ts = stays counts (Look x ∷ ts) (Looking (Look x) (slice_index counts x) 0) (ts, refl)
 
@@ -110,7 +125,8 @@ held_answers : (t : Target) (w : ℕ) → IsAnswerTo t (node_of t, Held w)
 held_answers (Turn x) w = (refl, tt)
 held_answers (Look x) w = (refl, tt)
 
-unheld_on_first : (left : List Target) (t : Target) (c : ℕ) → (ts : List Target) × (left ≡ t ∷ ts) → IsOnFirst left (phase_unheld t c)
+unheld_on_first : (left : List Target) (t : Target) (c : ℕ) → (ts : List Target) × (left ≡ t ∷ ts)
+    → IsOnFirst left (phase_unheld t c)
 unheld_on_first left (Turn x) c b = b
 unheld_on_first left (Look x) c b = b
 
@@ -123,19 +139,22 @@ load_neighbour_uses r counts left t c j b =
     (λ h. stays counts left (phase_unheld t c) (unheld_on_first left t c b))
     (λ g. stays counts left (Looking t c (j + 1)) b))
 
-exchange_uses : (counts : List ℕ) (left : List Target) (x c : ℕ) → (ts : List Target) × (left ≡ Turn x ∷ ts) → UsesUp left (exchange counts left x c)
+exchange_uses : (counts : List ℕ) (left : List Target) (x c : ℕ) → (ts : List Target) × (left ≡ Turn x ∷ ts)
+    → UsesUp left (exchange counts left x c)
 exchange_uses counts left x c b =
     cond_both (slice_index counts x == c) _ _ (UsesUp left)
     (λ t. decides_uses (slice_set counts x (c + 1)) left (Turn x) (Turned (c + 1)) (refl, tt) b)
     (λ f. decides_uses counts left (Turn x) (Moved c (slice_index counts x)) (refl, tt) b)
 
-confirm_uses : (counts : List ℕ) (left : List Target) (x c : ℕ) → (ts : List Target) × (left ≡ Look x ∷ ts) → UsesUp left (confirm counts left x c)
+confirm_uses : (counts : List ℕ) (left : List Target) (x c : ℕ) → (ts : List Target) × (left ≡ Look x ∷ ts)
+    → UsesUp left (confirm counts left x c)
 confirm_uses counts left x c b =
     cond_both (slice_index counts x == c) _ _ (UsesUp left)
     (λ t. decides_uses counts left (Look x) Sink (refl, tt) b)
     (λ f. decides_uses counts left (Look x) (Moved c (slice_index counts x)) (refl, tt) b)
 
-outcome_uses : (n : ℕ) (first : List (ℕ × ℕ)) (counts : List ℕ) (left : List Target) (phase : Phase) → IsOnFirst left phase
+outcome_uses : (n : ℕ) (first : List (ℕ × ℕ)) (counts : List ℕ) (left : List Target) (phase : Phase)
+    → IsOnFirst left phase
     → UsesUp left (outcome n first counts left phase)
 outcome_uses n first counts left Idle b = idle_uses n counts left
 outcome_uses n first counts left (Looking t c j) b = load_neighbour_uses (row n first (node_of t)) counts left t c j b
@@ -151,16 +170,22 @@ answers_is {a} {b} {c} {d} {s} {t} p q r h = subst (λ (z : List Target). Answer
 
 module _ (n : ℕ) (first : List (ℕ × ℕ)) (m : MachineState) (j k : ℕ) where
   same_past : length m.workers ≤ j → worker_of (step n first m j) k ≡ worker_of m k
-  same_past past = ap (λ (ws : List WorkerState). slice_index_or ws k (fresh [])) (set_past m.workers j (outcome_of n first m j).worker past)
+  same_past past =
+      ap (λ (ws : List WorkerState). slice_index_or ws k (fresh []))
+      (set_past m.workers j (outcome_of n first m j).worker past)
 
   same_other : ¬ (k ≡ j) → worker_of (step n first m j) k ≡ worker_of m k
   same_other ne = get_or-set_other m.workers j k (outcome_of n first m j).worker (fresh []) ne
 
   new_here : j < length m.workers → k ≡ j → worker_of (step n first m j) k ≡ (outcome_of n first m j).worker
-  new_here l e = ap (λ (z : ℕ). worker_of (step n first m j) z) e ∙ get_or-set_same m.workers j (outcome_of n first m j).worker (fresh []) l
+  new_here l e =
+      ap (λ (z : ℕ). worker_of (step n first m j) z) e
+      ∙ get_or-set_same m.workers j (outcome_of n first m j).worker (fresh []) l
 
   none_past : length m.workers ≤ j → (outcome_of n first m j).decided ≡ None
-  none_past past = ap (λ (w : WorkerState). (outcome n first m.counts w.left w.phase).decided) (get_or_past m.workers j (fresh []) past)
+  none_past past =
+      ap (λ (w : WorkerState). (outcome n first m.counts w.left w.phase).decided)
+      (get_or_past m.workers j (fresh []) past)
 
   step_on_first : AreOnFirst m → IsOnFirst (worker_of (step n first m j) k).left (worker_of (step n first m j) k).phase
   step_on_first all = ⊎_elim
@@ -177,7 +202,8 @@ module _ (n : ℕ) (first : List (ℕ × ℕ)) (m : MachineState) (j k : ℕ) wh
       (if j == k then option_to_list (outcome_of n first m j).decided else [])
   step_uses all = ⊎_elim
       (λ l. ⊎_elim
-      (λ e. answers_is (ap (λ (z : ℕ). (worker_of m z).left) (sym e)) (ap (λ (w : WorkerState). w.left) (sym (new_here l e)))
+      (λ e. answers_is (ap (λ (z : ℕ). (worker_of m z).left) (sym e))
+      (ap (λ (w : WorkerState). w.left) (sym (new_here l e)))
       (sym (cond-true (j == k) (option_to_list (outcome_of n first m j).decided) [] (eq-eqb j k (sym e))))
       (outcome_uses n first m.counts (worker_of m j).left (worker_of m j).phase (all j)).answers)
       (λ ne. answers_is refl (ap (λ (w : WorkerState). w.left) (sym (same_other ne)))
@@ -185,7 +211,8 @@ module _ (n : ℕ) (first : List (ℕ × ℕ)) (m : MachineState) (j k : ℕ) wh
       (no_answer (worker_of m k).left))
       (cases_eq k j))
       (λ past. answers_is refl (ap (λ (w : WorkerState). w.left) (sym (same_past past)))
-      (sym (no_entry (j == k)) ∙ ap (λ (o : Option (ℕ × Reply)). if j == k then option_to_list o else []) (sym (none_past past)))
+      (sym (no_entry (j == k))
+      ∙ ap (λ (o : Option (ℕ × Reply)). if j == k then option_to_list o else []) (sym (none_past past)))
       (no_answer (worker_of m k).left))
       (cases_lt j (length m.workers))
 
@@ -193,11 +220,14 @@ used_up : (n : ℕ) (first : List (ℕ × ℕ)) (m : MachineState) (k : ℕ) →
     → Answers (worker_of m k).left (worker_of (state_after n first m schedule) k).left (decided_by n first m k schedule)
 used_up n first m k all [] = no_answer (worker_of m k).left
 used_up n first m k all (j ∷ ks) =
-    more_answers (worker_of m k).left (worker_of (step n first m j) k).left (worker_of (state_after n first (step n first m j) ks) k).left
-    (if j == k then option_to_list (outcome_of n first m j).decided else []) (decided_by n first (step n first m j) k ks)
+    more_answers (worker_of m k).left (worker_of (step n first m j) k).left
+    (worker_of (state_after n first (step n first m j) ks) k).left
+    (if j == k then option_to_list (outcome_of n first m j).decided else [])
+    (decided_by n first (step n first m j) k ks)
     (step_uses n first m j k all) (used_up n first (step n first m j) k (λ i. step_on_first n first m j i all) ks)
 
-fresh_at : (targets : List (List Target)) (k : ℕ) → slice_index_or (map fresh targets) k (fresh []) ≡ fresh (slice_index_or targets k [])
+fresh_at : (targets : List (List Target)) (k : ℕ)
+    → slice_index_or (map fresh targets) k (fresh []) ≡ fresh (slice_index_or targets k [])
 fresh_at [] k = refl
 fresh_at (t ∷ ts) zero = refl
 fresh_at (t ∷ ts) (suc k) = fresh_at ts k
@@ -226,5 +256,7 @@ played n d first targets schedule entries net playable decided = record {
   decided = decided;
   run = subst (λ (es : List Entry). IsRunTo n d first es (state_after n first (start n targets) schedule).counts)
       (sym decided) (machine_runs n d first targets schedule net playable.accepted);
-  parts = λ k. subst (λ (es : List Entry). HasPart n first targets schedule es k) (sym decided) (parts_are_replies n first targets schedule k);
+  parts =
+      λ k. subst (λ (es : List Entry). HasPart n first targets schedule es k) (sym decided)
+      (parts_are_replies n first targets schedule k);
 }

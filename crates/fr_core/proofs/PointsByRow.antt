@@ -1,5 +1,6 @@
 -- Whether a link points from one node to another now, by the row of the first.
-use Rattle.std.proofs.Common.{All, Contains, List, None, Option, Some, ap, get_or, length, refl, slice_index, subst, ℕ, ◌<◌, ◌↔◌, ◌≡◌}
+use Rattle.std.proofs.Common.{All, Contains, List, None, Option, Some, ap, get_or, length, refl, slice_index, subst, ℕ}
+use Rattle.std.proofs.Common.{◌<◌, ◌↔◌, ◌≡◌}
 use Rattle.std.proofs.lemmas.List.Elements.{All-contains, Contains-get_or}
 use Rattle.fr_core.proofs.SensesByRow.{PointsBy, points_from_row, row_from_points}
 use Rattle.fr_core.specs.Senses.{sense_of}
@@ -27,7 +28,8 @@ module _ (n : ℕ) (links : List (ℕ × ℕ)) (c : List ℕ) (x w : ℕ) where
       ap (λ (e : ℕ × First). e.1) same
 
   -- so the sense of its link says whether one points to it
-  points_by_entry : IsNet n links → (f : First) → Contains (row n links x) (w, f) → PointsBy c x Outward (w, f) ↔ Points (links_at links c) x w
+  points_by_entry : IsNet n links → (f : First) → Contains (row n links x) (w, f)
+      → PointsBy c x Outward (w, f) ↔ Points (links_at links c) x w
   points_by_entry net f h = (
     λ p. points_from_row n links c x w f Outward h p,
     λ p.
@@ -37,10 +39,12 @@ module _ (n : ℕ) (links : List (ℕ × ℕ)) (c : List ℕ) (x w : ℕ) where
 
   pub points_at : IsNet n links → (entries : List (ℕ × First)) → entries ≡ row n links x → (k : ℕ) (d : ℕ × First)
       → k < length entries → (get_or entries k d).0 ≡ w
-      → (sense_of (get_or entries k d).1 (slice_index c x) (slice_index c w) ≡ Some Outward) ↔ Points (links_at links c) x w
+      → (sense_of (get_or entries k d).1 (slice_index c x) (slice_index c w) ≡ Some Outward)
+      ↔ Points (links_at links c) x w
   points_at net entries same k d inside at =
       let e : ℕ × First = get_or entries k d in
-      let here : Contains (row n links x) e = subst (λ (r : List (ℕ × First)). Contains r e) same (Contains-get_or entries k d inside) in
+      let here : Contains (row n links x) e =
+      subst (λ (r : List (ℕ × First)). Contains r e) same (Contains-get_or entries k d inside) in
       points_by_entry net e.1 (subst (λ (v : ℕ). Contains (row n links x) (v, e.1)) at here)
 
   -- no link points to a node with no entry

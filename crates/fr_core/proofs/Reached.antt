@@ -1,5 +1,6 @@
 -- From lawful counts turns alone lead to all lawful counts that are nowhere below them.
-use Rattle.std.proofs.Common.{List, [], ap, arith, inl, inr, length, refl, slice_index, subst, suc, sum, sym, zero, ℕ, ⊎_elim, ◌*◌, ◌+◌, ◌<◌, ◌∙◌}
+use Rattle.std.proofs.Common.{List, [], ap, arith, inl, inr, length, refl, slice_index, subst, suc, sum, sym, zero, ℕ}
+use Rattle.std.proofs.Common.{⊎_elim, ◌*◌, ◌+◌, ◌<◌, ◌∙◌}
 use Rattle.std.proofs.Common.{◌∷◌, ◌≡◌, ◌≤◌, ◌⊎◌}
 use Rattle.std.proofs.lemmas.Bool.{cases_eq, cases_lt}
 use Rattle.std.proofs.lemmas.List.{ext_get_or}
@@ -27,7 +28,8 @@ module _ (n d : ℕ) (first : List (ℕ × ℕ)) (net : IsNet n first) (c : List
   IsBehind b x = slice_index b x < slice_index c x
 
   behind_linked : (b : List ℕ) (x : ℕ) → IsBehind b x → (w : ℕ) × Joins first x w
-  behind_linked b x behind = ⊎_elim (λ linked. linked) (λ alone. absurd (omega (arith, goal.alone x alone, behind))) (cases_linked first x)
+  behind_linked b x behind =
+      ⊎_elim (λ linked. linked) (λ alone. absurd (omega (arith, goal.alone x alone, behind))) (cases_linked first x)
 
   behind_below : (b : List ℕ) (x : ℕ) → IsBehind b x → x < n
   behind_below b x behind = let l = behind_linked b x behind in (joined_below n first x l.0 net l.1).0
@@ -35,10 +37,15 @@ module _ (n d : ℕ) (first : List (ℕ × ℕ)) (net : IsNet n first) (c : List
   module _ (b : List ℕ) (lawful : AreLawful n d first b) where
     -- where a link points from a node with turns left, that node has some too
     behind_out : (x y : ℕ) → ComesFrom first b x y → IsBehind b x → IsBehind b y
-    behind_out x y (inl h) behind = ⊎_elim (λ e. omega (arith, behind, h.1, e)) (λ e. omega (arith, behind, h.1, e)) (kept_at first c goal.kept x y h.0)
-    behind_out x y (inr h) behind = ⊎_elim (λ e. omega (arith, behind, h.1, e)) (λ e. omega (arith, behind, h.1, e)) (kept_at first c goal.kept y x h.0)
+    behind_out x y (inl h) behind =
+        ⊎_elim (λ e. omega (arith, behind, h.1, e)) (λ e. omega (arith, behind, h.1, e))
+        (kept_at first c goal.kept x y h.0)
+    behind_out x y (inr h) behind =
+        ⊎_elim (λ e. omega (arith, behind, h.1, e)) (λ e. omega (arith, behind, h.1, e))
+        (kept_at first c goal.kept y x h.0)
 
-    behind_turns : (x : ℕ) → IsBehind b x → ((y : ℕ) → ¬ Points (links_at first b) x y) → CanTurn n d (moment_of first b) x
+    behind_turns : (x : ℕ) → IsBehind b x → ((y : ℕ) → ¬ Points (links_at first b) x y)
+        → CanTurn n d (moment_of first b) x
     behind_turns x behind none = let l = behind_linked b x behind in record {
       not_destination = λ e. omega (arith, behind, goal.destination, ap (slice_index c) e);
       below_cap = omega (arith, behind, goal.capped x);
@@ -93,13 +100,18 @@ module _ (n d : ℕ) (first : List (ℕ × ℕ)) (net : IsNet n first) (c : List
       (λ e. omega (arith, raised-here m.counts x y inside e, t.1, ap (slice_index c) e, ap (slice_index m.counts) e))
       (λ ne. omega (arith, raised-other m.counts x y ne, low y))
       (cases_eq y x) in
-      turn_first n d m IsThere x can below (lead_by fuel (after_reply m x (Turned k)) (turn_keeps n d first net m at x k can) still_low (omega (arith, adds))))
+      turn_first n d m IsThere x can below
+      (lead_by fuel (after_reply m x (Turned k)) (turn_keeps n d first net m at x k can) still_low (omega (
+        arith,
+        adds,
+      ))))
       (λ none. no_turns n d m IsThere (ext_get_or 0 m.counts c (at.lawful.one_each ∙ sym goal.one_each) (λ x l. ⊎_elim
       (λ behind. absurd (none x (behind_below m.counts x behind) behind))
       (λ high. omega (arith, low x, high))
       (cases_lt (slice_index m.counts x) (slice_index c x)))))
       (cases_below (IsBehind m.counts)
-      (λ x. ⊎_elim (λ l. inl l) (λ high. inr (λ l. omega (arith, high, l))) (cases_lt (slice_index m.counts x) (slice_index c x))) n)
+      (λ x. ⊎_elim (λ l. inl l) (λ high. inr (λ l. omega (arith, high, l)))
+      (cases_lt (slice_index m.counts x) (slice_index c x))) n)
 
 pub lawful_reached : LawfulIsReached
 lawful_reached = λ n d first before counts net lawful goal low.
@@ -107,5 +119,9 @@ lawful_reached = λ n d first before counts net lawful goal low.
     let at : IsLawfulAt n d first start = record { links = refl; lawful = lawful } in
     let t = lead_by n d first net counts goal (suc (n * n)) start at low (omega arith) in
     let end : Moment = after_all start t.entries in
-    let at_end = run_keeps n d first net start at t.entries t.run in
-    (t.entries, t.run, t.turns_alone, moment_path end (moment_of first counts) (at_end.links ∙ ap (links_at first) t.ends) t.ends)
+    let at_end = run_keeps n d first net start at t.entries t.run in (
+      t.entries,
+      t.run,
+      t.turns_alone,
+      moment_path end (moment_of first counts) (at_end.links ∙ ap (links_at first) t.ends) t.ends,
+    )

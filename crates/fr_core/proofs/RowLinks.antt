@@ -8,7 +8,8 @@ use Rattle.fr_graph.specs.declared.first.First.{First}
 use Rattle.fr_graph.specs.declared.first.First.TheVariants.{Inward, Outward}
 
 -- each entry of a row is a link
-pub link_of_row : (n : ℕ) (links : List (ℕ × ℕ)) (x w : ℕ) (f : First) → Contains (row n links x) (w, f) → Contains links (first_link x w f)
+pub link_of_row : (n : ℕ) (links : List (ℕ × ℕ)) (x w : ℕ) (f : First) → Contains (row n links x) (w, f)
+    → Contains links (first_link x w f)
 link_of_row n links x w Outward h = out_of_row n links x w h
 link_of_row n links x w Inward h = in_of_row n links x w h
 

@@ -17,8 +17,10 @@ run_to_settled = λ n d first before settled net below lawful ends.
     let f = finish n d first net start at_start in
     let end : Moment = after_all start f.entries in
     let at_end = run_keeps n d first net start at_start f.entries f.run in
-    let same = settled_unique n d first end.counts settled (settled_at_end n d first net below end at_end f.ends) ends in
-    let whole : end ≡ moment_of first settled = moment_path end (moment_of first settled) (at_end.links ∙ ap (links_at first) same) same in
+    let same =
+    settled_unique n d first end.counts settled (settled_at_end n d first net below end at_end f.ends) ends in
+    let whole : end ≡ moment_of first settled =
+    moment_path end (moment_of first settled) (at_end.links ∙ ap (links_at first) same) same in
     let adds = run_sum n d start f.entries lawful.one_each f.run in
     let sums : sum end.counts ≡ sum settled = ap sum same in (
       omega (arith, adds, sums),
@@ -34,7 +36,9 @@ run_to_settled = λ n d first before settled net below lawful ends.
     )
 
 -- the sum of lawful counts fits a u64
-pub lawful_sum_fits : (n d : ℕ) (first : List (ℕ × ℕ)) (c : List ℕ) → n ≤ most_nodes → AreLawful n d first c → sum c < 2 ^ 64
+pub lawful_sum_fits : (n d : ℕ) (first : List (ℕ × ℕ)) (c : List ℕ) → n ≤ most_nodes → AreLawful n d first c
+    → sum c < 2 ^ 64
 lawful_sum_fits n d first c few lawful =
-    let square : n * n ≤ most_nodes * most_nodes = mul-le-mul {n₁ = n} {m₁ = n} {n₂ = most_nodes} {m₂ = most_nodes} few few in
+    let square : n * n ≤ most_nodes * most_nodes =
+    mul-le-mul {n₁ = n} {m₁ = n} {n₂ = most_nodes} {m₂ = most_nodes} few few in
     omega (arith, square, lawful_sum n d first c lawful)

@@ -12,7 +12,8 @@ pub kept_at : (first : List (ℕ × ℕ)) (c : List ℕ) → All (IsKept c) firs
 kept_at first c meets u v h = All-contains (IsKept c) first (u, v) meets h
 
 -- each first link of lawful counts is kept, in one direction
-pub links_at_keeps : (first : List (ℕ × ℕ)) (c : List ℕ) → All (IsKept c) first → (u v : ℕ) → Points first u v → Joins (links_at first c) u v
+pub links_at_keeps : (first : List (ℕ × ℕ)) (c : List ℕ) → All (IsKept c) first → (u v : ℕ) → Points first u v
+    → Joins (links_at first c) u v
 links_at_keeps first c meets u v h = ⊎_elim (λ e. inl (Points-links_at_same first c u v h e))
     (λ e. inr (Points-links_at_turned first c v u h e)) (kept_at first c meets u v h)
 
@@ -26,19 +27,34 @@ sink_from_none_out first c meets x w linked none = (
   none,
 )
 
-pub sink_meets_bounds : (first : List (ℕ × ℕ)) (c : List ℕ) → All (IsKept c) first → (x : ℕ) → IsSink (links_at first c) x → MeetsBounds first c x
+pub sink_meets_bounds : (first : List (ℕ × ℕ)) (c : List ℕ) → All (IsKept c) first → (x : ℕ)
+    → IsSink (links_at first c) x → MeetsBounds first c x
 sink_meets_bounds first c meets x sink = record {
-  linked = ⊎_elim (λ h. (sink.0.0, inr h.0)) (λ h. (sink.0.0, inl h.0)) (Points-links_at_from first c sink.0.0 x sink.0.1);
-  along = λ w h. ⊎_elim (λ e. absurd (sink.1 w (Points-links_at_same first c x w h e))) (λ e. omega arith) (kept_at first c meets x w h);
-  against = λ w h. ⊎_elim (λ e. omega arith) (λ e. absurd (sink.1 w (Points-links_at_turned first c x w h e))) (kept_at first c meets w x h);
+  linked =
+      ⊎_elim (λ h. (sink.0.0, inr h.0)) (λ h. (sink.0.0, inl h.0)) (Points-links_at_from first c sink.0.0 x sink.0.1);
+  along =
+      λ w h. ⊎_elim (λ e. absurd (sink.1 w (Points-links_at_same first c x w h e))) (λ e. omega arith)
+      (kept_at first c meets x w h);
+  against =
+      λ w h. ⊎_elim (λ e. omega arith) (λ e. absurd (sink.1 w (Points-links_at_turned first c x w h e)))
+      (kept_at first c meets w x h);
 }
 
-pub sink_from_bounds : (first : List (ℕ × ℕ)) (c : List ℕ) → All (IsKept c) first → (x : ℕ) → MeetsBounds first c x → IsSink (links_at first c) x
+pub sink_from_bounds : (first : List (ℕ × ℕ)) (c : List ℕ) → All (IsKept c) first → (x : ℕ) → MeetsBounds first c x
+    → IsSink (links_at first c) x
 sink_from_bounds first c meets x b = (into b.linked, λ w h. out w (Points-links_at_from first c x w h))
   where
     into : (w : ℕ) × Joins first x w → (w : ℕ) × Points (links_at first c) w x
-    into (w, inl h) = (w, ⊎_elim (λ e. absurd (omega (arith, b.along w h))) (λ e. Points-links_at_turned first c w x h e) (kept_at first c meets x w h))
-    into (w, inr h) = (w, ⊎_elim (λ e. Points-links_at_same first c w x h e) (λ e. absurd (omega (arith, b.against w h))) (kept_at first c meets w x h))
+    into (w, inl h) = (
+      w,
+      ⊎_elim (λ e. absurd (omega (arith, b.along w h))) (λ e. Points-links_at_turned first c w x h e)
+          (kept_at first c meets x w h),
+    )
+    into (w, inr h) = (
+      w,
+      ⊎_elim (λ e. Points-links_at_same first c w x h e) (λ e. absurd (omega (arith, b.against w h)))
+          (kept_at first c meets w x h),
+    )
 
     out : (w : ℕ) → ComesFrom first c x w → ⊥
     out w (inl h) = omega (arith, b.along w h.0, h.1)

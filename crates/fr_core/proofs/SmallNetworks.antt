@@ -22,7 +22,8 @@ two_at_the_cap : links_at ((1, 0) ∷ (2, 3) ∷ []) (0 ∷ 0 ∷ 4 ∷ 4 ∷ []
 two_at_the_cap = refl
 
 -- two ways to node 0
-diamond : links_at ((0, 1) ∷ (0, 2) ∷ (1, 3) ∷ (2, 3) ∷ []) (0 ∷ 1 ∷ 1 ∷ 2 ∷ []) ≡ (1, 0) ∷ (2, 0) ∷ (3, 1) ∷ (3, 2) ∷ []
+diamond : links_at ((0, 1) ∷ (0, 2) ∷ (1, 3) ∷ (2, 3) ∷ []) (0 ∷ 1 ∷ 1 ∷ 2 ∷ []) ≡ (1, 0) ∷ (2, 0) ∷ (3, 1) ∷ (3, 2)
+    ∷ []
 diamond = refl
 
 -- one link of a way around has turned
@@ -34,12 +35,14 @@ lost_link : links_at ((0, 1) ∷ []) (0 ∷ 2 ∷ []) ≡ []
 lost_link = refl
 
 -- the links that counts give need not be in ascending order
-rising_order : in_order (links_at ((0, 1) ∷ (0, 3) ∷ (1, 2) ∷ (2, 3) ∷ (3, 4) ∷ []) (0 ∷ 1 ∷ 1 ∷ 1 ∷ 2 ∷ [])) ≡ (1, 0) ∷ (1, 2) ∷ (2, 3) ∷ (3, 0) ∷ (4, 3) ∷ []
+rising_order : in_order (links_at ((0, 1) ∷ (0, 3) ∷ (1, 2) ∷ (2, 3) ∷ (3, 4) ∷ []) (0 ∷ 1 ∷ 1 ∷ 1 ∷ 2 ∷ [])) ≡ (1, 0)
+    ∷ (1, 2) ∷ (2, 3) ∷ (3, 0) ∷ (4, 3) ∷ []
 rising_order = refl
 
 -- worker 0 turns node 1, and worker 1 finds that its count has moved on
 two_workers : List Entry
-two_workers = record { worker = 0; node = 1; reply = Turned 1 } ∷ record { worker = 1; node = 1; reply = Moved 0 1 } ∷ []
+two_workers =
+    record { worker = 0; node = 1; reply = Turned 1 } ∷ record { worker = 1; node = 1; reply = Moved 0 1 } ∷ []
 
 one_link : Moment
 one_link = moment_of ((0, 1) ∷ []) (0 ∷ 0 ∷ [])

@@ -1,5 +1,6 @@
 -- What settled counts are: alone in being settled, lawful, and without a node that can turn.
-use Rattle.std.proofs.Common.{List, [], ap, arith, inl, inr, refl, slice_index, subst, sym, ℕ, ⊎_elim, ◌++◌, ◌+◌, ◌<◌, ◌∙◌, ◌∷◌, ◌≡◌, ◌≤◌, ◌⊎◌}
+use Rattle.std.proofs.Common.{List, [], ap, arith, inl, inr, refl, slice_index, subst, sym, ℕ, ⊎_elim, ◌++◌, ◌+◌, ◌<◌}
+use Rattle.std.proofs.Common.{◌∙◌, ◌∷◌, ◌≡◌, ◌≤◌, ◌⊎◌}
 use Rattle.std.proofs.lemmas.Bool.{cases_eq, cases_lt}
 use Rattle.std.proofs.lemmas.List.{ext_get_or, get_or_past}
 use Rattle.fr_core.proofs.Away.{Climbs, lawful_at_most}
@@ -18,27 +19,34 @@ use Rattle.fr_graph.specs.Links.{IsAlone, IsNet, Joins, Points}
 abbrev pub IsLinkedCount : ℕ → ℕ → List (ℕ × ℕ) → ℕ → ℕ → Type 0
 IsLinkedCount n d links x k = IsLeastAway links d x k ⊎ (¬ IsConnected links d x × (k ≡ n))
 
-pub linked_count : (n d : ℕ) (links : List (ℕ × ℕ)) (x k : ℕ) → IsSettledCount n d links x k → ¬ IsAlone links x → IsLinkedCount n d links x k
+pub linked_count : (n d : ℕ) (links : List (ℕ × ℕ)) (x k : ℕ) → IsSettledCount n d links x k → ¬ IsAlone links x
+    → IsLinkedCount n d links x k
 linked_count n d links x k (inl h) linked = absurd (linked h.0)
 linked_count n d links x k (inr (inl h)) linked = inl h.1
 linked_count n d links x k (inr (inr h)) linked = inr (h.1, h.2)
 
-linked_unique : (n d : ℕ) (links : List (ℕ × ℕ)) (x k l : ℕ) → IsLinkedCount n d links x k → IsLinkedCount n d links x l → k ≡ l
+linked_unique : (n d : ℕ) (links : List (ℕ × ℕ)) (x k l : ℕ) → IsLinkedCount n d links x k
+    → IsLinkedCount n d links x l → k ≡ l
 linked_unique n d links x k l (inl h) (inl g) = omega (arith, h.least l g.reached, g.least k h.reached)
 linked_unique n d links x k l (inl h) (inr g) = absurd (g.0 (k, h.reached))
 linked_unique n d links x k l (inr h) (inl g) = absurd (h.0 (l, g.reached))
 linked_unique n d links x k l (inr h) (inr g) = omega (arith, h.1, g.1)
 
-pub count_unique : (n d : ℕ) (links : List (ℕ × ℕ)) (x k l : ℕ) → IsSettledCount n d links x k → IsSettledCount n d links x l → k ≡ l
+pub count_unique : (n d : ℕ) (links : List (ℕ × ℕ)) (x k l : ℕ) → IsSettledCount n d links x k
+    → IsSettledCount n d links x l → k ≡ l
 count_unique n d links x k l (inl h) (inl g) = omega (arith, h.1, g.1)
 count_unique n d links x k l (inl h) (inr (inl g)) = absurd (g.0 h.0)
 count_unique n d links x k l (inl h) (inr (inr g)) = absurd (g.0 h.0)
-count_unique n d links x k l (inr (inl h)) g = linked_unique n d links x k l (inl h.1) (linked_count n d links x l g h.0)
-count_unique n d links x k l (inr (inr h)) g = linked_unique n d links x k l (inr (h.1, h.2)) (linked_count n d links x l g h.0)
+count_unique n d links x k l (inr (inl h)) g =
+    linked_unique n d links x k l (inl h.1) (linked_count n d links x l g h.0)
+count_unique n d links x k l (inr (inr h)) g =
+    linked_unique n d links x k l (inr (h.1, h.2)) (linked_count n d links x l g h.0)
 
-pub settled_unique : (n d : ℕ) (links : List (ℕ × ℕ)) (b c : List ℕ) → AreSettled n d links b → AreSettled n d links c → b ≡ c
+pub settled_unique : (n d : ℕ) (links : List (ℕ × ℕ)) (b c : List ℕ) → AreSettled n d links b → AreSettled n d links c
+    → b ≡ c
 settled_unique n d links b c hb hc = ext_get_or 0 b c (hb.one_each ∙ sym hc.one_each)
-    (λ i l. let below : i < n = omega (arith, hb.one_each) in count_unique n d links i (slice_index b i) (slice_index c i)
+    (λ i l. let below : i
+    < n = omega (arith, hb.one_each) in count_unique n d links i (slice_index b i) (slice_index c i)
     (hb.settled i below) (hc.settled i below))
 
 -- lawful counts are at most the settled ones
@@ -51,9 +59,12 @@ lawful_le_settled n d links b c lawful settled x l = go (settled.settled x l)
     go (inr (inl h)) = lawful_at_most n d links b lawful x (slice_index c x) h.1.reached
     go (inr (inr h)) = omega (arith, lawful.capped x, h.2)
 
-module _ (n d : ℕ) (first : List (ℕ × ℕ)) (net : IsNet n first) (in_range : d < n) (c : List ℕ) (settled : AreSettled n d first c) where
+module _ (n d : ℕ) (first : List (ℕ × ℕ)) (net : IsNet n first) (in_range : d
+    < n) (c : List ℕ) (settled : AreSettled n d first c) where
   pub of_linked : (x w : ℕ) → Joins first x w → IsLinkedCount n d first x (slice_index c x)
-  of_linked x w h = linked_count n d first x (slice_index c x) (settled.settled x (joined_below n first x w net h).0) (λ alone. alone w h)
+  of_linked x w h =
+      linked_count n d first x (slice_index c x) (settled.settled x (joined_below n first x w net h).0)
+      (λ alone. alone w h)
 
   pub joined_along : (u v : ℕ) → Points first u v → IsConnected first d u → IsConnected first d v
   joined_along u v h (k, (vs, w)) = (k + 1, (vs ++ v ∷ [], walk_along first d vs k u v w h))
@@ -63,14 +74,22 @@ module _ (n d : ℕ) (first : List (ℕ × ℕ)) (net : IsNet n first) (in_range
 
   climbs_along : (u v : ℕ) → Points first u v → IsLinkedCount n d first u (slice_index c u)
       → IsLinkedCount n d first v (slice_index c v) → slice_index c v ≤ slice_index c u + 1
-  climbs_along u v h (inl f) (inl g) = g.least (slice_index c u + 1) (f.reached.0 ++ v ∷ [], walk_along first d f.reached.0 (slice_index c u) u v f.reached.1 h)
+  climbs_along u v h (inl f) (inl g) =
+      g.least (slice_index c u + 1) (
+        f.reached.0 ++ v ∷ [],
+        walk_along first d f.reached.0 (slice_index c u) u v f.reached.1 h,
+      )
   climbs_along u v h (inl f) (inr g) = absurd (g.0 (joined_along u v h (slice_index c u, f.reached)))
   climbs_along u v h (inr f) (inl g) = absurd (f.0 (joined_against v u h (slice_index c v, g.reached)))
   climbs_along u v h (inr f) (inr g) = omega (arith, f.1, g.1)
 
   climbs_against : (u v : ℕ) → Points first v u → IsLinkedCount n d first u (slice_index c u)
       → IsLinkedCount n d first v (slice_index c v) → slice_index c v ≤ slice_index c u
-  climbs_against u v h (inl f) (inl g) = g.least (slice_index c u) (f.reached.0 ++ v ∷ [], walk_against first d f.reached.0 (slice_index c u) u v f.reached.1 h)
+  climbs_against u v h (inl f) (inl g) =
+      g.least (slice_index c u) (
+        f.reached.0 ++ v ∷ [],
+        walk_against first d f.reached.0 (slice_index c u) u v f.reached.1 h,
+      )
   climbs_against u v h (inl f) (inr g) = absurd (g.0 (joined_against u v h (slice_index c u, f.reached)))
   climbs_against u v h (inr f) (inl g) = absurd (f.0 (joined_along v u h (slice_index c v, g.reached)))
   climbs_against u v h (inr f) (inr g) = omega (arith, f.1, g.1)
@@ -90,10 +109,14 @@ module _ (n d : ℕ) (first : List (ℕ × ℕ)) (net : IsNet n first) (in_range
       go (inr (inr h)) = absurd (h.1 (0, ([], (refl, refl))))
 
   pub joined_count_below : (x : ℕ) → IsConnected first d x → slice_index c x < n
-  joined_count_below x joined = no_walk_to_n n first (λ y w h. (joined_below n first y w net h).0) c settled_climbs d in_range settled_destination x joined
+  joined_count_below x joined =
+      no_walk_to_n n first (λ y w h. (joined_below n first y w net h).0) c settled_climbs d in_range
+      settled_destination x joined
 
   settled_capped : (x : ℕ) → slice_index c x ≤ n
-  settled_capped x = ⊎_elim (λ l. go (settled.settled x l)) (λ h. omega (arith, get_or_past c x 0 (omega (arith, settled.one_each)))) (cases_lt x n)
+  settled_capped x =
+      ⊎_elim (λ l. go (settled.settled x l)) (λ h. omega (arith, get_or_past c x 0 (omega (arith, settled.one_each))))
+      (cases_lt x n)
     where
       go : IsSettledCount n d first x (slice_index c x) → slice_index c x ≤ n
       go (inl h) = omega (arith, h.1)
@@ -101,7 +124,8 @@ module _ (n d : ℕ) (first : List (ℕ × ℕ)) (net : IsNet n first) (in_range
       go (inr (inr h)) = omega (arith, h.2)
 
   settled_alone : (x : ℕ) → IsAlone first x → slice_index c x ≡ 0
-  settled_alone x alone = ⊎_elim (λ l. go (settled.settled x l)) (λ h. get_or_past c x 0 (omega (arith, settled.one_each))) (cases_lt x n)
+  settled_alone x alone =
+      ⊎_elim (λ l. go (settled.settled x l)) (λ h. get_or_past c x 0 (omega (arith, settled.one_each))) (cases_lt x n)
     where
       go : IsSettledCount n d first x (slice_index c x) → slice_index c x ≡ 0
       go (inl h) = h.1
@@ -122,7 +146,8 @@ module _ (n d : ℕ) (first : List (ℕ × ℕ)) (net : IsNet n first) (in_range
   }
 
   -- the last step of a walk with the least away number is against a link that the counts give
-  last_step : (u : ℕ) (vs : List ℕ) (k x : ℕ) → IsUndirectedWalk first u vs k x → slice_index c u + k ≤ slice_index c x → ¬ (u ≡ x)
+  last_step : (u : ℕ) (vs : List ℕ) (k x : ℕ) → IsUndirectedWalk first u vs k x → slice_index c u + k ≤ slice_index c x
+      → ¬ (u ≡ x)
       → (y : ℕ) × Points (links_at first c) x y
   last_step u [] k x w l apart = absurd (apart (sym w.0))
   last_step u (v ∷ vs) k x (inl w) l apart = ⊎_elim
@@ -142,8 +167,10 @@ module _ (n d : ℕ) (first : List (ℕ × ℕ)) (net : IsNet n first) (in_range
       (λ ne. last_step v vs k x w.1 (omega (arith, settled_climbs.against u v w.0)) ne)
       (cases_eq v x)
 
-  pub settled_out : (x : ℕ) → IsLeastAway first d x (slice_index c x) → ¬ (d ≡ x) → (y : ℕ) × Points (links_at first c) x y
-  settled_out x least apart = last_step d least.reached.0 (slice_index c x) x least.reached.1 (omega (arith, settled_destination)) apart
+  pub settled_out : (x : ℕ) → IsLeastAway first d x (slice_index c x) → ¬ (d ≡ x)
+      → (y : ℕ) × Points (links_at first c) x y
+  settled_out x least apart =
+      last_step d least.reached.0 (slice_index c x) x least.reached.1 (omega (arith, settled_destination)) apart
 
   pub none_at_settled : NoneCanTurn n d (moment_of first c)
   none_at_settled x can = let s = sink_linked first c x can.sink in go (of_linked x s.0 s.1)

@@ -75,10 +75,10 @@ pub fn finish(net: &Net, dest: u32, counts: &mut [u64]) -> u64
     total_turns(counts) - before
 }
 
-/// Does the same as [`finish`] with [`Turns`]. Few turns are made one by one. A small part that is cut off is detected
-/// by its turns, and gets its final counts. If turning would cost more, a search writes the settled counts. The
-/// destination must be a node, and the counts must be lawful. The call does not allocate. O(n + m), however many turns
-/// there are.
+/// Continues from lawful counts to the settled ones as [`finish`] does, in [`Turns`]. Few turns are made one by one. A
+/// small part that is cut off is detected by its turns, and gets its final counts. If turning would cost more, a search
+/// writes the settled counts. The destination must be a node, and the counts must be lawful. The call does not
+/// allocate. O(n + m), however many turns there are.
 pub fn finish_turns(net: &Net, dest: u32, turns: &mut Turns) -> u64
     requires node { dest < net.now.nodes }
     requires lawful { AreLawful net.now.nodes dest net.now.links turns.old }

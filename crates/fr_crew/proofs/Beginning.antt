@@ -12,10 +12,13 @@ use Rattle.fr_graph.specs.Links.{IsNet}
 use Rattle.fr_graph.specs.Network.{Network}
 use Rattle.fr_graph.specs.Turn.{IsSink}
 
-pub zeros_hold : (net : Network) (d : ℕ) (from : List ℕ) → HoldsSinks net d from → HoldsAllThatCanTurn net.nodes d net.links (replicate net.nodes 0) from
+pub zeros_hold : (net : Network) (d : ℕ) (from : List ℕ) → HoldsSinks net d from
+    → HoldsAllThatCanTurn net.nodes d net.links (replicate net.nodes 0) from
 zeros_hold net d from holds = record {
   nodes = holds.nodes;
-  all = λ x can. holds.sinks x (subst (λ (links : List (ℕ × ℕ)). IsSink links x) (links_at-zeros net.nodes net.links) can.sink) can.not_destination;
+  all =
+      λ x can. holds.sinks x (subst (λ (links : List (ℕ
+      × ℕ)). IsSink links x) (links_at-zeros net.nodes net.links) can.sink) can.not_destination;
 }
 
 -- where nobody can turn, there are no other lawful counts
@@ -26,11 +29,16 @@ still_settled n d first counts settled lawful =
     (ext_get_or 0 (replicate n 0) counts (settled.one_each ∙ sym lawful.one_each)
     (λ x l.
     let below : x < n = omega (arith, settled.one_each) in
-    omega (arith, get_or-replicate {A = ℕ} n x 0 0 below, lawful_le_settled n d first counts (replicate n 0) lawful settled x below)))
+    omega (
+      arith,
+      get_or-replicate {A = ℕ} n x 0 0 below,
+      lawful_le_settled n d first counts (replicate n 0) lawful settled x below,
+    )))
     settled
 
 -- settled counts, within the bound of their first links
-pub counted : (n d : ℕ) (first : List (ℕ × ℕ)) → IsNet n first → d < n → (counts : List ℕ) → AreSettled n d first counts → IsCounted n d first counts
+pub counted : (n d : ℕ) (first : List (ℕ × ℕ)) → IsNet n first → d < n → (counts : List ℕ)
+    → AreSettled n d first counts → IsCounted n d first counts
 counted n d first net below counts settled = record {
   destination = below;
   settled = settled;

@@ -1,5 +1,6 @@
 -- What leaves a deque is a candidate, and so are the neighbours of a node that is tried.
-use Rattle.std.proofs.Common.{◌≡◌, ℕ, ◌<◌, All, Bool, Contains, IfSome, List, None, Option, Some, [], ◌∷◌, ◌++◌, arith, false, if◌then◌else◌, inl}
+use Rattle.std.proofs.Common.{◌≡◌, ℕ, ◌<◌, All, Bool, Contains, IfSome, List, None, Option, Some, [], ◌∷◌, ◌++◌, arith}
+use Rattle.std.proofs.Common.{false, if◌then◌else◌, inl}
 use Rattle.std.proofs.Common.{inr, length, subst, suc, sym, true, zero}
 use Rattle.std.specs.Option.{option_to_list}
 use lib.Seq.{take-append_seam, drop-append_seam}
@@ -33,12 +34,14 @@ module _ (P : ℕ → Type 0) where
   All-one x here (suc k) d less = absurd (omega (arith, less))
 
   -- one more is put at the end, or none
-  pub one_more : (put : Bool) (old new : List ℕ) (x : ℕ) → new ≡ (if put then old ++ x ∷ [] else old) → All P old → P x → All P new
+  pub one_more : (put : Bool) (old new : List ℕ) (x : ℕ) → new ≡ (if put then old ++ x ∷ [] else old) → All P old → P x
+      → All P new
   one_more true old new x is each here = subst (All P) (sym is) (All-append P old (x ∷ []) each (All-one x here))
   one_more false old new x is each here = subst (All P) (sym is) each
 
   -- the first is taken, or there is none
-  pub one_less : (taken : Option ℕ) (old new : List ℕ) → old ≡ option_to_list taken ++ new → All P old → All P new × IfSome taken P
+  pub one_less : (taken : Option ℕ) (old new : List ℕ) → old ≡ option_to_list taken ++ new → All P old
+      → All P new × IfSome taken P
   one_less None old new is each = (subst (All P) is each, tt)
   one_less (Some x) old new is each =
       let all = subst (All P) is each in
@@ -64,11 +67,13 @@ row_joins n links x e stands =
 pub entry_at : (b : Setup) (x : ℕ) (list : List (ℕ × First)) → list ≡ row b.nodes b.links x → (j : ℕ) → j < length list
     → ((neighbour_at list j).0 < b.nodes) × Contains (row b.nodes b.links x) (neighbour_at list j)
 entry_at b x list is j =
-    subst (λ (l : List (ℕ × First)). j < length l → ((neighbour_at l j).0 < b.nodes) × Contains (row b.nodes b.links x) (neighbour_at l j)) (sym is)
+    subst (λ (l : List (ℕ × First)). j < length l → ((neighbour_at l j).0 < b.nodes)
+    × Contains (row b.nodes b.links x) (neighbour_at l j)) (sym is)
     (λ lt. (row_below b.nodes b.links x j (0, Outward) lt, Contains-get_or (row b.nodes b.links x) j (0, Outward) lt))
 
 -- a neighbour of a node is a candidate, unless it is the destination
-pub neighbour_is_candidate : (b : Setup) (x : ℕ) (e : ℕ × First) → (e.0 < b.nodes) × Contains (row b.nodes b.links x) e → ¬ (e.0 ≡ b.dest) → IsCandidate b e.0
+pub neighbour_is_candidate : (b : Setup) (x : ℕ) (e : ℕ × First) → (e.0 < b.nodes) × Contains (row b.nodes b.links x) e
+    → ¬ (e.0 ≡ b.dest) → IsCandidate b e.0
 neighbour_is_candidate b x e stands other = (stands.0, other, λ alone. alone x (row_joins b.nodes b.links x e stands.1))
 
 -- no call on a candidate is refused

@@ -54,8 +54,10 @@ sum_none n = omega (arith, sum_by-replicate (λ (y : ℕ). y) n 0)
 none_called : (budget : ℕ) (passed : ℕ → ℕ → Type 0) (turned : List (ℕ × ℕ))
     → Each (λ (p : ℕ × ℕ). AreCallsWithin budget passed [] p.0) turned
 none_called budget passed [] = tt
-none_called budget passed (p ∷ ps) =
-    (record { few = omega arith; each_passed = λ k one before. absurd (omega (arith, one, before)) }, none_called budget passed ps)
+none_called budget passed (p ∷ ps) = (
+  record { few = omega arith; each_passed = λ k one before. absurd (omega (arith, one, before)) },
+  none_called budget passed ps,
+)
 
 -- where no worker has turned a node
 pub none_turned : (n d : ℕ) (first : List (ℕ × ℕ)) (plan : Plan) (passed : ℕ → ℕ → Type 0) (turned : List (ℕ × ℕ))
@@ -91,7 +93,9 @@ module _ {G : Type 0} (passed : G → ℕ → ℕ → Type 0) where
       let own : part k.number history ≡ part k.number k.known = parts.0.own in (
         record {
           few = subst (λ (h : List Entry). length h ≤ s.budget) (sym own) done.0.few;
-          each_passed = subst (λ (h : List Entry). EachBefore (length h + 1) (passed s.gate k.number)) (sym own) done.0.each_passed;
+          each_passed =
+              subst (λ (h : List Entry). EachBefore (length h
+              + 1) (passed s.gate k.number)) (sym own) done.0.each_passed;
         },
         done_within s history ks parts.1 done.1,
       )

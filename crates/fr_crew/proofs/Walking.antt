@@ -1,5 +1,6 @@
 -- A walk under way, and what one look makes of it.
-use Rattle.std.proofs.Common.{◌≡◌, ◌≢◌, ◌∙◌, ◌++◌, ◌+◌, ◌<◌, ◌∷◌, [], ℕ, List, ap, arith, inl, inr, length, length-append, refl, subst, sym, ⊎_elim}
+use Rattle.std.proofs.Common.{◌≡◌, ◌≢◌, ◌∙◌, ◌++◌, ◌+◌, ◌<◌, ◌∷◌, [], ℕ, List, ap, arith, inl, inr, length}
+use Rattle.std.proofs.Common.{length-append, refl, subst, sym, ⊎_elim}
 use Rattle.std.specs.List.{AllByRecursion as Each, flat_map}
 use Rattle.std.specs.Prelude.{Err, IfErr, Ok, Result}
 use Rattle.std.specs.Result.{IsErrAnd}
@@ -35,7 +36,8 @@ abbrev stands_after : ℕ → List Entry → ℕ
 stands_after x [] = x
 stands_after x (e ∷ es) = stands_after (node_after x e.reply) es
 
-stands_after-push : (x : ℕ) (es : List Entry) (e : Entry) → stands_after x (es ++ e ∷ []) ≡ node_after (stands_after x es) e.reply
+stands_after-push : (x : ℕ) (es : List Entry) (e : Entry)
+    → stands_after x (es ++ e ∷ []) ≡ node_after (stands_after x es) e.reply
 stands_after-push x [] e = refl
 stands_after-push x (f ∷ es) e = stands_after-push (node_after x f.reply) es e
 
@@ -43,8 +45,13 @@ stands_after-push x (f ∷ es) e = stands_after-push (node_after x f.reply) es e
 looks_more : (d x : ℕ) (es : List Entry) (e : Entry) → AreLooksFrom d x es → Each FindsNoSink es
     → e.node ≡ stands_after x es → stands_after x es ≢ d → IsReplyToLook e.reply → AreLooksFrom d x (es ++ e ∷ [])
 looks_more d x [] e along none at other kind = (at, other, kind, (λ _. refl), tt)
-looks_more d x (f ∷ es) e along none at other kind =
-    (along.0, along.1, along.2, (λ sink. absurd (none.0 sink)), looks_more d (node_after x f.reply) es e along.4 none.1 at other kind)
+looks_more d x (f ∷ es) e along none at other kind = (
+  along.0,
+  along.1,
+  along.2,
+  (λ sink. absurd (none.0 sink)),
+  looks_more d (node_after x f.reply) es e along.4 none.1 at other kind,
+)
 
 trail-push : (x : ℕ) (es : List Entry) (e : Entry) → trail x (es ++ e ∷ []) ≡ trail x es ++ hop_of e.reply
 trail-push x es e = ap (λ (l : List ℕ). x ∷ l) (flat_map-append (λ (f : Entry). hop_of f.reply) es (e ∷ [])
@@ -65,7 +72,8 @@ pub record IsWalking (old now : Knowledge) (d x made : ℕ) (nodes : List ℕ) (
   pub parted : nodes ≡ front ++ here ∷ []
   pub known : IsKnowledge now
 
-pub walk_begins : (old : Knowledge) (d x : ℕ) (nodes : List ℕ) → nodes ≡ x ∷ [] → IsKnowledge old → IsWalking old old d x 0 nodes x
+pub walk_begins : (old : Knowledge) (d x : ℕ) (nodes : List ℕ) → nodes ≡ x ∷ [] → IsKnowledge old
+    → IsWalking old old d x 0 nodes x
 walk_begins old d x nodes is known = record {
   keeps = record { table = refl; setup = refl; number = refl; seen = λ z. omega arith };
   looks = [];
@@ -87,7 +95,8 @@ pub record HasLooked (now next : Knowledge) (here : ℕ) (reply : Reply) : Type 
   pub learns : LearnsReply now here reply next
   pub kind : IsReplyToLook reply
 
-module _ (old now next : Knowledge) (d x made : ℕ) (nodes : List ℕ) (here : ℕ) (w : IsWalking old now d x made nodes here)
+module _ (old now next : Knowledge) (d x made : ℕ) (nodes : List ℕ) (here : ℕ)
+    (w : IsWalking old now d x made nodes here)
     (reply : Reply) (looked : HasLooked now next here reply) where
   begins_on : StartsWith next.known old.known
   begins_on =
@@ -118,7 +127,9 @@ module _ (old now next : Knowledge) (d x made : ℕ) (nodes : List ℕ) (here : 
   length_more = omega (arith, length-append w.looks (entry now.number here reply ∷ []), w.count)
 
   along_more : here ≢ d → AreLooksFrom d x (w.looks ++ entry now.number here reply ∷ [])
-  along_more other = looks_more d x w.looks (entry now.number here reply) w.along w.no_sink (sym w.stands) (λ e. other (sym w.stands ∙ e)) looked.kind
+  along_more other =
+      looks_more d x w.looks (entry now.number here reply) w.along w.no_sink (sym w.stands) (λ e. other (sym w.stands
+      ∙ e)) looked.kind
 
   -- the walk goes on, after a look that found no sink
   pub walks_on : (more : List ℕ) (front : List ℕ) → here ≢ d → reply ≢ Sink → more ≡ nodes ++ hop_of reply
@@ -132,7 +143,9 @@ module _ (old now next : Knowledge) (d x made : ℕ) (nodes : List ℕ) (here : 
     no_sink = each_snoc FindsNoSink w.looks (entry now.number here reply) w.no_sink none;
     stands = stands_after-push x w.looks (entry now.number here reply) ∙ ap (λ (y : ℕ). node_after y reply) w.stands;
     count = length_more;
-    nodes_are = is ∙ (ap (λ (l : List ℕ). l ++ hop_of reply) w.nodes_are ∙ sym (trail-push x w.looks (entry now.number here reply)));
+    nodes_are =
+        is ∙ (ap (λ (l : List ℕ). l ++ hop_of reply) w.nodes_are
+        ∙ sym (trail-push x w.looks (entry now.number here reply)));
     front = front;
     parted = parted;
     known = looked.learns.known;
@@ -159,14 +172,16 @@ walks_moved old now next d x made nodes here w had k looked other = walks_on old
 
 -- a walk that ends at a sink
 pub ends_at_sink : (old now next : Knowledge) (d x made limit : ℕ) (nodes : List ℕ) (here : ℕ)
-    → IsWalking old now d x made nodes here → HasLooked now next here Sink → here ≢ d → made < limit → HasWalked old next d x limit nodes AtSink
+    → IsWalking old now d x made nodes here → HasLooked now next here Sink → here ≢ d → made < limit
+    → HasWalked old next d x limit nodes AtSink
 ends_at_sink old now next d x made limit nodes here w looked other few = record {
   looks = w.looks ++ entry now.number here Sink ∷ [];
   begins = begins_on old now next d x made nodes here w Sink looked;
   own = own_more old now next d x made nodes here w Sink looked;
   along = along_more old now next d x made nodes here w Sink looked other;
   few = omega (arith, length_more old now next d x made nodes here w Sink looked, few);
-  nodes_are = w.nodes_are ∙ (sym (append-nil (trail x w.looks)) ∙ sym (trail-push x w.looks (entry now.number here Sink)));
+  nodes_are =
+      w.nodes_are ∙ (sym (append-nil (trail x w.looks)) ∙ sym (trail-push x w.looks (entry now.number here Sink)));
   front = w.front;
   last = here;
   parted = w.parted;
@@ -179,7 +194,8 @@ pub held_lookable : (b : Setup) (k x w : ℕ) (known known' : List Entry) → Is
     → Extends b k known (entry k x (Held w)) known' → IsLookable b.nodes b.links w
 held_lookable b k x w known known' net h =
     let before : List Entry = known ++ h.between in
-    let parts = run_parts b.nodes b.dest (start b) before (entry k x (Held w) ∷ []) (subst (IsHistory b) h.begins h.run) in
+    let parts =
+    run_parts b.nodes b.dest (start b) before (entry k x (Held w) ∷ []) (subst (IsHistory b) h.begins h.run) in
     let at = lawful_after b before net parts.0 in
     let points = subst (λ (ls : List (ℕ × ℕ)). Points ls x w) at.links parts.1.0.1 in
     ⊎_elim
@@ -201,6 +217,7 @@ lookable_in b n links x degree nodes same inside is some =
     (record { inside = inside; linked = row_linked n links x (omega (arith, some, is)) })
 
 -- where the fault of a `?` is want of memory
-pub if_memory : {A : Type 0} (P : LiveFault → Type 0) (r : Result A LiveFault) → IsErrAnd r (λ fault. fault ≡ Memory) → P Memory → IfErr r P
+pub if_memory : {A : Type 0} (P : LiveFault → Type 0) (r : Result A LiveFault) → IsErrAnd r (λ fault. fault ≡ Memory)
+    → P Memory → IfErr r P
 if_memory P (Ok a) h p = tt
 if_memory P (Err fault) h p = subst P (sym h) p

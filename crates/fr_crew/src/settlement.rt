@@ -140,8 +140,8 @@ pub fn settle_telling<R: Threads + Wait + Sync, G: Gate + Sync>(
     settle_by_crew(crew, net, dest, turns)
 }
 
-/// Does the same on the calling thread, by [`finish_turns`](fr_core::finish_turns). The result is that of [`settle`],
-/// with all turns made by the finisher. It starts no thread and does not wait.
+/// Settles a network on the calling thread, by [`finish_turns`](fr_core::finish_turns). The result is that of
+/// [`settle`], with all turns made by the finisher. It starts no thread and does not wait.
 ///
 /// Fails with `Range` if the destination is not a node, which is tested first, and with `Memory` if an allocation is
 /// refused; never with `Start`. If it fails, the network is dropped. O(n + m), and the cost of [`Net::turn`].
@@ -205,7 +205,7 @@ pub fn settled_counts<R: Threads + Wait + Sync, G: Gate + Sync>(
     Ok(finish_counts(net, dest, turns, None))
 }
 
-/// Does the same on the calling thread, by [`finish_turns`](fr_core::finish_turns), or by
+/// Finds the settled counts of a network on the calling thread, by [`finish_turns`](fr_core::finish_turns), or by
 /// [`finish_from`](fr_core::finish_from) if `from` is given. The counts are those of [`settled_counts`], and are
 /// written to `turns` in the same way; `from` must satisfy the same conditions. It starts no thread, does not wait, and
 /// does not allocate.

@@ -231,7 +231,7 @@ fn run_each<'s, 'e, J: Naming + Send + Sync, R: Threads, G: Gate + Sync>(
     run_each_in_rooms(scope, crew, job, members, rooms)
 }
 
-/// Does the same in memory that was allocated before.
+/// Starts the threads, works, and joins the threads as [`run_each`] does, in memory that was allocated before.
 fn run_each_in_rooms<'s, 'e, J: Naming + Send + Sync, R: Threads, G: Gate + Sync>(
     scope: &'s Scope<'s, &'e ()>,
     crew: &'e Crew<'e, R, G>,

@@ -1,5 +1,6 @@
 -- The rows of a network in a table, after a link is cut or added.
-use Rattle.std.proofs.Common.{Contains, List, ap, arith, eq-eqb, false, get_or, inl, inr, length, map, ne_eqb, refl, subst, sym, ℕ, ◌<◌, ◌∙◌, ◌≡◌, ◌≢◌}
+use Rattle.std.proofs.Common.{Contains, List, ap, arith, eq-eqb, false, get_or, inl, inr, length, map, ne_eqb, refl}
+use Rattle.std.proofs.Common.{subst, sym, ℕ, ◌<◌, ◌∙◌, ◌≡◌, ◌≢◌}
 use Rattle.std.specs.Prelude.{not}
 use Rattle.std.specs.List.{insert, remove}
 use Rattle.std.specs.List.Sorted.{IsStrictlyIncreasing}
@@ -32,7 +33,8 @@ remove_entry : (n : ℕ) (links : List (ℕ × ℕ)) (x w j : ℕ) (f : First) �
     → get_or (row n links x) j (w, f) ≡ (w, f) → row n (without x w links) x ≡ remove (row n links x) j
 remove_entry n links x w j f apart l is =
     let es = row n links x in
-    let there : (d : ℕ × First) → (get_or es j d).0 ≡ w = λ d. ap (λ (e : ℕ × First). e.0) (get_or_default es j d (w, f) l ∙ is) in
+    let there : (d : ℕ × First) → (get_or es j d).0 ≡ w =
+    λ d. ap (λ (e : ℕ × First). e.0) (get_or_default es j d (w, f) l ∙ is) in
     row_cut n links x w x
     ∙ filter_one (stays x w x) es j (w, f) l (ap (stays x w x) is ∙ ap not (is_between_itself (x, w)))
     (λ i e m ne. ap not (not_other x w (get_or es i e).0 (λ same. elim (cases_lt i j) [
@@ -41,12 +43,17 @@ remove_entry n links x w j f apart l is =
     ]) apart))
 
 pub cut_end : (n : ℕ) (links : List (ℕ × ℕ)) (x w j : ℕ) → IsNet n links → x ≢ w → Joins links x w
-    → IsPlaceIn (row n links x) w j → (j < length (row n links x)) × (row n (without x w links) x ≡ remove (row n links x) j)
+    → IsPlaceIn (row n links x) w j
+    → (j < length (row n links x)) × (row n (without x w links) x ≡ remove (row n links x) j)
 cut_end n links x w j net apart (inl p) place =
-    let t = neighbour_at (row n links x) w j Outward (row_rises n links x) (row_of_out n links x w net p) place.before place.stops in
+    let t =
+    neighbour_at (row n links x) w j Outward (row_rises n links x) (row_of_out n links x w net p) place.before
+    place.stops in
     (t.0, remove_entry n links x w j Outward apart t.0 t.1)
 cut_end n links x w j net apart (inr p) place =
-    let t = neighbour_at (row n links x) w j Inward (row_rises n links x) (row_of_in n links x w net p) place.before place.stops in
+    let t =
+    neighbour_at (row n links x) w j Inward (row_rises n links x) (row_of_in n links x w net p) place.before
+    place.stops in
     (t.0, remove_entry n links x w j Inward apart t.0 t.1)
 
 pub joins_back : (links : List (ℕ × ℕ)) (x w : ℕ) → Joins links x w → Joins links w x
@@ -55,10 +62,12 @@ joins_back links x w (inr p) = inl p
 
 pub joined_apart : (n : ℕ) (links : List (ℕ × ℕ)) (u v : ℕ) → IsNet n links → Joins links u v → u ≢ v
 joined_apart n links u v net (inl (k, l, e)) = subst (λ (p : ℕ × ℕ). p.0 ≢ p.1) e (net.no_self k (u, v) l)
-joined_apart n links u v net (inr (k, l, e)) = let t : v ≢ u = subst (λ (p : ℕ × ℕ). p.0 ≢ p.1) e (net.no_self k (v, u) l) in λ s. t (sym s)
+joined_apart n links u v net (inr (k, l, e)) =
+    let t : v ≢ u = subst (λ (p : ℕ × ℕ). p.0 ≢ p.1) e (net.no_self k (v, u) l) in λ s. t (sym s)
 
 -- the row of one end names the other end, and is unchanged while the other end's row is written
-pub end_listed : (n : ℕ) (links : List (ℕ × ℕ)) (x w : ℕ) → IsNet n links → Joins links x w → Contains (map (λ (e : ℕ × First). e.0) (row n links x)) w
+pub end_listed : (n : ℕ) (links : List (ℕ × ℕ)) (x w : ℕ) → IsNet n links → Joins links x w
+    → Contains (map (λ (e : ℕ × First). e.0) (row n links x)) w
 end_listed n links x w net (inl p) = neighbour_listed (row n links x) w Outward (row_of_out n links x w net p)
 end_listed n links x w net (inr p) = neighbour_listed (row n links x) w Inward (row_of_in n links x w net p)
 
@@ -69,16 +78,19 @@ row_rising n links table x rows less = rw (rows.shown x less) (neighbours_rise n
 pub row_beside : (n : ℕ) (links : List (ℕ × ℕ)) (table one : Table) (u v : ℕ) (entries : List (ℕ × First))
     → AreRows n links table → v < n → u ≢ v → one ≡ with_row table u entries → row_of one v ≡ row n links v
 row_beside n links table one u v entries rows less apart once =
-    ap (λ (t : Table). row_of t v) once ∙ row_of_with_row_beside table u v entries (λ e. apart (sym e)) ∙ rows.shown v less
+    ap (λ (t : Table). row_of t v) once ∙ row_of_with_row_beside table u v entries (λ e. apart (sym e))
+    ∙ rows.shown v less
 
 pub length_beside : (n : ℕ) (links : List (ℕ × ℕ)) (table one : Table) (u : ℕ) (entries : List (ℕ × First))
     → AreRows n links table → one ≡ with_row table u entries → length one.rows ≡ n
-length_beside n links table one u entries rows once = ap (λ (t : Table). length t.rows) once ∙ length-rows table u entries ∙ rows.one_each
+length_beside n links table one u entries rows once =
+    ap (λ (t : Table). length t.rows) once ∙ length-rows table u entries ∙ rows.one_each
 
 -- the row of each end, without the entry of the other end
 pub rows_cut : (net : Network) (u v j k : ℕ) (table one two : Table) → ShowsLink net u v table
     → IsPlaceIn (row_of table u) v j → one ≡ with_row table u (remove (row_of table u) j)
-    → IsPlaceIn (row_of one v) u k → two ≡ with_row one v (remove (row_of one v) k) → AreRows net.nodes (without u v net.links) two
+    → IsPlaceIn (row_of one v) u k → two ≡ with_row one v (remove (row_of one v) k)
+    → AreRows net.nodes (without u v net.links) two
 rows_cut net u v j k table one two shown at_u once at_v twice =
     let n = net.nodes in
     let links = net.links in
@@ -88,22 +100,26 @@ rows_cut net u v j k table one two shown at_u once at_v twice =
     let long_one = length_beside n links table one u (remove (row_of table u) j) shown.rows once in
     let kept_v = row_beside n links table one u v (remove (row_of table u) j) shown.rows below.1 apart once in
     let cut_u = (cut_end n links u v j shown.is_net apart shown.joins (rw row_u at at_u)).1 in
-    let cut_v = (cut_end n links v u k shown.is_net (λ e. apart (sym e)) (joins_back links u v shown.joins) (rw kept_v at at_v)).1 in
+    let cut_v =
+    (cut_end n links v u k shown.is_net (λ e. apart (sym e)) (joins_back links u v shown.joins) (rw kept_v at at_v)).1
+    in
     record {
       one_each = ap (λ (t : Table). length t.rows) twice ∙ length-rows one v (remove (row_of one v) k) ∙ long_one;
       shown = λ z less. ap (λ (t : Table). row_of t z) twice ∙ elim (cases_eq z v) [
         | inl e ↦ rw e (
             row_of_with_row_at one v (remove (row_of one v) k) (omega (arith, long_one, below.1))
-            ∙ ap (λ (es : List (ℕ × First)). remove es k) kept_v ∙ sym cut_v ∙ ap (λ (ls : List (ℕ × ℕ)). row n ls v) (without_back u v links)
+            ∙ ap (λ (es : List (ℕ × First)). remove es k) kept_v ∙ sym cut_v
+            ∙ ap (λ (ls : List (ℕ × ℕ)). row n ls v) (without_back u v links)
             )
-        | inr nv ↦ row_of_with_row_beside one v z (remove (row_of one v) k) nv ∙ ap (λ (t : Table). row_of t z) once ∙ elim (cases_eq z u) [
-          | inl e ↦ rw e (
-              row_of_with_row_at table u (remove (row_of table u) j) (omega (arith, shown.rows.one_each, below.0))
-              ∙ ap (λ (es : List (ℕ × First)). remove es j) row_u ∙ sym cut_u
-              )
-          | inr nu ↦ row_of_with_row_beside table u z (remove (row_of table u) j) nu ∙ shown.rows.shown z less
-              ∙ sym (row_cut n links u v z ∙ row_stays u v z (row n links z) nu nv)
-        ]
+        | inr nv ↦ row_of_with_row_beside one v z (remove (row_of one v) k) nv ∙ ap (λ (t : Table). row_of t z) once
+            ∙ elim (cases_eq z u) [
+              | inl e ↦ rw e (
+                  row_of_with_row_at table u (remove (row_of table u) j) (omega (arith, shown.rows.one_each, below.0))
+                  ∙ ap (λ (es : List (ℕ × First)). remove es j) row_u ∙ sym cut_u
+                  )
+              | inr nu ↦ row_of_with_row_beside table u z (remove (row_of table u) j) nu ∙ shown.rows.shown z less
+                  ∙ sym (row_cut n links u v z ∙ row_stays u v z (row n links z) nu nv)
+            ]
       ];
     }
 
@@ -124,30 +140,42 @@ put_head n links u v j nodes place =
 -- the row of each end, with an entry of the other end
 pub rows_added : (net : Network) (u v j k : ℕ) (table one two : Table) → ShowsNoLink net u v table
     → IsPlaceIn (row_of table u) v j → one ≡ with_row table u (insert (row_of table u) j (v, Outward))
-    → IsPlaceIn (row_of one v) u k → two ≡ with_row one v (insert (row_of one v) k (u, Inward)) → AreRows net.nodes (added net.links u v) two
+    → IsPlaceIn (row_of one v) u k → two ≡ with_row one v (insert (row_of one v) k (u, Inward))
+    → AreRows net.nodes (added net.links u v) two
 rows_added net u v j k table one two shown at_u once at_v twice =
     let n = net.nodes in
     let links = net.links in
     let nodes = shown.nodes in
     let row_u : row_of table u ≡ row n links u = shown.rows.shown u nodes.tail in
     let long_one = length_beside n links table one u (insert (row_of table u) j (v, Outward)) shown.rows once in
-    let kept_v = row_beside n links table one u v (insert (row_of table u) j (v, Outward)) shown.rows nodes.head nodes.apart once in
+    let kept_v =
+    row_beside n links table one u v (insert (row_of table u) j (v, Outward)) shown.rows nodes.head nodes.apart once in
     let place_u = rw row_u at at_u in
     let place_v = rw kept_v at at_v in
     record {
-      one_each = ap (λ (t : Table). length t.rows) twice ∙ length-rows one v (insert (row_of one v) k (u, Inward)) ∙ long_one;
+      one_each =
+          ap (λ (t : Table). length t.rows) twice ∙ length-rows one v (insert (row_of one v) k (u, Inward)) ∙ long_one;
       shown = λ z less. ap (λ (t : Table). row_of t z) twice ∙ elim (cases_eq z v) [
         | inl e ↦ rw e (
             row_of_with_row_at one v (insert (row_of one v) k (u, Inward)) (omega (arith, long_one, nodes.head))
-            ∙ ap (λ (es : List (ℕ × First)). insert es k (u, Inward)) kept_v ∙ sym (put_head n links u v k nodes place_v)
+            ∙ ap (λ (es : List (ℕ × First)). insert es k (u, Inward)) kept_v
+            ∙ sym (put_head n links u v k nodes place_v)
             )
-        | inr nv ↦ row_of_with_row_beside one v z (insert (row_of one v) k (u, Inward)) nv ∙ ap (λ (t : Table). row_of t z) once ∙ elim (cases_eq z u) [
-          | inl e ↦ rw e (
-              row_of_with_row_at table u (insert (row_of table u) j (v, Outward)) (omega (arith, shown.rows.one_each, nodes.tail))
-              ∙ ap (λ (es : List (ℕ × First)). insert es j (v, Outward)) row_u ∙ sym (put_tail n links u v j nodes place_u)
-              )
-          | inr nu ↦ row_of_with_row_beside table u z (insert (row_of table u) j (v, Outward)) nu ∙ shown.rows.shown z less
-              ∙ sym (row_added n links u v z nodes.tail nodes.head nodes.apart nodes.free ∙ cond-false _ _ _ (ne_eqb z u nu) ∙ cond-false _ _ _ (ne_eqb z v nv))
-        ]
+        | inr nv ↦ row_of_with_row_beside one v z (insert (row_of one v) k (u, Inward)) nv
+            ∙ ap (λ (t : Table). row_of t z) once ∙ elim (cases_eq z u) [
+              | inl e ↦ rw e (
+                  row_of_with_row_at table u (insert (row_of table u) j (v, Outward)) (omega (
+                    arith,
+                    shown.rows.one_each,
+                    nodes.tail,
+                  ))
+                  ∙ ap (λ (es : List (ℕ × First)). insert es j (v, Outward)) row_u
+                  ∙ sym (put_tail n links u v j nodes place_u)
+                  )
+              | inr nu ↦ row_of_with_row_beside table u z (insert (row_of table u) j (v, Outward)) nu
+                  ∙ shown.rows.shown z less
+                  ∙ sym (row_added n links u v z nodes.tail nodes.head nodes.apart nodes.free
+                  ∙ cond-false _ _ _ (ne_eqb z u nu) ∙ cond-false _ _ _ (ne_eqb z v nv))
+            ]
       ];
     }

@@ -1,5 +1,6 @@
 -- The links of a network without one of them are those of a network.
-use Rattle.std.proofs.Common.{Bool, Contains, List, [], arith, cond, count_by, false, get_or, inl, inr, subst, true, ℕ, ◌<◌, ◌∷◌, ◌≡◌, ◌≤◌}
+use Rattle.std.proofs.Common.{Bool, Contains, List, [], arith, cond, count_by, false, get_or, inl, inr, subst, true, ℕ}
+use Rattle.std.proofs.Common.{◌<◌, ◌∷◌, ◌≡◌, ◌≤◌}
 use Rattle.std.specs.Prelude.{not}
 use Rattle.std.specs.List.{filter}
 use Rattle.std.proofs.lemmas.List.Elements.{All-filter}
@@ -13,7 +14,8 @@ use Rattle.fr_graph.specs.Links.{IsNet, is_between}
 
 -- a link that a test keeps was there, and equally often
 from_filter_by : (b : Bool) (p : ℕ × ℕ → Bool) (l : ℕ × ℕ) (ls : List (ℕ × ℕ)) (x : ℕ × ℕ)
-    → (Contains (filter p ls) x → Contains ls x) → Contains (cond b (l ∷ filter p ls) (filter p ls)) x → Contains (l ∷ ls) x
+    → (Contains (filter p ls) x → Contains ls x) → Contains (cond b (l ∷ filter p ls) (filter p ls)) x
+    → Contains (l ∷ ls) x
 from_filter_by true p l ls x rest h =
     elim (Contains-cases x l (filter p ls) h) [
       | inl e ↦ subst (λ (y : ℕ × ℕ). Contains (l ∷ ls) y) e
@@ -26,9 +28,11 @@ pub from_filter : (p : ℕ × ℕ → Bool) (links : List (ℕ × ℕ)) (x : ℕ
 from_filter p [] x h = h
 from_filter p (l ∷ ls) x h = from_filter_by (p l) p l ls x (from_filter p ls x) h
 
-count_filter_by : (b : Bool) (q p : ℕ × ℕ → Bool) (l : ℕ × ℕ) (ls : List (ℕ × ℕ)) → count_by q (filter p ls) ≤ count_by q ls
+count_filter_by : (b : Bool) (q p : ℕ × ℕ → Bool) (l : ℕ × ℕ) (ls : List (ℕ × ℕ))
+    → count_by q (filter p ls) ≤ count_by q ls
     → count_by q (cond b (l ∷ filter p ls) (filter p ls)) ≤ count_by q (l ∷ ls)
-count_filter_by true q p l ls rest = let f : ℕ × ℕ → ℕ = λ y. weigh (q y) in omega (arith, sum_by-cons f l (filter p ls), sum_by-cons f l ls, rest)
+count_filter_by true q p l ls rest =
+    let f : ℕ × ℕ → ℕ = λ y. weigh (q y) in omega (arith, sum_by-cons f l (filter p ls), sum_by-cons f l ls, rest)
 count_filter_by false q p l ls rest = let f : ℕ × ℕ → ℕ = λ y. weigh (q y) in omega (arith, sum_by-cons f l ls, rest)
 
 count-filter-le : (q p : ℕ × ℕ → Bool) (links : List (ℕ × ℕ)) → count_by q (filter p links) ≤ count_by q links
@@ -49,7 +53,8 @@ filter_net n p links net = record {
         one_passes (is_between link.0 link.1)
             (filter p links) k d l (is_between_itself link),
       );
-  acyclic = λ u vs h. net.acyclic u vs (walk_carries (filter p links) links (λ x y c. from_filter p links (x, y) c) u vs h);
+  acyclic =
+      λ u vs h. net.acyclic u vs (walk_carries (filter p links) links (λ x y c. from_filter p links (x, y) c) u vs h);
 }
 
 pub faultless_cut : (n : ℕ) (links : List (ℕ × ℕ)) (u v : ℕ) → IsFaultless n links → IsFaultless n (without u v links)

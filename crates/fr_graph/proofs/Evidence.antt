@@ -1,5 +1,6 @@
 -- A fault has one evidence: links and edits determine its kind and the nodes that it names.
-use Rattle.std.proofs.Common.{List, [], ap, arith, get_or, inl, inr, refl, subst, sym, take, ℕ, ⊎_elim, ◌<◌, ◌∙◌, ◌≡◌, ◌⊎◌}
+use Rattle.std.proofs.Common.{List, [], ap, arith, get_or, inl, inr, refl, subst, sym, take, ℕ, ⊎_elim, ◌<◌, ◌∙◌, ◌≡◌}
+use Rattle.std.proofs.Common.{◌⊎◌}
 use Rattle.std.specs.declared.alloc.Global.{Global}
 use Rattle.std.specs.declared.vec.Vec.{Vec}
 use Rattle.fr_graph.proofs.Batches.{cut_fault_is, edit_fault_place, moved_fault, refused_alike}
@@ -70,10 +71,12 @@ one_end n links x w (inl a) (inr b) = absurd (omega (arith, a.0, b.0))
 one_end n links x w (inr a) (inl b) = absurd (omega (arith, a.0, b.0))
 one_end n links x w (inr a) (inr b) = let both = sym a.1 ∙ b.1 in cc
 
-one_self : (n : ℕ) (links : List (ℕ × ℕ)) (x w : ℕ) → NamesFirst n links (SelfLink x) → NamesFirst n links (SelfLink w) → x ≡ w
+one_self : (n : ℕ) (links : List (ℕ × ℕ)) (x w : ℕ) → NamesFirst n links (SelfLink x) → NamesFirst n links (SelfLink w)
+    → x ≡ w
 one_self n links x w a b = let both : (x, x) ≡ (w, w) = cc in ap (λ (l : ℕ × ℕ). l.0) both
 
-one_pair : (n : ℕ) (links : List (ℕ × ℕ)) (x y w z : ℕ) → NamesFirst n links (Twice x y) → NamesFirst n links (Twice w z) → (x ≡ w) × (y ≡ z)
+one_pair : (n : ℕ) (links : List (ℕ × ℕ)) (x y w z : ℕ) → NamesFirst n links (Twice x y)
+    → NamesFirst n links (Twice w z) → (x ≡ w) × (y ≡ z)
 one_pair n links x y w z a b =
     let first = lowest_one a.0 b.0 in
     (first, lowest_one (subst (λ (u : ℕ). IsLowest (AreJoinedTwice links u) y) first a.1) b.1)
@@ -83,7 +86,9 @@ links_alike n links f g hf nf hg ng =
     let kind = first_fault_place n links f g hf hg in
     record {
       kind = kind;
-      shown = shown_same (NamesFirst n links) (one_end n links) (one_self n links) (one_pair n links) (λ walk round. cycle_one links) f g kind nf ng;
+      shown =
+          shown_same (NamesFirst n links) (one_end n links) (one_self n links) (one_pair n links)
+          (λ walk round. cycle_one links) f g kind nf ng;
     }
 
 -- the rule for an added link
@@ -93,9 +98,13 @@ one_link_end net u v x w (inl a) (inr b) = absurd (omega (arith, a.0, b.0))
 one_link_end net u v x w (inr a) (inl b) = absurd (omega (arith, a.0, b.0))
 one_link_end net u v x w (inr a) (inr b) = a.1 ∙ sym b.1
 
-link_shown : (net : Network) (u v : ℕ) (f g : NetFault) → fault_place f ≡ fault_place g → NamesOfLink net u v f → NamesOfLink net u v g → evidence f ≡ evidence g
+link_shown : (net : Network) (u v : ℕ) (f g : NetFault) → fault_place f ≡ fault_place g → NamesOfLink net u v f
+    → NamesOfLink net u v g → evidence f ≡ evidence g
 link_shown net u v =
-    shown_same (NamesOfLink net u v) (one_link_end net u v) (λ x w a b. a ∙ sym b) (λ x y w z a b. (a.0 ∙ sym b.0, a.1 ∙ sym b.1))
+    shown_same (NamesOfLink net u v) (one_link_end net u v) (λ x w a b. a ∙ sym b) (λ x y w z a b. (
+      a.0 ∙ sym b.0,
+      a.1 ∙ sym b.1,
+    ))
     (λ walk round. cycle_by_one net.links u v)
 
 pub edits_alike : EditsHaveOneFault
@@ -123,6 +132,10 @@ batches_alike net edits f g (inr a) nf (inl b) ng = absurd (omega (arith, a.0, b
 batches_alike net edits f g (inr a) nf (inr b) ng =
     let at = (refused_alike net edits f g a.1 b.1).0 in
     let d = Cut 0 0 in
-    let made : AreMade net (take f.at edits) b.1.before = subst (λ (k : ℕ). AreMade net (take k edits) b.1.before) (sym at) b.1.made in
-    let moved = subst (λ (k : ℕ). NamesOfEdit b.1.before (get_or edits k d) f.fault) at (nf b.1.before made d) in
-    (at, edits_alike b.1.before (get_or edits g.at d) f.fault g.fault (moved_fault net edits f g a.1 b.1 d) moved (b.1.refused d) (ng b.1.before b.1.made d))
+    let made : AreMade net (take f.at edits) b.1.before =
+    subst (λ (k : ℕ). AreMade net (take k edits) b.1.before) (sym at) b.1.made in
+    let moved = subst (λ (k : ℕ). NamesOfEdit b.1.before (get_or edits k d) f.fault) at (nf b.1.before made d) in (
+      at,
+      edits_alike b.1.before (get_or edits g.at d) f.fault g.fault (moved_fault net edits f g a.1 b.1 d) moved
+          (b.1.refused d) (ng b.1.before b.1.made d),
+    )

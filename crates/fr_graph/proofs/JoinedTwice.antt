@@ -1,5 +1,6 @@
 -- The lowest two nodes that more than one link joins, from half-links in order.
-use Rattle.std.proofs.Common.{IsPermutation, List, arith, count_by, get_or, inl, inr, length, suc, zero, ℕ, ◌+◌, ◌-◌, ◌<◌, ◌∙◌, ◌≡◌, ◌≤◌, ◌⊎◌}
+use Rattle.std.proofs.Common.{IsPermutation, List, arith, count_by, get_or, inl, inr, length, suc, zero, ℕ, ◌+◌, ◌-◌}
+use Rattle.std.proofs.Common.{◌<◌, ◌∙◌, ◌≡◌, ◌≤◌, ◌⊎◌}
 use Rattle.std.proofs.Common.{refl, subst, sym}
 use Rattle.std.proofs.lemmas.Bool.{cases_lt}
 use Rattle.std.proofs.lemmas.List.{get_or_default}
@@ -42,7 +43,8 @@ order_far halves order i (suc far) d l =
 
 -- if half-links in order increase before place i, none at two places is before the one at i
 pub lowest_at : (halves : List HalfLink) (i : ℕ) (d : HalfLink) → AreHalvesInOrder halves
-    → ((k : ℕ) (e : HalfLink) → k + 1 < i → IsBefore (place_of (get_or halves k e)) (place_of (get_or halves (k + 1) e)))
+    → ((k : ℕ) (e : HalfLink) → k + 1 < i
+    → IsBefore (place_of (get_or halves k e)) (place_of (get_or halves (k + 1) e)))
     → i < length halves → (x y : ℕ) → 2 ≤ count_by (is_at x y) halves → IsNotAfter (place_of (get_or halves i d)) (x, y)
 lowest_at halves i d order rising inside x y many =
     elim (before_or_not (place_of (get_or halves i d)) (x, y)) [
@@ -54,7 +56,8 @@ lowest_at halves i d order rising inside x y many =
             let p = at_place x y (get_or halves a e) here in
             let q = at_place x y (get_or halves b e) there in
             elim (cases_lt b i) [
-              | inl early ↦ same_place (get_or halves a e) (get_or halves b e) (p.0 ∙ sym q.0) (p.1 ∙ sym q.1) (rising_up_to halves i rising a b e less early)
+              | inl early ↦ same_place (get_or halves a e) (get_or halves b e) (p.0 ∙ sym q.0) (p.1
+                  ∙ sym q.1) (rising_up_to halves i rising a b e less early)
               | inr late ↦
                   let far : i + (b - i) ≡ b = omega arith in
                   let up = rw far at (order_far halves order i (b - i) e (omega (arith, far, l))) in
@@ -81,6 +84,9 @@ pub lowest_twice : (listed : List (ℕ × ℕ)) (halves : List HalfLink) (u v : 
 lowest_twice listed halves u v both bar found lowest =
     let same = λ (x y : ℕ). count_same listed halves x y both bar in
     let here : AreJoinedTwice listed u v = omega (arith, same u v, found) in (
-      record { holds = (v, here); least = λ x some. node_least (lowest x some.0 (omega (arith, same x some.0, some.1))) },
+      record {
+        holds = (v, here);
+        least = λ x some. node_least (lowest x some.0 (omega (arith, same x some.0, some.1)));
+      },
       record { holds = here; least = λ y twice. neighbour_least (lowest u y (omega (arith, same u y, twice))) },
     )

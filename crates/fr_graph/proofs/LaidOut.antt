@@ -1,15 +1,18 @@
 -- Rows laid out one after the other, each with room after it.
-use Rattle.std.proofs.Common.{Bool, IsTrue, List, [], ap, arith, cond, count_by, get_or, inl, inr, length, length-append, map, refl, set, sym, take}
+use Rattle.std.proofs.Common.{Bool, IsTrue, List, [], ap, arith, cond, count_by, get_or, inl, inr, length}
+use Rattle.std.proofs.Common.{length-append, map, refl, set, sym, take}
 use Rattle.std.proofs.Common.{ℕ, ◌++◌, ◌+◌, ◌<◌, ◌∙◌, ◌∷◌, ◌≡◌, ◌≤◌}
 use Rattle.std.specs.List.{range_with_len}
 use Rattle.std.proofs.lemmas.Bool.{cases_eq, cases_lt}
-use Rattle.std.proofs.lemmas.List.{get_or-set_other, get_or-set_same, get_or_append_left, get_or_past, get_or_push, length-set, length-take-le}
+use Rattle.std.proofs.lemmas.List.{get_or-set_other, get_or-set_same, get_or_append_left, get_or_past, get_or_push}
+use Rattle.std.proofs.lemmas.List.{length-set, length-take-le}
 use Rattle.std.proofs.lemmas.List.{length_push, take_all, take_more}
 use Rattle.std.proofs.lemmas.List.FromFn.{length-map-range_with_len, map-range_with_len_more}
 use Rattle.std.proofs.lemmas.List.Sums.{sum_by-append}
 use Rattle.fr_graph.proofs.Lists.{alike_below, part_before, part_behind}
 use Rattle.fr_graph.proofs.RowTables.{length_rows, nowhere, starts_rise}
-use Rattle.fr_graph.specs.Tables.{HasRoomIn, IsTable, KeepsRooms, Table, end_of, has_none, room_between, room_of, row_between, row_of, rows_in}
+use Rattle.fr_graph.specs.Tables.{HasRoomIn, IsTable, KeepsRooms, Table, end_of, has_none, room_between, room_of}
+use Rattle.fr_graph.specs.Tables.{row_between, row_of, rows_in}
 use Rattle.fr_graph.specs.Tables.{start_of, table_of}
 use Rattle.fr_graph.specs.declared.row_table.Place.{Place}
 use Rattle.fr_graph.specs.declared.row_table.RowTable.TheInside.{Inside}
@@ -23,11 +26,15 @@ start_behind t = start_of t (rows_in t)
 pub record IsBehind (t u : Inside) (row rest : List (ℕ × First)) (room : ℕ) : Type 0 where
   pub within : length row + length rest ≡ room
   pub places : u.places.items ≡ set t.places.items (rows_in t)
-      (record { start = start_behind t; end = start_behind t + length row }) ++ record { start = start_behind t + room; end = start_behind t + room } ∷ []
+      (record { start = start_behind t; end = start_behind t + length row }) ++ record {
+        start = start_behind t + room;
+        end = start_behind t + room;
+      } ∷ []
   pub entries : u.entries.items ≡ take (start_behind t) t.entries.items ++ (row ++ rest)
   pub empty : u.empty ≡ t.empty + count_by has_none (row ∷ [])
 
-module _ (t u : Inside) (row rest : List (ℕ × First)) (room : ℕ) (is : IsTable t) (to : IsBehind t u row rest room) where
+module _ (t u : Inside) (row rest : List (ℕ
+    × First)) (room : ℕ) (is : IsTable t) (to : IsBehind t u row rest room) where
   abbrev last_place : Place
   last_place = record { start = start_behind t; end = start_behind t + length row }
 
@@ -41,16 +48,26 @@ module _ (t u : Inside) (row rest : List (ℕ × First)) (room : ℕ) (is : IsTa
   pub rows_more : rows_in u ≡ rows_in t + 1
   rows_more = omega (arith, one_more, is.some)
 
-  set_place : (x : ℕ) → x ≤ rows_in t → get_or u.places.items x nowhere ≡ get_or (set t.places.items (rows_in t) last_place) x nowhere
+  set_place : (x : ℕ) → x ≤ rows_in t
+      → get_or u.places.items x nowhere ≡ get_or (set t.places.items (rows_in t) last_place) x nowhere
   set_place x le = ap (λ (ps : List Place). get_or ps x nowhere) to.places
       ∙ get_or_append_left (set t.places.items (rows_in t) last_place) (behind_place ∷ []) nowhere x
       (omega (arith, le, is.some, length-set t.places.items (rows_in t) last_place))
 
   last_is : get_or u.places.items (rows_in t) nowhere ≡ last_place
-  last_is = set_place (rows_in t) (omega arith) ∙ get_or-set_same t.places.items (rows_in t) last_place nowhere (omega (arith, is.some))
+  last_is =
+      set_place (rows_in t) (omega arith) ∙ get_or-set_same t.places.items (rows_in t) last_place nowhere (omega (
+        arith,
+        is.some,
+      ))
 
   place_stays : (x : ℕ) → x < rows_in t → get_or u.places.items x nowhere ≡ get_or t.places.items x nowhere
-  place_stays x lt = set_place x (omega (arith, lt)) ∙ get_or-set_other t.places.items (rows_in t) x last_place nowhere (λ e. omega (arith, e, lt))
+  place_stays x lt =
+      set_place x (omega (arith, lt)) ∙ get_or-set_other t.places.items (rows_in t) x last_place nowhere (λ e. omega (
+        arith,
+        e,
+        lt,
+      ))
 
   start_stays : (x : ℕ) → x ≤ rows_in t → start_of u x ≡ start_of t x
   start_stays x le = elim (cases_eq x (rows_in t)) [
@@ -83,9 +100,11 @@ module _ (t u : Inside) (row rest : List (ℕ × First)) (room : ℕ) (is : IsTa
 
   row_stays : (x : ℕ) → x < rows_in t → row_between u x ≡ row_between t x
   row_stays x lt =
-      let low : end_of t x ≤ start_behind t = omega (arith, is.high x lt, starts_rise t is (x + 1) (rows_in t) (omega arith) (omega arith)) in
+      let low : end_of t x ≤ start_behind t =
+      omega (arith, is.high x lt, starts_rise t is (x + 1) (rows_in t) (omega arith) (omega arith)) in
       rw (start_stays x (omega arith), end_stays x lt, to.entries)
-      (part_before t.entries.items (row ++ rest) (start_behind t) (start_of t x) (end_of t x) low (is.inside (rows_in t)))
+      (part_before t.entries.items (row
+      ++ rest) (start_behind t) (start_of t x) (end_of t x) low (is.inside (rows_in t)))
 
   row_behind : row_between u (rows_in t) ≡ row
   row_behind =
@@ -137,14 +156,21 @@ module _ (t u : Inside) (row rest : List (ℕ × First)) (room : ℕ) (is : IsTa
             | inl e ↦ rw e (omega (arith, start_more, entries_more))
             | inr ne ↦
                 let none : start_of u x ≡ 0 =
-                ap (λ (p : Place). p.start) (get_or_past u.places.items x nowhere (omega (arith, past, ne, one_more, is.some))) in
+                ap (λ (p : Place). p.start) (get_or_past u.places.items x nowhere (omega (
+                  arith,
+                  past,
+                  ne,
+                  one_more,
+                  is.some,
+                ))) in
                 omega (arith, none)
           ]
           | inr le ↦ omega (arith, start_stays x le, starts_rise t is x n le (omega arith), entries_more)
         ];
         counted =
             to.empty ∙ ap (λ k. k + count_by has_none (row ∷ [])) is.counted
-            ∙ sym (ap (count_by has_none) rows_behind ∙ sum_by-append (λ r. cond (has_none r) 1 0) (table_of t).rows (row ∷ []));
+            ∙ sym (ap (count_by has_none) rows_behind
+            ∙ sum_by-append (λ r. cond (has_none r) 1 0) (table_of t).rows (row ∷ []));
       }
 
 -- the rows below x are laid out in another table, each with room for more, and with `keeps_room` with no less room than
@@ -156,8 +182,10 @@ pub record AreLaidOut (before : Table) (keeps_room : Bool) (x : ℕ) (after : Ta
   pub kept : IsTrue keeps_room → (y : ℕ) → y < x → room_of before y ≤ room_of after y
 
 pub one_more_laid_out : (before : Table) (keeps_room : Bool) (x : ℕ) (after next : Table) (room : ℕ)
-    → AreLaidOut before keeps_room x after → x < length before.rows → next.rows ≡ after.rows ++ row_of before x ∷ [] → next.rooms ≡ after.rooms ++ room ∷ []
-    → length (row_of before x) < room → (IsTrue keeps_room → room_of before x ≤ room) → AreLaidOut before keeps_room (x + 1) next
+    → AreLaidOut before keeps_room x after → x < length before.rows → next.rows ≡ after.rows ++ row_of before x ∷ []
+    → next.rooms ≡ after.rooms ++ room ∷ []
+    → length (row_of before x) < room → (IsTrue keeps_room → room_of before x ≤ room)
+    → AreLaidOut before keeps_room (x + 1) next
 one_more_laid_out before keeps_room x after next room to lt rows rooms wide no_less =
     let here : room_of next x ≡ room = ap (λ rs. get_or rs x 0) rooms ∙ get_or_push after.rooms room 0 x to.one_each in
     let stays : (y : ℕ) → y < x → room_of next y ≡ room_of after y = λ y l.
@@ -176,12 +204,14 @@ one_more_laid_out before keeps_room x after next room to lt rows rooms wide no_l
     }
 
 -- after all are laid out, the rows are the same, each has room for more, and none has less
-pub same_rows : (before : Table) (keeps_room : Bool) (after : Table) → AreLaidOut before keeps_room (length before.rows) after → after.rows ≡ before.rows
+pub same_rows : (before : Table) (keeps_room : Bool) (after : Table)
+    → AreLaidOut before keeps_room (length before.rows) after → after.rows ≡ before.rows
 same_rows before keeps_room after to = to.rows ∙ take_all (length before.rows) before.rows (omega arith)
 
 pub all_have_room : (before : Table) (keeps_room : Bool) (after : Table)
     → AreLaidOut before keeps_room (length before.rows) after → (x : ℕ) → x < length before.rows → HasRoomIn after x
-all_have_room before keeps_room after to x lt = omega (arith, to.room x lt, ap (λ rows. length (get_or rows x [])) (same_rows before keeps_room after to))
+all_have_room before keeps_room after to x lt =
+    omega (arith, to.room x lt, ap (λ rows. length (get_or rows x [])) (same_rows before keeps_room after to))
 
 pub room_kept : (before : Table) (keeps_room : Bool) (after : Table) → length before.rooms ≡ length before.rows
     → AreLaidOut before keeps_room (length before.rows) after → IsTrue keeps_room → KeepsRooms before after
@@ -197,4 +227,5 @@ rows_counted t table view = ap (λ (v : Table). length v.rows) (sym view) ∙ le
 
 pub rooms_counted : (t : Inside) (table : Table) → table_of t ≡ table → length table.rooms ≡ length table.rows
 rooms_counted t table view =
-    ap (λ (v : Table). length v.rooms) (sym view) ∙ length-map-range_with_len (room_between t) 0 (rows_in t) ∙ sym (rows_counted t table view)
+    ap (λ (v : Table). length v.rooms) (sym view) ∙ length-map-range_with_len (room_between t) 0 (rows_in t)
+    ∙ sym (rows_counted t table view)

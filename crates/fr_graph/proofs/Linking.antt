@@ -1,5 +1,6 @@
 -- Which nodes a link joins, and when walks along some links are walks along others.
-use Rattle.std.proofs.Common.{List, [], ap, arith, count_by, eq-eqb, eqb, eqb-true, get_or, inl, inr, length, refl, subst, suc, sym, true, ℕ, ◌&&◌}
+use Rattle.std.proofs.Common.{List, [], ap, arith, count_by, eq-eqb, eqb, eqb-true, get_or, inl, inr, length, refl}
+use Rattle.std.proofs.Common.{subst, suc, sym, true, ℕ, ◌&&◌}
 use Rattle.std.proofs.Common.{◌<◌, ◌∙◌, ◌∷◌, ◌≡◌, ◌≤◌, ◌⊎◌}
 use Rattle.std.proofs.Math.Bool.{or-true}
 use Rattle.std.proofs.lemmas.Bool.{cases_Bool, cases_eq, cases_lt}
@@ -35,7 +36,8 @@ joined_from u v l e =
       | inr t ↦ inr (eqb-true _ _ t.0, eqb-true _ _ t.1)
     ]
 
-pub is_between_alike : (u v : ℕ) (l : ℕ × ℕ) → is_between u v l ≡ true → (x : ℕ × ℕ) → is_between l.0 l.1 x ≡ is_between u v x
+pub is_between_alike : (u v : ℕ) (l : ℕ × ℕ) → is_between u v l ≡ true → (x : ℕ × ℕ)
+    → is_between l.0 l.1 x ≡ is_between u v x
 is_between_alike u v l e x =
     elim (joined_from u v l e) [
       | inl t ↦ rw (t.0, t.1) refl
@@ -79,7 +81,8 @@ one_way links bar single = record {
       let d : ℕ × ℕ = (u, v) in
       let first : get_or links p.0 d ≡ d = p.2 in
       let second : get_or links q.0 d ≡ (v, u) = get_or_default links q.0 d (v, u) q.1 ∙ q.2 in
-      let once : count_by (is_between u v) links ≡ 1 = subst (λ (l : ℕ × ℕ). count_by (is_between l.0 l.1) links ≡ 1) first (single p.0 d p.1) in
+      let once : count_by (is_between u v) links ≡ 1 =
+      subst (λ (l : ℕ × ℕ). count_by (is_between l.0 l.1) links ≡ 1) first (single p.0 d p.1) in
       let yes : is_between u v (get_or links p.0 d) ≡ true = rw first (is_between_itself d) in
       let also : is_between u v (get_or links q.0 d) ≡ true = rw second (is_between_back u v) in
       let apart : u ≡ v → ⊥ = subst (λ (l : ℕ × ℕ). l.0 ≡ l.1 → ⊥) first (bar p.0 d p.1) in
@@ -87,16 +90,22 @@ one_way links bar single = record {
         | inl lt ↦ absurd (omega (arith, once, two_pass (is_between u v) links p.0 q.0 d lt q.1 yes also))
         | inr ge ↦ elim (cases_eq p.0 q.0) [
           | inl e ↦ apart (ap (λ (l : ℕ × ℕ). l.0) (sym first ∙ ap (λ (k : ℕ). get_or links k d) e ∙ second))
-          | inr ne ↦ absurd (omega (arith, once, two_pass (is_between u v) links q.0 p.0 d (omega (arith, ne)) p.1 also yes))
+          | inr ne ↦ absurd (omega (
+            arith,
+            once,
+            two_pass (is_between u v) links q.0 p.0 d (omega (arith, ne)) p.1 also yes,
+          ))
         ]
       ];
 }
 
 -- cycles along the same links
-pub path_carries : (a b : List (ℕ × ℕ)) → ((u v : ℕ) → Points a u v → Points b u v) → (u : ℕ) (vs : List ℕ) → IsPath a u vs → IsPath b u vs
+pub path_carries : (a b : List (ℕ × ℕ)) → ((u v : ℕ) → Points a u v → Points b u v) → (u : ℕ) (vs : List ℕ)
+    → IsPath a u vs → IsPath b u vs
 path_carries a b to u [] p = tt
 path_carries a b to u (v ∷ vs) p = (to u v p.0, path_carries a b to v vs p.1)
 
-pub walk_carries : (a b : List (ℕ × ℕ)) → ((u v : ℕ) → Points a u v → Points b u v) → (u : ℕ) (vs : List ℕ) → IsClosedWalk a u vs → IsClosedWalk b u vs
+pub walk_carries : (a b : List (ℕ × ℕ)) → ((u v : ℕ) → Points a u v → Points b u v) → (u : ℕ) (vs : List ℕ)
+    → IsClosedWalk a u vs → IsClosedWalk b u vs
 walk_carries a b to u [] p = p
 walk_carries a b to u (v ∷ vs) p = (path_carries a b to u (v ∷ vs) p.0, p.1)

@@ -1,10 +1,15 @@
 -- Lists of any elements that are filtered, mapped, cut and joined.
-use Rattle.std.proofs.Common.{Bool, List, [], ap, arith, cond, drop, get_or, inl, inr, length, length-drop, refl, replicate, set, subst, sym, take, ℕ, ◌++◌, ◌+◌}
-use Rattle.std.proofs.Common.{◌<◌, ◌∙◌, ◌∷◌, ◌≡◌, ◌≢◌, ◌≤◌, ◌⊎◌, length-append, suc, zero, Contains, None, Option, Some, false, map, option_map}
+use Rattle.std.proofs.Common.{Bool, List, [], ap, arith, cond, drop, get_or, inl, inr, length, length-drop, refl}
+use Rattle.std.proofs.Common.{replicate, set, subst, sym, take, ℕ, ◌++◌, ◌+◌}
+use Rattle.std.proofs.Common.{◌<◌, ◌∙◌, ◌∷◌, ◌≡◌, ◌≢◌, ◌≤◌, ◌⊎◌, length-append, suc, zero, Contains, None, Option, Some}
+use Rattle.std.proofs.Common.{false, map, option_map}
 use Rattle.std.proofs.Common.{option_to_list, true, ⊎_elim, slice_range, ◌-◌}
 use Rattle.std.proofs.lemmas.Bool.{cases_lt}
-use Rattle.std.proofs.lemmas.List.{get_or-drop, get_or_append_left, get_or_past, get_or_push, get_or-replicate, length-replicate, length-take-le, length_push, append_assoc, drop-append-le, drop-drop}
-use Rattle.std.proofs.lemmas.List.{drop-take, drop_more, get_or-append_right, same_lists, set_at, take-append-le, take-take, take_all, take_more}
+use Rattle.std.proofs.lemmas.List.{get_or-drop, get_or_append_left, get_or_past, get_or_push, get_or-replicate}
+use Rattle.std.proofs.lemmas.List.{length-replicate, length-take-le, length_push, append_assoc, drop-append-le}
+use Rattle.std.proofs.lemmas.List.{drop-drop}
+use Rattle.std.proofs.lemmas.List.{drop-take, drop_more, get_or-append_right, same_lists, set_at, take-append-le}
+use Rattle.std.proofs.lemmas.List.{take-take, take_all, take_more}
 use Rattle.std.proofs.lemmas.List.{length-append, drop_at, take_at}
 use Rattle.std.proofs.lemmas.List.Elements.{Contains-get_or}
 use Rattle.std.specs.List.{filter, remove, insert, range_with_len}
@@ -18,7 +23,8 @@ use Rattle.std.proofs.lemmas.Slice.{between_is}
 
 -- an element of a list with one more: an element of the list, or the new one
 pub push_cases : (xs : List ℕ) (x k : ℕ) → k < length (xs ++ x ∷ [])
-    → ((k < length xs) × (get_or (xs ++ x ∷ []) k 0 ≡ get_or xs k 0)) ⊎ ((k ≡ length xs) × (get_or (xs ++ x ∷ []) k 0 ≡ x))
+    → ((k < length xs) × (get_or (xs ++ x ∷ []) k 0 ≡ get_or xs k 0))
+    ⊎ ((k ≡ length xs) × (get_or (xs ++ x ∷ []) k 0 ≡ x))
 push_cases xs x k h =
     let e = length_push xs x in
     elim (cases_lt k (length xs)) [
@@ -34,7 +40,8 @@ all_default n k d = elim (cases_lt k n) [
 ]
 
 -- writing a part keeps the length of the list
-pub length_put : {X : Type 0} (a k : ℕ) (xs ys : List X) → a + k ≤ length xs → length ys ≡ k → length (put_mid a k xs ys) ≡ length xs
+pub length_put : {X : Type 0} (a k : ℕ) (xs ys : List X) → a + k ≤ length xs → length ys ≡ k
+    → length (put_mid a k xs ys) ≡ length xs
 length_put a k xs ys inside long =
     omega (
       arith,
@@ -46,22 +53,26 @@ length_put a k xs ys inside long =
       long,
     )
 
-pub map-option_to_list : {X Y : Type 0} (f : X → Y) (o : Option X) → map f (option_to_list o) ≡ option_to_list (option_map f o)
+pub map-option_to_list : {X Y : Type 0} (f : X → Y) (o : Option X)
+    → map f (option_to_list o) ≡ option_to_list (option_map f o)
 map-option_to_list f None = refl
 map-option_to_list f (Some x) = refl
 
 -- which elements a test keeps
 into_filter_by : {X : Type 0} (b : Bool) (p : X → Bool) (y : X) (ys : List X) (x : X) → p y ≡ b → p x ≡ true → (y ≡ x)
     ⊎ Contains (filter p ys) x → Contains (cond b (y ∷ filter p ys) (filter p ys)) x
-into_filter_by true p y ys x is passes (inl e) = subst (λ z. Contains (y ∷ filter p ys) z) e (Contains-head y (filter p ys))
+into_filter_by true p y ys x is passes (inl e) =
+    subst (λ z. Contains (y ∷ filter p ys) z) e (Contains-head y (filter p ys))
 into_filter_by true p y ys x is passes (inr h) = Contains-tail x y (filter p ys) h
 into_filter_by false p y ys x is passes (inl e) = cc (is, passes, e)
 into_filter_by false p y ys x is passes (inr h) = h
 
-pub into_filter : {X : Type 0} (p : X → Bool) (xs : List X) (x : X) → Contains xs x → p x ≡ true → Contains (filter p xs) x
+pub into_filter : {X : Type 0} (p : X → Bool) (xs : List X) (x : X) → Contains xs x → p x ≡ true
+    → Contains (filter p xs) x
 into_filter p [] x h passes = h
 into_filter p (y ∷ ys) x h passes =
-    into_filter_by (p y) p y ys x refl passes (⊎_elim (λ e. inl e) (λ g. inr (into_filter p ys x g passes)) (Contains-cases x y ys h))
+    into_filter_by (p y) p y ys x refl passes
+    (⊎_elim (λ e. inl e) (λ g. inr (into_filter p ys x g passes)) (Contains-cases x y ys h))
 
 filter_passes_by : (b : Bool) (p : ℕ × ℕ → Bool) (y : ℕ × ℕ) (ys : List (ℕ × ℕ)) (x : ℕ × ℕ) → p y ≡ b
     → (Contains (filter p ys) x → p x ≡ true) → Contains (cond b (y ∷ filter p ys) (filter p ys)) x → p x ≡ true
@@ -82,15 +93,18 @@ filter-option true p None is = refl
 filter-option false p None is = refl
 filter-option b p (Some x) is = filter_option_by b p x (is x refl)
 
-pub filter_kept : {X : Type 0} (t : X → Bool) (xs : List X) → ((i : ℕ) (d : X) → i < length xs → t (get_or xs i d) ≡ true) → filter t xs ≡ xs
+pub filter_kept : {X : Type 0} (t : X → Bool) (xs : List X)
+    → ((i : ℕ) (d : X) → i < length xs → t (get_or xs i d) ≡ true) → filter t xs ≡ xs
 filter_kept t [] kept = refl
-filter_kept t (x ∷ xs) kept = rw (kept 0 x (omega arith), filter_kept t xs (λ i d l. kept (suc i) d (omega (arith, l)))) refl
+filter_kept t (x ∷ xs) kept =
+    rw (kept 0 x (omega arith), filter_kept t xs (λ i d l. kept (suc i) d (omega (arith, l)))) refl
 
 -- a test that all elements but one pass
 pub filter_one : {X : Type 0} (t : X → Bool) (xs : List X) (k : ℕ) (d : X) → k < length xs → t (get_or xs k d) ≡ false
     → ((i : ℕ) (e : X) → i < length xs → i ≢ k → t (get_or xs i e) ≡ true) → filter t xs ≡ remove xs k
 filter_one t [] k d l out kept = absurd (omega (arith, l))
-filter_one t (x ∷ xs) zero d l out kept = rw (out, filter_kept t xs (λ i e m. kept (suc i) e (omega (arith, m)) (λ z. omega (arith, z)))) refl
+filter_one t (x ∷ xs) zero d l out kept =
+    rw (out, filter_kept t xs (λ i e m. kept (suc i) e (omega (arith, m)) (λ z. omega (arith, z)))) refl
 filter_one t (x ∷ xs) (suc k) d l out kept =
     rw (
       kept 0 x (omega arith) (λ z. omega (arith, z)),
@@ -105,16 +119,20 @@ filter_alike p q (x ∷ xs) same = rw (same x, filter_alike p q xs same) refl
 
 pub map_alike : {X Y : Type 0} (f g : X → Y) (xs : List X) → ((x : X) → Contains xs x → f x ≡ g x) → map f xs ≡ map g xs
 map_alike f g [] same = refl
-map_alike f g (x ∷ xs) same = rw (same x (Contains-head x xs), map_alike f g xs (λ y h. same y (Contains-tail y x xs h))) refl
+map_alike f g (x ∷ xs) same =
+    rw (same x (Contains-head x xs), map_alike f g xs (λ y h. same y (Contains-tail y x xs h))) refl
 
-map_stays : {X : Type 0} (f : X → X) (xs : List X) → ((i : ℕ) (d : X) → i < length xs → f (get_or xs i d) ≡ get_or xs i d) → map f xs ≡ xs
+map_stays : {X : Type 0} (f : X → X) (xs : List X)
+    → ((i : ℕ) (d : X) → i < length xs → f (get_or xs i d) ≡ get_or xs i d) → map f xs ≡ xs
 map_stays f [] kept = refl
-map_stays f (x ∷ xs) kept = rw (kept 0 x (omega arith), map_stays f xs (λ i d l. kept (suc i) d (omega (arith, l)))) refl
+map_stays f (x ∷ xs) kept =
+    rw (kept 0 x (omega arith), map_stays f xs (λ i d l. kept (suc i) d (omega (arith, l)))) refl
 
 pub set_is_map : {X : Type 0} (f : X → X) (xs : List X) (k : ℕ) (y d : X) → k < length xs → y ≡ f (get_or xs k d)
     → ((i : ℕ) (e : X) → i < length xs → i ≢ k → f (get_or xs i e) ≡ get_or xs i e) → set xs k y ≡ map f xs
 set_is_map f [] k y d l is kept = absurd (omega (arith, l))
-set_is_map f (x ∷ xs) zero y d l is kept = rw (is, map_stays f xs (λ i e m. kept (suc i) e (omega (arith, m)) (λ q. omega (arith, q)))) refl
+set_is_map f (x ∷ xs) zero y d l is kept =
+    rw (is, map_stays f xs (λ i e m. kept (suc i) e (omega (arith, m)) (λ q. omega (arith, q)))) refl
 set_is_map f (x ∷ xs) (suc k) y d l is kept =
     rw (
       kept 0 x (omega arith) (λ q. omega (arith, q)),
@@ -123,8 +141,10 @@ set_is_map f (x ∷ xs) (suc k) y d l is kept =
     ) refl
 
 -- a list without repetitions, with one more node that is not in it, has no repetitions
-pub once_more : (nodes : List ℕ) (y : ℕ) → ((i j : ℕ) → i < j → j < length nodes → ¬ (get_or nodes i 0 ≡ get_or nodes j 0))
-    → ¬ Contains nodes y → (i j : ℕ) → i < j → j < length (nodes ++ y ∷ []) → ¬ (get_or (nodes ++ y ∷ []) i 0 ≡ get_or (nodes ++ y ∷ []) j 0)
+pub once_more : (nodes : List ℕ) (y : ℕ)
+    → ((i j : ℕ) → i < j → j < length nodes → ¬ (get_or nodes i 0 ≡ get_or nodes j 0))
+    → ¬ Contains nodes y → (i j : ℕ) → i < j → j < length (nodes ++ y ∷ [])
+    → ¬ (get_or (nodes ++ y ∷ []) i 0 ≡ get_or (nodes ++ y ∷ []) j 0)
 once_more nodes y once new i j lt l same =
     let long = length_push nodes y in
     let inside : i < length nodes = omega (arith, lt, l, long) in
@@ -148,18 +168,23 @@ shifted_more xs ys i d lx ly =
     ∙ sym (append_assoc (take i ys) (y ∷ []) rest)
     ∙ ap (λ zs. zs ++ rest) (sym (take_more ys i d ly))
 
-pub shifted_rest : {X : Type 0} (xs ys : List X) (i k : ℕ) (d : X) → i ≤ length ys → i ≤ k → get_or (take i ys ++ drop i xs) k d ≡ get_or xs k d
+pub shifted_rest : {X : Type 0} (xs ys : List X) (i k : ℕ) (d : X) → i ≤ length ys → i ≤ k
+    → get_or (take i ys ++ drop i xs) k d ≡ get_or xs k d
 shifted_rest xs ys i k d l le =
     let there : i + (k - i) ≡ k = omega arith in
-    get_or-append_right (take i ys) (drop i xs) i k d (length-take-le i ys l) le ∙ get_or-drop i xs (k - i) d ∙ ap (λ m. get_or xs m d) there
+    get_or-append_right (take i ys) (drop i xs) i k d (length-take-le i ys l) le ∙ get_or-drop i xs (k - i) d
+    ∙ ap (λ m. get_or xs m d) there
 
 -- a list made from its places is the same for functions that agree at each place
-pub alike_below : {X : Type 0} (f g : ℕ → X) (n : ℕ) → ((x : ℕ) → x < n → f x ≡ g x) → map f (range_with_len 0 n) ≡ map g (range_with_len 0 n)
+pub alike_below : {X : Type 0} (f g : ℕ → X) (n : ℕ) → ((x : ℕ) → x < n → f x ≡ g x)
+    → map f (range_with_len 0 n) ≡ map g (range_with_len 0 n)
 alike_below f g n same =
-    same_lists (map f (range_with_len 0 n)) (map g (range_with_len 0 n)) (length-map-range_with_len f 0 n ∙ sym (length-map-range_with_len g 0 n))
+    same_lists (map f (range_with_len 0 n)) (map g (range_with_len 0 n)) (length-map-range_with_len f 0 n
+    ∙ sym (length-map-range_with_len g 0 n))
     (λ k d l.
     let lt : k < n = omega (arith, l, length-map-range_with_len f 0 n) in
-    get_or-map-range_with_len f 0 n k k d lt (omega arith) ∙ same k lt ∙ sym (get_or-map-range_with_len g 0 n k k d lt (omega arith)))
+    get_or-map-range_with_len f 0 n k k d lt (omega arith) ∙ same k lt
+    ∙ sym (get_or-map-range_with_len g 0 n k k d lt (omega arith)))
 
 -- a part of a list whose end was written
 range_written : {X : Type 0} (xs ys : List X) (s p e : ℕ) → s + p ≤ length xs → s + p ≤ e → e ≤ s + p + length ys
@@ -170,7 +195,8 @@ range_written xs ys s p e inside low high =
     let long : length (take (s + p) xs) ≡ s + p = length-take-le (s + p) xs inside in
     let size : length front ≡ p = length-take-le p (drop s xs) (omega (arith, length-drop s xs, inside)) in
     let wide : e - s ≡ length front + (e - (s + p)) = omega (arith, size, low) in
-    ap (take (e - s)) (drop-append-le s (take (s + p) xs) (ys ++ rest) (omega (arith, long)) ∙ ap (λ zs. zs ++ (ys ++ rest)) (drop-take s p xs))
+    ap (take (e - s)) (drop-append-le s (take (s + p) xs) (ys ++ rest) (omega (arith, long))
+    ∙ ap (λ zs. zs ++ (ys ++ rest)) (drop-take s p xs))
     ∙ ap (λ k. take k (front ++ (ys ++ rest))) wide
     ∙ take-append-add front (ys ++ rest) (e - (s + p))
     ∙ ap (λ zs. front ++ zs) (take-append-le (e - (s + p)) ys rest (omega (arith, low, high)))
@@ -178,7 +204,8 @@ range_written xs ys s p e inside low high =
 range_rest : {X : Type 0} (xs : List X) (s p e : ℕ) → s + p ≤ e → drop p (slice_range xs s e) ≡ slice_range xs (s + p) e
 range_rest xs s p e low =
     let wide : e - s ≡ p + (e - (s + p)) = omega (arith, low) in
-    ap (λ k. drop p (take k (drop s xs))) wide ∙ drop-take p (e - (s + p)) (drop s xs) ∙ ap (take (e - (s + p))) (drop-drop p s xs)
+    ap (λ k. drop p (take k (drop s xs))) wide ∙ drop-take p (e - (s + p)) (drop s xs)
+    ∙ ap (take (e - (s + p))) (drop-drop p s xs)
 
 -- an entry inserted into a part that has room after it
 pub range_inserted : {X : Type 0} (xs ys : List X) (s p e : ℕ) (x : X) → s + p ≤ e → e < length xs
@@ -209,20 +236,25 @@ range_removed xs ys s p e low inside long is =
 
 pub in_option : {X : Type 0} (o : Option X) (e : X) → Contains (option_to_list o) e → o ≡ Some e
 in_option None e h = absurd (omega (arith, h.1))
-in_option (Some x) e h = elim (Contains-cases e x [] h) [ inl q ↦ ap (λ (y : _). Some y) q | inr g ↦ absurd (omega (arith, g.1)) ]
+in_option (Some x) e h =
+    elim (Contains-cases e x [] h) [ inl q ↦ ap (λ (y : _). Some y) q | inr g ↦ absurd (omega (arith, g.1)) ]
 
 pub option_short : {X : Type 0} (o : Option X) → length (option_to_list o) ≤ 1
 option_short None = omega arith
 option_short (Some x) = omega arith
 
 -- what is before a place is unchanged if what follows is laid out again
-pub part_before : {X : Type 0} (xs rest : List X) (s a b : ℕ) → b ≤ s → s ≤ length xs → slice_range (take s xs ++ rest) a b ≡ slice_range xs a b
+pub part_before : {X : Type 0} (xs rest : List X) (s a b : ℕ) → b ≤ s → s ≤ length xs
+    → slice_range (take s xs ++ rest) a b ≡ slice_range xs a b
 part_before xs rest s a b low high =
     between_is (take s xs ++ rest) a b
-    ∙ ap (drop a) (take-append-le b (take s xs) rest (omega (arith, length-take-le s xs high, low)) ∙ take-take b s xs low)
+    ∙ ap (drop a) (take-append-le b (take s xs) rest (omega (arith, length-take-le s xs high, low))
+    ∙ take-take b s xs low)
     ∙ sym (between_is xs a b)
 
 -- what is laid out there begins at that place
-pub part_behind : {X : Type 0} (xs row rest : List X) (s : ℕ) → s ≤ length xs → slice_range (take s xs ++ (row ++ rest)) s (s + length row) ≡ row
+pub part_behind : {X : Type 0} (xs row rest : List X) (s : ℕ) → s ≤ length xs
+    → slice_range (take s xs ++ (row ++ rest)) s (s + length row) ≡ row
 part_behind xs row rest s high =
-    ap (take (s + length row - s)) (drop_at (take s xs) (row ++ rest) s (length-take-le s xs high)) ∙ take_at row rest (s + length row - s) (omega arith)
+    ap (take (s + length row - s)) (drop_at (take s xs) (row ++ rest) s (length-take-le s xs high))
+    ∙ take_at row rest (s + length row - s) (omega arith)

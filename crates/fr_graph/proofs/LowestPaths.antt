@@ -1,9 +1,11 @@
 -- The depth-first search for the lowest path keeps its state, and ends with that path. A link from the end of the path to
 -- its beginning closes a cycle.
-use Rattle.std.proofs.Common.{Bool, List, [], ap, arith, false, get_or, inl, inr, length, not, refl, replicate, set, slice_index, subst, sym, take, true, vec_capacity, ℕ}
+use Rattle.std.proofs.Common.{Bool, List, [], ap, arith, false, get_or, inl, inr, length, not, refl, replicate, set}
+use Rattle.std.proofs.Common.{slice_index, subst, sym, take, true, vec_capacity, ℕ}
 use Rattle.std.proofs.Common.{◌++◌, ◌+◌, ◌-◌, ◌<◌, ◌∙◌, ◌∷◌, ◌≡◌, ◌≢◌, ◌≤◌}
 use Rattle.std.proofs.lemmas.Bool.{cases_eq, cases_lt}
-use Rattle.std.proofs.lemmas.List.{get_or_append_left, get_or_default, get_or-set_other, get_or-take, length-map, length-replicate, length-set, length-take-le}
+use Rattle.std.proofs.lemmas.List.{get_or_append_left, get_or_default, get_or-set_other, get_or-take, length-map}
+use Rattle.std.proofs.lemmas.List.{length-replicate, length-set, length-take-le}
 use Rattle.std.proofs.lemmas.List.{length_push, map_push, take-map}
 use Rattle.std.proofs.lemmas.List.Elements.{All-push, All-take, Contains-append_left, Contains-push}
 use Rattle.std.proofs.lemmas.List.Sums.{count_by-le-length}
@@ -17,7 +19,8 @@ use Rattle.fr_graph.proofs.LowestCycles.{all_lead}
 use Rattle.fr_graph.proofs.RowsRead.{reads_on, same_nodes, top_is}
 use Rattle.fr_graph.proofs.SideRows.{entry_leads}
 use Rattle.fr_graph.specs.CycleSearch.{HasRead, LeadsOnlyTo, nodes_of}
-use Rattle.fr_graph.specs.Descents.{GoesOn, HasBegun, IsDescent, IsSkipped, LeadsFirst, LeadsNot, has_met, start_of, unmet_count}
+use Rattle.fr_graph.specs.Descents.{GoesOn, HasBegun, IsDescent, IsSkipped, LeadsFirst, LeadsNot, has_met, start_of}
+use Rattle.fr_graph.specs.Descents.{unmet_count}
 use Rattle.fr_graph.specs.Evidence.{IsLowestCycleBy}
 use Rattle.fr_graph.specs.Heights.{AreFalling}
 use Rattle.fr_graph.specs.KeptRows.{net_in}
@@ -33,16 +36,22 @@ use Rattle.fr_graph.specs.declared.lowest_cycle.Descent.{Descent}
 pub leads_down : (links : List (ℕ × ℕ)) (heights : List ℕ) (x y : ℕ) → AreFalling heights links → HasPath links x y
     → slice_index heights y ≤ slice_index heights x
 leads_down links heights x y falling path =
-    omega (arith, path_falls links heights (λ u v stands. omega (arith, falling u v stands)) x path.0 path.1.0, ap (slice_index heights) path.1.1)
+    omega (
+      arith,
+      path_falls links heights (λ u v stands. omega (arith, falling u v stands)) x path.0 path.1.0,
+      ap (slice_index heights) path.1.1,
+    )
 
 -- no links lead from a node whose links lead to nodes from which none do
-pub leads_not : (links : List (ℕ × ℕ)) (u x : ℕ) → x ≢ u → ((y : ℕ) → Points links x y → LeadsNot links u y) → LeadsNot links u x
+pub leads_not : (links : List (ℕ × ℕ)) (u x : ℕ) → x ≢ u → ((y : ℕ) → Points links x y → LeadsNot links u y)
+    → LeadsNot links u x
 leads_not links u x apart none ([], here) = apart here.1
 leads_not links u x apart none (y ∷ ys, there) = none y there.0.0 (ys, (there.0.1, there.1))
 
 -- the search when it begins
 pub descent_begins : (rows : Table) (from to : ℕ) (descent : Descent) → from < length rows.rows → to < length rows.rows
-    → HasPath (net_in rows).links from to → HasBegun (length rows.rows) from to descent → IsDescent rows descent × (start_of descent ≡ from)
+    → HasPath (net_in rows).links from to → HasBegun (length rows.rows) from to descent
+    → IsDescent rows descent × (start_of descent ≡ from)
 descent_begins rows from to descent from_below to_below leads b =
     let none : List Bool = replicate (length rows.rows) false in
     let long : length none ≡ length rows.rows = length-replicate (length rows.rows) false in
@@ -58,21 +67,38 @@ descent_begins rows from to descent from_below to_below leads b =
         leads = rw (b.path_is, b.to_is) leads;
         below = rw b.path_is (λ k d l. let e : k ≡ 0 = omega (arith, l) in rw e from_below);
         goes_on = rw b.path_is (λ k l. absurd (omega (arith, l)));
-        read = rw b.path_is (All-push (HasRead rows (LeadsNot links descent.to)) [] start (λ k d l. absurd (omega (arith, l)))
+        read =
+            rw b.path_is (All-push (HasRead rows (LeadsNot links descent.to)) [] start (λ k d l. absurd (omega (
+              arith,
+              l,
+            )))
             (record { inside = omega arith; passed = λ k d lt. absurd (omega (arith, lt)) }));
         met = λ x met. rw b.path_is (elim (cases_eq x from) [
           | inl e ↦ inl (rw e (Contains-push [] from))
-          | inr ne ↦ let was : has_met none x ≡ true = sym (get_or-set_other none from x true false ne) ∙ (rw b.met_is at met) in
+          | inr ne ↦ let was : has_met none x ≡ true =
+              sym (get_or-set_other none from x true false ne) ∙ (rw b.met_is at met) in
               cc (was, all_default (length rows.rows) x false)
         ]);
-        room = omega (arith, ap length b.path_is, ap unmet_count b.met_is, fewer, was_one, is_none, count_by-le-length not none, long, b.room);
+        room =
+            omega (
+              arith,
+              ap length b.path_is,
+              ap unmet_count b.met_is,
+              fewer,
+              was_one,
+              is_none,
+              count_by-le-length not none,
+              long,
+              b.room,
+            );
       },
       rw b.path_is refl,
     )
 
 module _ {rows : Table} {descent : Descent} (s : IsDescent rows descent) where
   -- no links lead to the end from the nodes that the search skips in the row of its last node
-  skipped_leads_not : {heights : List ℕ} (last x w : ℕ) → AreFallingRows rows heights → last + 1 ≡ length (nodes_of descent.path.items)
+  skipped_leads_not : {heights : List ℕ} (last x w : ℕ) → AreFallingRows rows heights
+      → last + 1 ≡ length (nodes_of descent.path.items)
       → get_or (nodes_of descent.path.items) last 0 ≡ x → Points (net_in rows).links x w → IsSkipped heights descent w
       → LeadsNot (net_in rows).links descent.to w
   skipped_leads_not {heights} last x w falls full top step (inr low) path =
@@ -85,22 +111,30 @@ module _ {rows : Table} {descent : Descent} (s : IsDescent rows descent) where
             let end : on.0 + (last - on.0) ≡ last = omega (arith, on.1, full) in
             let above : slice_index heights x ≤ slice_index heights (get_or nodes on.0 0) =
             all_lead (LeadsFirst (net_in rows).links descent.to) (λ y. slice_index heights x ≤ slice_index heights y)
-            (λ a b goes low. omega (arith, low, falls.falling a b goes.points)) nodes s.goes_on (last - on.0) on.0 (omega (arith, on.1, full))
+            (λ a b goes low. omega (arith, low, falls.falling a b goes.points)) nodes s.goes_on (last - on.0) on.0
+            (omega (arith, on.1, full))
             (rw (end, top) (omega arith)) in
             let here : get_or nodes on.0 0 ≡ w = get_or_default nodes on.0 0 w on.1 ∙ on.2 in
             omega (arith, rw here at above, falls.falling x w step)
       ]
 
   -- the last node of the path is one of the nodes
-  pub top_below : (last : ℕ) (top : Step) → last + 1 ≡ length descent.path.items → top ≡ get_or descent.path.items last top
+  pub top_below : (last : ℕ) (top : Step) → last + 1 ≡ length descent.path.items
+      → top ≡ get_or descent.path.items last top
       → top.node < length rows.rows
   top_below last top full is =
       let path = descent.path.items in
-      omega (arith, s.below last 0 (omega (arith, full, length-map path (λ (s : Step). s.node))), top_is path last top full is)
+      omega (
+        arith,
+        s.below last 0 (omega (arith, full, length-map path (λ (s : Step). s.node))),
+        top_is path last top full is,
+      )
 
   -- so none do from the neighbours in that part of the row
-  pub passed_leads_not : {heights : List ℕ} (last : ℕ) (top : Step) (k : ℕ) (d : ℕ × First) → AreFallingRows rows heights
-      → last + 1 ≡ length descent.path.items → top ≡ get_or descent.path.items last top → k < length (row_of rows top.node)
+  pub passed_leads_not : {heights : List ℕ} (last : ℕ) (top : Step) (k : ℕ) (d : ℕ × First)
+      → AreFallingRows rows heights
+      → last + 1 ≡ length descent.path.items → top ≡ get_or descent.path.items last top
+      → k < length (row_of rows top.node)
       → LeadsOnlyTo (IsSkipped heights descent) (get_or (row_of rows top.node) k d)
       → LeadsOnlyTo (LeadsNot (net_in rows).links descent.to) (get_or (row_of rows top.node) k d)
   passed_leads_not last top k d falls full is l skipped out =
@@ -109,7 +143,8 @@ module _ {rows : Table} {descent : Descent} (s : IsDescent rows descent) where
       let on_top = top_is path last top full is in
       let net = net_in rows in
       skipped_leads_not last top.node _ falls whole on_top
-      (entry_leads Outward net.nodes net.links top.node (row_of rows top.node) k d (falls.shown.rows.shown top.node (top_below last top full is)) l out) (skipped out)
+      (entry_leads Outward net.nodes net.links top.node (row_of rows top.node) k d
+      (falls.shown.rows.shown top.node (top_below last top full is)) l out) (skipped out)
 
   -- the search goes back from a node from which no links lead to the end
   pub descent_leaves : (after : Descent) (last x : ℕ) → last + 1 ≡ length descent.path.items
@@ -147,7 +182,8 @@ module _ {rows : Table} {descent : Descent} (s : IsDescent rows descent) where
               | inl l ↦ inl (on.0, omega (arith, l, shorter), get_or-take last nodes on.0 y l ∙ on.2)
               | inr g ↦
                   let i : on.0 ≡ last = omega (arith, on.1, g, whole) in
-                  let same : x ≡ y = sym top ∙ ap (λ (k : ℕ). get_or nodes k 0) (sym i) ∙ get_or_default nodes on.0 0 y on.1 ∙ on.2 in
+                  let same : x ≡ y =
+                  sym top ∙ ap (λ (k : ℕ). get_or nodes k 0) (sym i) ∙ get_or_default nodes on.0 0 y on.1 ∙ on.2 in
                   inr (rw same at none)
             ]
           ]);
@@ -159,7 +195,8 @@ module _ {rows : Table} {descent : Descent} (s : IsDescent rows descent) where
       }
 
   -- the path has room for a node that the search has not met
-  pub has_room : (x : ℕ) → x < length rows.rows → has_met descent.met.items x ≡ false → length descent.path.items < vec_capacity descent.path
+  pub has_room : (x : ℕ) → x < length rows.rows → has_met descent.met.items x ≡ false
+      → length descent.path.items < vec_capacity descent.path
   has_room x below fresh =
       let counts : not (has_met descent.met.items x) ≡ true = rw fresh refl in
       omega (arith, s.room, one_passes not descent.met.items x false (omega (arith, below, s.one_each)) counts)
@@ -169,9 +206,13 @@ module _ {rows : Table} {descent : Descent} (s : IsDescent rows descent) where
       → top ≡ get_or descent.path.items last top → next ≤ length (row_of rows top.node)
       → ((k : ℕ) (d : ℕ × First) → top.next ≤ k → k < next
       → LeadsOnlyTo (LeadsNot (net_in rows).links descent.to) (get_or (row_of rows top.node) k d))
-      → LeadsFirst (net_in rows).links descent.to top.node x → x < length rows.rows → has_met descent.met.items x ≡ false
+      → LeadsFirst (net_in rows).links descent.to top.node x → x < length rows.rows
+      → has_met descent.met.items x ≡ false
       → after.to ≡ descent.to → after.met.items ≡ set descent.met.items x true
-      → after.path.items ≡ set descent.path.items last (record { node = top.node; next = next }) ++ record { node = x; next = 0 } ∷ []
+      → after.path.items ≡ set descent.path.items last (record { node = top.node; next = next }) ++ record {
+        node = x;
+        next = 0;
+      } ∷ []
       → vec_capacity after.path ≡ vec_capacity descent.path → GoesOn rows descent after
   descent_goes_down after last next x top full is inside passes goes below fresh to met path same_room =
       let old = descent.path.items in
@@ -180,11 +221,14 @@ module _ {rows : Table} {descent : Descent} (s : IsDescent rows descent) where
       let moved = set old last (record { node = top.node; next = next }) in
       let new : Step = record { node = x; next = 0 } in
       let same : nodes_of (moved ++ new ∷ []) ≡ nodes ++ x ∷ [] =
-      map_push (λ (s : Step). s.node) moved new ∙ ap (λ (ns : List ℕ). ns ++ x ∷ []) (same_nodes old last next top is) in
+      map_push (λ (s : Step). s.node) moved new
+      ∙ ap (λ (ns : List ℕ). ns ++ x ∷ []) (same_nodes old last next top is) in
       let whole : length nodes ≡ length old = length-map old (λ (s : Step). s.node) in
       let long : length (nodes ++ x ∷ []) ≡ length nodes + 1 = length_push nodes x in
-      let longer : length (moved ++ new ∷ []) ≡ length old + 1 = length_push moved new ∙ ap (λ (k : ℕ). k + 1) (length-set old last _) in
-      let start : get_or (nodes ++ x ∷ []) 0 0 ≡ get_or nodes 0 0 = get_or_append_left nodes (x ∷ []) 0 0 (omega (arith, s.full, whole)) in
+      let longer : length (moved ++ new ∷ []) ≡ length old + 1 =
+      length_push moved new ∙ ap (λ (k : ℕ). k + 1) (length-set old last _) in
+      let start : get_or (nodes ++ x ∷ []) 0 0 ≡ get_or nodes 0 0 =
+      get_or_append_left nodes (x ∷ []) 0 0 (omega (arith, s.full, whole)) in
       let inside_met : x < length descent.met.items = omega (arith, below, s.one_each) in
       let fewer = count_by-set not descent.met.items x true false inside_met in
       let was_one : unmet_count (has_met descent.met.items x ∷ []) ≡ 1 = rw fresh refl in
@@ -223,7 +267,8 @@ module _ {rows : Table} {descent : Descent} (s : IsDescent rows descent) where
       }
 
   -- at its end the path is the lowest one
-  pub descent_ends : (last : ℕ) → last + 1 ≡ length (nodes_of descent.path.items) → get_or (nodes_of descent.path.items) last 0 ≡ descent.to
+  pub descent_ends : (last : ℕ) → last + 1 ≡ length (nodes_of descent.path.items)
+      → get_or (nodes_of descent.path.items) last 0 ≡ descent.to
       → IsLowestCycleBy (net_in rows).links descent.to (start_of descent) (descent.to ∷ nodes_of descent.path.items)
   descent_ends last whole end =
       let nodes = nodes_of descent.path.items in
@@ -231,7 +276,11 @@ module _ {rows : Table} {descent : Descent} (s : IsDescent rows descent) where
       let leads : (j : ℕ) → j < length nodes → HasPath links (get_or nodes j 0) descent.to = λ j l.
       let e : j + (last - j) ≡ last = omega (arith, l, whole) in
       all_lead (LeadsFirst links descent.to) (λ y. HasPath links y descent.to)
-      (λ a b goes path. (b ∷ path.0, ((goes.points, path.1.0), path.1.1))) nodes s.goes_on (last - j) j (omega (arith, l, whole))
+      (λ a b goes path. (b ∷ path.0, ((goes.points, path.1.0), path.1.1))) nodes s.goes_on (last - j) j (omega (
+        arith,
+        l,
+        whole,
+      ))
       (rw (e, end) ([], (tt, refl))) in
       record {
         way = nodes;
@@ -254,14 +303,18 @@ module _ {rows : Table} {descent : Descent} (s : IsDescent rows descent) where
 
 -- with the added link, this is a cycle
 closes : (links : List (ℕ × ℕ)) (u v : ℕ) (way : List ℕ) (last : ℕ) → last + 1 ≡ length way → get_or way 0 0 ≡ v
-    → ((k : ℕ) → k + 1 < length way → Points links (get_or way k 0) (get_or way (k + 1) 0)) → get_or way last 0 ≡ u → IsCycle (added links u v) (u ∷ way)
+    → ((k : ℕ) → k + 1 < length way → Points links (get_or way k 0) (get_or way (k + 1) 0)) → get_or way last 0 ≡ u
+    → IsCycle (added links u v) (u ∷ way)
 closes links u v [] last whole begins follows ends = absurd (omega arith)
 closes links u v (w ∷ vs) last whole begins follows ends =
     let e : last ≡ length vs = omega arith in
     let path : IsPath links v vs = subst (λ (y : ℕ). IsPath links y vs) begins (path_from_steps links w vs follows) in
     let first : w ≡ v = begins in
-    rw first (path_walks links u v vs path (ap (λ (y : ℕ). end_of y vs) (sym first) ∙ end_from_last w vs ∙ ap (λ (k : ℕ). get_or (w ∷ vs) k 0) (sym e) ∙ ends))
+    rw first (path_walks links u v vs path (ap (λ (y : ℕ). end_of y vs) (sym first) ∙ end_from_last w vs
+    ∙ ap (λ (k : ℕ). get_or (w ∷ vs) k 0) (sym e) ∙ ends))
 
-pub closes_by : (links : List (ℕ × ℕ)) (u v : ℕ) (walk : List ℕ) → IsLowestCycleBy links u v walk → IsCycle (added links u v) walk
+pub closes_by : (links : List (ℕ × ℕ)) (u v : ℕ) (walk : List ℕ) → IsLowestCycleBy links u v walk
+    → IsCycle (added links u v) walk
 closes_by links u v walk cycle =
-    rw cycle.is (closes links u v cycle.way cycle.last cycle.whole cycle.begins (λ k l. (cycle.goes_on k l).lowest.holds.0) cycle.ends)
+    rw cycle.is (closes links u v cycle.way cycle.last cycle.whole cycle.begins
+    (λ k l. (cycle.goes_on k l).lowest.holds.0) cycle.ends)

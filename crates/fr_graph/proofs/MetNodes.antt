@@ -4,7 +4,8 @@ use Rattle.std.proofs.lemmas.Bool.{cases_eq}
 use Rattle.std.proofs.lemmas.List.{get_or_append_left, get_or-set_other, get_or-set_same, length-set, length_push}
 use Rattle.std.proofs.lemmas.List.Sums.{sum_by-set}
 use Rattle.fr_graph.proofs.Counting.{weigh}
-use Rattle.fr_graph.specs.PathSearch.{HasMet, HasMetMore, HasMovedEdge, IsPast, IsMetOrAside, MeetsNew, is_never, met_by, met_of, never_count}
+use Rattle.fr_graph.specs.PathSearch.{HasMet, HasMetMore, HasMovedEdge, IsPast, IsMetOrAside, MeetsNew, is_never}
+use Rattle.fr_graph.specs.PathSearch.{met_by, met_of, never_count}
 use Rattle.fr_graph.specs.RowLists.{opposite}
 use Rattle.fr_graph.specs.declared.path_search.Met.{Met}
 use Rattle.fr_graph.specs.declared.path_search.Met.TheVariants.{Never}
@@ -21,31 +22,38 @@ pub sides_apart : (f : First) → met_by f ≢ met_by (opposite f)
 sides_apart Outward e = cc
 sides_apart Inward e = cc
 
-pub met_set : (met : List Met) (x y : ℕ) (m : Met) → x < length met → ((y ≡ x) × (met_of (set met x m) y ≡ m)) ⊎ (met_of (set met x m) y ≡ met_of met y)
+pub met_set : (met : List Met) (x y : ℕ) (m : Met) → x < length met
+    → ((y ≡ x) × (met_of (set met x m) y ≡ m)) ⊎ (met_of (set met x m) y ≡ met_of met y)
 met_set met x y m l =
     elim (cases_eq y x) [
       | inl e ↦ inl (e, rw e (get_or-set_same met x m Never l))
       | inr ne ↦ inr (get_or-set_other met x y m Never ne)
     ]
 
-pub fewer_never : (met : List Met) (x : ℕ) (f : First) → x < length met → met_of met x ≡ Never → never_count (set met x (met_by f)) + 1 ≡ never_count met
+pub fewer_never : (met : List Met) (x : ℕ) (f : First) → x < length met → met_of met x ≡ Never
+    → never_count (set met x (met_by f)) + 1 ≡ never_count met
 fewer_never met x f l fresh =
     let weight : Met → ℕ = λ m. weigh (is_never m) in
     let one : weight (met_of met x) ≡ 1 = rw fresh refl in
-    let none : (g : First) → weight (met_by g) ≡ 0 = λ g. elim g as (λ h. weight (met_by h) ≡ 0) [ Outward ↦ refl | Inward ↦ refl ] in
+    let none : (g : First) → weight (met_by g) ≡ 0 =
+    λ g. elim g as (λ h. weight (met_by h) ≡ 0) [ Outward ↦ refl | Inward ↦ refl ] in
     omega (arith, sum_by-set weight met x (met_by f) Never l, one, none f)
 
 -- nodes that a side met later, after others
-pub one_more : {before after : Side} {old new : List Met} {x : ℕ} → x < length old → MeetsNew before after old new x → HasMetMore before after old new
+pub one_more : {before after : Side} {old new : List Met} {x : ℕ} → x < length old → MeetsNew before after old new x
+    → HasMetMore before after old new
 one_more {before} {after} {old} {new} {x} l m =
-    let long : length after.nodes.items ≡ length before.nodes.items + 1 = rw m.nodes (length_push before.nodes.items x) in
+    let long : length after.nodes.items ≡ length before.nodes.items + 1 =
+    rw m.nodes (length_push before.nodes.items x) in
     record {
       same_first = m.same_first;
       same_limit = m.same_limit;
       nearer = λ height past. rw m.same_edge past;
       longer = omega (arith, long);
       stands = λ k h. rw m.nodes (get_or_append_left before.nodes.items (x ∷ []) 0 k h);
-      met = λ y. rw m.met (elim (met_set old x y (met_by before.first) l) [ inl w ↦ inr (rw w.0 m.fresh, w.1) | inr w ↦ inl w ]);
+      met =
+          λ y. rw m.met (elim (met_set old x y (met_by before.first) l)
+          [ inl w ↦ inr (rw w.0 m.fresh, w.1) | inr w ↦ inl w ]);
       one_each = rw m.met (length-set old x (met_by before.first));
       counted = rw m.met (omega (arith, long, fewer_never old x before.first l m.fresh));
     }
@@ -64,7 +72,8 @@ none_more m = record {
 
 -- a side whose edge came nearer, or is unchanged
 pub with_edge_nearer : {side : Side} {f : First} {edge : ℕ} → side.first ≡ f
-    → ((height : ℕ) → IsPast f side.edge height → IsPast f edge height) → HasMovedEdge side (record side { edge = edge })
+    → ((height : ℕ) → IsPast f side.edge height → IsPast f edge height)
+    → HasMovedEdge side (record side { edge = edge })
 with_edge_nearer first_is nearer = record {
   same_first = refl;
   same_limit = refl;
@@ -98,9 +107,11 @@ more_by_edges first_is nearer m = record {
   counted = m.counted;
 }
 
-pub more_after : {first mid last : Side} {a b c : List Met} → HasMetMore first mid a b → HasMetMore mid last b c → HasMetMore first last a c
+pub more_after : {first mid last : Side} {a b c : List Met} → HasMetMore first mid a b → HasMetMore mid last b c
+    → HasMetMore first last a c
 more_after {first} {mid} {last} {a} {b} {c} h g =
-    let then : (x : ℕ) → (met_of c x ≡ met_of b x) ⊎ ((met_of b x ≡ Never) × HasMet first.first c x) = rw h.same_first at g.met in
+    let then : (x : ℕ) → (met_of c x ≡ met_of b x) ⊎ ((met_of b x ≡ Never) × HasMet first.first c x) =
+    rw h.same_first at g.met in
     record {
       same_first = g.same_first ∙ h.same_first;
       same_limit = g.same_limit ∙ h.same_limit;
@@ -129,7 +140,8 @@ settled_stays f {before} {after} x height first_is more (inr aside) = inr record
 
 pub other_was : (f : First) {before after : Side} {old new : List Met} (x : ℕ) → before.first ≡ f
     → HasMetMore before after old new → HasMet (opposite f) new x → HasMet (opposite f) old x
-other_was f x first_is more h = elim (more.met x) [ inl e ↦ sym e ∙ h | inr w ↦ absurd (sides_apart f (sym (rw first_is at w.1) ∙ h)) ]
+other_was f x first_is more h =
+    elim (more.met x) [ inl e ↦ sym e ∙ h | inr w ↦ absurd (sides_apart f (sym (rw first_is at w.1) ∙ h)) ]
 
 -- the side has read one more row, and its edge may have come nearer
 pub more_read : {before after : Side} {old new : List Met} {edge read : ℕ}

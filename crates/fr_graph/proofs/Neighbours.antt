@@ -1,10 +1,14 @@
 -- What the row of a node says about the links.
-use Rattle.std.proofs.Common.{Bool, Contains, List, None, Option, Some, [], ap, arith, cond, eq-eqb, eqb, eqb-true, false, get_or, inl, inr, length}
-use Rattle.std.proofs.Common.{map, option_to_list, refl, subst, suc, sym, true, zero, ℕ, ⊎_elim, ◌&&◌, ◌++◌, ◌+◌, ◌<◌, ◌∙◌, ◌∷◌, ◌≡◌, ◌≤◌, ◌⊎◌}
+use Rattle.std.proofs.Common.{Bool, Contains, List, None, Option, Some, [], ap, arith, cond, eq-eqb, eqb, eqb-true}
+use Rattle.std.proofs.Common.{false, get_or, inl, inr, length}
+use Rattle.std.proofs.Common.{map, option_to_list, refl, subst, suc, sym, true, zero, ℕ, ⊎_elim, ◌&&◌, ◌++◌, ◌+◌, ◌<◌}
+use Rattle.std.proofs.Common.{◌∙◌, ◌∷◌, ◌≡◌, ◌≤◌, ◌⊎◌}
 use Rattle.std.proofs.lemmas.Bool.{and_parts, cases_Bool, cases_lt}
 use Rattle.std.specs.List.Sorted.{IsStrictlyIncreasing}
-use Rattle.std.proofs.lemmas.List.{append-nil, get_or_append_left, get_or_default, get_or_push, get_or-map, length-append, length-map, length_push}
-use Rattle.std.proofs.lemmas.List.Elements.{Contains-append_cases, Contains-append_left, Contains-append_right, Contains-get_or}
+use Rattle.std.proofs.lemmas.List.{append-nil, get_or_append_left, get_or_default, get_or_push, get_or-map}
+use Rattle.std.proofs.lemmas.List.{length-append, length-map, length_push}
+use Rattle.std.proofs.lemmas.List.Elements.{Contains-append_cases, Contains-append_left, Contains-append_right}
+use Rattle.std.proofs.lemmas.List.Elements.{Contains-get_or}
 use Rattle.std.proofs.lemmas.List.Folds.{Any-from_list_any, list_any_at}
 use Rattle.fr_graph.proofs.Linking.{IsOneWay, link_below, one_way}
 use Rattle.fr_graph.proofs.Members.{Contains-cases, Contains-head, Contains-tail}
@@ -42,11 +46,13 @@ rising_same (x ∷ xs) (y ∷ ys) r s to from =
     let same : x.0 ≡ y.0 = ap (λ (e : ℕ × First). e.0) heads in
     let tails : xs ≡ ys = rising_same xs ys (rises_tail x xs r) (rises_tail y ys s)
     (λ e h. elim (Contains-cases e y ys (to e (Contains-tail e x xs h))) [
-      | inl q ↦ let q0 : y.0 ≡ e.0 = ap (λ (p : ℕ × First). p.0) q in absurd (omega (arith, rises_head x xs e r h, q0, same))
+      | inl q ↦ let q0 : y.0 ≡ e.0 =
+          ap (λ (p : ℕ × First). p.0) q in absurd (omega (arith, rises_head x xs e r h, q0, same))
       | inr g ↦ g
     ])
     (λ e h. elim (Contains-cases e x xs (from e (Contains-tail e y ys h))) [
-      | inl q ↦ let q0 : x.0 ≡ e.0 = ap (λ (p : ℕ × First). p.0) q in absurd (omega (arith, rises_head y ys e s h, q0, same))
+      | inl q ↦ let q0 : x.0 ≡ e.0 =
+          ap (λ (p : ℕ × First). p.0) q in absurd (omega (arith, rises_head y ys e s h, q0, same))
       | inr g ↦ g
     ]) in
     cc
@@ -56,9 +62,11 @@ both_true u v = rw (eq-eqb u u refl, eq-eqb v v refl) refl
 
 -- the test whether a link leads from u to v
 pub has_link_true : (links : List (ℕ × ℕ)) (u v : ℕ) → Points links u v → has_link links u v ≡ true
-has_link_true links u v h = list_any_at (λ (l : ℕ × ℕ). (eqb l.0 u) && (eqb l.1 v)) links h.0 (u, v) h.1 (rw h.2 (both_true u v))
+has_link_true links u v h =
+    list_any_at (λ (l : ℕ × ℕ). (eqb l.0 u) && (eqb l.1 v)) links h.0 (u, v) h.1 (rw h.2 (both_true u v))
 
-link_found : (links : List (ℕ × ℕ)) (k : ℕ) (l : ℕ × ℕ) (u v : ℕ) → k < length links → get_or links k l ≡ l → l.0 ≡ u → l.1 ≡ v → Points links u v
+link_found : (links : List (ℕ × ℕ)) (k : ℕ) (l : ℕ × ℕ) (u v : ℕ) → k < length links → get_or links k l ≡ l → l.0 ≡ u
+    → l.1 ≡ v → Points links u v
 link_found links k (a, b) u v inside at e f = (k, inside, get_or_default links k (u, v) (a, b) inside ∙ at ∙ cc)
 
 pub Points-has_link : (links : List (ℕ × ℕ)) (u v : ℕ) → has_link links u v ≡ true → Points links u v
@@ -69,7 +77,8 @@ Points-has_link links u v e =
 
 -- w as a neighbour: what its entry says
 pub row_entry_known : (a b : Bool) (w : ℕ) (e : ℕ × First)
-    → cond a (Some (w, Outward)) (cond b (Some (w, Inward)) None) ≡ Some e → ((a ≡ true) × (e ≡ (w, Outward))) ⊎ ((a ≡ false) × (b ≡ true) × (e ≡ (w, Inward)))
+    → cond a (Some (w, Outward)) (cond b (Some (w, Inward)) None) ≡ Some e
+    → ((a ≡ true) × (e ≡ (w, Outward))) ⊎ ((a ≡ false) × (b ≡ true) × (e ≡ (w, Inward)))
 row_entry_known true b w e q = inl (refl, cc)
 row_entry_known false true w e q = inr (refl, refl, cc)
 row_entry_known false false w e q = cc
@@ -81,7 +90,8 @@ row_entry_node links x w e q =
       | inr h ↦ ap (λ (p : ℕ × First). p.0) h.2
     ]
 
-pub row_holds : (n : ℕ) (links : List (ℕ × ℕ)) (x : ℕ) (e : ℕ × First) → Contains (row n links x) e → (e.0 < n) × (row_entry links x e.0 ≡ Some e)
+pub row_holds : (n : ℕ) (links : List (ℕ × ℕ)) (x : ℕ) (e : ℕ × First) → Contains (row n links x) e
+    → (e.0 < n) × (row_entry links x e.0 ≡ Some e)
 row_holds zero links x e h = absurd (omega (arith, h.1))
 row_holds (suc w) links x e h =
     elim (Contains-append_cases (row w links x) (option_to_list (row_entry links x w)) e h) [
@@ -92,7 +102,8 @@ row_holds (suc w) links x e h =
           (omega (arith, node), subst (λ (y : ℕ). row_entry links x y ≡ Some e) (sym node) q)
     ]
 
-pub to_row : (n : ℕ) (links : List (ℕ × ℕ)) (x : ℕ) (e : ℕ × First) → e.0 < n → row_entry links x e.0 ≡ Some e → Contains (row n links x) e
+pub to_row : (n : ℕ) (links : List (ℕ × ℕ)) (x : ℕ) (e : ℕ × First) → e.0 < n → row_entry links x e.0 ≡ Some e
+    → Contains (row n links x) e
 to_row zero links x e l q = absurd (omega arith)
 to_row (suc w) links x e l q =
     elim (cases_lt e.0 w) [
@@ -104,7 +115,8 @@ to_row (suc w) links x e l q =
     ]
 
 rises_more : (xs : List (ℕ × First)) (w : ℕ) (o : Option (ℕ × First)) → Rises xs
-    → ((e : ℕ × First) → Contains xs e → e.0 < w) → ((e : ℕ × First) → o ≡ Some e → e.0 ≡ w) → Rises (xs ++ option_to_list o)
+    → ((e : ℕ × First) → Contains xs e → e.0 < w) → ((e : ℕ × First) → o ≡ Some e → e.0 ≡ w)
+    → Rises (xs ++ option_to_list o)
 rises_more xs w None r below here = rw (append-nil xs) r
 rises_more xs w (Some e) r below here = λ i j d lt l.
     let len = length_push xs e in
@@ -113,36 +125,53 @@ rises_more xs w (Some e) r below here = λ i j d lt l.
       | inl inside ↦ rw (first, get_or_append_left xs (e ∷ []) d j inside) (r i j d lt inside)
       | inr g ↦
           let q : length xs ≡ j = omega (arith, len) in
-          rw (first, get_or_push xs e d j q) (omega (arith, below _ (Contains-get_or xs i d (omega (arith, q))), here e refl))
+          rw (first, get_or_push xs e d j q) (omega (
+            arith,
+            below _ (Contains-get_or xs i d (omega (arith, q))),
+            here e refl,
+          ))
     ]
 
 pub row_rises : (n : ℕ) (links : List (ℕ × ℕ)) (x : ℕ) → Rises (row n links x)
 row_rises zero links x = λ i j d lt l. absurd (omega arith)
 row_rises (suc w) links x =
-    rises_more (row w links x) w (row_entry links x w) (row_rises w links x) (λ e h. (row_holds w links x e h).0) (row_entry_node links x w)
+    rises_more (row w links x) w (row_entry links x w) (row_rises w links x) (λ e h. (row_holds w links x e h).0)
+    (row_entry_node links x w)
 
 pub row_entry_out : (links : List (ℕ × ℕ)) (x w : ℕ) → Points links x w → row_entry links x w ≡ Some (w, Outward)
 row_entry_out links x w p = rw (has_link_true links x w p) refl
 
-pub row_entry_in : (links : List (ℕ × ℕ)) (x w : ℕ) → IsOneWay links → Points links w x → row_entry links x w ≡ Some (w, Inward)
+pub row_entry_in : (links : List (ℕ × ℕ)) (x w : ℕ) → IsOneWay links → Points links w x
+    → row_entry links x w ≡ Some (w, Inward)
 row_entry_in links x w one p =
     let no : has_link links x w ≡ false =
-    elim (cases_Bool (has_link links x w)) [ inl e ↦ absurd (one.no_return w x p (Points-has_link links x w e)) | inr e ↦ e ] in
+    elim (cases_Bool (has_link links x w))
+    [ inl e ↦ absurd (one.no_return w x p (Points-has_link links x w e)) | inr e ↦ e ] in
     rw (no, has_link_true links w x p) refl
 
 pub length-row-le : (n : ℕ) (links : List (ℕ × ℕ)) (x : ℕ) → length (row n links x) ≤ n
 length-row-le zero links x = omega arith
 length-row-le (suc w) links x =
-    omega (arith, length-append (row w links x) (option_to_list (row_entry links x w)), length-row-le w links x, option_short (row_entry links x w))
+    omega (
+      arith,
+      length-append (row w links x) (option_to_list (row_entry links x w)),
+      length-row-le w links x,
+      option_short (row_entry links x w),
+    )
 
-pub row_of_link : (n : ℕ) (links : List (ℕ × ℕ)) (x w : ℕ) → w < n → Points links x w → Contains (row n links x) (w, Outward)
+pub row_of_link : (n : ℕ) (links : List (ℕ × ℕ)) (x w : ℕ) → w < n → Points links x w
+    → Contains (row n links x) (w, Outward)
 row_of_link n links x w below p = to_row n links x (w, Outward) below (row_entry_out links x w p)
 
-pub row_of_out : (n : ℕ) (links : List (ℕ × ℕ)) (x w : ℕ) → IsNet n links → Points links x w → Contains (row n links x) (w, Outward)
+pub row_of_out : (n : ℕ) (links : List (ℕ × ℕ)) (x w : ℕ) → IsNet n links → Points links x w
+    → Contains (row n links x) (w, Outward)
 row_of_out n links x w net p = row_of_link n links x w (link_below n links x w net p).1 p
 
-pub row_of_in : (n : ℕ) (links : List (ℕ × ℕ)) (x w : ℕ) → IsNet n links → Points links w x → Contains (row n links x) (w, Inward)
-row_of_in n links x w net p = to_row n links x (w, Inward) (link_below n links w x net p).0 (row_entry_in links x w (one_way links net.no_self net.single) p)
+pub row_of_in : (n : ℕ) (links : List (ℕ × ℕ)) (x w : ℕ) → IsNet n links → Points links w x
+    → Contains (row n links x) (w, Inward)
+row_of_in n links x w net p =
+    to_row n links x (w, Inward) (link_below n links w x net p).0
+    (row_entry_in links x w (one_way links net.no_self net.single) p)
 
 pub differ : Outward ≡ Inward → ⊥
 differ e = cc
@@ -178,7 +207,8 @@ row_alone n links x net none w (inl h) = omega (arith, none, (row_of_out n links
 row_alone n links x net none w (inr h) = omega (arith, none, (row_of_in n links x w net h).1)
 
 -- so the neighbours in a row increase, and none is there twice
-pub neighbours_rise : (n : ℕ) (links : List (ℕ × ℕ)) (x : ℕ) → IsStrictlyIncreasing (map (λ (e : ℕ × First). e.0) (row n links x))
+pub neighbours_rise : (n : ℕ) (links : List (ℕ × ℕ)) (x : ℕ)
+    → IsStrictlyIncreasing (map (λ (e : ℕ × First). e.0) (row n links x))
 neighbours_rise n links x k l =
     let xs = row n links x in
     let node : ℕ × First → ℕ = λ e. e.0 in

@@ -33,7 +33,8 @@ not_too_large n links limits (inl h) = omega (arith, limits.nodes_few, h)
 not_too_large n links limits (inr h) = omega (arith, limits.links_few, h)
 
 -- a refusal of links without a fault
-pub only_memory : (n : ℕ) (links : List (ℕ × ℕ)) (fault : NetFault) → IsFaultless n links → (fault ≢ Memory → IsFirstFault n links fault) → fault ≡ Memory
+pub only_memory : (n : ℕ) (links : List (ℕ × ℕ)) (fault : NetFault) → IsFaultless n links
+    → (fault ≢ Memory → IsFirstFault n links fault) → fault ≡ Memory
 only_memory n links TooMany f h = absurd (not_too_large n links f.limits (h (λ e. cc)))
 only_memory n links (Range x) f h = absurd (range_stands n links x f.some f.is_net.in_range (h (λ e. cc)).1)
 only_memory n links (SelfLink u) f h = absurd (no_self_link links u f.is_net.no_self (h (λ e. cc)).2)
@@ -43,7 +44,8 @@ only_memory n links NoLink f h = absurd (h (λ e. cc))
 only_memory n links Memory f h = refl
 
 -- what a later fault implies about the tests before it
-limits_passed : (n : ℕ) (links : List (ℕ × ℕ)) (g : NetFault) → 0 < fault_place g → IsFirstFault n links g → IsWithinLimits n links
+limits_passed : (n : ℕ) (links : List (ℕ × ℕ)) (g : NetFault) → 0 < fault_place g → IsFirstFault n links g
+    → IsWithinLimits n links
 limits_passed n links TooMany l h = absurd (omega arith)
 limits_passed n links (Range x) l h = h.0
 limits_passed n links (SelfLink u) l h = h.0
@@ -52,7 +54,8 @@ limits_passed n links (Cycle walk) l h = h.0
 limits_passed n links NoLink l h = absurd h
 limits_passed n links Memory l h = absurd h
 
-range_passed : (n : ℕ) (links : List (ℕ × ℕ)) (g : NetFault) → 1 < fault_place g → IsFirstFault n links g → IsInRange n links
+range_passed : (n : ℕ) (links : List (ℕ × ℕ)) (g : NetFault) → 1 < fault_place g → IsFirstFault n links g
+    → IsInRange n links
 range_passed n links TooMany l h = absurd (omega arith)
 range_passed n links (Range x) l h = absurd (omega arith)
 range_passed n links (SelfLink u) l h = h.1
@@ -61,7 +64,8 @@ range_passed n links (Cycle walk) l h = h.1
 range_passed n links NoLink l h = absurd h
 range_passed n links Memory l h = absurd h
 
-self_passed : (n : ℕ) (links : List (ℕ × ℕ)) (g : NetFault) → 2 < fault_place g → IsFirstFault n links g → HasNoSelfLink links
+self_passed : (n : ℕ) (links : List (ℕ × ℕ)) (g : NetFault) → 2 < fault_place g → IsFirstFault n links g
+    → HasNoSelfLink links
 self_passed n links TooMany l h = absurd (omega arith)
 self_passed n links (Range x) l h = absurd (omega arith)
 self_passed n links (SelfLink u) l h = absurd (omega arith)
@@ -70,7 +74,8 @@ self_passed n links (Cycle walk) l h = h.2
 self_passed n links NoLink l h = absurd h
 self_passed n links Memory l h = absurd h
 
-single_passed : (n : ℕ) (links : List (ℕ × ℕ)) (g : NetFault) → 3 < fault_place g → IsFirstFault n links g → AreSingle links
+single_passed : (n : ℕ) (links : List (ℕ × ℕ)) (g : NetFault) → 3 < fault_place g → IsFirstFault n links g
+    → AreSingle links
 single_passed n links TooMany l h = absurd (omega arith)
 single_passed n links (Range x) l h = absurd (omega arith)
 single_passed n links (SelfLink u) l h = absurd (omega arith)
@@ -79,9 +84,11 @@ single_passed n links (Cycle walk) l h = h.3
 single_passed n links NoLink l h = absurd h
 single_passed n links Memory l h = absurd h
 
-none_follows : (n : ℕ) (links : List (ℕ × ℕ)) (f g : NetFault) → fault_place f < fault_place g → IsFirstFault n links f → ¬ IsFirstFault n links g
+none_follows : (n : ℕ) (links : List (ℕ × ℕ)) (f g : NetFault) → fault_place f < fault_place g → IsFirstFault n links f
+    → ¬ IsFirstFault n links g
 none_follows n links TooMany g l hf hg = not_too_large n links (limits_passed n links g l hg) hf
-none_follows n links (Range x) g l hf hg = let r = range_passed n links g l hg in range_stands n links x r.some r.below hf.1
+none_follows n links (Range x) g l hf hg =
+    let r = range_passed n links g l hg in range_stands n links x r.some r.below hf.1
 none_follows n links (SelfLink u) g l hf hg = no_self_link links u (self_passed n links g l hg) hf.2
 none_follows n links (Twice u v) g l hf hg = omega (arith, hf.3, not_twice links u v (single_passed n links g l hg))
 none_follows n links (Cycle walk) TooMany l hf hg = omega arith
@@ -95,7 +102,8 @@ none_follows n links NoLink g l hf hg = hf
 none_follows n links Memory g l hf hg = hf
 
 -- two first faults are of one kind
-pub first_fault_place : (n : ℕ) (links : List (ℕ × ℕ)) (f g : NetFault) → IsFirstFault n links f → IsFirstFault n links g → fault_place f ≡ fault_place g
+pub first_fault_place : (n : ℕ) (links : List (ℕ × ℕ)) (f g : NetFault) → IsFirstFault n links f
+    → IsFirstFault n links g → fault_place f ≡ fault_place g
 first_fault_place n links f g hf hg =
     elim (cases_lt (fault_place f) (fault_place g)) [
       | inl l ↦ absurd (none_follows n links f g l hf hg)

@@ -1,5 +1,6 @@
 -- A graph from the rows of its nodes.
-use Rattle.std.proofs.Common.{List, [], ap, arith, get_or, inl, inr, length, refl, subst, suc, sym, true, zero, ℕ, ◌<◌, ◌∙◌, ◌≡◌}
+use Rattle.std.proofs.Common.{List, [], ap, arith, get_or, inl, inr, length, refl, subst, suc, sym, true, zero, ℕ, ◌<◌}
+use Rattle.std.proofs.Common.{◌∙◌, ◌≡◌}
 use Rattle.std.proofs.lemmas.Bool.{cases_Bool}
 use Rattle.std.proofs.lemmas.List.Sorted.{IsPermutation-sym, length_permutation}
 use Rattle.fr_graph.proofs.Building.{acyclic_listed, faultless_sorted}
@@ -21,7 +22,8 @@ use Rattle.fr_graph.specs.declared.graph.Graph.{Graph}
 use Rattle.fr_graph.specs.declared.first.First.{First}
 
 -- rows depend only on the set of links
-same_test : (a b : List (ℕ × ℕ)) (u v : ℕ) → (Points a u v → Points b u v) → (Points b u v → Points a u v) → has_link a u v ≡ has_link b u v
+same_test : (a b : List (ℕ × ℕ)) (u v : ℕ) → (Points a u v → Points b u v) → (Points b u v → Points a u v)
+    → has_link a u v ≡ has_link b u v
 same_test a b u v to from =
     elim (cases_Bool (has_link a u v)) [
       | inl e ↦ e ∙ sym (has_link_true b u v (to (Points-has_link a u v e)))
@@ -46,22 +48,29 @@ in_order_faultless : (n : ℕ) (listed : List (ℕ × ℕ)) → IsFaultless n li
 in_order_faultless n listed clear =
     let same = in_order_permutes listed in
     faultless_sorted n listed (in_order listed) same
-    (acyclic_listed (in_order listed) listed (IsPermutation-sym listed (in_order listed) same) clear.is_net.acyclic) clear
+    (acyclic_listed (in_order listed) listed (IsPermutation-sym listed (in_order listed) same) clear.is_net.acyclic)
+    clear
 
 pub in_order_row : (n : ℕ) (listed : List (ℕ × ℕ)) (x : ℕ) → row n listed x ≡ row n (in_order listed) x
-in_order_row n listed x = row_same n listed (in_order listed) x (λ u v. into_order listed (u, v)) (λ u v. out_of_order listed (u, v))
+in_order_row n listed x =
+    row_same n listed (in_order listed) x (λ u v. into_order listed (u, v)) (λ u v. out_of_order listed (u, v))
 
 -- rows contain their links in order
-rows_alike : {X : Type 0} (k : ℕ) (some other : ℕ → List X) → ((x : ℕ) → x < k → some x ≡ other x) → rows_below k some ≡ rows_below k other
+rows_alike : {X : Type 0} (k : ℕ) (some other : ℕ → List X) → ((x : ℕ) → x < k → some x ≡ other x)
+    → rows_below k some ≡ rows_below k other
 rows_alike zero some other same = refl
-rows_alike (suc k) some other same = rw (rows_alike k some other (λ x l. same x (omega arith)), same k (omega arith)) refl
+rows_alike (suc k) some other same =
+    rw (rows_alike k some other (λ x l. same x (omega arith)), same k (omega arith)) refl
 
-pub links_shown : (n : ℕ) (listed : List (ℕ × ℕ)) (table : Table) → IsNet n listed → AreRows n listed table → links_in n table ≡ in_order listed
+pub links_shown : (n : ℕ) (listed : List (ℕ × ℕ)) (table : Table) → IsNet n listed → AreRows n listed table
+    → links_in n table ≡ in_order listed
 links_shown n listed table net rows =
-    rows_alike n (λ x. out_links x (row_of table x)) (out_rows n listed) (λ x less. ap (out_links x) (rows.shown x less)) ∙ links_of_rows n listed net
+    rows_alike n (λ x. out_links x (row_of table x)) (out_rows n listed)
+    (λ x less. ap (out_links x) (rows.shown x less)) ∙ links_of_rows n listed net
 
 -- heights along which links fall are heights for fewer links
-pub fewer_fall : (links fewer : List (ℕ × ℕ)) (heights : Levels) → ((u v : ℕ) → Points fewer u v → Points links u v) → Fit links heights → Fit fewer heights
+pub fewer_fall : (links fewer : List (ℕ × ℕ)) (heights : Levels) → ((u v : ℕ) → Points fewer u v → Points links u v)
+    → Fit links heights → Fit fewer heights
 fewer_fall links fewer heights among fit known u v stands = fit known u v (among u v stands)
 
 -- so a graph with the rows of links without a fault, their number, and heights along which they fall, has their network
@@ -73,7 +82,8 @@ graph_with_order g listed clear count rows height_each fit =
     record {
       faultless = rw is (in_order_faultless n listed clear);
       sorted = rw is (in_order_order listed);
-      counted = count ∙ sym (length_permutation listed (in_order listed) (in_order_permutes listed)) ∙ sym (ap length is);
+      counted =
+          count ∙ sym (length_permutation listed (in_order listed) (in_order_permutes listed)) ∙ sym (ap length is);
       rows = record {
         one_each = rows.one_each;
         shown = λ x less. rows.shown x less ∙ in_order_row n listed x
@@ -86,7 +96,8 @@ graph_with_order g listed clear count rows height_each fit =
 abbrev pub with_links : ℕ → List (ℕ × ℕ) → Network
 with_links n links = record { nodes = n; links = links }
 
-pub made_of : (n : ℕ) (listed made : List (ℕ × ℕ)) → IsFaultless n listed → made ≡ in_order listed → IsNetworkOf n listed (with_links n made)
+pub made_of : (n : ℕ) (listed made : List (ℕ × ℕ)) → IsFaultless n listed → made ≡ in_order listed
+    → IsNetworkOf n listed (with_links n made)
 made_of n listed made clear is = record {
   is = ap (with_links n) is;
   same_links = rw is (in_order_permutes listed);
@@ -95,12 +106,15 @@ made_of n listed made clear is = record {
 
 pub network_of_rows : (n : ℕ) (listed : List (ℕ × ℕ)) (table : Table) → IsFaultless n listed → AreRows n listed table
     → IsNetworkOf n listed (with_links n (links_in n table))
-network_of_rows n listed table clear rows = made_of n listed (links_in n table) clear (links_shown n listed table clear.is_net rows)
+network_of_rows n listed table clear rows =
+    made_of n listed (links_in n table) clear (links_shown n listed table clear.is_net rows)
 
 -- a graph with the same rows and any room
-pub graph_of_rows : (g : Graph) (table : Table) → table.rows ≡ g.rows.rows → IsGraph g → IsGraph (record g { rows = table })
+pub graph_of_rows : (g : Graph) (table : Table) → table.rows ≡ g.rows.rows → IsGraph g
+    → IsGraph (record g { rows = table })
 graph_of_rows g table same graph =
-    let of_rows : (rows : List (List (ℕ × First))) → Graph = λ rows. record g { rows = record { rows = rows; rooms = table.rooms } } in
+    let of_rows : (rows : List (List (ℕ × First))) → Graph =
+    λ rows. record g { rows = record { rows = rows; rooms = table.rooms } } in
     let moved : IsGraph (of_rows g.rows.rows) = record {
       faultless = graph.faultless;
       sorted = graph.sorted;
@@ -111,10 +125,13 @@ graph_of_rows g table same graph =
     } in
     subst (λ (rows : List (List (ℕ × First))). IsGraph (of_rows rows)) (sym same) moved
 
-pub shown_of_rows : (g : Graph) (table : Table) → table.rows ≡ g.rows.rows → links_in g.nodes table ≡ links_in g.nodes g.rows
-shown_of_rows g table same = ap (λ (rows : List (List (ℕ × First))). rows_below g.nodes (λ x. out_links x (get_or rows x []))) same
+pub shown_of_rows : (g : Graph) (table : Table) → table.rows ≡ g.rows.rows
+    → links_in g.nodes table ≡ links_in g.nodes g.rows
+shown_of_rows g table same =
+    ap (λ (rows : List (List (ℕ × First))). rows_below g.nodes (λ x. out_links x (get_or rows x []))) same
 
-pub same_of_rows : (g : Graph) (table : Table) → table.rows ≡ g.rows.rows → KeepsRooms g.rows table → IsGraph g → IsSame g (record g { rows = table })
+pub same_of_rows : (g : Graph) (table : Table) → table.rows ≡ g.rows.rows → KeepsRooms g.rows table → IsGraph g
+    → IsSame g (record g { rows = table })
 same_of_rows g table same kept graph = record {
   graph = graph_of_rows g table same graph;
   same = ap (with_links g.nodes) (shown_of_rows g table same);

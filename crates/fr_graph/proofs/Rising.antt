@@ -27,10 +27,12 @@ not_next p q qs once same =
 rising_once_each : (links : List (ℕ × ℕ)) → AreInOrder links → ((x : ℕ × ℕ) → times links x ≤ 1) → AreRising links
 rising_once_each [] order once k d l = absurd (omega arith)
 rising_once_each (p ∷ []) order once k d l = absurd (omega arith)
-rising_once_each (p ∷ (q ∷ qs)) order once zero d l = before_or_same (order 0 d (omega arith)) (not_next p q qs (once p))
+rising_once_each (p ∷ (q ∷ qs)) order once zero d l =
+    before_or_same (order 0 d (omega arith)) (not_next p q qs (once p))
 rising_once_each (p ∷ (q ∷ qs)) order once (suc k) d l =
     let e : suc k + 1 ≡ suc (k + 1) = omega arith in
-    rw e (rising_once_each (q ∷ qs) (order_tail p (q ∷ qs) order) (λ x. omega (arith, once x, times-cons p (q ∷ qs) x)) k d (omega arith))
+    rw e (rising_once_each (q
+    ∷ qs) (order_tail p (q ∷ qs) order) (λ x. omega (arith, once x, times-cons p (q ∷ qs) x)) k d (omega arith))
 
 pub links_rise : (links : List (ℕ × ℕ)) → AreInOrder links → AreSingle links → AreRising links
 links_rise links order single = rising_once_each links order (λ x. single_once links x single)

@@ -1,13 +1,16 @@
 -- The steps of the depth-first search keep its state, with how far the rows of the path have been read.
-use Rattle.std.proofs.Common.{All, List, [], ap, arith, get_or, inl, inr, length, refl, set, subst, sym, take, ℕ, ◌++◌, ◌+◌, ◌∷◌, ◌<◌, ◌∙◌, ◌≡◌, ◌≤◌}
+use Rattle.std.proofs.Common.{All, List, [], ap, arith, get_or, inl, inr, length, refl, set, subst, sym, take, ℕ, ◌++◌}
+use Rattle.std.proofs.Common.{◌+◌, ◌∷◌, ◌<◌, ◌∙◌, ◌≡◌, ◌≤◌}
 use Rattle.std.proofs.lemmas.Bool.{cases_eq, cases_lt}
-use Rattle.std.proofs.lemmas.List.{get_or-map, get_or-set_other, get_or-set_same, length-map, length-set, map-append, take-map}
+use Rattle.std.proofs.lemmas.List.{get_or-map, get_or-set_other, get_or-set_same, length-map, length-set, map-append}
+use Rattle.std.proofs.lemmas.List.{take-map}
 use Rattle.std.proofs.lemmas.List.Elements.{All-push, All-take}
 use Rattle.std.proofs.Math.Seq.{map-set_same}
 use Rattle.fr_graph.proofs.Cycles.{left, mark_set, opened}
 use Rattle.fr_graph.proofs.LeavingOrder.{left_order, opened_order}
 use Rattle.fr_graph.proofs.ShownLinks.{row_of_points}
-use Rattle.fr_graph.specs.CycleSearch.{AreRowsRising, HasRead, IsDone, IsSearch, LeadsOnlyTo, LeadsTo, LeadsToDone, mark_of, nodes_of}
+use Rattle.fr_graph.specs.CycleSearch.{AreRowsRising, HasRead, IsDone, IsSearch, LeadsOnlyTo, LeadsTo, LeadsToDone}
+use Rattle.fr_graph.specs.CycleSearch.{mark_of, nodes_of}
 use Rattle.fr_graph.specs.KeptRows.{net_in}
 use Rattle.fr_graph.specs.Links.{Points}
 use Rattle.fr_graph.specs.Tables.{Table, row_of}
@@ -18,7 +21,8 @@ use Rattle.fr_graph.specs.declared.first.First.{First}
 use Rattle.fr_graph.specs.declared.first.First.TheVariants.{Outward}
 
 -- how far rows have been read, if more nodes have the property
-pub reads_stay : (rows : Table) (P Q : ℕ → Type 0) (path : List Step) → ((x : ℕ) → P x → Q x) → All (HasRead rows P) path → All (HasRead rows Q) path
+pub reads_stay : (rows : Table) (P Q : ℕ → Type 0) (path : List Step) → ((x : ℕ) → P x → Q x)
+    → All (HasRead rows P) path → All (HasRead rows Q) path
 reads_stay rows P Q path stays read k d l = record {
   inside = (read k d l).inside;
   passed = λ j e lt out. stays _ ((read k d l).passed j e lt out);
@@ -35,7 +39,8 @@ reads_on rows P path last next top full is read inside passes k d l =
     elim (cases_eq k last) [
       | inl e ↦ rw (e, get_or-set_same path last moved d (omega (arith, full))) record {
         inside = inside;
-        passed = λ j e lt. elim (cases_lt j top.next) [ inl less ↦ was.passed j e less | inr more ↦ passes j e more lt ];
+        passed =
+            λ j e lt. elim (cases_lt j top.next) [ inl less ↦ was.passed j e less | inr more ↦ passes j e more lt ];
       }
       | inr ne ↦ rw (get_or-set_other path last k moved d ne) (read k d (omega (arith, l, length-set path last moved)))
     ]
@@ -43,14 +48,19 @@ reads_on rows P path last next top full is read inside passes k d l =
 -- the path then has the same nodes
 pub same_nodes : (path : List Step) (last next : ℕ) (top : Step) → top ≡ get_or path last top
     → nodes_of (set path last (record { node = top.node; next = next })) ≡ nodes_of path
-same_nodes path last next top is = map-set_same (λ (s : Step). s.node) path last (record { node = top.node; next = next }) top (ap (λ (s : Step). s.node) is)
+same_nodes path last next top is =
+    map-set_same (λ (s : Step). s.node) path last (record { node = top.node; next = next }) top
+    (ap (λ (s : Step). s.node) is)
 
 pub nodes_counted : (some other : List Step) → nodes_of some ≡ nodes_of other → length some ≡ length other
-nodes_counted some other same = omega (arith, ap length same, length-map some (λ (s : Step). s.node), length-map other (λ (s : Step). s.node))
+nodes_counted some other same =
+    omega (arith, ap length same, length-map some (λ (s : Step). s.node), length-map other (λ (s : Step). s.node))
 
 -- the last node of the path and its links, after its row was read to the end
-pub top_is : (path : List Step) (last : ℕ) (top : Step) → last + 1 ≡ length path → top ≡ get_or path last top → get_or (nodes_of path) last 0 ≡ top.node
-top_is path last top full is = get_or-map (λ (s : Step). s.node) path last top 0 (omega (arith, full)) ∙ ap (λ (s : Step). s.node) (sym is)
+pub top_is : (path : List Step) (last : ℕ) (top : Step) → last + 1 ≡ length path → top ≡ get_or path last top
+    → get_or (nodes_of path) last 0 ≡ top.node
+top_is path last top full is =
+    get_or-map (λ (s : Step). s.node) path last top 0 (omega (arith, full)) ∙ ap (λ (s : Step). s.node) (sym is)
 
 read_before : (rows : Table) (P : ℕ → Type 0) (top : Step) (next v k : ℕ) → HasRead rows P top
     → ((k : ℕ) (d : ℕ × First) → top.next ≤ k → k < next → LeadsOnlyTo P (get_or (row_of rows top.node) k d))
@@ -90,9 +100,11 @@ read_up_to rows P top next head rising read passes inside here v points below =
 
 -- the search goes on to a node that has not been met
 pub search_opens : (rows : Table) (search after : Search) (x : ℕ) → IsSearch rows search → x < length search.marks.items
-    → mark_of search.marks.items x ≡ Fresh → LeadsTo (net_in rows).links search.marks.items (nodes_of search.path.items) x
+    → mark_of search.marks.items x ≡ Fresh
+    → LeadsTo (net_in rows).links search.marks.items (nodes_of search.path.items) x
     → after.marks.items ≡ set search.marks.items x Open
-    → after.path.items ≡ search.path.items ++ record { node = x; next = 0 } ∷ [] → after.order.items ≡ search.order.items → IsSearch rows after
+    → after.path.items ≡ search.path.items ++ record { node = x; next = 0 } ∷ []
+    → after.order.items ≡ search.order.items → IsSearch rows after
 search_opens rows search after x s below fresh leads marks path order =
     let old = search.marks.items in
     let new : Step = record { node = x; next = 0 } in
@@ -104,15 +116,21 @@ search_opens rows search after x s below fresh leads marks path order =
       one_each = rw (marks, length-set old x Open) s.one_each;
       below = rw (marks, length-set old x Open) s.below;
       rising = s.rising;
-      steps = rw (marks, path, same, length-set old x Open) (opened _ _ old (nodes_of search.path.items) x s.steps below fresh leads);
+      steps =
+          rw (marks, path, same, length-set old x Open)
+          (opened _ _ old (nodes_of search.path.items) x s.steps below fresh leads);
       read = rw (marks, path) (All-push (HasRead rows (IsDone (set old x Open))) search.path.items new
-          (reads_stay rows (IsDone old) _ search.path.items stays s.read) (record { inside = omega arith; passed = λ k d lt. absurd (omega (arith, lt)) }));
+          (reads_stay rows (IsDone old) _ search.path.items stays s.read) (record {
+            inside = omega arith;
+            passed = λ k d lt. absurd (omega (arith, lt));
+          }));
       order = rw (marks, order) (opened_order _ old _ x s.order below (λ e. cc (fresh, e)));
     }
 
 -- the search goes back from a node whose links lead to done nodes
 pub search_leaves : (rows : Table) (search after : Search) (x last : ℕ) → IsSearch rows search
-    → last + 1 ≡ length search.path.items → x ≡ get_or (nodes_of search.path.items) last 0 → x < length search.marks.items
+    → last + 1 ≡ length search.path.items → x ≡ get_or (nodes_of search.path.items) last 0
+    → x < length search.marks.items
     → LeadsToDone (net_in rows).links search.marks.items x
     → after.marks.items ≡ set search.marks.items x Done → after.path.items ≡ take last search.path.items
     → after.order.items ≡ search.order.items ++ x ∷ [] → IsSearch rows after
@@ -129,6 +147,9 @@ search_leaves rows search after x last s full top below leads marks path order =
       rising = s.rising;
       steps = rw (marks, path, ← take-map (λ (s : Step). s.node) last steps, length-set old x Done)
           (left _ _ old (nodes_of steps) x last s.steps whole top leads);
-      read = rw (marks, path) (reads_stay rows (IsDone old) _ (take last steps) stays (All-take (HasRead rows (IsDone old)) last steps s.read));
-      order = rw (marks, order) (left_order _ _ old (nodes_of steps) _ x s.steps s.order below (λ e. cc (on_top, e)) leads);
+      read =
+          rw (marks, path) (reads_stay rows (IsDone old) _ (take last steps) stays
+          (All-take (HasRead rows (IsDone old)) last steps s.read));
+      order =
+          rw (marks, order) (left_order _ _ old (nodes_of steps) _ x s.steps s.order below (λ e. cc (on_top, e)) leads);
     }

@@ -1,16 +1,21 @@
 -- The rows of links as counts turn them, and the links in the rows.
-use Rattle.std.proofs.Common.{Bool, Contains, List, None, Some, [], All, ap, arith, count_by, eq-eqb, eqb, false, get_or, inl, inr, map, ne_eqb}
-use Rattle.std.proofs.Common.{option_map, option_to_list, refl, subst, suc, sym, true, zero, ℕ, ⊎_elim, ◌&&◌, ◌+◌, ◌<◌, ◌||◌, ◌∙◌, ◌∷◌, ◌≡◌, ◌≤◌, ◌⊎◌}
+use Rattle.std.proofs.Common.{Bool, Contains, List, None, Some, [], All, ap, arith, count_by, eq-eqb, eqb, false}
+use Rattle.std.proofs.Common.{get_or, inl, inr, map, ne_eqb}
+use Rattle.std.proofs.Common.{option_map, option_to_list, refl, subst, suc, sym, true, zero, ℕ, ⊎_elim, ◌&&◌, ◌+◌, ◌<◌}
+use Rattle.std.proofs.Common.{◌||◌, ◌∙◌, ◌∷◌, ◌≡◌, ◌≤◌, ◌⊎◌}
 use Rattle.std.proofs.lemmas.Bool.{cases_Bool, cases_lt, cond-false, cond-true}
 use Rattle.std.proofs.lemmas.List.{map-append}
 use Rattle.std.proofs.lemmas.List.Elements.{All-contains}
 use Rattle.std.proofs.lemmas.List.Sums.{sum_by-cons}
 use Rattle.fr_graph.proofs.Counting.{weigh}
-use Rattle.fr_graph.proofs.Giving.{Points-links_at_from, Points-links_at_same, Points-links_at_turned, filter_map-Contains, filter_map-from}
+use Rattle.fr_graph.proofs.Giving.{Points-links_at_from, Points-links_at_same, Points-links_at_turned}
+use Rattle.fr_graph.proofs.Giving.{filter_map-Contains, filter_map-from}
 use Rattle.fr_graph.proofs.Linking.{link_below, not_twice, one_way}
-use Rattle.fr_graph.proofs.Neighbours.{Points-has_link, Rises, has_link_true, out_of_row, rises_head, rises_tail, row_entry_in, row_entry_out}
+use Rattle.fr_graph.proofs.Neighbours.{Points-has_link, Rises, has_link_true, out_of_row, rises_head, rises_tail}
+use Rattle.fr_graph.proofs.Neighbours.{row_entry_in, row_entry_out}
 use Rattle.fr_graph.proofs.Neighbours.{row_of_out, row_rises}
-use Rattle.fr_graph.proofs.Ordering.{contains_counted, in_order_order, is_pair, one_counted, pair_from, same_order, times, times-cons, times-in_order}
+use Rattle.fr_graph.proofs.Ordering.{contains_counted, in_order_order, is_pair, one_counted, pair_from, same_order}
+use Rattle.fr_graph.proofs.Ordering.{times, times-cons, times-in_order}
 use Rattle.fr_graph.proofs.RowLists.{from_rows, into_rows, sorted_rows}
 use Rattle.fr_graph.proofs.Sorting.{IsSorted, sorted-filter_map, sorted_at}
 use Rattle.fr_graph.proofs.TurnedLinks.{net_turned}
@@ -24,9 +29,11 @@ use Rattle.fr_graph.specs.declared.first.First.TheVariants.{Inward, Outward}
 use Rattle.fr_graph.proofs.Lists.{map-option_to_list}
 
 not_linked : (links : List (ℕ × ℕ)) (u v : ℕ) → ¬ Points links u v → has_link links u v ≡ false
-not_linked links u v bar = elim (cases_Bool (has_link links u v)) [ inl e ↦ absurd (bar (Points-has_link links u v e)) | inr e ↦ e ]
+not_linked links u v bar =
+    elim (cases_Bool (has_link links u v)) [ inl e ↦ absurd (bar (Points-has_link links u v e)) | inr e ↦ e ]
 
-pub row_entry_none : (links : List (ℕ × ℕ)) (x w : ℕ) → ¬ Points links x w → ¬ Points links w x → row_entry links x w ≡ None
+pub row_entry_none : (links : List (ℕ × ℕ)) (x w : ℕ) → ¬ Points links x w → ¬ Points links w x
+    → row_entry links x w ≡ None
 row_entry_none links x w out back = rw (not_linked links x w out, not_linked links w x back) refl
 
 not_before_itself : (l x : ℕ × ℕ) → l ≡ x → ¬ IsBefore l x
@@ -40,46 +47,55 @@ not_after (inr a) = inr (a.0, omega (arith, a.1))
 cases_le_none : (n : ℕ) → (n ≡ 0) ⊎ (1 ≤ n)
 cases_le_none n = elim (cases_lt 0 n) [ inl l ↦ inr (omega arith) | inr g ↦ inl (omega arith) ]
 
-pub row_entry_back : (links : List (ℕ × ℕ)) (x w : ℕ) → ¬ Points links x w → Points links w x → row_entry links x w ≡ Some (w, Inward)
+pub row_entry_back : (links : List (ℕ × ℕ)) (x w : ℕ) → ¬ Points links x w → Points links w x
+    → row_entry links x w ≡ Some (w, Inward)
 row_entry_back links x w out back = rw (not_linked links x w out, has_link_true links w x back) refl
 
 abbrev pub entry : ℕ → First → ℕ × First
 entry w f = (w, f)
 
-turned_same : (counts : List ℕ) (x w : ℕ) (f : First) → get_or counts w 0 ≡ get_or counts x 0 → turned_entry counts x (w, f) ≡ entry w f
+turned_same : (counts : List ℕ) (x w : ℕ) (f : First) → get_or counts w 0 ≡ get_or counts x 0
+    → turned_entry counts x (w, f) ≡ entry w f
 turned_same counts x w f e = cond-true _ _ _ (eq-eqb _ _ e)
 
-turned_other : (counts : List ℕ) (x w : ℕ) (f : First) → ¬ (get_or counts w 0 ≡ get_or counts x 0) → turned_entry counts x (w, f) ≡ entry w (opposite f)
+turned_other : (counts : List ℕ) (x w : ℕ) (f : First) → ¬ (get_or counts w 0 ≡ get_or counts x 0)
+    → turned_entry counts x (w, f) ≡ entry w (opposite f)
 turned_other counts x w f e = cond-false _ _ _ (ne_eqb _ _ e)
 
 turned_out : (n : ℕ) (links : List (ℕ × ℕ)) (c : List ℕ) (x w : ℕ) → IsNet n (links_at links c) → Points links x w
     → IsKept c (x, w) → row_entry (links_at links c) x w ≡ Some (turned_entry c x (w, Outward))
 turned_out n links c x w net p (inl e) =
-    row_entry_out (links_at links c) x w (Points-links_at_same links c x w p e) ∙ ap (λ (y : ℕ × First). Some y) (sym (turned_same c x w Outward e))
+    row_entry_out (links_at links c) x w (Points-links_at_same links c x w p e)
+    ∙ ap (λ (y : ℕ × First). Some y) (sym (turned_same c x w Outward e))
 turned_out n links c x w net p (inr e) =
-    row_entry_in (links_at links c) x w (one_way (links_at links c) net.no_self net.single) (Points-links_at_turned links c w x p e)
+    row_entry_in (links_at links c) x w (one_way (links_at links c) net.no_self net.single)
+    (Points-links_at_turned links c w x p e)
     ∙ ap (λ (y : ℕ × First). Some y) (sym (turned_other c x w Outward (λ same. omega (arith, same, e))))
 
 turned_in : (n : ℕ) (links : List (ℕ × ℕ)) (c : List ℕ) (x w : ℕ) → IsNet n (links_at links c) → Points links w x
     → IsKept c (w, x) → row_entry (links_at links c) x w ≡ Some (turned_entry c x (w, Inward))
 turned_in n links c x w net p (inl e) =
-    row_entry_in (links_at links c) x w (one_way (links_at links c) net.no_self net.single) (Points-links_at_same links c w x p e)
+    row_entry_in (links_at links c) x w (one_way (links_at links c) net.no_self net.single)
+    (Points-links_at_same links c w x p e)
     ∙ ap (λ (y : ℕ × First). Some y) (sym (turned_same c x w Inward (sym e)))
 turned_in n links c x w net p (inr e) =
     row_entry_out (links_at links c) x w (Points-links_at_turned links c x w p e)
     ∙ ap (λ (y : ℕ × First). Some y) (sym (turned_other c x w Inward (λ same. omega (arith, same, e))))
 
 row_entry_turned : (n : ℕ) (links : List (ℕ × ℕ)) (c : List ℕ) (x w : ℕ) → All (IsKept c) links → IsNet n links
-    → IsNet n (links_at links c) → row_entry (links_at links c) x w ≡ option_map (turned_entry c x) (row_entry links x w)
+    → IsNet n (links_at links c)
+    → row_entry (links_at links c) x w ≡ option_map (turned_entry c x) (row_entry links x w)
 row_entry_turned n links c x w kept net after =
     elim (cases_Bool (has_link links x w)) [
       | inl out ↦
           let p = Points-has_link links x w out in
-          rw (row_entry_out links x w p) (turned_out n links c x w after p (All-contains (IsKept c) links (x, w) kept p))
+          rw (row_entry_out links x w p)
+          (turned_out n links c x w after p (All-contains (IsKept c) links (x, w) kept p))
       | inr none ↦ elim (cases_Bool (has_link links w x)) [
         | inl back ↦
             let p = Points-has_link links w x back in
-            rw (row_entry_in links x w (one_way links net.no_self net.single) p) (turned_in n links c x w after p (All-contains (IsKept c) links (w, x) kept p))
+            rw (row_entry_in links x w (one_way links net.no_self net.single) p)
+            (turned_in n links c x w after p (All-contains (IsKept c) links (w, x) kept p))
         | inr neither ↦
             let not_out : ¬ Points links x w = λ p. absurd (cc (has_link_true links x w p, none)) in
             let not_back : ¬ Points links w x = λ p. absurd (cc (has_link_true links w x p, neither)) in
@@ -118,7 +134,8 @@ rising_once (l ∷ ls) x s =
             | inl none ↦ omega (arith, times-cons l ls x, one, none)
             | inr some ↦ absurd (not_before_itself l x here (s.0 x (contains_counted ls x some)))
           ]
-      | inr e ↦ let none : weigh (is_pair x.0 x.1 l) ≡ 0 = rw e refl in omega (arith, times-cons l ls x, none, rising_once ls x s.1)
+      | inr e ↦ let none : weigh (is_pair x.0 x.1 l) ≡ 0 =
+          rw e refl in omega (arith, times-cons l ls x, none, rising_once ls x s.1)
     ]
 
 pub rising_in_order : (links : List (ℕ × ℕ)) → IsSorted IsBefore links → AreInOrder links
@@ -134,7 +151,13 @@ times-le-between : (links : List (ℕ × ℕ)) (x : ℕ × ℕ) → times links 
 times-le-between [] x = omega arith
 times-le-between (l ∷ ls) x =
     let weight : ℕ × ℕ → ℕ = λ y. weigh (is_between x.0 x.1 y) in
-    omega (arith, times-cons l ls x, sum_by-cons weight l ls, times-le-between ls x, weigh_or (is_pair x.0 x.1 l) ((eqb l.0 x.1) && (eqb l.1 x.0)))
+    omega (
+      arith,
+      times-cons l ls x,
+      sum_by-cons weight l ls,
+      times-le-between ls x,
+      weigh_or (is_pair x.0 x.1 l) ((eqb l.0 x.1) && (eqb l.1 x.0)),
+    )
 
 pub single_once : (links : List (ℕ × ℕ)) (x : ℕ × ℕ) → AreSingle links → times links x ≤ 1
 single_once links x single = omega (arith, times-le-between links x, not_twice links x.0 x.1 single)
@@ -152,13 +175,16 @@ same_times a b x one two to from =
 
 -- links in strictly ascending order are, in order, those of a network with the same links
 pub rising_links : (rising links : List (ℕ × ℕ)) → IsSorted IsBefore rising → AreSingle links
-    → ((x : ℕ × ℕ) → Contains rising x → Contains links x) → ((x : ℕ × ℕ) → Contains links x → Contains rising x) → rising ≡ in_order links
+    → ((x : ℕ × ℕ) → Contains rising x → Contains links x) → ((x : ℕ × ℕ) → Contains links x → Contains rising x)
+    → rising ≡ in_order links
 rising_links rising links s single to from =
     same_order rising (in_order links) (rising_in_order rising s) (in_order_order links)
-    (λ x. same_times rising links x (rising_once rising x s) (single_once links x single) (to x) (from x) ∙ sym (times-in_order links x))
+    (λ x. same_times rising links x (rising_once rising x s) (single_once links x single) (to x) (from x)
+    ∙ sym (times-in_order links x))
 
 -- the links in a row
-pub link_shown : (x : ℕ) (e : ℕ × First) (l : ℕ × ℕ) → link_to x e.0 e.1 ≡ Some l → (l ≡ (x, e.0)) × (e ≡ (e.0, Outward))
+pub link_shown : (x : ℕ) (e : ℕ × First) (l : ℕ × ℕ) → link_to x e.0 e.1 ≡ Some l
+    → (l ≡ (x, e.0)) × (e ≡ (e.0, Outward))
 link_shown x (w, Outward) l q = (cc, refl)
 link_shown x (w, Inward) l q = cc
 
@@ -166,11 +192,13 @@ link_shown x (w, Inward) l q = cc
 abbrev pub out_rows : ℕ → List (ℕ × ℕ) → ℕ → List (ℕ × ℕ)
 out_rows n links x = out_links x (row n links x)
 
-shown_by_row : (n : ℕ) (links : List (ℕ × ℕ)) (x : ℕ) (l : ℕ × ℕ) → Contains (out_rows n links x) l → (l.0 ≡ x) × Contains links l
+shown_by_row : (n : ℕ) (links : List (ℕ × ℕ)) (x : ℕ) (l : ℕ × ℕ) → Contains (out_rows n links x) l
+    → (l.0 ≡ x) × Contains links l
 shown_by_row n links x l h =
     let from = filter_map-from (λ (e : ℕ × First). link_to x e.0 e.1) (row n links x) l h in
     let is = link_shown x from.0 l from.2 in
-    let here : Points links x from.0.0 = out_of_row n links x from.0.0 (subst (λ (e : ℕ × First). Contains (row n links x) e) is.1 from.1) in
+    let here : Points links x from.0.0 =
+    out_of_row n links x from.0.0 (subst (λ (e : ℕ × First). Contains (row n links x) e) is.1 from.1) in
     (ap (λ (p : ℕ × ℕ). p.0) is.0, subst (λ (p : ℕ × ℕ). Contains links p) (sym is.0) here)
 
 rises_sorted : (xs : List (ℕ × First)) → Rises xs → IsSorted (λ (e f : ℕ × First). e.0 < f.0) xs
@@ -183,7 +211,10 @@ out_row_rises n links x =
     (λ a b y z lt e f.
     let p = (link_shown x a y e).0 in
     let q = (link_shown x b z f).0 in
-    inr (ap (λ (l : ℕ × ℕ). l.0) p ∙ sym (ap (λ (l : ℕ × ℕ). l.0) q), omega (arith, lt, ap (λ (l : ℕ × ℕ). l.1) p, ap (λ (l : ℕ × ℕ). l.1) q)))
+    inr (
+      ap (λ (l : ℕ × ℕ). l.0) p ∙ sym (ap (λ (l : ℕ × ℕ). l.0) q),
+      omega (arith, lt, ap (λ (l : ℕ × ℕ). l.1) p, ap (λ (l : ℕ × ℕ). l.1) q),
+    ))
     (rises_sorted (row n links x) (row_rises n links x))
 
 pub links_of_rows : (n : ℕ) (links : List (ℕ × ℕ)) → IsNet n links → rows_below n (out_rows n links) ≡ in_order links
@@ -196,4 +227,5 @@ links_of_rows n links net =
     (λ l h. let t = from_rows n (out_rows n links) l h in (shown_by_row n links t.0 l t.2).1)
     (λ l h.
     into_rows n l.0 (out_rows n links) l (link_below n links l.0 l.1 net h).0
-    (filter_map-Contains (λ (e : ℕ × First). link_to l.0 e.0 e.1) (row n links l.0) (entry l.1 Outward) l (row_of_out n links l.0 l.1 net h) refl))
+    (filter_map-Contains (λ (e : ℕ
+    × First). link_to l.0 e.0 e.1) (row n links l.0) (entry l.1 Outward) l (row_of_out n links l.0 l.1 net h) refl))

@@ -193,7 +193,8 @@ module _ (s : State) (after : IsAfterRound s) (u v : ℕ) (new : State)
 
 pub cut_spares : (s : State) (u v : ℕ) (first : List (ℕ × ℕ)) (d : ℕ) (new : State) (x : ℕ)
     → IsSettledAnew s (Cut u v) first d new
-    → (IsConnected s.links s.dest x → IsAfterCut s u v first new x) × (¬ IsConnected s.links s.dest x → IsHop new x CutOff)
+    → (IsConnected s.links s.dest x → IsAfterCut s u v first new x)
+    × (¬ IsConnected s.links s.dest x → IsHop new x CutOff)
 cut_spares s u v first d new x h =
     let round = moved_round s.nodes d s.dest first (without u v s.links) new h.begins.1 h.begins.2 h.round in (
       λ joined. subst (λ (l : List (ℕ × ℕ)). IsAfterCut s u v l new x) (sym h.begins.1)

@@ -109,7 +109,11 @@ module _ (n d : ℕ) (first : List (ℕ × ℕ)) (net : IsNet n first) (m : Mome
 
     leads_home : (x : ℕ) → IsConnected first d x → Leads x
     leads_home x joined = ⊎_elim (λ r. r)
-        (λ p. absurd (omega (arith, p.1, path_short m.links n acyclic_there head_in_range x p.0 (in_range x joined) p.2)))
+        (λ p. absurd (omega (
+          arith,
+          p.1,
+          path_short m.links n acyclic_there head_in_range x p.0 (in_range x joined) p.2,
+        )))
         (follow n x joined)
 
     -- the destination sends on to no node: from there the hops would come back
@@ -139,5 +143,6 @@ quiet_hops_lead_home n d first h quiet table net below run q read all =
     let end : Moment = after_all start h in
     let parts = run_parts n d start h quiet run in
     let at = run_keeps n d first net start (record { links = refl; lawful = zeros_lawful n d first }) h parts.0 in
-    let settled = settled_at_end n d first net below end at (quiet_leaves_none n d first end at.links quiet parts.1 q) in
+    let settled =
+    settled_at_end n d first net below end at (quiet_leaves_none n d first end at.links quiet parts.1 q) in
     whole_home n d first net end at quiet parts.1 q.no_turn table read below settled q all

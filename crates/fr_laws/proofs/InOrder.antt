@@ -1,5 +1,6 @@
 -- Which call came first: a call that knows another one comes after it, and finds no counts from before it.
-use Rattle.std.proofs.Common.{◌≡◌, ℕ, ◌+◌, ◌≤◌, ◌&&◌, ◌==◌, cond, ◌⊎◌, ⊎_elim, inl, inr, List, [], ◌∷◌, ◌++◌, append_assoc, ap, ◌∙◌}
+use Rattle.std.proofs.Common.{◌≡◌, ℕ, ◌+◌, ◌≤◌, ◌&&◌, ◌==◌, cond, ◌⊎◌, ⊎_elim, inl, inr, List, [], ◌∷◌, ◌++◌}
+use Rattle.std.proofs.Common.{append_assoc, ap, ◌∙◌}
 use Rattle.std.proofs.Common.{arith, subst}
 use Rattle.std.proofs.lemmas.List.Sums.{sum_by-append}
 use Rattle.std.specs.Prelude.{slice_index}
@@ -17,7 +18,8 @@ use Rattle.fr_round.specs.Histories.{IsHistory, StartsWith, moment, reached, sta
 use Rattle.fr_laws.specs.Linear.{Call, HeldAfterATurn, IsCall, Knows, KnowledgeIsKept, LaterIsBehind, LaterIsFresh}
 use Rattle.fr_laws.specs.Linear.{NoneHoldsTheDestination, entry_of}
 
-starts_with_append : (list known more : List Entry) (e : Entry) → list ≡ (known ++ more) ++ e ∷ [] → StartsWith list known
+starts_with_append : (list known more : List Entry) (e : Entry) → list ≡ (known ++ more) ++ e ∷ []
+    → StartsWith list known
 starts_with_append list known more e is = (more ++ e ∷ [], is ∙ append_assoc known more (e ∷ []))
 
 pub knowledge_is_kept : KnowledgeIsKept
@@ -47,7 +49,8 @@ legal_there c is =
     let parts = run_parts b.nodes b.dest (start b) (calls_before c is) (entry_of c ∷ []) run in
     (parts.0, parts.1.0)
 
-regroup : (front : List Entry) (e : Entry) (some more : List Entry) → ((front ++ e ∷ []) ++ some) ++ more ≡ front ++ e ∷ (some ++ more)
+regroup : (front : List Entry) (e : Entry) (some more : List Entry)
+    → ((front ++ e ∷ []) ++ some) ++ more ≡ front ++ e ∷ (some ++ more)
 regroup front e some more = append_assoc (front ++ e ∷ []) some more ∙ append_assoc front (e ∷ []) (some ++ more)
 
 module _ (earlier later : Call) (one : IsCall earlier) (two : IsCall later) (knows : Knows later earlier) where
@@ -58,7 +61,8 @@ module _ (earlier later : Call) (one : IsCall earlier) (two : IsCall later) (kno
         ∙ append_assoc earlier.after.known knows.0 two.learns.history.between,
   )
 
-  before_is : calls_before later two ≡ calls_before earlier one ++ entry_of earlier ∷ (knows.0 ++ two.learns.history.between)
+  before_is : calls_before later two ≡ calls_before earlier one ++ entry_of earlier
+      ∷ (knows.0 ++ two.learns.history.between)
   before_is =
       ap (λ l. l ++ two.learns.history.between) (knows.1 ∙ ap (λ l. l ++ knows.0) one.learns.history.begins)
       ∙ regroup (calls_before earlier one) (entry_of earlier) knows.0 two.learns.history.between
@@ -78,7 +82,8 @@ module _ (earlier later : Call) (one : IsCall earlier) (two : IsCall later) (kno
       (held : later.reply ≡ Held earlier.node) where
     turned_to : slice_index earlier.after.seen earlier.node ≡ k
     turned_to =
-        subst (ShowsCount earlier.before.setup.nodes earlier.before.seen earlier.after.seen earlier.node) turned one.learns.count
+        subst (ShowsCount earlier.before.setup.nodes earlier.before.seen earlier.after.seen earlier.node) turned
+        one.learns.count
 
     holder_turned : let b = later.before.setup in let calls = calls_before later two in
         (Points b.links later.node earlier.node × (k ≤ reached b calls later.node))
@@ -94,7 +99,10 @@ module _ (earlier later : Call) (one : IsCall earlier) (two : IsCall later) (kno
         subst (λ (ls : List (ℕ × ℕ)). Points ls later.node earlier.node) lawful.links now in
         let high = counts_reached earlier.node in
         let seen = turned_to in
-        ⊎_elim (λ along. let same = along.1 in inl (along.0, omega arith)) (λ against. let more = against.1 in inr (against.0, omega arith))
+        ⊎_elim (λ along. let same = along.1 in inl (along.0, omega arith)) (λ against. let more = against.1 in inr (
+          against.0,
+          omega arith,
+        ))
         (Points-links_at_from b.links m.counts later.node earlier.node stood)
 
     -- the first turn is one

@@ -1,7 +1,8 @@
 -- Executions: the list of calls only grows, each call has its place there while it runs, and so a call that ended before
 -- another one began comes first.
 use Rattle.std.proofs.Common.{◌≡◌, ℕ, zero, suc, ◌+◌, ◌-◌, ◌<◌, ◌≤◌, ◌⊎◌, ⊎_elim, List, [], ◌∷◌, ◌++◌, append_assoc}
-use Rattle.std.proofs.Common.{append-nil, sym, ap, ◌∙◌, arith, subst, eqb, get_or, inl, inr, length, length-append, refl, Contains}
+use Rattle.std.proofs.Common.{append-nil, sym, ap, ◌∙◌, arith, subst, eqb, get_or, inl, inr, length, length-append}
+use Rattle.std.proofs.Common.{refl, Contains}
 use Rattle.std.proofs.lemmas.Bool.{cases_eq}
 use Rattle.std.proofs.lemmas.List.{append_cancel_left}
 use Rattle.std.proofs.lemmas.List.Elements.{filter-append}
@@ -85,7 +86,8 @@ module _ (b : Setup) (law : StepsGrowTheList b) (x : Execution b law) where
 
   -- the list explains the state, and so a worker's part of it is what the worker knows of its own calls
   explained : (t : ℕ) → StandsBehind b (x.at t).state (list t)
-  explained t = let has = (x.at t).has in subst (StandsBehind b (x.at t).state) has.1 (one_history b (x.at t).state has.0)
+  explained t =
+      let has = (x.at t).has in subst (StandsBehind b (x.at t).state) has.1 (one_history b (x.at t).state has.0)
 
   own_at : (t number : ℕ) (known : List Entry) → Contains (workers_of (x.at t).state.views) (number, known)
       → part number (list t) ≡ part number known
@@ -145,4 +147,5 @@ module _ (b : Setup) (law : StepsGrowTheList b) (x : Execution b law) where
       (after.0, second.3 ∙ ap (λ l. l ++ d.entry ∷ []) after.1)
 
 pub calls_are_linearizable : CallsAreLinearizable
-calls_are_linearizable b law x = record { explains = explained b law x; decided = decided b law x; order = in_time b law x }
+calls_are_linearizable b law x =
+    record { explains = explained b law x; decided = decided b law x; order = in_time b law x }

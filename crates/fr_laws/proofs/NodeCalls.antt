@@ -22,7 +22,8 @@ use Rattle.fr_node.specs.declared.message.Message.{Message}
 use Rattle.fr_node.specs.declared.node.Node.{Node}
 use Rattle.fr_node.specs.declared.own.Own.{Own}
 use Rattle.fr_laws.specs.Announcements.{ActingIsACall, AreListedOnce, HearingIsACall, IsAsSaid, IsCall, KnowingIsACall}
-use Rattle.fr_laws.specs.Announcements.{LinksStayAsSaid, RepeatingIsACall, SayingIsACall, TickingIsACall, WritingIsACall}
+use Rattle.fr_laws.specs.Announcements.{LinksStayAsSaid, RepeatingIsACall, SayingIsACall, TickingIsACall}
+use Rattle.fr_laws.specs.Announcements.{WritingIsACall}
 
 -- the same links are known
 alike : (ls ks : List Link) (w : ℕ) → ks ≡ ls → (link_to ks w).up ≡ (link_to ls w).up
@@ -157,7 +158,8 @@ repeating_is_a_call w up old new repeats sets event = record {
 }
 
 -- a call after which the node knows what it knew
-pub rests : (messages : List Message) (n : Node) (written : Bool) → IsCall messages n (record n { is_written = written })
+pub rests : (messages : List Message) (n : Node) (written : Bool)
+    → IsCall messages n (record n { is_written = written })
 rests messages n written = record {
   same = (refl, refl);
   once = λ once. once;
@@ -219,7 +221,8 @@ only_links old new rest once up step = record {
 pub saying_is_a_call : SayingIsACall
 saying_is_a_call w None old new says = unchanged [] old new says.none
 saying_is_a_call w (Some m) old new says = only_links old new
-    (says.none ∙ ap (λ (s : ℕ). record old { links = new.links; stamp = s }) (sym (ap (λ (n : Node). n.stamp) says.none)))
+    (says.none
+    ∙ ap (λ (s : ℕ). record old { links = new.links; stamp = s }) (sym (ap (λ (n : Node). n.stamp) says.none)))
     (once_kept old.links.items new.links.items says.message.said.neighbours)
     (saying_up w (unstamped m) old.links.items new.links.items says.message.said) says.step
 

@@ -25,7 +25,8 @@ use Rattle.fr_core.specs.declared.entry.Reply.TheVariants.{Cut, Held, Moved, Sin
 use Rattle.fr_round.proofs.Standing.{one_history}
 use Rattle.fr_round.specs.Laws.{KnowsPartOf, workers_of}
 use Rattle.fr_laws.specs.Quiet.{IsBlocked, IsQuiet, ShowsBlocked}
-use Rattle.fr_laws.specs.Quiet.{QuietIsForGood, QuietIsSettled, QuietRoundIsSettled, SettledCanBeQuiet, WorkerKnowsQuiet}
+use Rattle.fr_laws.specs.Quiet.{QuietIsForGood, QuietIsSettled, QuietRoundIsSettled, SettledCanBeQuiet}
+use Rattle.fr_laws.specs.Quiet.{WorkerKnowsQuiet}
 
 -- Entries that turn nothing
 
@@ -194,7 +195,10 @@ module _ (n d : ℕ) (first : List (ℕ × ℕ)) (net : IsNet n first)
     no_turn = q.no_turn;
     blocked = λ x l apart linked. ⊎_elim
         (λ low. q.blocked x low apart linked)
-        (λ same. absurd (out (λ e. apart (same ∙ e)) (linked.0, subst (λ (z : ℕ). Joins first z linked.0) same linked.1)))
+        (λ same. absurd (out (λ e. apart (same ∙ e)) (
+          linked.0,
+          subst (λ (z : ℕ). Joins first z linked.0) same linked.1,
+        )))
         (at_most x k l);
   }
 
@@ -204,7 +208,8 @@ module _ (n d : ℕ) (first : List (ℕ × ℕ)) (net : IsNet n first)
       let still = blocked_turns r blocked in
       record {
         entries = e ∷ q.entries;
-        run = ((low, legal), subst (λ (there : Moment). IsRun n d there q.entries) (sym (still_reply m k r still)) q.run);
+        run =
+            ((low, legal), subst (λ (there : Moment). IsRun n d there q.entries) (sym (still_reply m k r still)) q.run);
         no_turn = omega (arith, turns-cons e q.entries, still, q.no_turn);
         blocked = λ x l apart linked. ⊎_elim
             (λ l. more_shown e q.entries x (q.blocked x l apart linked))
@@ -239,7 +244,8 @@ settled_can_be_quiet n d first counts h net below lawful run settled =
     let end : Moment = after_all start h in
     let at = run_keeps n d first net start (record { links = refl; lawful = lawful }) h run in
     let none : NoneCanTurn n d end =
-    λ x can. none_at_settled n d first net below end.counts settled x (can_turn-links_at n d first end x at.links can) in
+    λ x can. none_at_settled n d first net below end.counts settled x (can_turn-links_at n d first end x at.links can)
+    in
     let (quiet, q, more) = quiet_there n d first net end at none in
     (quiet, q, run_append n d start h quiet run more)
 

@@ -1,7 +1,8 @@
 -- Two routers. One says that it has started, and the gateway says its height. The router hears it, announces a height
 -- above it, and says so. Once each has heard that its last announcement was heard, nothing more happens.
 use Rattle.std.proofs.Common.{All, Bool, Contains, List, None, [], ap, arith, count_by, eq-eqb, false, get_or, inl, inr}
-use Rattle.std.proofs.Common.{refl, subst, suc, sym, true, zero, ℕ, ⊎_elim, IsTrue, ◌+◌, ◌%◌, ◌^◌, ◌⊎◌, ◌<◌, ◌∙◌, ◌∷◌, ◌≡◌}
+use Rattle.std.proofs.Common.{refl, subst, suc, sym, true, zero, ℕ, ⊎_elim, IsTrue, ◌+◌, ◌%◌, ◌^◌, ◌⊎◌, ◌<◌, ◌∙◌, ◌∷◌}
+use Rattle.std.proofs.Common.{◌≡◌}
 use Rattle.std.proofs.Common.{◌≢◌, ◌↔◌}
 use Rattle.std.proofs.lemmas.List.Elements.{All-contains, All-cons, All-nil}
 use Rattle.std.specs.Global.{Global, Vec}
@@ -56,7 +57,8 @@ new_link neighbour = record (unknown) { neighbour = neighbour; carrier = true; u
 -- heard that
 
 abbrev started : Message
-started = record { from = 0; to = 1; boot = 1; echo = 0; number = 1; height = 0; heard = 0; distance = CUT_OFF; stamp = 1 }
+started =
+    record { from = 0; to = 1; boot = 1; echo = 0; number = 1; height = 0; heard = 0; distance = CUT_OFF; stamp = 1 }
 
 abbrev hello : Message
 hello = record { from = 1; to = 0; boot = 1; echo = 1; number = 1; height = 0; heard = 0; distance = 0; stamp = 1 }
@@ -446,7 +448,8 @@ module _ (alloc : Global) where
     far = λ other. absurd (other refl);
   }
 
-  gate_says : (e : ℕ) (b : Bool) (l : Link) (m : Message) → m.from ≡ 1 → m.to ≡ 0 → m.boot ≡ 1 → m.number ≡ 1 → m.height ≡ 0
+  gate_says : (e : ℕ) (b : Bool) (l : Link) (m : Message) → m.from ≡ 1 → m.to ≡ 0 → m.boot ≡ 1 → m.number ≡ 1
+      → m.height ≡ 0
       → m.distance ≡ 0 → l.neighbour ≡ 0 → m.echo ≡ echo_of l → m.heard ≡ l.heard → IsMessageTo (gate e b l) 0 m
   gate_says e b l m from to boot number height distance leads echo heard = record {
     from = from;

@@ -114,7 +114,9 @@ module _ (b : Setup) (first : Recording) (plan : List Target) (made : ℕ) (now 
       let e : Entry = entry now.worker.number (node_of t) reply in record {
         followed = record {
           keeps = keeps_on first.worker now.worker next.worker f.followed.keeps r.keeps;
-          begins = starts_on first.worker.known now.worker.known next.worker.known f.followed.begins (knows_on b now next t reply r);
+          begins =
+              starts_on first.worker.known now.worker.known next.worker.known f.followed.begins
+              (knows_on b now next t reply r);
           gained = f.followed.gained ++ e ∷ [];
           log = r.log ∙ (ap (λ (l : List Entry). l ++ e ∷ []) f.followed.log
               ∙ append_assoc (log_of first) f.followed.gained (e ∷ []));

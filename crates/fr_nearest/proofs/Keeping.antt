@@ -1,5 +1,6 @@
 -- A node that is not listed has kept its ways.
-use Rattle.std.proofs.Common.{All, Contains, IsPermutation, List, [], arith, eq-eqb, eqb, get_or, inl, inr, length, refl, slice_index}
+use Rattle.std.proofs.Common.{All, Contains, IsPermutation, List, [], arith, eq-eqb, eqb, get_or, inl, inr, length}
+use Rattle.std.proofs.Common.{refl, slice_index}
 use Rattle.std.proofs.Common.{sym, ℕ, ⊎_elim, ◌+◌, ◌<◌, ◌∙◌, ◌≡◌, ◌≢◌, ◌⊎◌, ◌↔◌}
 use Rattle.std.specs.Cmp.{nat_eq_equiv}
 use Rattle.std.specs.List.Sorted.{IsNonDecreasing}
@@ -14,9 +15,11 @@ use Rattle.fr_graph.specs.Network.{Network}
 use Rattle.fr_graph.specs.Rows.{row}
 use Rattle.fr_graph.specs.declared.edit.Edit.{Edit}
 use Rattle.fr_graph.specs.declared.edit.Edit.TheVariants.{Add, Cut, Join}
-use Rattle.fr_nearest.specs.Affected.{AreAffected, HasEnds, HasOne, IsBehindChange, IsEnd, IsNextTo, IsTouchedBy, KeepsWays}
+use Rattle.fr_nearest.specs.Affected.{AreAffected, HasEnds, HasOne, IsBehindChange, IsEnd, IsNextTo, IsTouchedBy}
+use Rattle.fr_nearest.specs.Affected.{KeepsWays}
 use Rattle.fr_nearest.specs.Distances.{AreChanged, AreDistances, no_distance}
-use Rattle.fr_nearest.specs.Marks.{ComesFirst, HasMarked, IsAlikeAt, IsBehind, IsOrderedAlike, IsReordered, StaysInOrder}
+use Rattle.fr_nearest.specs.Marks.{ComesFirst, HasMarked, IsAlikeAt, IsBehind, IsOrderedAlike, IsReordered}
+use Rattle.fr_nearest.specs.Marks.{StaysInOrder}
 use Rattle.fr_nearest.specs.Touched.{Adds, AreKept, AreNew, Cuts, HasEndsBelow, HasTurned, IsAdded, IsCut}
 use Rattle.fr_nearest.specs.Update.{HoldTo}
 use Rattle.fr_nearest.specs.Ways.{AreWays, IsNearer, IsWay}
@@ -27,16 +30,20 @@ use Rattle.fr_nearest.proofs.Ranking.{inside_net, nearer_of, some_of, way_of}
 use Rattle.fr_nearest.proofs.Walking.{one_distance}
 
 -- two nodes are in the order of their numbers in the table
-order_of : {n : ℕ} {links : List (ℕ × ℕ)} {d : ℕ} {table : List ℕ} (w u : ℕ) → AreDistances n links d table → w < n → u < n
-    → slice_index table w ≢ no_distance → slice_index table u ≢ no_distance → IsNearer links d w u → ComesFirst table w u
+order_of : {n : ℕ} {links : List (ℕ × ℕ)} {d : ℕ} {table : List ℕ} (w u : ℕ) → AreDistances n links d table → w < n
+    → u < n
+    → slice_index table w ≢ no_distance → slice_index table u ≢ no_distance → IsNearer links d w u
+    → ComesFirst table w u
 order_of {n} {links} {d} {table} w u are low high some other h =
     let near = one_distance links d w h.near (slice_index table w) h.this ((are.each w low).some some) in
     let far = one_distance links d u h.far (slice_index table u) h.other ((are.each u high).some other) in
     ⊎_elim (λ less. inl (omega (arith, near, far, less))) (λ e. inr (omega (arith, near, far, e.0), e.1)) h.before
 
 -- One table after another: the same nodes have a distance, and are in the same order.
-module _ {n : ℕ} {old now : List (ℕ × ℕ)} {d e x : ℕ} {before table : List ℕ} (were : AreDistances n old d before) (are : AreDistances n now e table)
-    (below : (w : ℕ) → Points now x w → w < n) (from : (w : ℕ) → Points old x w → Points now x w) (to : (w : ℕ) → Points now x w → Points old x w)
+module _ {n : ℕ} {old now : List (ℕ
+    × ℕ)} {d e x : ℕ} {before table : List ℕ} (were : AreDistances n old d before) (are : AreDistances n now e table)
+    (below : (w : ℕ) → Points now x w → w < n) (from : (w : ℕ) → Points old x w → Points now x w) (to : (w : ℕ)
+    → Points now x w → Points old x w)
     (some : (w : ℕ) → Points now x w → slice_index before w ≢ no_distance → slice_index table w ≢ no_distance)
     (back : (w : ℕ) → Points now x w → slice_index table w ≢ no_distance → slice_index before w ≢ no_distance)
     (order : (w u : ℕ) → Points now x w → Points now x u → ComesFirst before w u → ComesFirst table w u) where
@@ -57,13 +64,18 @@ module _ {n : ℕ} {old now : List (ℕ × ℕ)} {d e x : ℕ} {before table : L
         let u = slice_index list j in
         let way = (h.just w).0 (Contains-get_or list i 0 (omega (arith, lt, inside))) in
         let other = (h.just u).0 (Contains-get_or list j 0 inside) in
-        let first = order_of w u were (was_below w way.link) (was_below u other.link) (some_of was_below were w way) (some_of was_below were u other)
+        let first =
+        order_of w u were (was_below w way.link) (was_below u other.link) (some_of was_below were w way)
+        (some_of was_below were u other)
         (h.order i j lt inside) in
-        nearer_of below are w u (goes_on w way) (goes_on u other) (order w u (from w way.link) (from u other.link) first);
+        nearer_of below are w u (goes_on w way) (goes_on u other)
+        (order w u (from w way.link) (from u other.link) first);
   }
 
-pub keeps_ways : {n : ℕ} {old now : List (ℕ × ℕ)} {d e : ℕ} (x : ℕ) {before table : List ℕ} → AreDistances n old d before → AreDistances n now e table
-    → ((w : ℕ) → Points now x w → w < n) → ((w : ℕ) → Points old x w → Points now x w) → ((w : ℕ) → Points now x w → Points old x w)
+pub keeps_ways : {n : ℕ} {old now : List (ℕ × ℕ)} {d e : ℕ} (x : ℕ) {before table : List ℕ}
+    → AreDistances n old d before → AreDistances n now e table
+    → ((w : ℕ) → Points now x w → w < n) → ((w : ℕ) → Points old x w → Points now x w)
+    → ((w : ℕ) → Points now x w → Points old x w)
     → IsOrderedAlike now before table x → KeepsWays old d now e x
 keeps_ways x were are below from to alike list = (
   ways_kept were are below from to (λ w link. (alike.some w link).0) (λ w link. (alike.some w link).1)
@@ -114,7 +126,8 @@ other_order before table w u apart back first = elim (first_or_not table w u) [
 ]
 
 -- what cannot be otherwise
-stays : {links : List (ℕ × ℕ)} {before table : List ℕ} {x w : ℕ} → ¬ ¬ StaysInOrder links before table x w → StaysInOrder links before table x w
+stays : {links : List (ℕ × ℕ)} {before table : List ℕ} {x w : ℕ} → ¬ ¬ StaysInOrder links before table x w
+    → StaysInOrder links before table x w
 stays {links} {before} {table} {x} {w} not = record {
   some = (λ h e. not (λ s. s.some.0 h e), λ h e. not (λ s. s.some.1 h e));
   order = λ u link. (
@@ -124,7 +137,8 @@ stays {links} {before} {table} {x} {w} not = record {
 }
 
 -- what the row of x shows
-pub stays_by : {n : ℕ} {links : List (ℕ × ℕ)} (before table : List ℕ) (x w : ℕ) → IsNet n links → slice_index before w ≢ no_distance
+pub stays_by : {n : ℕ} {links : List (ℕ × ℕ)} (before table : List ℕ) (x w : ℕ) → IsNet n links
+    → slice_index before w ≢ no_distance
     → slice_index table w ≢ no_distance → HoldTo (row n links x) (length (row n links x)) (IsAlikeAt before table w)
     → StaysInOrder links before table x w
 stays_by {n} {links} before table x w is_net old new all = record {
@@ -134,7 +148,8 @@ stays_by {n} {links} before table x w is_net old new all = record {
 
 -- each neighbour has the same number as before, or stays in its order
 module _ (links : List (ℕ × ℕ)) (before table : List ℕ) (x : ℕ)
-    (each : (w : ℕ) → Points links x w → (slice_index table w ≡ slice_index before w) ⊎ StaysInOrder links before table x w) where
+    (each : (w : ℕ) → Points links x w → (slice_index table w ≡ slice_index before w)
+    ⊎ StaysInOrder links before table x w) where
   some_alike : (w : ℕ) → Points links x w → (slice_index before w ≢ no_distance) ↔ (slice_index table w ≢ no_distance)
   some_alike w link = elim (each w link) [
     | inl e ↦ rw e (λ h. h, λ h. h)
@@ -148,7 +163,10 @@ module _ (links : List (ℕ × ℕ)) (before table : List ℕ) (x : ℕ)
       | inl f ↦ rw (e, f) (λ h. h, λ h. h)
       | inr s ↦ elim (cases_eq w u) [
         | inl same ↦ let f : slice_index table u ≡ slice_index before u = rw same at e in rw (e, f) (λ h. h, λ h. h)
-        | inr apart ↦ (other_order before table w u apart (s.order w link).1, other_order table before w u apart (s.order w link).0)
+        | inr apart ↦ (
+          other_order before table w u apart (s.order w link).1,
+          other_order table before w u apart (s.order w link).0,
+        )
       ]
     ]
   ]
@@ -158,9 +176,11 @@ module _ (links : List (ℕ × ℕ)) (before table : List ℕ) (x : ℕ)
 
 -- The nodes that are listed
 
-module _ (net : Network) (touched : Touched) (before table : List ℕ) (is_net : IsNet net.nodes net.links) (list : List ℕ)
+module _ (net : Network) (touched : Touched) (before table : List ℕ) (is_net : IsNet net.nodes net.links)
+    (list : List ℕ)
     (ends : (e : Edit) → Contains touched.edits.now e → HasEnds list e)
-    (near : (y : ℕ) → HasOne (IsNextTo net.links) touched.turned.now y → Contains list y) (x : ℕ) (out : ¬ Contains list x) where
+    (near : (y : ℕ) → HasOne (IsNextTo net.links) touched.turned.now y
+    → Contains list y) (x : ℕ) (out : ¬ Contains list x) where
   no_cut : (w : ℕ) → ¬ IsCut touched.edits.now x w
   no_cut w (e, h, cuts) = go e (ends e h) cuts
     where
@@ -184,8 +204,10 @@ module _ (net : Network) (touched : Touched) (before table : List ℕ) (is_net :
   not_turned w joins (inl here) = out (near x (x, here, inl refl))
   not_turned w joins (inr there) = out (near x (w, there, inr joins))
 
-  pub others_keep : (links : List (ℕ × ℕ)) (d e : ℕ) → AreDistances net.nodes links d before → AreDistances net.nodes net.links e table
-      → AreKept net.links touched links → AreNew net.links touched links → IsOrderedAlike net.links before table x → KeepsWays links d net.links e x
+  pub others_keep : (links : List (ℕ × ℕ)) (d e : ℕ) → AreDistances net.nodes links d before
+      → AreDistances net.nodes net.links e table
+      → AreKept net.links touched links → AreNew net.links touched links → IsOrderedAlike net.links before table x
+      → KeepsWays links d net.links e x
   others_keep links d e were are kept new alike = keeps_ways x were are (inside_net net.nodes net.links x is_net)
       (λ w link. elim (kept x w link) [
         | inl cut ↦ absurd (no_cut w cut)
@@ -202,9 +224,11 @@ module _ (net : Network) (touched : Touched) (before table : List ℕ) (is_net :
         ]
       ]) alike
 
-touched_below : (net : Network) (touched : Touched) → IsNet net.nodes net.links → All (HasEndsBelow net.nodes) touched.edits.now
+touched_below : (net : Network) (touched : Touched) → IsNet net.nodes net.links
+    → All (HasEndsBelow net.nodes) touched.edits.now
     → All (λ (x : ℕ). x < net.nodes) touched.turned.now → (y : ℕ) → IsTouchedBy net touched y → y < net.nodes
-touched_below net touched is_net edits turned y (inl (e, h, end)) = go e (All-contains (HasEndsBelow net.nodes) touched.edits.now e edits h) end
+touched_below net touched is_net edits turned y (inl (e, h, end)) =
+    go e (All-contains (HasEndsBelow net.nodes) touched.edits.now e edits h) end
   where
     go : (e : Edit) → HasEndsBelow net.nodes e → IsEnd e y → y < net.nodes
     go (Cut u v) low (inl is) = rw is low.0
@@ -215,33 +239,43 @@ touched_below net touched is_net edits turned y (inl (e, h, end)) = go e (All-co
     go (Join u v) low (inr is) = rw is low.1
 touched_below net touched is_net edits turned y (inr (x, h, inl e)) =
     rw e (All-contains (λ (x : ℕ). x < net.nodes) touched.turned.now x turned h)
-touched_below net touched is_net edits turned y (inr (x, h, inr joins)) = (joined_below net.nodes net.links x y is_net joins).1
+touched_below net touched is_net edits turned y (inr (x, h, inr joins)) =
+    (joined_below net.nodes net.links x y is_net joins).1
 
-ends_listed : (net : Network) (touched : Touched) (list : List ℕ) → ((y : ℕ) → IsTouchedBy net touched y → Contains list y)
+ends_listed : (net : Network) (touched : Touched) (list : List ℕ)
+    → ((y : ℕ) → IsTouchedBy net touched y → Contains list y)
     → (e : Edit) → Contains touched.edits.now e → HasEnds list e
 ends_listed net touched list has (Cut u v) h = (has u (inl (Cut u v, h, inl refl)), has v (inl (Cut u v, h, inr refl)))
 ends_listed net touched list has (Add u v) h = (has u (inl (Add u v, h, inl refl)), has v (inl (Add u v, h, inr refl)))
-ends_listed net touched list has (Join u v) h = (has u (inl (Join u v, h, inl refl)), has v (inl (Join u v, h, inr refl)))
+ends_listed net touched list has (Join u v) h =
+    (has u (inl (Join u v, h, inl refl)), has v (inl (Join u v, h, inr refl)))
 
 -- the marked nodes in order
-pub affected : (net : Network) (touched : Touched) (before table : List ℕ) (Must May : ℕ → Type 0) {first last : Marks} {list : List ℕ}
-    → IsNet net.nodes net.links → All (HasEndsBelow net.nodes) touched.edits.now → All (λ (x : ℕ). x < net.nodes) touched.turned.now
-    → ((y : ℕ) → May y → IsBehindChange net.links before table y) → ((x : ℕ) → ¬ Must x → IsOrderedAlike net.links before table x)
+pub affected : (net : Network) (touched : Touched) (before table : List ℕ) (Must May : ℕ
+    → Type 0) {first last : Marks} {list : List ℕ}
+    → IsNet net.nodes net.links → All (HasEndsBelow net.nodes) touched.edits.now
+    → All (λ (x : ℕ). x < net.nodes) touched.turned.now
+    → ((y : ℕ) → May y → IsBehindChange net.links before table y)
+    → ((x : ℕ) → ¬ Must x → IsOrderedAlike net.links before table x)
     → HasMarked (λ y. IsTouchedBy net touched y ⊎ Must y) (λ y. IsTouchedBy net touched y ⊎ May y) first last
-    → first.nodes.items ≡ [] → IsPermutation last.nodes.items list → IsNonDecreasing list → AreAffected net touched before table list
-affected net touched before table Must May {first} {last} {list} is_net edits turned behind alike marked empty same rises = record {
-  order = λ k inside.
-      let once = IsDistinct-IsPermutation eqb nat_eq_equiv.symm last.nodes.items list same marked.are.once in
-      let apart : slice_index list k ≢ slice_index list (k + 1) =
-      λ e. false≢true (sym (apart_from_distinct eqb list k (k + 1) 0 once (omega arith) inside)
-      ∙ eq-eqb (slice_index list k) (slice_index list (k + 1)) e) in
-      omega (arith, apart, rises k (k + 1) 0 (omega arith) inside);
-  below = λ k d inside. below (get_or list k d) (Contains-get_or list k d inside);
-  ends = ends;
-  just = λ y h. ⊎_elim inl (λ may. inr (behind y may)) (may_be y h);
-  others = λ links d e were are kept new x _ out. others_keep net touched before table is_net list ends (λ y h. has y (inl (inr h))) x out
-      links d e were are kept new (alike x (λ must. out (has x (inr must))));
-}
+    → first.nodes.items ≡ [] → IsPermutation last.nodes.items list → IsNonDecreasing list
+    → AreAffected net touched before table list
+affected net touched before table Must May {first} {last} {list} is_net edits turned behind alike marked empty same
+    rises = record {
+      order = λ k inside.
+          let once = IsDistinct-IsPermutation eqb nat_eq_equiv.symm last.nodes.items list same marked.are.once in
+          let apart : slice_index list k ≢ slice_index list (k + 1) =
+          λ e. false≢true (sym (apart_from_distinct eqb list k (k + 1) 0 once (omega arith) inside)
+          ∙ eq-eqb (slice_index list k) (slice_index list (k + 1)) e) in
+          omega (arith, apart, rises k (k + 1) 0 (omega arith) inside);
+      below = λ k d inside. below (get_or list k d) (Contains-get_or list k d inside);
+      ends = ends;
+      just = λ y h. ⊎_elim inl (λ may. inr (behind y may)) (may_be y h);
+      others =
+          λ links d e were are kept new x _ out. others_keep net touched before table is_net list ends
+          (λ y h. has y (inl (inr h))) x out
+          links d e were are kept new (alike x (λ must. out (has x (inr must))));
+    }
   where
     has : (y : ℕ) → IsTouchedBy net touched y ⊎ Must y → Contains list y
     has y is = Contains-permutation last.nodes.items list y same (marked.all y is)
@@ -258,12 +292,17 @@ affected net touched before table Must May {first} {last} {list} is_net edits tu
         (λ may. let (w, link, _) = behind y may in (link_below net.nodes net.links y w is_net link).0) (may_be y h)
 
 -- a node that no change has reordered
-pub alike_apart : (links : List (ℕ × ℕ)) (n : ℕ) (before table changed : List ℕ) → IsNet n links → length table ≡ n → AreChanged before table changed → (x : ℕ)
+pub alike_apart : (links : List (ℕ × ℕ)) (n : ℕ) (before table changed : List ℕ) → IsNet n links → length table ≡ n
+    → AreChanged before table changed → (x : ℕ)
     → ¬ HasOne (IsReordered links before table) changed x → IsOrderedAlike links before table x
 alike_apart links n before table changed is_net one_each are x apart = ordered_alike links before table x (λ w link.
     elim (cases_eq (slice_index table w) (slice_index before w)) [
       | inl e ↦ inl e
-      | inr other ↦ inr (stays (λ out. apart (w, (are.just w).1 (rw one_each (inside_net n links x is_net w link), other), (link, out))))
+      | inr other ↦ inr (stays (λ out. apart (
+        w,
+        (are.just w).1 (rw one_each (inside_net n links x is_net w link), other),
+        (link, out),
+      )))
     ])
 
 -- a link to a listed node is a link to one whose distance has changed

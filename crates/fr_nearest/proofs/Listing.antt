@@ -42,15 +42,6 @@ one_listed n table x old new list listed low short = record {
   affected = inl (Contains-push [] x);
 }
 
-pub one_none : (n : ℕ) (table : List ℕ) (x old new : ℕ) (list : List ℕ) → IsListed n list
-    → IsUnaffected (slice_index table x) old new → ListsOne n table x old new list list
-one_none n table x old new list listed same = record {
-  added = [];
-  all = sym (append-nil list);
-  listed = listed;
-  affected = inr same;
-}
-
 -- a node that was listed first, or later
 seen_first : (event : Event) (table some more : List ℕ) (x w : ℕ) → IsSeen event table some x w
     → IsSeen event table (some ++ more) x w

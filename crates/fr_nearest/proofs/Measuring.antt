@@ -1,5 +1,6 @@
 -- Numbers that agree with the links are the distances, and the distances agree with the links.
-use Rattle.std.proofs.Common.{List, [], ap, arith, inl, inr, length, refl, slice_index, suc, sym, zero, ℕ, ⊎_elim, ◌+◌, ◌<◌, ◌∙◌, ◌∷◌, ◌≡◌, ◌≢◌, ◌≤◌, ◌↔◌}
+use Rattle.std.proofs.Common.{List, [], ap, arith, inl, inr, length, refl, slice_index, suc, sym, zero, ℕ, ⊎_elim, ◌+◌}
+use Rattle.std.proofs.Common.{◌<◌, ◌∙◌, ◌∷◌, ◌≡◌, ◌≢◌, ◌≤◌}
 use Rattle.std.proofs.lemmas.Bool.{cases_eq}
 use Rattle.fr_graph.proofs.Linking.{link_below}
 use Rattle.fr_graph.specs.Limits.{most_nodes}
@@ -17,8 +18,10 @@ pub record AllAgree (n : ℕ) (links : List (ℕ × ℕ)) (d : ℕ) (table : Lis
 
 module _ (n : ℕ) (links : List (ℕ × ℕ)) (d : ℕ) (table : List ℕ) (all : AllAgree n links d table) where
   -- a node is no farther than any path is long
-  no_farther : (x : ℕ) (vs : List ℕ) → x < n → IsPath links x vs → end_of x vs ≡ d → (slice_index table x ≤ length vs) × (slice_index table x ≢ no_distance)
-  no_farther x [] low path leads = let home = (all.each x low).home leads in (omega (arith, home), λ e. omega (arith, e, home))
+  no_farther : (x : ℕ) (vs : List ℕ) → x < n → IsPath links x vs → end_of x vs ≡ d
+      → (slice_index table x ≤ length vs) × (slice_index table x ≢ no_distance)
+  no_farther x [] low path leads =
+      let home = (all.each x low).home leads in (omega (arith, home), λ e. omega (arith, e, home))
   no_farther x (w ∷ ws) low path leads = elim (cases_eq x d) [
     | inl e ↦ let home = (all.each x low).home e in (omega (arith, home), λ q. omega (arith, q, home))
     | inr apart ↦
@@ -29,7 +32,8 @@ module _ (n : ℕ) (links : List (ℕ × ℕ)) (d : ℕ) (table : List ℕ) (all
   ]
 
   -- a number is the length of a path
-  path_of : (k x : ℕ) → x < n → slice_index table x ≡ k → k ≢ no_distance → (vs : List ℕ) × IsPath links x vs × (end_of x vs ≡ d) × (length vs ≡ k)
+  path_of : (k x : ℕ) → x < n → slice_index table x ≡ k → k ≢ no_distance
+      → (vs : List ℕ) × IsPath links x vs × (end_of x vs ≡ d) × (length vs ≡ k)
   path_of zero x low is some = elim (cases_eq x d) [
     | inl e ↦ ([], tt, e, refl)
     | inr apart ↦ let next = (all.each x low).from apart (λ e. some (sym is ∙ e)) in absurd (omega (arith, next.2, is))
@@ -38,7 +42,8 @@ module _ (n : ℕ) (links : List (ℕ × ℕ)) (d : ℕ) (table : List ℕ) (all
     | inl e ↦ absurd (omega (arith, (all.each x low).home e, is))
     | inr apart ↦
         let next = (all.each x low).from apart (λ e. some (sym is ∙ e)) in
-        let few : j ≢ no_distance = ⊎_elim (λ e. absurd (some (sym is ∙ e))) (λ l. λ e. omega (arith, l, is, e, all.few)) (all.small x) in
+        let few : j ≢ no_distance =
+        ⊎_elim (λ e. absurd (some (sym is ∙ e))) (λ l. λ e. omega (arith, l, is, e, all.few)) (all.small x) in
         let rest = path_of j next.0 (link_below n links x next.0 all.is_net next.1).1 (omega (arith, next.2, is)) few in
         (next.0 ∷ rest.0, (next.1, rest.1), rest.2, ap suc rest.3)
   ]
@@ -61,7 +66,8 @@ module _ (n : ℕ) (links : List (ℕ × ℕ)) (d : ℕ) (table : List ℕ) (all
   }
 
 -- the distances agree with the links
-module _ (n : ℕ) (links : List (ℕ × ℕ)) (d : ℕ) (table : List ℕ) (are : AreDistances n links d table) (small : IsSmall n table)
+module _ (n : ℕ) (links : List (ℕ
+    × ℕ)) (d : ℕ) (table : List ℕ) (are : AreDistances n links d table) (small : IsSmall n table)
     (few : n ≤ most_nodes) (x : ℕ) (low : x < n) (below : (w : ℕ) → Points links x w → w < n) where
   farther : (w : ℕ) → Points links x w → slice_index table x ≤ one_farther (slice_index table w)
   farther w link = elim (cases_eq (slice_index table w) no_distance) [
@@ -91,12 +97,3 @@ module _ (n : ℕ) (links : List (ℕ × ℕ)) (d : ℕ) (table : List ℕ) (are
     near = λ apart. farther;
     from = λ apart some. let own = (are.each x low).some some in next apart own.nodes own.path own.leads own.long;
   }
-
--- which links leave x, and whether x is the destination, is all that its number depends on
-pub agrees_along : {links more : List (ℕ × ℕ)} {c d x : ℕ} {table : List ℕ} → ((w : ℕ) → Points links x w ↔ Points more x w)
-    → (x ≡ c) ↔ (x ≡ d) → Agrees links c table x → Agrees more d table x
-agrees_along same home agrees = record {
-  home = λ e. agrees.home (home.1 e);
-  near = λ apart w link. agrees.near (λ e. apart (home.0 e)) w ((same w).1 link);
-  from = λ apart some. let next = agrees.from (λ e. apart (home.0 e)) some in (next.0, (same next.0).0 next.1, next.2);
-}

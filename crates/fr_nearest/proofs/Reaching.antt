@@ -1,8 +1,10 @@
 -- The search keeps its state when it reaches a node and when it has read a row, and ends with the distances.
-use Rattle.std.proofs.Common.{List, [], arith, eqb, get_or, inl, inr, length, ne_eqb, refl, replicate, set, slice_index, subst, ℕ, ⊎_elim}
+use Rattle.std.proofs.Common.{List, [], arith, eqb, get_or, inl, inr, length, ne_eqb, refl, replicate, set, slice_index}
+use Rattle.std.proofs.Common.{subst, ℕ, ⊎_elim}
 use Rattle.std.proofs.Common.{◌++◌, ◌+◌, ◌<◌, ◌∙◌, ◌∷◌, ◌≡◌, ◌≢◌, ◌≤◌}
 use Rattle.std.proofs.lemmas.Bool.{cases_eq, cases_lt}
-use Rattle.std.proofs.lemmas.List.{get_or_append_left, get_or_default, get_or_past, get_or_push, get_or-replicate, get_or-set_other, get_or-set_same, length-replicate, length-set, length_push}
+use Rattle.std.proofs.lemmas.List.{get_or_append_left, get_or_default, get_or_past, get_or_push, get_or-replicate}
+use Rattle.std.proofs.lemmas.List.{get_or-set_other, get_or-set_same, length-replicate, length-set, length_push}
 use Rattle.std.proofs.lemmas.List.Elements.{Contains-append_left, Contains-push}
 use Rattle.std.proofs.lemmas.List.Sums.{count_by-le-length, sum_by-set}
 use Rattle.fr_graph.proofs.Counting.{one_passes, weigh}
@@ -30,8 +32,10 @@ one_fewer table y v low none some =
     omega (arith, sum_by-set weight table y v 0 low, one, other)
 
 -- the search reaches y from x, the node at the place `read`
-module _ {net : Network} {d : ℕ} {table list : List ℕ} (read x y : ℕ) (is_net : IsNet net.nodes net.links) (few : net.nodes ≤ most_nodes)
-    (s : IsSearch net d table list read) (left : read < length list) (at : slice_index list read ≡ x) (link : Points net.links y x)
+module _ {net : Network} {d : ℕ} {table list : List ℕ} (read x y : ℕ) (is_net : IsNet net.nodes net.links)
+    (few : net.nodes ≤ most_nodes)
+    (s : IsSearch net d table list read) (left : read < length list) (at : slice_index list read
+    ≡ x) (link : Points net.links y x)
     (none : slice_index table y ≡ no_distance) where
   abbrev next : ℕ
   next = slice_index table x + 1
@@ -49,13 +53,17 @@ module _ {net : Network} {d : ℕ} {table list : List ℕ} (read x y : ℕ) (is_
   low_y = omega (arith, (link_below net.nodes net.links y x is_net link).0, s.one_each)
 
   short_next : next ≤ read + 1
-  short_next = let close : slice_index table x ≤ read = subst (λ (z : ℕ). slice_index table z ≤ read) at (s.short read left) in omega (arith, close)
+  short_next =
+      let close : slice_index table x ≤ read = subst (λ (z : ℕ). slice_index table z ≤ read) at (s.short read left) in
+      omega (arith, close)
 
   few_listed : length list ≤ net.nodes
   few_listed = omega (arith, s.room)
 
   listed_some : (k : ℕ) → k < length list → slice_index list k ≢ y
-  listed_some k l e = let close : slice_index table y ≤ k = subst (λ (z : ℕ). slice_index table z ≤ k) e (s.short k l) in omega (arith, close, none, l, few_listed, few)
+  listed_some k l e =
+      let close : slice_index table y ≤ k = subst (λ (z : ℕ). slice_index table z ≤ k) e (s.short k l) in
+      omega (arith, close, none, l, few_listed, few)
 
   at_y : slice_index after y ≡ next
   at_y = get_or-set_same table y next 0 low_y
@@ -100,11 +108,13 @@ module _ {net : Network} {d : ℕ} {table list : List ℕ} (read x y : ℕ) (is_
         let was = at_other z other in
         let held : slice_index table z ≢ no_distance = λ e. some (was ∙ e) in
         let (w, points, is) = s.from z low held apart in
-        let not_y : w ≢ y = λ e. let far : slice_index table w ≡ no_distance = rw e none in omega (arith, far, is, some_low z low held, few) in
+        let not_y : w ≢ y = λ e. let far : slice_index table w ≡ no_distance = rw e none in
+        omega (arith, far, is, some_low z low held, few) in
         (w, points, was ∙ (is ∙ rw (at_other w not_y) refl))
   ]
 
-  done_there : (k z : ℕ) → k < read → Points net.links z (slice_index more k) → slice_index after z ≤ slice_index after (slice_index more k) + 1
+  done_there : (k z : ℕ) → k < read → Points net.links z (slice_index more k)
+      → slice_index after z ≤ slice_index after (slice_index more k) + 1
   done_there k z l points =
       let inside : k < length list = omega (arith, l, left) in
       let was = s.done k z l (subst (λ (q : ℕ). Points net.links z q) (list_at k inside) points) in
@@ -115,7 +125,8 @@ module _ {net : Network} {d : ℕ} {table list : List ℕ} (read x y : ℕ) (is_
         | inr other ↦ omega (arith, was, at_other z other)
       ])
 
-  rising_there : (i j : ℕ) → i ≤ j → j < length more → slice_index after (slice_index more i) ≤ slice_index after (slice_index more j)
+  rising_there : (i j : ℕ) → i ≤ j → j < length more
+      → slice_index after (slice_index more i) ≤ slice_index after (slice_index more j)
   rising_there i j le l = elim (cases_lt j (length list)) [
     | inl lt ↦ omega (arith, value_at i (omega (arith, le, lt)), value_at j lt, s.rising i j le lt)
     | inr ge ↦
@@ -124,12 +135,18 @@ module _ {net : Network} {d : ℕ} {table list : List ℕ} (read x y : ℕ) (is_
           | inl lt ↦
               let level = s.level i lt left in
               subst (λ (q : ℕ). slice_index after (slice_index more i) ≤ slice_index after (slice_index more q)) last
-              (omega (arith, value_at i lt, value_end, subst (λ (q : ℕ). slice_index table (slice_index list i) ≤ slice_index table q + 1) at level))
+              (omega (
+                arith,
+                value_at i lt,
+                value_end,
+                subst (λ (q : ℕ). slice_index table (slice_index list i) ≤ slice_index table q + 1) at level,
+              ))
           | inr past ↦ let same : i ≡ j = omega (arith, past, le, last) in rw same (omega arith)
         ]
   ]
 
-  level_there : (k : ℕ) → k < length more → read < length more → slice_index after (slice_index more k) ≤ slice_index after (slice_index more read) + 1
+  level_there : (k : ℕ) → k < length more → read < length more
+      → slice_index after (slice_index more k) ≤ slice_index after (slice_index more read) + 1
   level_there k l _ =
       let base : slice_index after (slice_index more read) ≡ slice_index table x = value_at read left ∙ rw at refl in
       places (λ q. slice_index after (slice_index more q) ≤ slice_index after (slice_index more read) + 1)
@@ -140,10 +157,23 @@ module _ {net : Network} {d : ℕ} {table list : List ℕ} (read x y : ℕ) (is_
   reaches = record {
     one_each = length-set table y next ∙ s.one_each;
     node = s.node;
-    home = at_other d (λ e. let far : slice_index table d ≡ no_distance = rw e none in omega (arith, far, s.home)) ∙ s.home;
+    home =
+        at_other d (λ e. let far : slice_index table d ≡ no_distance = rw e none in omega (arith, far, s.home))
+        ∙ s.home;
     inside = omega (arith, s.inside, long);
-    below = places (λ k. slice_index more k < net.nodes) (λ k l. rw (list_at k l) (s.below k l)) (rw list_end (omega (arith, low_y, s.one_each)));
-    short = places (λ k. slice_index after (slice_index more k) ≤ k) (λ k l. rw (value_at k l) (s.short k l)) (omega (arith, value_end, short_next, left));
+    below =
+        places (λ k. slice_index more k < net.nodes) (λ k l. rw (list_at k l) (s.below k l)) (rw list_end (omega (
+          arith,
+          low_y,
+          s.one_each,
+        )));
+    short =
+        places (λ k. slice_index after (slice_index more k) ≤ k) (λ k l. rw (value_at k l) (s.short k l)) (omega (
+          arith,
+          value_end,
+          short_next,
+          left,
+        ));
     listed = λ z low some. elim (cases_eq z y) [
       | inl e ↦ rw e (Contains-push list y)
       | inr other ↦ Contains-append_left list (y ∷ []) z (s.listed z low (λ e. some (at_other z other ∙ e)))
@@ -152,11 +182,18 @@ module _ {net : Network} {d : ℕ} {table list : List ℕ} (read x y : ℕ) (is_
     rising = rising_there;
     level = level_there;
     done = done_there;
-    room = omega (arith, long, s.room, one_fewer table y next low_y none (λ e. omega (arith, e, short_next, left, few_listed, few)));
+    room =
+        omega (
+          arith,
+          long,
+          s.room,
+          one_fewer table y next low_y none (λ e. omega (arith, e, short_next, left, few_listed, few)),
+        );
   }
 
   -- the neighbours that the search has passed stay within reach
-  pub reached_stays : (entries : List (ℕ × First)) (place : ℕ) → HasReached table x entries place → HasReached after x entries place
+  pub reached_stays : (entries : List (ℕ × First)) (place : ℕ) → HasReached table x entries place
+      → HasReached after x entries place
   reached_stays entries place reached k e lt inward =
       let z = (get_or entries k e).0 in
       elim (cases_eq z y) [
@@ -165,18 +202,23 @@ module _ {net : Network} {d : ℕ} {table list : List ℕ} (read x y : ℕ) (is_
       ]
 
 -- one more entry of the row has been passed
-pub reached_more : (table : List ℕ) (x : ℕ) (row : List (ℕ × First)) (place : ℕ) (e : ℕ × First) → HasReached table x row place → place < length row
-    → ((get_or row place e).1 ≡ Inward → slice_index table (get_or row place e).0 ≤ slice_index table x + 1) → HasReached table x row (place + 1)
+pub reached_more : (table : List ℕ) (x : ℕ) (row : List (ℕ × First)) (place : ℕ) (e : ℕ × First)
+    → HasReached table x row place → place < length row
+    → ((get_or row place e).1 ≡ Inward → slice_index table (get_or row place e).0 ≤ slice_index table x + 1)
+    → HasReached table x row (place + 1)
 reached_more table x row place e reached l here k d lt inward = elim (cases_lt k place) [
   | inl less ↦ reached k d less inward
   | inr past ↦
-      let at : get_or row k d ≡ get_or row place e = let k_is : k ≡ place = omega arith in rw k_is (get_or_default row place d e l) in
+      let at : get_or row k d ≡ get_or row place e = let k_is : k ≡ place = omega arith in
+      rw k_is (get_or_default row place d e l) in
       rw at (here (rw at at inward))
 ]
 
 -- the search has read a row to its end
-pub row_read : {net : Network} {d : ℕ} {table list : List ℕ} (read x : ℕ) → IsNet net.nodes net.links → IsSearch net d table list read
-    → read < length list → slice_index list read ≡ x → HasReached table x (row net.nodes net.links x) (length (row net.nodes net.links x))
+pub row_read : {net : Network} {d : ℕ} {table list : List ℕ} (read x : ℕ) → IsNet net.nodes net.links
+    → IsSearch net d table list read
+    → read < length list → slice_index list read ≡ x
+    → HasReached table x (row net.nodes net.links x) (length (row net.nodes net.links x))
     → IsSearch net d table list (read + 1)
 row_read {net} {d} {table} {list} read x is_net s left at reached = record {
   one_each = s.one_each;
@@ -193,7 +235,8 @@ row_read {net} {d} {table} {list} read x is_net s left at reached = record {
     | inl less ↦ s.done k y less points
     | inr past ↦
         let is : slice_index list k ≡ x = let k_is : k ≡ read = omega arith in rw k_is at in
-        let (i, inside, e) = row_of_in net.nodes net.links x y is_net (subst (λ (q : ℕ). Points net.links y q) is points) in
+        let (i, inside, e) =
+        row_of_in net.nodes net.links x y is_net (subst (λ (q : ℕ). Points net.links y q) is points) in
         let Near : ℕ × First → Type 0 = λ q. q.1 ≡ Inward → slice_index table q.0 ≤ slice_index table x + 1 in
         let near : Near (y, Inward) = subst Near e (reached i (y, Inward) inside) in
         rw is (near refl)
@@ -202,7 +245,8 @@ row_read {net} {d} {table} {list} read x is_net s left at reached = record {
 }
 
 -- at first only the destination is reached
-pub begins : (net : Network) (d : ℕ) → net.nodes ≤ most_nodes → d < net.nodes → IsSearch net d (set (replicate net.nodes no_distance) d 0) (d ∷ []) 0
+pub begins : (net : Network) (d : ℕ) → net.nodes ≤ most_nodes → d < net.nodes
+    → IsSearch net d (set (replicate net.nodes no_distance) d 0) (d ∷ []) 0
 begins net d few low =
     let n = net.nodes in
     let old = replicate n no_distance in
@@ -211,7 +255,8 @@ begins net d few low =
     let home : slice_index table d ≡ 0 = get_or-set_same old d 0 0 (omega (arith, size)) in
     let others : (z : ℕ) → z < n → ¬ (z ≡ d) → slice_index table z ≡ no_distance = λ z l apart.
     get_or-set_other old d z 0 0 apart ∙ get_or-replicate n z no_distance 0 l in
-    let only : (k : ℕ) → k < 1 → slice_index (d ∷ []) k ≡ d = λ k l. let zero_is : k ≡ 0 = omega arith in rw zero_is refl in
+    let only : (k : ℕ) → k < 1 → slice_index (d ∷ []) k ≡ d = λ k l. let zero_is : k ≡ 0 = omega arith in
+    rw zero_is refl in
     record {
       one_each = length-set old d 0 ∙ size;
       node = low;
@@ -219,7 +264,9 @@ begins net d few low =
       inside = omega arith;
       below = λ k l. rw (only k l) low;
       short = λ k l. rw (only k l, home) (omega arith);
-      listed = λ z l some. elim (cases_eq z d) [ inl e ↦ rw e (0, omega arith, refl) | inr apart ↦ absurd (some (others z l apart)) ];
+      listed =
+          λ z l some. elim (cases_eq z d)
+          [ inl e ↦ rw e (0, omega arith, refl) | inr apart ↦ absurd (some (others z l apart)) ];
       from = λ z l some apart. absurd (some (others z l apart));
       rising = λ i j le l. rw (only i (omega (arith, le, l)), only j l) (omega arith);
       level = λ k l _. rw (only k l) (omega arith);
@@ -234,10 +281,12 @@ begins net d few low =
     }
 
 -- when all rows have been read, all numbers agree
-pub all_reached : {net : Network} {d : ℕ} {table list : List ℕ} (read : ℕ) → IsNet net.nodes net.links → net.nodes ≤ most_nodes
+pub all_reached : {net : Network} {d : ℕ} {table list : List ℕ} (read : ℕ) → IsNet net.nodes net.links
+    → net.nodes ≤ most_nodes
     → IsSearch net d table list read → length list ≤ read → AllAgree net.nodes net.links d table
 all_reached {net} {d} {table} {list} read is_net few s end =
-    let low : (x : ℕ) → x < net.nodes → slice_index table x ≢ no_distance → slice_index table x ≤ net.nodes = λ x l some.
+    let low : (x : ℕ) → x < net.nodes → slice_index table x ≢ no_distance → slice_index table x ≤ net.nodes =
+    λ x l some.
     let (k, inside, e) = s.listed x l some in
     let is : slice_index list k ≡ x = get_or_default list k 0 x inside ∙ e in
     let close : slice_index table x ≤ k = subst (λ (q : ℕ). slice_index table q ≤ k) is (s.short k inside) in
@@ -262,7 +311,11 @@ all_reached {net} {d} {table} {list} read is_net few s end =
                   let is : slice_index list k ≡ w = get_or_default list k 0 w inside ∙ e in
                   let points_there : Points net.links x (slice_index list k) = rw is points in
                   let near : slice_index table x ≤ slice_index table w + 1 =
-                  subst (λ (q : ℕ). slice_index table x ≤ slice_index table q + 1) is (s.done k x (omega (arith, inside, end)) points_there) in
+                  subst (λ (q : ℕ). slice_index table x ≤ slice_index table q + 1) is (s.done k x (omega (
+                    arith,
+                    inside,
+                    end,
+                  )) points_there) in
                   omega (arith, near, low w low_w some, few)
             ];
         from = λ apart some. s.from x l some apart;
@@ -270,8 +323,10 @@ all_reached {net} {d} {table} {list} read is_net few s end =
     }
 
 -- the search passes one more entry of the row that it reads
-module _ {net : Network} {before first table list : List ℕ} (d x read : ℕ) (entries : List (ℕ × First)) (place : ℕ) (is_net : IsNet net.nodes net.links)
-    (few : net.nodes ≤ most_nodes) (begun : IsSearch net d before first read) (entries_are : entries ≡ row net.nodes net.links x)
+module _ {net : Network} {before first table list : List ℕ} (d x read : ℕ) (entries : List (ℕ
+    × First)) (place : ℕ) (is_net : IsNet net.nodes net.links)
+    (few : net.nodes ≤ most_nodes) (begun : IsSearch net d before first read) (entries_are : entries
+    ≡ row net.nodes net.links x)
     (inside : place < length entries) (reading : IsReading net before first x read entries place table list) where
   abbrev entry : ℕ × First
   entry = get_or entries place (0, Outward)
@@ -280,21 +335,26 @@ module _ {net : Network} {before first table list : List ℕ} (d x read : ℕ) (
   pub has_room : (y : ℕ) → y < net.nodes → slice_index table y ≡ no_distance → length list < net.nodes
   has_room y low none =
       let s = reading.search d begun in
-      let one = one_passes (λ number. eqb number no_distance) table y 0 (omega (arith, low, s.one_each)) (rw none refl) in
+      let one =
+      one_passes (λ number. eqb number no_distance) table y 0 (omega (arith, low, s.one_each)) (rw none refl) in
       omega (arith, one, s.room)
 
   -- if it reaches the neighbour
-  pub reading_reached : (next : ℕ) → next ≡ slice_index before x + 1 → entry.1 ≡ Inward → slice_index table entry.0 ≡ no_distance
+  pub reading_reached : (next : ℕ) → next ≡ slice_index before x + 1 → entry.1 ≡ Inward
+      → slice_index table entry.0 ≡ no_distance
       → IsReading net before first x read entries (place + 1) (set table entry.0 next) (list ++ entry.0 ∷ [])
   reading_reached next is_next inward none =
       let y = entry.0 in
       let s = reading.search d begun in
-      let link : Points net.links y x = entry_leads Inward net.nodes net.links x entries place (0, Outward) entries_are inside inward in
+      let link : Points net.links y x =
+      entry_leads Inward net.nodes net.links x entries place (0, Outward) entries_are inside inward in
       let is : next ≡ slice_index table x + 1 = omega (arith, is_next, reading.same) in
-      let goes_on : (c : ℕ) → IsSearch net c before first read → IsSearch net c (set table y (slice_index table x + 1)) (list ++ y ∷ []) read = λ c t.
+      let goes_on : (c : ℕ) → IsSearch net c before first read
+      → IsSearch net c (set table y (slice_index table x + 1)) (list ++ y ∷ []) read = λ c t.
       reaches read x y is_net few (reading.search c t) reading.left reading.here link none in
       let apart : x ≢ y = λ e. let far : slice_index table x ≡ no_distance = rw e none in
-      let close : slice_index table x ≤ read = subst (λ (z : ℕ). slice_index table z ≤ read) reading.here (s.short read reading.left) in
+      let close : slice_index table x ≤ read =
+      subst (λ (z : ℕ). slice_index table z ≤ read) reading.here (s.short read reading.left) in
       omega (arith, far, close, reading.left, s.room, few) in
       rw is record {
         one_each = length-set table y (slice_index table x + 1) ∙ reading.one_each;
@@ -303,16 +363,22 @@ module _ {net : Network} {before first table list : List ℕ} (d x read : ℕ) (
         same = get_or-set_other table y x (slice_index table x + 1) 0 apart ∙ reading.same;
         search = goes_on;
         reached = reached_more (set table y (slice_index table x + 1)) x entries place (0, Outward)
-            (reached_stays read x y is_net few s reading.left reading.here link none entries place reading.reached) inside
+            (reached_stays read x y is_net few s reading.left reading.here link none entries place reading.reached)
+            inside
             (λ _. omega (
               arith,
-              get_or-set_same table y (slice_index table x + 1) 0 (omega (arith, (link_below net.nodes net.links y x is_net link).0, s.one_each)),
+              get_or-set_same table y (slice_index table x + 1) 0 (omega (
+                arith,
+                (link_below net.nodes net.links y x is_net link).0,
+                s.one_each,
+              )),
               get_or-set_other table y x (slice_index table x + 1) 0 apart,
             ));
       }
 
   -- if the link points to the neighbour, or the neighbour was reached before
-  pub reading_passed : (entry.1 ≡ Inward → slice_index table entry.0 ≢ no_distance) → IsReading net before first x read entries (place + 1) table list
+  pub reading_passed : (entry.1 ≡ Inward → slice_index table entry.0 ≢ no_distance)
+      → IsReading net before first x read entries (place + 1) table list
   reading_passed known =
       let s = reading.search d begun in
       record {
@@ -326,6 +392,7 @@ module _ {net : Network} {before first table list : List ℕ} (d x read : ℕ) (
             let (k, l, e) = s.listed entry.0 low (known inward) in
             let is : slice_index list k ≡ entry.0 = get_or_default list k 0 entry.0 l ∙ e in
             let level : slice_index table (slice_index list k) ≤ slice_index table x + 1 =
-            subst (λ (q : ℕ). slice_index table (slice_index list k) ≤ slice_index table q + 1) reading.here (s.level k l reading.left) in
+            subst (λ (q : ℕ). slice_index table (slice_index list k) ≤ slice_index table q
+            + 1) reading.here (s.level k l reading.left) in
             subst (λ (q : ℕ). slice_index table q ≤ slice_index table x + 1) is level);
       }

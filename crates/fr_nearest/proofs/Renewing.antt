@@ -11,11 +11,17 @@ use Rattle.fr_nearest.specs.declared.distance_changes.DistanceChanges.{DistanceC
 use Rattle.fr_nearest.proofs.Noting.{changed_of}
 
 -- The vector has got the distances `now` as its elements, and the changes are noted of what is read from it
-pub renewed : (net : Network) (d : ℕ) (old : Measured) (of : Vec ℕ Global) {first now read : List ℕ} {changes : DistanceChanges}
+pub renewed : (net : Network) (d : ℕ) (old : Measured) (of : Vec ℕ Global) {first now read : List ℕ}
+    {changes : DistanceChanges}
     → first ≡ old.table → length now ≡ length of.items → AreDistances net.nodes net.links d now
     → read ≡ (with_items of now).items → AreAllNoted read changes → changes.before.items ≡ first
     → IsRenewed net d old
-    (record { dest = d; table = (with_items of now).items; before = changes.before.items; changed = changes.nodes.items })
+    (record {
+      dest = d;
+      table = (with_items of now).items;
+      before = changes.before.items;
+      changed = changes.nodes.items;
+    })
 renewed net d old of {first} {now} {read} {changes} was long are read_is noted before =
     rw table_is (record {
       dest = refl;

@@ -1,7 +1,8 @@
 -- What the definitions of distances and ways imply.
-use Rattle.std.proofs.Common.{Contains, List, None, Some, [], arith, eq-eqb, eqb, eqb-true, ne_eqb, inl, inr, length, refl, slice_index, subst, suc, sym, ℕ, ⊎_elim, ◌+◌, ◌<◌, ◌∙◌, ◌∷◌, ◌≡◌, ◌≢◌, ◌≤◌, ◌++◌}
+use Rattle.std.proofs.Common.{Contains, List, [], arith, eqb, ne_eqb, inl, inr, length}
+use Rattle.std.proofs.Common.{refl, slice_index, subst, suc, sym, ℕ, ⊎_elim, ◌+◌, ◌<◌, ◌∙◌, ◌∷◌, ◌≡◌, ◌≢◌, ◌≤◌, ◌++◌}
 use Rattle.std.specs.List.{IsDistinct}
-use Rattle.std.proofs.lemmas.Bool.{cases_Bool, cases_eq, false≢true}
+use Rattle.std.proofs.lemmas.Bool.{cases_eq}
 use Rattle.std.proofs.lemmas.List.{append-nil, append_assoc, ext_get_or, get_or_default}
 use Rattle.std.proofs.lemmas.Map.Keys.{IsDistinct-from_apart}
 use Rattle.fr_core.proofs.Following.{path_distinct}
@@ -9,7 +10,8 @@ use Rattle.fr_graph.proofs.Members.{Contains-cases, Contains-head, Contains-tail
 use Rattle.fr_graph.proofs.Linking.{link_below}
 use Rattle.fr_graph.specs.Network.{Network}
 use Rattle.fr_graph.specs.Links.{HasPath, IsAcyclic, IsNet, IsPath, Points, end_of}
-use Rattle.fr_nearest.specs.Distances.{AreDistances, IsDistance, IsMeasured, IsMeasureOf, Measured, distance_of, no_distance}
+use Rattle.fr_nearest.specs.Distances.{AreDistances, IsDistance, IsMeasured, IsMeasureOf, Measured}
+use Rattle.fr_nearest.specs.Distances.{no_distance}
 use Rattle.fr_nearest.specs.Laws.{IsWalkByWays}
 use Rattle.fr_nearest.specs.Ways.{AreWays, IsFirstWay, IsNearer, IsNearestWalk, IsWay}
 
@@ -32,7 +34,8 @@ same_number links d x v w h g = elim (cases_eq v no_distance) [
   ]
 ]
 
-pub one_table : (n : ℕ) (links : List (ℕ × ℕ)) (d : ℕ) (some other : List ℕ) → AreDistances n links d some → AreDistances n links d other → some ≡ other
+pub one_table : (n : ℕ) (links : List (ℕ × ℕ)) (d : ℕ) (some other : List ℕ) → AreDistances n links d some
+    → AreDistances n links d other → some ≡ other
 one_table n links d some other h g = ext_get_or 0 some other (h.one_each ∙ sym g.one_each) (λ x l.
     let low : x < n = omega (arith, l, h.one_each) in
     same_number links d x (slice_index some x) (slice_index other x) (h.each x low) (g.each x low))
@@ -54,11 +57,16 @@ Rises links d xs = (i j : ℕ) → i < j → j < length xs → IsNearer links d 
 rises_tail : (links : List (ℕ × ℕ)) (d x : ℕ) (xs : List ℕ) → Rises links d (x ∷ xs) → Rises links d xs
 rises_tail links d x xs r i j lt l = r (suc i) (suc j) (omega arith) (omega arith)
 
-rises_head : (links : List (ℕ × ℕ)) (d x : ℕ) (xs : List ℕ) (e : ℕ) → Rises links d (x ∷ xs) → Contains xs e → IsNearer links d x e
+rises_head : (links : List (ℕ × ℕ)) (d x : ℕ) (xs : List ℕ) (e : ℕ) → Rises links d (x ∷ xs) → Contains xs e
+    → IsNearer links d x e
 rises_head links d x xs e r (k, l, is) =
-    subst (λ (q : ℕ). IsNearer links d x q) (get_or_default xs k 0 e l ∙ is) (r 0 (suc k) (omega arith) (omega (arith, l)))
+    subst (λ (q : ℕ). IsNearer links d x q) (get_or_default xs k 0 e l ∙ is) (r 0 (suc k) (omega arith) (omega (
+      arith,
+      l,
+    )))
 
-rising_same : (links : List (ℕ × ℕ)) (d : ℕ) (xs ys : List ℕ) → Rises links d xs → Rises links d ys → ((e : ℕ) → Contains xs e → Contains ys e)
+rising_same : (links : List (ℕ × ℕ)) (d : ℕ) (xs ys : List ℕ) → Rises links d xs → Rises links d ys
+    → ((e : ℕ) → Contains xs e → Contains ys e)
     → ((e : ℕ) → Contains ys e → Contains xs e) → xs ≡ ys
 rising_same links d [] [] r s to from = refl
 rising_same links d [] (y ∷ ys) r s to from = let h = from y (Contains-head y ys) in absurd (omega (arith, h.1))
@@ -72,16 +80,20 @@ rising_same links d (x ∷ xs) (y ∷ ys) r s to from =
       ]
     ] in
     let apart : (e : ℕ) → Contains xs e → ¬ (y ≡ e) = λ e h q.
-    let near : IsNearer links d x x = subst (λ (z : ℕ). IsNearer links d x z) (sym q ∙ sym heads) (rises_head links d x xs e r h) in one_nearer near near in
+    let near : IsNearer links d x x =
+    subst (λ (z : ℕ). IsNearer links d x z) (sym q
+    ∙ sym heads) (rises_head links d x xs e r h) in one_nearer near near in
     let other : (e : ℕ) → Contains ys e → ¬ (x ≡ e) = λ e h q.
-    let near : IsNearer links d y y = subst (λ (z : ℕ). IsNearer links d y z) (sym q ∙ heads) (rises_head links d y ys e s h) in one_nearer near near in
+    let near : IsNearer links d y y =
+    subst (λ (z : ℕ). IsNearer links d y z) (sym q ∙ heads) (rises_head links d y ys e s h) in one_nearer near near in
     let tails : xs ≡ ys = rising_same links d xs ys (rises_tail links d x xs r) (rises_tail links d y ys s)
     (λ e h. ⊎_elim (λ q. absurd (apart e h q)) (λ g. g) (Contains-cases e y ys (to e (Contains-tail e x xs h))))
     (λ e h. ⊎_elim (λ q. absurd (other e h q)) (λ g. g) (Contains-cases e x xs (from e (Contains-tail e y ys h)))) in
     cc
 
 -- no two elements of the list are equal
-pub distinct_of : (list : List ℕ) → ((i j : ℕ) → i < j → j < length list → slice_index list i ≢ slice_index list j) → IsDistinct eqb list
+pub distinct_of : (list : List ℕ) → ((i j : ℕ) → i < j → j < length list → slice_index list i ≢ slice_index list j)
+    → IsDistinct eqb list
 distinct_of list apart = IsDistinct-from_apart eqb list (λ i j d lt inside. ne_eqb _ _ (λ same. apart i j lt inside
     (sym (get_or_default list i d 0 (omega (arith, lt, inside))) ∙ same ∙ get_or_default list j d 0 inside)))
 
@@ -91,15 +103,19 @@ ways_once {links} {d} {x} {list} h = distinct_of list (λ i j lt inside same.
     subst (λ (z : ℕ). IsNearer links d z (slice_index list j)) same (h.order i j lt inside) in
     one_nearer near near)
 
-pub one_list : (links : List (ℕ × ℕ)) (d x : ℕ) (some other : List ℕ) → AreWays links d x some → AreWays links d x other → some ≡ other
+pub one_list : (links : List (ℕ × ℕ)) (d x : ℕ) (some other : List ℕ) → AreWays links d x some
+    → AreWays links d x other → some ≡ other
 one_list links d x some other h g =
-    rising_same links d some other h.order g.order (λ w c. (g.just w).1 ((h.just w).0 c)) (λ w c. (h.just w).1 ((g.just w).0 c))
+    rising_same links d some other h.order g.order (λ w c. (g.just w).1 ((h.just w).0 c))
+    (λ w c. (h.just w).1 ((g.just w).0 c))
 
 -- the first link of a shortest path leads one link nearer
-pub second : {links : List (ℕ × ℕ)} {d x k : ℕ} → ¬ (x ≡ d) → IsDistance links d x k → (w : ℕ) × Points links x w × ((j : ℕ) × IsDistance links d w j × (k ≡ j + 1))
+pub second : {links : List (ℕ × ℕ)} {d x k : ℕ} → ¬ (x ≡ d) → IsDistance links d x k
+    → (w : ℕ) × Points links x w × ((j : ℕ) × IsDistance links d w j × (k ≡ j + 1))
 second {links} {d} {x} {k} apart h = go h.nodes h.path h.leads h.long
   where
-    go : (vs : List ℕ) → IsPath links x vs → end_of x vs ≡ d → length vs ≡ k → (w : ℕ) × Points links x w × ((j : ℕ) × IsDistance links d w j × (k ≡ j + 1))
+    go : (vs : List ℕ) → IsPath links x vs → end_of x vs ≡ d → length vs ≡ k
+        → (w : ℕ) × Points links x w × ((j : ℕ) × IsDistance links d w j × (k ≡ j + 1))
     go [] path leads long = absurd (apart leads)
     go (w ∷ ws) path leads long = (
       w,
@@ -111,7 +127,9 @@ second {links} {d} {x} {k} apart h = go h.nodes h.path h.leads h.long
           path = path.1;
           leads = leads;
           long = refl;
-          least = λ others other there. let whole = h.least (w ∷ others) (path.0, other) there in omega (arith, whole, long);
+          least =
+              λ others other there. let whole =
+              h.least (w ∷ others) (path.0, other) there in omega (arith, whole, long);
         },
         omega (arith, long),
       ),
@@ -132,7 +150,8 @@ first_nearer links d x y k apart first h =
     ]
 
 -- if the walk goes on by the first way
-longer : (links : List (ℕ × ℕ)) (d x y k : ℕ) → ¬ (x ≡ d) → IsFirstWay links d x y → IsDistance links d y k → IsDistance links d x (k + 1)
+longer : (links : List (ℕ × ℕ)) (d x y k : ℕ) → ¬ (x ≡ d) → IsFirstWay links d x y → IsDistance links d y k
+    → IsDistance links d x (k + 1)
 longer links d x y k apart first h = record {
   nodes = y ∷ h.nodes;
   path = (first.way.link, h.path);
@@ -145,7 +164,8 @@ longer links d x y k apart first h = record {
     go [] path leads = absurd (apart leads)
     go (w ∷ ws) path leads = elim (cases_eq w y) [
       | inl e ↦
-          let least = h.least ws (subst (λ (z : ℕ). IsPath links z ws) e path.1) (subst (λ (z : ℕ). end_of z ws ≡ d) e leads) in
+          let least =
+          h.least ws (subst (λ (z : ℕ). IsPath links z ws) e path.1) (subst (λ (z : ℕ). end_of z ws ≡ d) e leads) in
           omega (arith, least)
       | inr other ↦
           let near = first.first w record { link = path.0; leads = (ws, (path.1, leads)) } other in
@@ -157,16 +177,21 @@ longer links d x y k apart first h = record {
 
 pub walk_shortest : (links : List (ℕ × ℕ)) (d x : ℕ) (rest : List ℕ) → IsNearestWalk links d x rest
     → IsPath links x rest × (end_of x rest ≡ d) × IsDistance links d x (length rest)
-walk_shortest links d x [] e = (tt, e, record { nodes = []; path = tt; leads = e; long = refl; least = λ others _ _. omega arith })
+walk_shortest links d x [] e =
+    (tt, e, record { nodes = []; path = tt; leads = e; long = refl; least = λ others _ _. omega arith })
 walk_shortest links d x (y ∷ ys) (apart, first, walk) =
-    let (path, leads, is) = walk_shortest links d y ys walk in
-    ((first.way.link, path), leads, subst (λ (k : ℕ). IsDistance links d x k) (omega arith) (longer links d x y (length ys) apart first is))
+    let (path, leads, is) = walk_shortest links d y ys walk in (
+      (first.way.link, path),
+      leads,
+      subst (λ (k : ℕ). IsDistance links d x k) (omega arith) (longer links d x y (length ys) apart first is),
+    )
 
 path_by_ways : (links : List (ℕ × ℕ)) (d x : ℕ) (rest : List ℕ) → IsWalkByWays links d x rest → IsPath links x rest
 path_by_ways links d x [] h = tt
 path_by_ways links d x (y ∷ ys) (way, walk) = (way.link, path_by_ways links d y ys walk)
 
-pub ways_distinct : (links : List (ℕ × ℕ)) (d x : ℕ) (rest : List ℕ) → IsAcyclic links → IsWalkByWays links d x rest → IsDistinct eqb (x ∷ rest)
+pub ways_distinct : (links : List (ℕ × ℕ)) (d x : ℕ) (rest : List ℕ) → IsAcyclic links → IsWalkByWays links d x rest
+    → IsDistinct eqb (x ∷ rest)
 ways_distinct links d x rest acyclic walk = path_distinct links acyclic x rest (path_by_ways links d x rest walk)
 
 -- without a cycle, no way leads from the destination
@@ -175,19 +200,8 @@ no_way_home {links} {d} {w} acyclic way = acyclic d (w ∷ way.leads.0) ((way.li
 
 -- The walk by first ways, step by step
 
-pub distance_none : (v : ℕ) → distance_of v ≡ None → v ≡ no_distance
-distance_none v e = elim (cases_Bool (eqb v no_distance)) [
-  | inl t ↦ eqb-true v no_distance t
-  | inr f ↦ let some : distance_of v ≡ Some v = rw f refl in cc
-]
-
-pub distance_some : (v k : ℕ) → distance_of v ≡ Some k → (k ≡ v) × (v ≢ no_distance)
-distance_some v k e = elim (cases_Bool (eqb v no_distance)) [
-  | inl t ↦ let none : distance_of v ≡ None = rw t refl in cc
-  | inr f ↦ let some : distance_of v ≡ Some v = rw f refl in (cc, λ is. false≢true (sym f ∙ eq-eqb v no_distance is))
-]
-
-module _ (net : Network) (m : Measured) (at : ℕ) (is_net : IsNet net.nodes net.links) (are : IsMeasureOf net m) (low : at < net.nodes)
+module _ (net : Network) (m : Measured) (at : ℕ) (is_net : IsNet net.nodes net.links) (are : IsMeasureOf net m)
+    (low : at < net.nodes)
     (some : slice_index m.table at ≢ no_distance) where
   own : IsDistance net.links m.dest at (slice_index m.table at)
   own = (are.each at low).some some
@@ -201,10 +215,14 @@ module _ (net : Network) (m : Measured) (at : ℕ) (is_net : IsNet net.nodes net
   pub next_some : (next : ℕ) → IsFirstWay net.links m.dest at next → slice_index m.table next ≢ no_distance
   next_some next first none = (are.each next (next_low next first)).none none first.way.leads
 
-  pub next_nearer : (next : ℕ) → IsFirstWay net.links m.dest at next → slice_index m.table at ≡ slice_index m.table next + 1
+  pub next_nearer : (next : ℕ) → IsFirstWay net.links m.dest at next
+      → slice_index m.table at ≡ slice_index m.table next + 1
   next_nearer next first =
-      let (j, there, is) = first_nearer net.links m.dest at next (slice_index m.table at) (not_home next first) first own in
-      let same = one_distance net.links m.dest next j (slice_index m.table next) there ((are.each next (next_low next first)).some (next_some next first)) in
+      let (j, there, is) =
+      first_nearer net.links m.dest at next (slice_index m.table at) (not_home next first) first own in
+      let same =
+      one_distance net.links m.dest next j (slice_index m.table next) there
+      ((are.each next (next_low next first)).some (next_some next first)) in
       omega (arith, is, same)
 
   pub home : ((w : ℕ) → ¬ IsWay net.links m.dest at w) → at ≡ m.dest
@@ -217,12 +235,11 @@ module _ (net : Network) (m : Measured) (at : ℕ) (is_net : IsNet net.nodes net
 
 -- the walk so far goes on to a whole walk
 pub record GoesOn (links : List (ℕ × ℕ)) (d x at : ℕ) (walk : List ℕ) : Type 0 where
-  pub whole : (rest : List ℕ) → IsNearestWalk links d at rest → (all : List ℕ) × IsNearestWalk links d x all × (walk ++ rest ≡ x ∷ all)
+  pub whole : (rest : List ℕ) → IsNearestWalk links d at rest
+      → (all : List ℕ) × IsNearestWalk links d x all × (walk ++ rest ≡ x ∷ all)
 
-pub goes_first : (links : List (ℕ × ℕ)) (d x : ℕ) → GoesOn links d x x (x ∷ [])
-goes_first links d x = record { whole = λ rest walk. (rest, walk, refl) }
-
-pub goes_next : {links : List (ℕ × ℕ)} {d x at : ℕ} {walk : List ℕ} (next : ℕ) → ¬ (at ≡ d) → IsFirstWay links d at next → GoesOn links d x at walk
+pub goes_next : {links : List (ℕ × ℕ)} {d x at : ℕ} {walk : List ℕ} (next : ℕ) → ¬ (at ≡ d)
+    → IsFirstWay links d at next → GoesOn links d x at walk
     → GoesOn links d x next (walk ++ next ∷ [])
 goes_next {links} {d} {x} {at} {walk} next apart first g = record {
   whole = λ rest there.

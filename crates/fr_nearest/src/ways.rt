@@ -79,8 +79,8 @@ fn pointed_away(first: First, own: u64, other: u64) -> bool
     }
 }
 
-/// Does the same for the ways that node `x` had before a round in which each node has turned so often. The distances
-/// are those before the round.
+/// Ranks the ways that node `x` had before a round in which each node has turned so often, as [`rank_ways`] ranks those
+/// that it has. The distances are those before the round.
 fn rank_ways_before(
     net: &Net,
     x: u32,
@@ -148,8 +148,9 @@ impl Distances {
         Ok(())
     }
 
-    /// Does the same in a caller's slice, for callers that cannot allocate. It writes the ways to the front of the
-    /// slice, and returns how many they are. The rest of the slice is space for the work: its values then mean nothing.
+    /// Lists the ways of node `x` as [`ways`](Self::ways) does, in a caller's slice, for callers that cannot allocate.
+    /// It writes them to the front of the slice, and returns how many they are. The rest of the slice is space for the
+    /// work: its values then mean nothing.
     ///
     /// The slice must have one place for each node of the network. O(d log d).
     pub fn ways_in(&self, net: &Net, x: u32, space: &mut [u32]) -> usize

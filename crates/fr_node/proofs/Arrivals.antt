@@ -183,5 +183,8 @@ packets_arrive routers node quiet x w within linked = arrive routers node (are_t
     (λ y. (v : ℕ) × IsLinkedTo (node y) v)
     (λ y inside links. ⊎_elim (λ g. inl g) (λ still. inr (has_way routers node quiet y inside still links.0 links.1))
     (quiet.still y inside))
-    (λ y v inside _ sends. (y, up_linked (node v) y (leads routers node (are_told routers node quiet) y inside v sends).1))
+    (λ y v inside _ sends. (
+      y,
+      up_linked (node v) y (leads routers node (are_told routers node quiet) y inside v sends).1,
+    ))
     x within (w, linked)

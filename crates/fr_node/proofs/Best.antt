@@ -1,5 +1,6 @@
 -- The best link of a list, and of one link more.
-use Rattle.std.proofs.Common.{All, Bool, List, MatchOption, None, Option, Some, [], add-one, arith, cond, false, get_or, length, refl, subst, suc, sym, take, true, zero, ℕ, ⊎_elim, ◌++◌, ◌+◌, ◌∷◌, ◌<◌, ◌≡◌, ◌≤◌}
+use Rattle.std.proofs.Common.{All, Bool, List, MatchOption, None, Option, Some, [], add-one, arith, cond, false, get_or}
+use Rattle.std.proofs.Common.{length, refl, subst, suc, sym, take, true, zero, ℕ, ⊎_elim, ◌++◌, ◌+◌, ◌∷◌, ◌<◌, ◌≡◌, ◌≤◌}
 use Rattle.std.specs.Cmp.{IsStrictWeakOrder}
 use Rattle.std.proofs.lemmas.Bool.{cases_Bool}
 use Rattle.std.proofs.lemmas.Bool.Decides.{nat_tests}

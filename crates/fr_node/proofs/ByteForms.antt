@@ -1,5 +1,6 @@
 -- What the bytes of a message are.
-use Rattle.std.proofs.Common.{List, ap, arith, drop, get_or, length, refl, subst, sym, take, w32, w64, ℕ, ⊎_elim, ◌+◌, ◌++◌, ◌-◌, ◌<◌, ◌^◌, ◌∙◌, ◌≡◌}
+use Rattle.std.proofs.Common.{List, ap, arith, drop, get_or, length, refl, subst, sym, take, w32, w64, ℕ, ⊎_elim, ◌+◌}
+use Rattle.std.proofs.Common.{◌++◌, ◌-◌, ◌<◌, ◌^◌, ◌∙◌, ◌≡◌}
 use Rattle.std.specs.Int.{from_be_bytes}
 use Rattle.std.proofs.Math.Seq.{take-add}
 use Rattle.std.proofs.lemmas.Bool.{cases_lt}

@@ -1,5 +1,5 @@
--- No call changes the cost of a link to a known neighbour.
-use Rattle.std.proofs.Common.{Bool, List, [], ap, arith, inl, inr, length, map, refl, subst, sym, ℕ, ⊎_elim}
+-- No call but `set_cost` changes the cost of a link to a known neighbour.
+use Rattle.std.proofs.Common.{Bool, IsTrue, List, [], ap, arith, inl, inr, length, map, refl, subst, sym, ℕ, ⊎_elim}
 use Rattle.std.proofs.Common.{◌++◌, ◌∷◌, ◌≡◌, ◌∙◌}
 use Rattle.std.proofs.lemmas.List.{length-map, length_push}
 use Rattle.fr_node.specs.declared.link.Link.{Link}
@@ -8,7 +8,8 @@ use Rattle.fr_node.specs.declared.node.Node.{Node}
 use Rattle.fr_node.specs.declared.own.Own.{Own}
 use Rattle.fr_node.specs.Daemons.{KeepsLinks}
 use Rattle.fr_node.specs.Heights.{CostsStay}
-use Rattle.fr_node.specs.Links.{Hears, IsKnown, Says, SetsUp, after_tick, link_to, place_of, unknown}
+use Rattle.fr_node.specs.Links.{Changes, Hears, IsKnown, Says, after_tick, link_to, place_of, unknown}
+use Rattle.fr_node.specs.Links.{with_carrier, with_cost}
 use Rattle.fr_node.specs.Repeats.{AreCalls, IsCall, last_node}
 use Rattle.fr_node.proofs.Daemons.{known_stays, place_pushed}
 use Rattle.fr_node.proofs.Stepping.{same_or_not, taken_or_not}
@@ -46,38 +47,40 @@ known_alike w ls ks e known = omega (
   ap length e,
 )
 
-record Stays (w : ℕ) (ls ks : List Link) : Type 0 where
+record Stays (w : ℕ) (keeps_cost : Type 0) (ls ks : List Link) : Type 0 where
   known : IsKnown ks w
-  cost : (link_to ks w).cost ≡ (link_to ls w).cost
+  cost : keeps_cost → (link_to ks w).cost ≡ (link_to ls w).cost
 
 cost_of : (l k : Link) → k ≡ l → k.cost ≡ l.cost
 cost_of l k e = ap (λ (j : Link). j.cost) e
 
-module _ (w : ℕ) where
-  said : (v : ℕ) (m : Message) (ls ks : List Link) → Says v m ls ks → IsKnown ls w → Stays w ls ks
+module _ (w : ℕ) (keeps_cost : Type 0) where
+  said : (v : ℕ) (m : Message) (ls ks : List Link) → Says v m ls ks → IsKnown ls w → Stays w keeps_cost ls ks
   said v m ls ks says known = record {
     known = known_alike w ls ks says.neighbours known;
-    cost = ⊎_elim
+    cost = λ _. ⊎_elim
         (λ here. subst (λ u. (link_to ks u).cost ≡ (link_to ls u).cost) (sym here)
         (ap (λ (j : Link). j.cost) says.itself))
         (λ other. cost_of (link_to ls w) (link_to ks w) (says.others w other))
         (same_or_not w v);
   }
 
-  set : (v : ℕ) (up : Bool) (ls ks : List Link) → SetsUp v up ls ks → IsKnown ls w → Stays w ls ks
-  set v up ls ks sets known = record {
-    known = known_alike w ls ks sets.neighbours known;
-    cost = ⊎_elim
+  changed : (to : Link → Link) (v : ℕ) (ls ks : List Link)
+      → (v ≡ w → keeps_cost → (l : Link) → (to l).cost ≡ l.cost) → Changes to v ls ks → IsKnown ls w
+      → Stays w keeps_cost ls ks
+  changed to v ls ks same changes known = record {
+    known = known_alike w ls ks changes.neighbours known;
+    cost = λ keeps. ⊎_elim
         (λ here. subst (λ u. IsKnown ls u → (link_to ks u).cost ≡ (link_to ls u).cost) (sym here)
-        (λ there. ap (λ (j : Link). j.cost) (sets.itself there)) known)
-        (λ other. cost_of (link_to ls w) (link_to ks w) (sets.others w other))
+        (λ there. ap (λ (j : Link). j.cost) (changes.itself there) ∙ same (sym here) keeps (link_to ls v)) known)
+        (λ other. cost_of (link_to ls w) (link_to ks w) (changes.others w other))
         (same_or_not w v);
   }
 
-  heard : (own : Own) (m : Message) (ls ks : List Link) → Hears own m ls ks → IsKnown ls w → Stays w ls ks
+  heard : (own : Own) (m : Message) (ls ks : List Link) → Hears own m ls ks → IsKnown ls w → Stays w keeps_cost ls ks
   heard own m ls ks hears known = record {
     known = known_alike w ls ks hears.neighbours known;
-    cost = ⊎_elim
+    cost = λ _. ⊎_elim
         (λ here. subst (λ u. (link_to ks u).cost ≡ (link_to ls u).cost) (sym here) (⊎_elim
         (λ taken. (hears.taken taken).cost)
         (λ none. ap (λ js. (link_to js m.from).cost) (hears.ignored none))
@@ -86,53 +89,58 @@ module _ (w : ℕ) where
         (same_or_not w m.from);
   }
 
-  same : (ls ks : List Link) → ks ≡ ls → IsKnown ls w → Stays w ls ks
-  same ls ks e known = subst (Stays w ls) (sym e) (record { known = known; cost = refl })
+  same : (ls ks : List Link) → ks ≡ ls → IsKnown ls w → Stays w keeps_cost ls ks
+  same ls ks e known = subst (Stays w keeps_cost ls) (sym e) (record { known = known; cost = λ _. refl })
 
   one_more : (v c : ℕ) (ls : List Link) → IsKnown ls w
-      → Stays w ls (ls ++ record unknown { neighbour = v; cost = c } ∷ [])
+      → Stays w keeps_cost ls (ls ++ record unknown { neighbour = v; cost = c } ∷ [])
   one_more v c ls known = record {
     known = omega
         (arith, known, place_pushed ls v c w known, length_push ls (record unknown { neighbour = v; cost = c }));
-    cost = cost_of (link_to ls w) (link_to (ls ++ record unknown { neighbour = v; cost = c } ∷ []) w)
+    cost = λ _. cost_of (link_to ls w) (link_to (ls ++ record unknown { neighbour = v; cost = c } ∷ []) w)
         (known_stays ls v c w known);
   }
 
-  ticked : (patience : ℕ) (ls : List Link) → IsKnown ls w → Stays w ls (map (after_tick patience) ls)
+  ticked : (patience : ℕ) (ls : List Link) → IsKnown ls w → Stays w keeps_cost ls (map (after_tick patience) ls)
   ticked patience ls known = record {
     known = omega (arith, known, place_ticked patience ls w, length-map ls (after_tick patience));
-    cost = cost_of (after_tick patience (link_to ls w)) (link_to (map (after_tick patience) ls) w)
+    cost = λ _. cost_of (after_tick patience (link_to ls w)) (link_to (map (after_tick patience) ls) w)
         (link_to-ticked patience ls w);
   }
 
-  kept : (n k : Node) → KeepsLinks n k → IsKnown n.links.items w → Stays w n.links.items k.links.items
+  kept : (n k : Node) → KeepsLinks n k → IsKnown n.links.items w → Stays w keeps_cost n.links.items k.links.items
   kept n k (inl all) known = same n.links.items k.links.items all known
   kept n k (inr (inl (v, m, says))) known = said v m n.links.items k.links.items says known
-  kept n k (inr (inr (inl (v, c, more)))) known = subst (Stays w n.links.items) (sym more)
+  kept n k (inr (inr (inl (v, c, more)))) known = subst (Stays w keeps_cost n.links.items) (sym more)
       (one_more v c n.links.items known)
-  kept n k (inr (inr (inr (patience, ticks)))) known = subst (Stays w n.links.items) (sym ticks)
+  kept n k (inr (inr (inr (patience, ticks)))) known = subst (Stays w keeps_cost n.links.items) (sym ticks)
       (ticked patience n.links.items known)
 
-  called : (n k : Node) → IsCall n k → IsKnown n.links.items w → Stays w n.links.items k.links.items
+module _ (has_other_cost : ℕ → Bool) (w : ℕ) where
+  called : (n k : Node) → IsCall has_other_cost n k → IsKnown n.links.items w
+      → Stays w (¬ IsTrue (has_other_cost w)) n.links.items k.links.items
   called n k call known = ⊎_elim
-      (λ keeps. kept n k keeps known)
+      (λ keeps. kept w (¬ IsTrue (has_other_cost w)) n k keeps known)
       (⊎_elim
-      (λ h. heard n.own h.0 n.links.items k.links.items h.1 known)
-      (λ s. set s.0 s.1 n.links.items k.links.items s.2 known))
+      (λ h. heard w (¬ IsTrue (has_other_cost w)) n.own h.0 n.links.items k.links.items h.1 known)
+      (⊎_elim
+      (λ s. changed w (¬ IsTrue (has_other_cost w)) (with_carrier s.1) s.0 n.links.items k.links.items (λ _ _ l. refl) s.2 known)
+      (λ s. changed w (¬ IsTrue (has_other_cost w)) (with_cost s.1) s.0 n.links.items k.links.items
+      (λ here none l. absurd (none (subst (λ v. IsTrue (has_other_cost v)) here s.2))) s.3 known)))
       call.links
 
-  calls : (n : Node) (ks : List Node) → AreCalls n ks → IsKnown n.links.items w
-      → Stays w n.links.items (last_node n ks).links.items
-  calls n [] are known = record { known = known; cost = refl }
+  calls : (n : Node) (ks : List Node) → AreCalls has_other_cost n ks → IsKnown n.links.items w
+      → Stays w (¬ IsTrue (has_other_cost w)) n.links.items (last_node n ks).links.items
+  calls n [] are known = record { known = known; cost = λ _. refl }
   calls n (k ∷ ks) are known = on (called n k are.0 known) (calls k ks are.1)
     where
-      on : Stays w n.links.items k.links.items
-          → (IsKnown k.links.items w → Stays w k.links.items (last_node k ks).links.items)
-          → Stays w n.links.items (last_node k ks).links.items
+      on : Stays w (¬ IsTrue (has_other_cost w)) n.links.items k.links.items
+          → (IsKnown k.links.items w → Stays w (¬ IsTrue (has_other_cost w)) k.links.items (last_node k ks).links.items)
+          → Stays w (¬ IsTrue (has_other_cost w)) n.links.items (last_node k ks).links.items
       on first then = let rest = then first.known in record {
         known = rest.known;
-        cost = rest.cost ∙ first.cost;
+        cost = λ none. rest.cost none ∙ first.cost none;
       }
 
 pub costs_stay : CostsStay
-costs_stay n ks w are known = let stays = calls w n ks are known in (stays.known, stays.cost)
+costs_stay has_other_cost n ks w are known = let stays = calls has_other_cost w n ks are known in (stays.known, stays.cost)

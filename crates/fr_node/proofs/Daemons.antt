@@ -58,7 +58,8 @@ nameless l = record l { neighbour = 0; cost = 1 }
 -- past the list there is nothing known, also with a router of which nothing is known after it
 past_alike : (ls : List Link) (w c i : ℕ) → length ls ≤ i
     → nameless (get_or (ls ++ record unknown { neighbour = w; cost = c } ∷ []) i unknown) ≡ unknown
-past_alike ls w c i past = ap (λ (n : ℕ). nameless (get_or (ls ++ record unknown { neighbour = w; cost = c } ∷ []) n unknown))
+past_alike ls w c i past =
+    ap (λ (n : ℕ). nameless (get_or (ls ++ record unknown { neighbour = w; cost = c } ∷ []) n unknown))
     (omega (arith, past))
     ∙ ap nameless (get_or-append-add ls (record unknown { neighbour = w; cost = c } ∷ []) (i - length ls) unknown)
     ∙ after (i - length ls)

@@ -13,7 +13,7 @@ use Rattle.std.proofs.lemmas.Option.{cond_some, get_or_from_slice_get, slice_get
 use Rattle.fr_node.specs.declared.link.Link.{Link}
 use Rattle.fr_node.specs.declared.message.Message.{Message}
 use Rattle.fr_node.specs.declared.own.Own.{Own}
-use Rattle.fr_node.specs.Links.{Hears, IsHeard, IsKnown, IsNewer, IsTaken, Says, SetsUp, leads_to, link_to}
+use Rattle.fr_node.specs.Links.{Changes, Hears, IsHeard, IsKnown, IsNewer, IsTaken, Says, leads_to, link_to}
 use Rattle.fr_node.specs.Links.{place_of, unknown}
 
 -- the link x to w is listed at index i
@@ -118,16 +118,12 @@ hears_at own m ls i x k at h to newer = record {
   ignored = λ no. absurd (no ((taken_at own m ls i x at to).0 newer));
 }
 
--- the link, as the caller says
-abbrev pub with_carrier : Bool → Link → Link
-with_carrier up l = record l { carrier = up; up = up; deaf = 0 }
-
-pub sets_up_at : (w : ℕ) (up : Bool) (ls : List Link) (i : ℕ) (x : Link) → IsAt ls w i x
-    → SetsUp w up ls (set ls i (with_carrier up x))
-sets_up_at w up ls i x at = record {
-  neighbours = neighbours-set ls w i x (with_carrier up x) at refl;
-  others = link_to-set_other ls w i x (with_carrier up x) at refl;
-  itself = λ _. link_to-set ls w i x (with_carrier up x) at refl ∙ ap (with_carrier up) (sym (found_at ls w i x at));
+pub changes_at : (to : Link → Link) → ((l : Link) → (to l).neighbour ≡ l.neighbour) → (w : ℕ) (ls : List Link) (i : ℕ)
+    (x : Link) → IsAt ls w i x → Changes to w ls (set ls i (to x))
+changes_at to leads w ls i x at = record {
+  neighbours = neighbours-set ls w i x (to x) at (leads x);
+  others = link_to-set_other ls w i x (to x) at (leads x);
+  itself = λ _. link_to-set ls w i x (to x) at (leads x) ∙ ap to (sym (found_at ls w i x at));
   stranger = λ s. absurd (s (omega (arith, at.place, at.within)));
 }
 

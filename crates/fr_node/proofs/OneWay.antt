@@ -1,5 +1,6 @@
 -- For how long a neighbour may be silent or seem deaf.
-use Rattle.std.proofs.Common.{[], Bool, List, Some, ap, arith, false, inl, inr, length, map, refl, subst, sym, true, ℕ, ⊎_elim, ◌+◌, ◌^◌}
+use Rattle.std.proofs.Common.{[], Bool, List, Some, ap, arith, false, inl, inr, length, map, refl, subst, sym, true, ℕ}
+use Rattle.std.proofs.Common.{⊎_elim, ◌+◌, ◌^◌}
 use Rattle.std.proofs.Common.{◌∷◌, ◌<◌, ◌∙◌, ◌≡◌, ◌≤◌, ◌⊎◌}
 use Rattle.std.specs.List.{Contains}
 use Rattle.std.proofs.lemmas.Bool.{cases_lt}
@@ -9,13 +10,13 @@ use Rattle.fr_node.specs.declared.link.Link.{Link}
 use Rattle.fr_node.specs.declared.message.Message.{Message}
 use Rattle.fr_node.specs.declared.node.Node.{Node}
 use Rattle.fr_node.specs.Daemons.{KeepsLinks}
-use Rattle.fr_node.specs.Links.{Hears, IsTaken, SetsUp, after_tick, echo_of, is_lower, lasts, link_to, one_more, place_of}
+use Rattle.fr_node.specs.Links.{Hears, IsTaken, SetsCost, SetsUp, after_tick, echo_of, is_lower, lasts, link_to, one_more}
+use Rattle.fr_node.specs.Links.{place_of, with_carrier}
 use Rattle.fr_node.specs.OneWay.{DeafLinksAreLost, DeafLinksHoldNothingBack, HasTicks, IsDeafCall, IsForAnotherStart}
 use Rattle.fr_node.specs.OneWay.{IsSilentCall, LastsFor, SilenceIsTold}
 use Rattle.fr_node.specs.Repeats.{last_node}
 use Rattle.fr_node.proofs.Announcing.{true_false}
 use Rattle.fr_node.proofs.Daemons.{known_alike, nameless}
-use Rattle.fr_node.proofs.Linking.{with_carrier}
 use Rattle.fr_node.proofs.Stepping.{same_or_not, taken_or_not}
 use Rattle.fr_node.proofs.Ticking.{link_to-ticked}
 
@@ -92,7 +93,8 @@ module _ (flag : Link → Bool) (count : Link → ℕ) (is : IsCounted flag coun
 
   ticks : (c : ℕ) (ls ks : List Link) → ks ≡ map (after_tick patience) ls → HasWaited c ls → HasWaited (c + 1) ks
   unfolding HasWaited
-  ticks c ls ks e was = waits_on patience (c + 1) (flag (link_to ks w)) (lasts (flag (link_to ls w)) (count (link_to ls w)) patience)
+  ticks c ls ks e was =
+      waits_on patience (c + 1) (flag (link_to ks w)) (lasts (flag (link_to ls w)) (count (link_to ls w)) patience)
       (count (link_to ks w)) (one_more (flag (link_to ls w)) (count (link_to ls w)))
       (ap flag there ∙ is.flag_tick patience (link_to ls w)) (ap count there ∙ is.count_tick patience (link_to ls w))
       (longer patience c (flag (link_to ls w)) (count (link_to ls w)) fits was)
@@ -102,7 +104,8 @@ module _ (flag : Link → Bool) (count : Link → ℕ) (is : IsCounted flag coun
 
   ticks_too : (other c : ℕ) (ls ks : List Link) → ks ≡ map (after_tick other) ls → HasWaited c ls → HasWaited c ks
   unfolding HasWaited
-  ticks_too other c ls ks e was = waits_on patience c (flag (link_to ks w)) (lasts (flag (link_to ls w)) (count (link_to ls w)) other)
+  ticks_too other c ls ks e was =
+      waits_on patience c (flag (link_to ks w)) (lasts (flag (link_to ls w)) (count (link_to ls w)) other)
       (count (link_to ks w)) (one_more (flag (link_to ls w)) (count (link_to ls w)))
       (ap flag there ∙ is.flag_tick other (link_to ls w)) (ap count there ∙ is.count_tick other (link_to ls w))
       (longer_too patience other c (flag (link_to ls w)) (count (link_to ls w)) fits was)
@@ -113,7 +116,8 @@ module _ (flag : Link → Bool) (count : Link → ℕ) (is : IsCounted flag coun
   kept : (c : ℕ) (n k : Node) → KeepsLinks n k → HasWaited c n.links.items → HasWaited c k.links.items
   kept c n k (inl all) = equal c n.links.items k.links.items (ap (λ ls. link_to ls w) all)
   kept c n k (inr (inl (v, m, says))) = ⊎_elim
-      (λ here. said (subst (λ u. link_to k.links.items u ≡ record (link_to n.links.items u) { said = Some m }) (sym here)
+      (λ here. said (subst (λ u. link_to k.links.items u
+      ≡ record (link_to n.links.items u) { said = Some m }) (sym here)
       says.itself))
       (λ other. equal c n.links.items k.links.items (says.others w other))
       (same_or_not w v)
@@ -129,6 +133,20 @@ module _ (flag : Link → Bool) (count : Link → ℕ) (is : IsCounted flag coun
       same : nameless (link_to k.links.items w) ≡ nameless (link_to n.links.items w)
       same = ap (λ ls. nameless (link_to ls w)) more ∙ known_alike n.links.items v cost w
   kept c n k (inr (inr (inr (other, ticked)))) = ticks_too other c n.links.items k.links.items ticked
+
+  costs : (c v cost : ℕ) (ls ks : List Link) → SetsCost v cost ls ks → HasWaited c ls → HasWaited c ks
+  costs c v cost ls ks s = alike c ls ks
+      (sym (is.flag_nameless (link_to ks w)) ∙ ap flag same ∙ is.flag_nameless (link_to ls w))
+      (sym (is.count_nameless (link_to ks w)) ∙ ap count same ∙ is.count_nameless (link_to ls w))
+    where
+      same : nameless (link_to ks w) ≡ nameless (link_to ls w)
+      same = ⊎_elim
+          (λ here. ⊎_elim
+          (λ known. subst (λ u. nameless (link_to ks u) ≡ nameless (link_to ls u)) (sym here) (ap nameless (s.itself known)))
+          (λ past. ap (λ js. nameless (link_to js w)) (s.stranger (λ known. omega (arith, past, known))))
+          (cases_lt (place_of ls v) (length ls)))
+          (λ other. ap nameless (s.others w other))
+          (same_or_not w v)
 
   module _ (Call : Node → Node → Type 0)
       (called : (c : ℕ) (n k : Node) → Call n k → HasWaited c n.links.items → HasWaited c k.links.items) where
@@ -168,7 +186,8 @@ module _ (patience w : ℕ) (fits : patience < 2 ^ 32) where
       (λ other. same (h.others w other))
       (same_or_not w m.from)
     where
-      same : link_to ks w ≡ link_to n.links.items w → HasWaited (λ l. l.up) (λ l. l.deaf) deafness patience w fits c n.links.items
+      same : link_to ks w ≡ link_to n.links.items w
+          → HasWaited (λ l. l.up) (λ l. l.deaf) deafness patience w fits c n.links.items
           → HasWaited (λ l. l.up) (λ l. l.deaf) deafness patience w fits c ks
       same = equal (λ l. l.up) (λ l. l.deaf) deafness patience w fits c n.links.items ks
 
@@ -192,7 +211,9 @@ module _ (patience w : ℕ) (fits : patience < 2 ^ 32) where
   unfolding Seems
   deaf_call c n k (inl keeps) = kept (λ l. l.up) (λ l. l.deaf) deafness patience w fits c n k keeps
   deaf_call c n k (inr (inl (m, hears, nothing))) = heard_deaf c n m k.links.items hears nothing
-  deaf_call c n k (inr (inr (v, up, sets, down))) = set_deaf c v up n.links.items k.links.items sets down
+  deaf_call c n k (inr (inr (inl (v, up, sets, down)))) = set_deaf c v up n.links.items k.links.items sets down
+  deaf_call c n k (inr (inr (inr (v, cost, sets)))) =
+      costs (λ l. l.up) (λ l. l.deaf) deafness patience w fits c v cost n.links.items k.links.items sets
 
   silent_call : (c : ℕ) (n k : Node) → IsSilentCall w n k → Silent c n.links.items → Silent c k.links.items
   unfolding Silent
@@ -202,7 +223,9 @@ module _ (patience w : ℕ) (fits : patience < 2 ^ 32) where
       (λ here. ap (λ ls. link_to ls w) (h.ignored (nothing (sym here))))
       (λ other. h.others w other)
       (same_or_not w m.from))
-  silent_call c n k (inr (inr (v, up, s))) = ⊎_elim
+  silent_call c n k (inr (inr (inr (v, cost, sets)))) =
+      costs (λ l. l.is_heard) (λ l. l.silent) silence patience w fits c v cost n.links.items k.links.items sets
+  silent_call c n k (inr (inr (inl (v, up, s)))) = ⊎_elim
       (λ here. ⊎_elim
       (λ known. let e = subst (λ u. link_to k.links.items u ≡ with_carrier up (link_to n.links.items u)) (sym here)
       (s.itself known) in

@@ -1,5 +1,6 @@
 -- What the tests of links say that the policy makes.
-use Rattle.std.proofs.Common.{All, Bool, List, MatchOption, Option, ap, arith, false, not, refl, subst, sym, true, ℕ, ⊎_elim, ◌&&◌, ◌||◌, ◌<◌, ◌≡◌, ◌≤◌, ◌∙◌}
+use Rattle.std.proofs.Common.{All, Bool, List, MatchOption, Option, ap, arith, false, not, refl, subst, sym, true, ℕ}
+use Rattle.std.proofs.Common.{⊎_elim, ◌&&◌, ◌||◌, ◌<◌, ◌≡◌, ◌≤◌, ◌∙◌}
 use Rattle.std.specs.Prelude.{nat_le, nat_lt}
 use Rattle.std.specs.List.{Contains, list_all, list_any}
 use Rattle.std.proofs.lemmas.Bool.{cases_Bool}

@@ -41,7 +41,8 @@ module _ (t : PrefixTables) (knows : KnowsWhatComes t) where
 
 pub prefixes_have_no_loop : PrefixesHaveNoLoop
 prefixes_have_no_loop t knows none u v vs walk back = none walk.0.out u v vs
-    (alone t knows u (v ∷ vs) walk.0.out walk walk.0.by (subst (λ y. IsLongest t y walk.0.out) (sym back) walk.0.by)) back
+    (alone t knows u (v
+    ∷ vs) walk.0.out walk walk.0.by (subst (λ y. IsLongest t y walk.0.out) (sym back) walk.0.by)) back
 
 -- An example: each router knows prefix 0, and router 0 also prefix 1
 

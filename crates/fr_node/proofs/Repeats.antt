@@ -1,15 +1,16 @@
 -- A node takes no message that is not newer than one that it has heard of the same neighbour.
-use Rattle.std.proofs.Common.{[], List, ap, arith, inl, inr, subst, sym, ℕ, ⊎_elim, ◌∷◌, ◌<◌, ◌≡◌, ◌≤◌, ◌⊎◌}
+use Rattle.std.proofs.Common.{Bool, [], List, ap, arith, inl, inr, subst, sym, ℕ, ⊎_elim, ◌∷◌, ◌<◌, ◌≡◌, ◌≤◌, ◌⊎◌}
 use Rattle.std.proofs.lemmas.Bool.{cases_lt}
 use Rattle.fr_node.specs.declared.link.Link.{Link}
 use Rattle.fr_node.specs.declared.message.Message.{Message}
 use Rattle.fr_node.specs.declared.node.Node.{Node}
 use Rattle.fr_node.specs.declared.own.Own.{Own}
 use Rattle.fr_node.specs.Daemons.{KeepsLinks}
-use Rattle.fr_node.specs.Links.{Hears, IsKnown, IsNewer, link_to}
+use Rattle.fr_node.specs.Links.{Changes, Hears, IsKnown, IsNewer, link_to, with_carrier, with_cost}
 use Rattle.fr_node.specs.Repeats.{AreCalls, IsCall, RepeatsAreIgnored, last_node}
 use Rattle.fr_node.proofs.Daemons.{known_same}
-use Rattle.fr_node.proofs.Stepping.{KnowsSame, said_same, same, same_or_not, set_same, taken_or_not}
+use Rattle.fr_node.proofs.Stepping.{KnowsSame, carrier_same, changed_same, cost_same, said_same, same, same_or_not}
+use Rattle.fr_node.proofs.Stepping.{taken_or_not}
 use Rattle.fr_node.proofs.Ticking.{ticked_same}
 
 -- the node has taken a message of this start with this stamp, or one that is newer
@@ -30,11 +31,12 @@ reached_newer boot stamp m l k (inr later) start e (inl less) = inl (omega (arit
 reached_newer boot stamp m l k (inr later) start e (inr even) =
     inr (omega (arith, later.0, start, even.0), omega (arith, later.1, e, even.1))
 
-module _ (boot stamp w : ℕ) where
+module _ (has_other_cost : ℕ → Bool) (boot stamp w : ℕ) where
   heard : (own : Own) (m : Message) (ls ks : List Link) → Hears own m ls ks → HasReached boot stamp (link_to ls w)
       → HasReached boot stamp (link_to ks w)
   heard own m ls ks h was = ⊎_elim
-      (λ here. subst (λ v. HasReached boot stamp (link_to ls v) → HasReached boot stamp (link_to ks v)) (sym here) at was)
+      (λ here. subst (λ v. HasReached boot stamp (link_to ls v)
+      → HasReached boot stamp (link_to ks v)) (sym here) at was)
       (λ other. subst (HasReached boot stamp) (sym (h.others w other)) was)
       (same_or_not w m.from)
     where
@@ -52,17 +54,24 @@ module _ (boot stamp w : ℕ) where
       (known_same n.links.items v c w)
   kept n k (inr (inr (inr (patience, ticked)))) = ticked_same patience n.links.items k.links.items ticked w
 
-  called : (n k : Node) → IsCall n k → HasReached boot stamp (link_to n.links.items w)
+  changed : (to : Link → Link) → ((l : Link) → KnowsSame l (to l)) → (v : ℕ) (n k : Node)
+      → Changes to v n.links.items k.links.items → HasReached boot stamp (link_to n.links.items w)
+      → HasReached boot stamp (link_to k.links.items w)
+  changed to keeps v n k changes was = reached_same boot stamp (link_to n.links.items w) (link_to k.links.items w)
+      (changed_same to keeps v n.links.items k.links.items changes w) was
+
+  called : (n k : Node) → IsCall has_other_cost n k → HasReached boot stamp (link_to n.links.items w)
       → HasReached boot stamp (link_to k.links.items w)
   called n k call was = ⊎_elim
       (λ keeps. reached_same boot stamp (link_to n.links.items w) (link_to k.links.items w) (kept n k keeps) was)
       (⊎_elim
       (λ h. heard n.own h.0 n.links.items k.links.items h.1 was)
-      (λ s. reached_same boot stamp (link_to n.links.items w) (link_to k.links.items w)
-      (set_same s.0 s.1 n.links.items k.links.items s.2 w) was))
+      (⊎_elim
+      (λ s. changed (with_carrier s.1) (carrier_same s.1) s.0 n k s.2 was)
+      (λ s. changed (with_cost s.1) (cost_same s.1) s.0 n k s.3 was)))
       call.links
 
-  calls : (n : Node) (ks : List Node) → AreCalls n ks → HasReached boot stamp (link_to n.links.items w)
+  calls : (n : Node) (ks : List Node) → AreCalls has_other_cost n ks → HasReached boot stamp (link_to n.links.items w)
       → HasReached boot stamp (link_to (last_node n ks).links.items w)
   calls n [] are was = was
   calls n (k ∷ ks) are was = calls k ks are.1 (called n k are.0 was)
@@ -105,8 +114,8 @@ never_taken boot stamp m l (inr even) (inr old) (inl later) = omega (arith, even
 never_taken boot stamp m l (inr even) (inr old) (inr later) = omega (arith, even.1, old.1, later.1)
 
 pub repeats_are_ignored : RepeatsAreIgnored
-repeats_are_ignored m again old new between to known hears are from past taken =
-    let there = calls m.boot m.stamp m.from new between are (reached m old new to known hears) in
+repeats_are_ignored has_other_cost m again old new between to known hears are from past taken =
+    let there = calls has_other_cost m.boot m.stamp m.from new between are (reached m old new to known hears) in
     never_taken m.boot m.stamp again (link_to (last_node new between).links.items again.from)
     (subst (λ w. HasReached m.boot m.stamp (link_to (last_node new between).links.items w)) (sym from) there)
     past taken.newer

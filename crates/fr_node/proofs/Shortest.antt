@@ -18,7 +18,8 @@ use Rattle.fr_node.specs.Links.{has_answered, is_offer, is_way, offer_of}
 use Rattle.fr_node.specs.Nodes.{lets_in}
 use Rattle.fr_node.specs.Policies.{falls_to, rises_to}
 use Rattle.fr_node.specs.Shortest.{ArriveNearest, IsGateway, IsNearestWay, IsPath, IsQuietBelow, IsRoute}
-use Rattle.fr_node.specs.Shortest.{IsServed, IsStillBelow, IsWithinCeilings, LostRoutersKnow, RoutesAreShortest, cost_of}
+use Rattle.fr_node.specs.Shortest.{IsServed, IsStillBelow, IsWithinCeilings, LostRoutersKnow, RoutesAreShortest}
+use Rattle.fr_node.specs.Shortest.{cost_of}
 use Rattle.fr_node.proofs.Arrivals.{AreTold, answered, arrive, gate, leads, lower}
 use Rattle.fr_node.proofs.Least.{distance_once, least_link, least_listed, least_or_none, none_listed}
 use Rattle.fr_node.proofs.Policies.{false_true}

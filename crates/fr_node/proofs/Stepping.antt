@@ -1,5 +1,6 @@
 -- What a node does is a step of the laws.
-use Rattle.std.proofs.Common.{[], Bool, IsTrue, List, Some, ap, arith, false, inl, inr, length, refl, true, subst, sym, ℕ, ⊎_elim, ◌%◌, ◌+◌, ◌^◌, ◌∷◌, ◌<◌, ◌≡◌, ◌≢◌, ◌≤◌, ◌⊎◌, ◌∙◌}
+use Rattle.std.proofs.Common.{[], Bool, IsTrue, List, Some, ap, arith, false, inl, inr, length, refl, true, subst, sym}
+use Rattle.std.proofs.Common.{ℕ, ⊎_elim, ◌%◌, ◌+◌, ◌^◌, ◌∷◌, ◌<◌, ◌≡◌, ◌≢◌, ◌≤◌, ◌⊎◌, ◌∙◌}
 use Rattle.std.proofs.lemmas.Bool.{cases_Bool, cases_lt}
 use Rattle.std.proofs.Math.Nat.{eq-or-lt_of_le}
 use Rattle.std.proofs.lemmas.Bool.Decides.{nat_tests}
@@ -9,12 +10,13 @@ use Rattle.fr_node.specs.declared.node.Node.{Node}
 use Rattle.fr_node.specs.declared.own.Own.{Own}
 use Rattle.fr_node.specs.Events.{IsAfterEvent, unstamped}
 use Rattle.fr_node.specs.Histories.{Announces, IsHistory}
-use Rattle.fr_node.specs.Links.{Hears, IsHeard, IsNewer, IsTaken, Says, SetsUp, echo_of, is_way, link_to, place_of}
+use Rattle.fr_node.specs.Links.{Hears, IsHeard, IsNewer, IsTaken, Says, echo_of, is_way, link_to, place_of}
+use Rattle.fr_node.specs.Links.{Changes, with_carrier, with_cost}
 use Rattle.fr_node.specs.Nodes.{IsMessageTo, Steps, lets_in, router, sends_to}
 use Rattle.fr_node.specs.Policies.{Acts}
 use Rattle.fr_node.specs.Routers.{IsBelow, IsFrom, IsOpen, IsSaidBy, IsWay}
 use Rattle.fr_node.proofs.Histories.{Announces-none}
-use Rattle.fr_node.proofs.Linking.{IsAt, found_at, up_leads, with_carrier}
+use Rattle.fr_node.proofs.Linking.{IsAt, found_at, up_leads}
 
 pub same_or_not : (a b : ℕ) → (a ≡ b) ⊎ (a ≢ b)
 same_or_not a b = grind arith
@@ -173,25 +175,24 @@ takes_hears own m ls ks h w = ⊎_elim
         (ap (λ (js : List Link). link_to js m.from) (h.ignored none))))
         (taken_or_not own m ls)
 
-pub set_same : (w : ℕ) (up : Bool) (ls ks : List Link) → SetsUp w up ls ks → (v : ℕ)
-    → KnowsSame (link_to ls v) (link_to ks v)
-set_same w up ls ks s v = ⊎_elim
+-- what was heard stays, whether the link is up, and whatever it costs
+pub carrier_same : (up : Bool) (l : Link) → KnowsSame l (with_carrier up l)
+carrier_same up l = record { peer = refl; stamp = refl; heard = refl; seen = refl; acked = refl }
+
+pub cost_same : (cost : ℕ) (l : Link) → KnowsSame l (with_cost cost l)
+cost_same cost l = record { peer = refl; stamp = refl; heard = refl; seen = refl; acked = refl }
+
+pub changed_same : (to : Link → Link) → ((l : Link) → KnowsSame l (to l)) → (w : ℕ) (ls ks : List Link)
+    → Changes to w ls ks → (v : ℕ) → KnowsSame (link_to ls v) (link_to ks v)
+changed_same to keeps w ls ks s v = ⊎_elim
     (λ here. ⊎_elim
-    (λ known. known_up (subst (λ u. link_to ks u ≡ with_carrier up (link_to ls u)) (sym here) (s.itself known)))
+    (λ known. subst (λ u. KnowsSame (link_to ls u) (link_to ks u)) (sym here)
+    (subst (KnowsSame (link_to ls w)) (sym (s.itself known)) (keeps (link_to ls w))))
     (λ past. same (link_to ls v) (link_to ks v)
     (ap (λ (js : List Link). link_to js v) (s.stranger (λ known. omega (arith, past, known)))))
     (cases_lt (place_of ls w) (length ls)))
     (λ other. same (link_to ls v) (link_to ks v) (s.others v other))
     (same_or_not v w)
-  where
-    known_up : link_to ks v ≡ with_carrier up (link_to ls v) → KnowsSame (link_to ls v) (link_to ks v)
-    known_up e = record {
-      peer = ap (λ (l : Link). l.peer) e;
-      stamp = ap (λ (l : Link). l.stamp) e;
-      heard = ap (λ (l : Link). l.heard) e;
-      seen = ap (λ (l : Link). l.seen) e;
-      acked = ap (λ (l : Link). l.acked) e;
-    }
 
 steps : (pool : List Message) (old new : Node) → Announces old.own new.own
     → ((w : ℕ) → Takes pool old.own.me old.own.boot w (link_to old.links.items w) (link_to new.links.items w))
@@ -249,10 +250,10 @@ pub after_keeping : (old mid new : Node) → InTurn old mid new
 after_keeping old mid new turn knows = in_turn [] old mid new turn
     (λ w. takes_none [] old.own.me old.own.boot w (link_to old.links.items w) (link_to mid.links.items w) (knows w))
 
-pub after_setting : (w : ℕ) (up : Bool) (old mid new : Node) → InTurn old mid new
-    → SetsUp w up old.links.items mid.links.items → IsAfterEvent [] old new
-after_setting w up old mid new turn sets = after_keeping old mid new turn
-    (set_same w up old.links.items mid.links.items sets)
+pub after_changing : (to : Link → Link) → ((l : Link) → KnowsSame l (to l)) → (w : ℕ) (old mid new : Node)
+    → InTurn old mid new → Changes to w old.links.items mid.links.items → IsAfterEvent [] old new
+after_changing to keeps w old mid new turn changes = after_keeping old mid new turn
+    (changed_same to keeps w old.links.items mid.links.items changes)
 
 -- the policy has acted once more
 pub after_acting : (old mid new : Node) → mid ≡ record old { own = mid.own }
@@ -309,7 +310,8 @@ is_said_by n w m is h known = record {
 pub unstamped_same : (m : Message) → m.stamp ≡ 0 → unstamped m ≡ m
 unstamped_same m none = ap (λ (s : ℕ). record m { stamp = s }) (sym none)
 
-pub says_unstamped : (w : ℕ) (m : Message) (ls ks : List Link) → m.stamp ≡ 0 → Says w m ls ks → Says w (unstamped m) ls ks
+pub says_unstamped : (w : ℕ) (m : Message) (ls ks : List Link) → m.stamp ≡ 0 → Says w m ls ks
+    → Says w (unstamped m) ls ks
 says_unstamped w m ls ks none says = subst (λ (k : Message). Says w k ls ks) (sym (unstamped_same m none)) says
 
 pub said_same : (w : ℕ) (m : Message) (ls ks : List Link) → Says w m ls ks → (v : ℕ)

@@ -14,7 +14,8 @@ place_ticked patience (l ∷ ls) w = rw (place_ticked patience ls w) refl
 
 pub link_to-ticked : (patience : ℕ) (ls : List Link) (w : ℕ)
     → link_to (map (after_tick patience) ls) w ≡ after_tick patience (link_to ls w)
-link_to-ticked patience ls w = ap (λ (n : ℕ). get_or (map (after_tick patience) ls) n unknown) (place_ticked patience ls w)
+link_to-ticked patience ls w =
+    ap (λ (n : ℕ). get_or (map (after_tick patience) ls) n unknown) (place_ticked patience ls w)
     ∙ get_or-map (after_tick patience) ls (place_of ls w) unknown
 
 knows_tick : (patience : ℕ) (l : Link) → KnowsSame l (after_tick patience l)

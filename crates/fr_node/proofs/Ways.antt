@@ -1,5 +1,6 @@
 -- What is listed of some links, those that pass a test, and of one link more.
-use Rattle.std.proofs.Common.{Bool, List, [], ap, cond, false, get_or, length, map, take, true, ℕ, ◌++◌, ◌+◌, ◌<◌, ◌∷◌, ◌∙◌, ◌≡◌}
+use Rattle.std.proofs.Common.{Bool, List, [], ap, cond, false, get_or, length, map, take, true, ℕ, ◌++◌, ◌+◌, ◌<◌, ◌∷◌}
+use Rattle.std.proofs.Common.{◌∙◌, ◌≡◌}
 use Rattle.std.specs.List.{filter}
 use Rattle.std.proofs.lemmas.List.{append-nil, length_push, map_push, take_more}
 use Rattle.std.proofs.lemmas.List.Elements.{filter-append}

@@ -15,7 +15,8 @@ pub record IsFresh (n : Node) : Type 0 where
   pub links : n.links.items ≡ []
   pub announced : (h : ℕ → ℕ) × IsHistory n.own h
 
--- an event: `link_up` or `link_down`, a `tick` or an `act` that changes something, or `hear` of a message that was sent
+-- an event: `link_up`, `link_down` or `set_cost`, a `tick` or an `act` that changes something, or `hear` of a message
+-- that was sent
 pub record HasEvent (pool : List Message) (d e : Forwarder Node) : Type 0 where
   pub messages : List Message
   pub sent : (m : Message) → Contains messages m → Contains pool m

@@ -1,7 +1,7 @@
 -- How often a router announces the same height beside its neighbours: only as often as it goes below that height, or
 -- hears an announcement that is low enough for it. Any test may say whether height h of a neighbour w is low enough for
 -- height e of the router. The definitions and laws are this project's own.
-use Rattle.std.specs.Prelude.{Bool, List, [], ◌∷◌, if◌then◌else◌, not, true, ℕ, ◌+◌, ◌<◌, ◌≡◌, ◌≤◌, ◌⊎◌, ◌==◌}
+use Rattle.std.specs.Prelude.{Bool, IsTrue, List, [], ◌∷◌, if◌then◌else◌, not, true, ℕ, ◌+◌, ◌<◌, ◌≡◌, ◌≤◌, ◌⊎◌, ◌==◌}
 use Rattle.std.specs.Prelude.{◌&&◌, false, nat_le, nat_lt}
 use Rattle.std.specs.List.{Contains, list_any}
 use Rattle.fr_node.specs.declared.link.Link.{Link}
@@ -95,11 +95,11 @@ abbrev pub test_of : Rise → (x : ℕ) (cost : ℕ → ℕ) → (e w h : ℕ) �
 test_of Full x cost = is_below x
 test_of (Top ceiling) x cost = is_within ceiling cost
 
--- No call changes the cost of a link to a known neighbour, and a known neighbour stays known.
+-- A known neighbour stays known, and no call changes the cost of the link to it but `set_cost` for this neighbour.
 abbrev pub CostsStay : Type 0
-CostsStay = (n : Node) (ks : List Node) (w : ℕ) → AreCalls n ks → IsKnown n.links.items w
-    → IsKnown (last_node n ks).links.items w
-    × ((link_to (last_node n ks).links.items w).cost ≡ (link_to n.links.items w).cost)
+CostsStay = (has_other_cost : ℕ → Bool) (n : Node) (ks : List Node) (w : ℕ) → AreCalls has_other_cost n ks
+    → IsKnown n.links.items w → IsKnown (last_node n ks).links.items w
+    × (¬ IsTrue (has_other_cost w) → (link_to (last_node n ks).links.items w).cost ≡ (link_to n.links.items w).cost)
 
 -- Each call of a node is a step of this law. With `Rise::Full` the test is whether a neighbour is lower, with
 -- `Rise::Top` whether it offers the height.

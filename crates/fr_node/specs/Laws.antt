@@ -15,7 +15,7 @@ SomeLinkIsUsed = (s : Net) × (ts : List Net) × IsStart s × IsRun s ts × IsUs
     × ((y : ℕ) → 0 < (s.router y).boot) × ((s.router 1).boot < ((last s ts).router 1).boot)
     × (((last s ts).router 0).gateway ≡ false)
 
--- Once all messages have arrived and no router raises its height, packets of each router with a link come to a
+-- Once all messages have arrived and no router raises its height, packets of each router that has a link come to a
 -- gateway after a bounded number of links, whichever ways they take. Each router that they reach has a way itself.
 -- Links are up at both ends, and each last announcement is acknowledged. A router may announce a height, as its last
 -- announcement is in use, but its policy announces none. The next number and a greater height have 64 bits.

@@ -106,12 +106,26 @@ pub record Hears (own : Own) (m : Message) (ls ks : List Link) : Type 0 where
   pub taken : IsTaken own m ls → IsHeard own m (link_to ls m.from) (link_to ks m.from)
   pub ignored : ¬ IsTaken own m ls → ks ≡ ls
 
--- the caller says that the link to w is up, or that it is down, if w is known. All else that is known stays
-pub record SetsUp (w : ℕ) (up : Bool) (ls ks : List Link) : Type 0 where
+-- what is known of w has changed so, if w is known. All else that is known stays
+pub record Changes (to : Link → Link) (w : ℕ) (ls ks : List Link) : Type 0 where
   pub neighbours : map (λ l. l.neighbour) ks ≡ map (λ l. l.neighbour) ls
   pub others : (v : ℕ) → v ≢ w → link_to ks v ≡ link_to ls v
-  pub itself : IsKnown ls w → link_to ks w ≡ record (link_to ls w) { carrier = up; up = up; deaf = 0 }
+  pub itself : IsKnown ls w → link_to ks w ≡ to (link_to ls w)
   pub stranger : ¬ IsKnown ls w → ks ≡ ls
+
+-- the link, if the caller says that it is up, or that it is down
+abbrev pub with_carrier : Bool → Link → Link
+with_carrier up l = record l { carrier = up; up = up; deaf = 0 }
+
+abbrev pub SetsUp : (w : ℕ) (up : Bool) → List Link → List Link → Type 0
+SetsUp w up ls ks = Changes (with_carrier up) w ls ks
+
+-- the link, if it costs so much to send a packet over it
+abbrev pub with_cost : ℕ → Link → Link
+with_cost cost l = record l { cost = cost }
+
+abbrev pub SetsCost : (w cost : ℕ) → List Link → List Link → Type 0
+SetsCost w cost ls ks = Changes (with_cost cost) w ls ks
 
 -- the message m has been said to w, and is kept. All else that is known stays
 pub record Says (w : ℕ) (m : Message) (ls ks : List Link) : Type 0 where

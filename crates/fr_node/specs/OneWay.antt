@@ -6,7 +6,7 @@ use Rattle.fr_node.specs.declared.link.Link.{Link}
 use Rattle.fr_node.specs.declared.message.Message.{Message}
 use Rattle.fr_node.specs.declared.node.Node.{Node}
 use Rattle.fr_node.specs.Daemons.{KeepsLinks}
-use Rattle.fr_node.specs.Links.{Hears, IsTaken, SetsUp, after_tick, is_lower, link_to}
+use Rattle.fr_node.specs.Links.{Hears, IsTaken, SetsCost, SetsUp, after_tick, is_lower, link_to}
 use Rattle.fr_node.specs.Nodes.{IsMessageTo}
 use Rattle.fr_node.specs.Policies.{IsSink}
 use Rattle.fr_node.specs.Repeats.{last_node}
@@ -16,6 +16,7 @@ abbrev pub IsSilentCall : ℕ → Node → Node → Type 0
 IsSilentCall w n k = KeepsLinks n k
     ⊎ ((m : Message) × Hears n.own m n.links.items k.links.items × (m.from ≡ w → ¬ IsTaken n.own m n.links.items))
     ⊎ ((v : ℕ) × (up : Bool) × SetsUp v up n.links.items k.links.items)
+    ⊎ ((v cost : ℕ) × SetsCost v cost n.links.items k.links.items)
 
 -- the message is for another start of the node, and its sender has not started again
 abbrev pub IsForAnotherStart : Node → Message → Type 0
@@ -28,6 +29,7 @@ IsDeafCall w n k = KeepsLinks n k
     ⊎ ((m : Message) × Hears n.own m n.links.items k.links.items
     × (m.from ≡ w → IsTaken n.own m n.links.items → IsForAnotherStart n m))
     ⊎ ((v : ℕ) × (up : Bool) × SetsUp v up n.links.items k.links.items × (v ≡ w → up ≡ false))
+    ⊎ ((v cost : ℕ) × SetsCost v cost n.links.items k.links.items)
 
 -- the nodes in the list follow one another by such calls and by so many ticks with this patience
 abbrev pub HasTicks : (Node → Node → Type 0) → (patience ticks : ℕ) → Node → List Node → Type 0

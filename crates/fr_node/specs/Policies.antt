@@ -44,7 +44,7 @@ pub record IsAboveAll (n : Node) (v : ℕ) : Type 0 where
   pub highest : (x : Link) × IsBest is_up is_higher n.links.items x × (v ≡ x.seen + 1)
   pub fits : v < 2 ^ 64
 
--- a router whose height no neighbour offers rises to v, the height of a router without a route
+-- a router rises to v, the height of a router without a route, if no neighbour offers its height or less
 pub record IsAtTop (n : Node) (ceiling v : ℕ) : Type 0 where
   pub none : All (λ l. is_offer ceiling l ≡ true → n.own.announced < offer_of l) n.links.items
   pub top : v ≡ CUT_OFF

@@ -41,7 +41,7 @@ pub fn prefixes_law()
     ensures possible { SomePrefixIsLonger }
 {}
 
-/// Once all messages have arrived and no router changes its height, packets of each router with a link come to a
+/// Once all messages have arrived and no router changes its height, packets of each router that has a link come to a
 /// gateway. The routers have `Rise::Full`. Packets arrive whichever ways they take, and each router that they reach lets them in.
 pub fn ways_law()
     ensures { PacketsArrive }
@@ -59,8 +59,8 @@ pub fn shortest_law()
     ensures possible { SomeRouteIsShortest }
 {}
 
-/// Routers that stay below a ceiling come to rest, also those that are cut off: while no link goes up or down and
-/// no router restarts, they announce a bounded number of heights together, whatever happens to messages. Each of them
+/// Routers that stay below a ceiling come to rest, also those that are cut off: while no link goes up or down, no cost
+/// changes and no router restarts, they announce a bounded number of heights together, whatever happens to messages. Each of them
 /// acts as in `heights_law`, and may do so by a test of its own, if only heights below its own are low enough. Such
 /// tests are whether a neighbour is lower, and whether it offers the height: its height and the cost of the link to it
 /// are together below the ceiling, and at most the height. Instead of heights below the ceiling they may announce one
@@ -101,7 +101,7 @@ pub fn lowering_law()
 /// if no neighbour is known to be low enough for its height, and falls to a height only if one is known to be low
 /// enough for that. Any test may say what is low enough. In some run a height comes back as often as the law allows.
 /// Each call of a `Node` is a step of this law: with `Rise::Full` by the test whether a neighbour is lower, and with
-/// `Rise::Top` by the test whether it offers the height. No call changes the cost of a link, so this test stays.
+/// `Rise::Top` by the test whether it offers the height. Only `set_cost` changes the cost of a link, so this test stays until it is called.
 pub fn heights_law()
     ensures again { SameHeightIsBounded }
     ensures possible { SomeHeightComesBack }

@@ -2,7 +2,7 @@
 
 ghost use Rattle.std.specs.Prelude.{◌≡◌, ◌≢◌, ◌<◌, ◌≤◌, ◌⊎◌, ◌↔◌, IsTrue, MatchOption, false, true};
 ghost use Rattle.fr_node.specs.Distances.{distance_over, way_of};
-ghost use Rattle.fr_node.specs.Links.{IsHeard, IsNewer, after_tick, echo_of, has_answered, is_lost, is_lower, is_offer, is_way, lasts, offer_of, one_more};
+ghost use Rattle.fr_node.specs.Links.{IsHeard, IsNewer, after_tick, echo_of, has_answered, is_lost, is_lower, is_offer, is_way, lasts, offer_of, one_more, with_carrier, with_cost};
 
 use crate::message::{CUT_OFF, Message};
 use crate::own::Own;
@@ -152,9 +152,16 @@ impl Link {
         }
     }
 
+    /// If it costs so much to send a packet over the link.
+    pub(crate) fn with_cost(self, cost: u32) -> Link
+        ensures { result ≡ with_cost cost self }
+    {
+        Link { cost, ..self }
+    }
+
     /// With what the caller says: that the link is up, or that it is down.
     pub(crate) fn with_carrier(self, up: bool) -> Link
-        ensures { result ≡ record self { carrier = up; up = up; deaf = 0 } }
+        ensures { result ≡ with_carrier up self }
     {
         Link {
             carrier: up,

@@ -5,7 +5,7 @@ ghost use Rattle.std.specs.Prelude.{IsTrue, IfErr, IfOk, IsSome, IfSome, IfNone,
 ghost use Rattle.std.specs.List.{list_all, list_any, position};
 ghost use Rattle.fr_node.specs.Histories.{Announces};
 ghost use Rattle.fr_node.specs.declared.fault.NodeFault.TheVariants.{Itself, LaterStart, Memory, Outdated, TooHigh, Unwritten};
-ghost use Rattle.fr_node.specs.Links.{Hears, IsKnown, IsTaken, SetsUp, after_tick, has_answered, is_lost, is_lower, is_offer, is_way, leads_to, link_to, offer_of, unknown};
+ghost use Rattle.fr_node.specs.Links.{Hears, IsKnown, IsTaken, SetsCost, SetsUp, after_tick, has_answered, is_lost, is_lower, is_offer, is_way, leads_to, link_to, offer_of, unknown};
 ghost use Rattle.fr_node.specs.Distances.{AreWays, HasNoWay, IsDistance, IsLeast, IsNearest, NonePasses, ways_of};
 ghost use Rattle.fr_node.specs.Policies.{Acts, Announcement, FallsTo, IsAboveAll, IsAtDistance, IsAtOffer, IsAtTop, IsBestOrNone, MaySettle, RisesTo, better_of, is_higher, is_up};
 ghost use Rattle.fr_node.specs.Nodes.{IsMessageTo, Steps, lets_in, sends_to};
@@ -27,9 +27,9 @@ pub const START_HEIGHTS: u64 = 1 << 63;
 
 /// One router, for one destination.
 ///
-/// After an event it says nothing until the caller has said that the ways and gates are written to its table. `link_up`
-/// and `link_down` are events, `hear` of a message that is taken, `tick` if a link counts as up no longer, and `act` if
-/// it changes something. A table that was written before the last event cannot be confirmed: each event gives the ways
+/// After an event it says nothing until the caller has said that the ways and gates are written to its table. `link_up`,
+/// `link_down` and `set_cost` are events, `hear` of a message that is taken, `tick` if a link counts as up no longer, and
+/// `act` if it changes something. A table that was written before the last event cannot be confirmed: each event gives the ways
 /// and gates another number, their [`state`](Node::state).
 #[derive(Drop)]
 pub struct Node {
@@ -102,8 +102,8 @@ impl Node {
 
     /// Makes a neighbour known. `cost` is what it costs this router to send a packet to it: the neighbour may know
     /// another cost for the other direction. The link is down, until it comes up. A neighbour that is known stays as it
-    /// is, with the cost that it had. This is the only call that takes memory, and it is no event. O(d) for d known
-    /// neighbours.
+    /// is, with the cost that it had: [`set_cost`](Node::set_cost) changes that. This is the only call that takes memory,
+    /// and it is no event. O(d) for d known neighbours.
     ///
     /// Fails with `Itself` if the neighbour is this router, and with `Memory` if an allocation was refused, which never
     /// happens for a neighbour that is known. Then nothing has changed.
@@ -142,9 +142,9 @@ impl Node {
         // A step of `routers_law`, and an event: the ways and gates get the next number, modulo 2^64, and are not
         // written. The height changes exactly as the policy says. With `Rise::Full` a router without a way rises to
         // one more than the greatest height of its neighbours; with `lower` it falls to its distance if a nearer way
-        // stays a way. With `Rise::Top` a router rises to the top if no neighbour offers its height, and falls to its
-        // best offer once all its gates are open; a neighbour offers its height and the cost of the link together, if
-        // that is below the ceiling. A greater height is used at once, or with `wait` once each open gate stays open.
+        // stays a way. With `Rise::Top` a router rises to the top if no neighbour offers its height or less, and falls to
+        // its best offer once all its gates are open; a neighbour offers its height and the cost of the link together,
+        // if that is below the ceiling. A greater height is used at once, or with `wait` once each open gate stays open.
         ensures after { IsAfterEvent [] self.old self.new }
     {
         self.set_link_up(neighbour, true);
@@ -159,6 +159,20 @@ impl Node {
         ensures after { IsAfterEvent [] self.old self.new }
     {
         self.set_link_up(neighbour, false);
+        self.finish_event();
+    }
+
+    /// Changes what it costs this router to send a packet to a neighbour, as when the bandwidth of the link changes. What
+    /// was heard on the link stays. If the neighbour is not known, no link changes. All else is as for
+    /// [`link_up`](Node::link_up). O(d).
+    pub fn set_cost(&mut self, neighbour: u32, cost: u32)
+        requires { 0 < cost }
+        // The link to the neighbour has this cost, and all else that is known of neighbours stays.
+        ensures set { SetsCost neighbour cost self.old.links.items self.new.links.items }
+        // An event, as for `link_up`.
+        ensures after { IsAfterEvent [] self.old self.new }
+    {
+        self.set_link_cost(neighbour, cost);
         self.finish_event();
     }
 
@@ -493,6 +507,15 @@ impl Node {
         }
     }
 
+    fn set_link_cost(&mut self, neighbour: u32, cost: u32)
+        ensures same { self.new ≡ record self.old { links = self.new.links } }
+        ensures set { SetsCost neighbour cost self.old.links.items self.new.links.items }
+    {
+        if let Some(i) = self.index_of(neighbour) {
+            self.links[i] = self.links[i].with_cost(cost);
+        }
+    }
+
     /// Lets a tick pass on all links. Returns whether one counts as up no longer.
     fn tick_all(&mut self, patience: u32) -> bool
         ensures same { self.new ≡ record self.old { links = self.new.links } }
@@ -657,7 +680,8 @@ impl Node {
         }
     }
 
-    /// The height of a router without a route, if no neighbour offers the height that was announced.
+    /// The height of a router without a route, if no neighbour offers the height that was
+    /// announced, or less.
     fn height_at_top(&self, ceiling: u32) -> Option<u64>
         ensures { MatchOption result ((v : ℕ) → ¬ IsAtTop self.now ceiling v) (IsAtTop self.now ceiling) }
     {

@@ -6,9 +6,9 @@ pub enum Rise {
     /// It rises above all neighbours if it has no way. This is full link reversal. Routers that are cut off from all
     /// gateways raise their heights for ever.
     Full,
-    /// It rises only if no neighbour offers its height, and then at once to [`CUT_OFF`](crate::CUT_OFF), the height of a
-    /// router without a route. A neighbour offers its own height and the cost of the link together, if that is below this
-    /// ceiling. The router comes down to its best offer once each neighbour at a link that is up is let in. So once all is
+    /// It rises only if no neighbour offers its height or less, and then at once to [`CUT_OFF`](crate::CUT_OFF), the
+    /// height of a router without a route. A neighbour offers its own height and the cost of the link together, if that
+    /// is below this ceiling. The router comes down to its best offer once each neighbour at a link that is up is let in. So once all is
     /// quiet, routes have the least costs. The ceiling is to be above these.
     Top(u32),
 }

@@ -57,8 +57,11 @@ none_more x = omega arith
 
 module _ (old new : List (List ℕ)) where
   in_range : (p : ℕ → Bool) (x : ℕ) → x < length new → p x ≡ true → Contains (filter p (nodes_of new)) x
-  in_range p x low t = into_filter p (nodes_of new) x
-      (x, omega (arith, low, length-range_with_len 0 (length new)), get_or-range_with_len 0 (length new) x x low ∙ none_more x) t
+  in_range p x low t = into_filter p (nodes_of new) x (
+    x,
+    omega (arith, low, length-range_with_len 0 (length new)),
+    get_or-range_with_len 0 (length new) x x low ∙ none_more x,
+  ) t
 
   below : (p : ℕ → Bool) (x : ℕ) → Contains (filter p (nodes_of new)) x → x < length new
   below p x found =

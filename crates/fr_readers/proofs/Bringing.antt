@@ -1,5 +1,6 @@
 -- A table that has the hops of a session, and what pushes make of it.
-use Rattle.std.proofs.Common.{List, Option, Some, None, IfSome, [], ap, append-nil, arith, inl, inr, length, refl, replicate}
+use Rattle.std.proofs.Common.{List, Option, Some, None, IfSome, [], ap, append-nil, arith, inl, inr, length, refl}
+use Rattle.std.proofs.Common.{replicate}
 use Rattle.std.proofs.Common.{slice_get, subst, sym, ℕ, ⊎_elim, ◌++◌, ◌∙◌, ◌∷◌, ◌≡◌, Contains}
 use Rattle.std.proofs.lemmas.Option.{none-some}
 use Rattle.fr_graph.specs.Limits.{most_nodes}
@@ -14,7 +15,8 @@ use Rattle.fr_shared.specs.Histories.{IsHistory, padded, pushes_of, table_of}
 use Rattle.fr_shared.specs.Knowledge.{Knowledge, last_table}
 use Rattle.fr_shared.proofs.Histories.{last_is_table}
 use Rattle.fr_readers.specs.Published.{HasHopsOf}
-use Rattle.fr_readers.specs.Publishing.{AreHopsOf, ArePublished, CanPublish, HasHopAt, IsSettledSession, Publishes, PublishesIn}
+use Rattle.fr_readers.specs.Publishing.{AreHopsOf, ArePublished, CanPublish, HasHopAt, IsSettledSession, Publishes}
+use Rattle.fr_readers.specs.Publishing.{PublishesIn}
 use Rattle.fr_readers.proofs.Leading.{all_in, length_in, same_hops}
 
 pub nothing_first : (nodes : List ℕ) → None ≡ slice_get nodes 0 → nodes ≡ []
@@ -24,14 +26,16 @@ nothing_first (x ∷ nodes) is = absurd (none-some x is)
 -- the push order of equal tables has no node
 none_differ : (table other : List Hop) (nodes : List ℕ) → table ≡ other → IsPushOrder table other nodes → nodes ≡ []
 none_differ table other [] same is = refl
-none_differ table other (x ∷ nodes) same is = absurd ((is.these x).0 (0, omega arith, refl) (ap (λ (t : List Hop). slice_get t x) same))
+none_differ table other (x ∷ nodes) same is =
+    absurd ((is.these x).0 (0, omega arith, refl) (ap (λ (t : List Hop). slice_get t x) same))
 
 module _ (k : Knowledge) (s : Option State) (nodes : List ℕ) where
   pub has_already : k.nodes ≡ most_nodes → AreHopsIn s most_nodes (last_table k) → Publishes k s nodes k
   has_already largest are = record { has = record { largest = largest; are = are }; by = inl refl }
 
   -- if there is no node to push, the table has the hops
-  pub none_to_push : IsHistory k.nodes k.known → CanPublish k s nodes → nodes ≡ [] → AreHopsIn s most_nodes (last_table k)
+  pub none_to_push : IsHistory k.nodes k.known → CanPublish k s nodes → nodes ≡ []
+      → AreHopsIn s most_nodes (last_table k)
   none_to_push history can none = ⊎_elim (λ are. are) (λ l.
       let long : length (last_table k) ≡ length l.hops =
       (last_is_table k.nodes k.known history).one_each ∙ (can.largest ∙ sym (length_in s most_nodes l.hops l.are)) in
@@ -42,7 +46,8 @@ module _ (k : Knowledge) (s : Option State) (nodes : List ℕ) where
 
   module _ (settled : IsSettledSession s) (hops : List Hop) (are : AreHopsOf s hops) where
     -- the table also has them if it has the hop of one of the nodes
-    pub one_is_there : CanPublish k s nodes → (x : ℕ) → Contains nodes x → HasHopAt (last_table k) (padded k.nodes hops) x
+    pub one_is_there : CanPublish k s nodes → (x : ℕ) → Contains nodes x
+        → HasHopAt (last_table k) (padded k.nodes hops) x
         → AreHopsIn s most_nodes (last_table k)
     one_is_there can x found is = ⊎_elim (λ are_there. are_there) (λ l.
         let has = subst (λ (n : ℕ). HasHopAt (last_table k) (padded n hops) x) can.largest is in
@@ -63,7 +68,8 @@ module _ (k : Knowledge) (s : Option State) (nodes : List ℕ) where
         can.can
 
     pub pushed : k.nodes ≡ most_nodes → IsPushOrder (last_table k) (padded most_nodes hops) nodes → (k' : Knowledge)
-        → k' ≡ record k { known = k.known ++ pushes_of (padded most_nodes hops) nodes } → last_table k' ≡ padded most_nodes hops
+        → k' ≡ record k { known = k.known ++ pushes_of (padded most_nodes hops) nodes }
+        → last_table k' ≡ padded most_nodes hops
         → Publishes k s nodes k'
     pushed largest order k' history table = record {
       has = record {
@@ -85,7 +91,8 @@ module _ (k : Knowledge) (s : Option State) (nodes : List ℕ) where
       ∙ ap (λ (h : List Push). record k { known = h }) (append-nil k.known)))
       p.by
 
-pub left_in : (t : Option Knowledge) (s : Option State) (nodes : List ℕ) (t' : Option Knowledge) → IfSome t (HasHopsOf s)
+pub left_in : (t : Option Knowledge) (s : Option State) (nodes : List ℕ) (t' : Option Knowledge)
+    → IfSome t (HasHopsOf s)
     → PublishesIn t s nodes t' → t' ≡ t
 left_in None s nodes t' has p = p
 left_in (Some k) s nodes t' has p = p.1 ∙ ap Some (left k s nodes has p.0 p.2)

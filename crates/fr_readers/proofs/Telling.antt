@@ -1,9 +1,11 @@
 -- When a line leaves the session unchanged, and when it leads to other hops.
-use Rattle.std.proofs.Common.{List, Option, Some, None, Result, Ok, Err, IfErr, IfNone, IfOk, IfSome, OnErr, String, ap, false, inl, inr, length, slice_get}
+use Rattle.std.proofs.Common.{List, Option, Some, None, Result, Ok, Err, IfErr, IfNone, IfOk, IfSome, OnErr, String, ap}
+use Rattle.std.proofs.Common.{false, inl, inr, length, slice_get}
 use Rattle.std.proofs.Common.{refl, string_bytes, subst, sym, true, ℕ, ⊎_elim, ◌∙◌, ◌≡◌, ◌≢◌, ◌≤◌, ◌⊎◌}
 use Rattle.std.specs.Prelude.{MatchBool, is_ok}
 use Rattle.std.specs.declared.alloc.Global.{Global}
-use Rattle.fr_requests.specs.Requests.{PlainRequest, new_network, cut_link, add_link, join_nodes, make_edits, move_dest, walk_from, ask, ask_node, order_pushes, push_ways, reading}
+use Rattle.fr_requests.specs.Requests.{PlainRequest, new_network, cut_link, add_link, join_nodes, make_edits, move_dest}
+use Rattle.fr_requests.specs.Requests.{walk_from, ask, ask_node, order_pushes, push_ways, reading}
 use Rattle.fr_requests.specs.declared.requests.LineFault.{LineFault}
 use Rattle.fr_requests.specs.declared.requests.LineFault.TheVariants.{NotJson, NotRequest, Memory as LineMemory}
 use Rattle.fr_route.specs.Answers.{IsAccepted, IsLineAnswer, IsReportLine, IsText}
@@ -33,24 +35,31 @@ use Rattle.fr_readers.proofs.Leading.{Leads, changed_nodes, replaced_leads, rero
 
 -- an accepted request that is not a question leads from the session to the new state
 module _ (s : State) (settled : IsSettled s) (new : State) (before after : List ℕ) where
-  told_of_one : (request : PlainRequest) → IsSettled new → IsAccepted (Some s) request new → TellsOf (Some s) request new before after
+  told_of_one : (request : PlainRequest) → IsSettled new → IsAccepted (Some s) request new
+      → TellsOf (Some s) request new before after
       → (Some new ≡ Some s) ⊎ Leads (Some s) (Some new) after
   told_of_one (new_network n d links) is acc told = inr (replaced_leads (Some s) new after settled is told)
-  told_of_one (cut_link u v) is acc told = inr (rerouted_leads s new after settled (changed_nodes s (Cut u v) new acc) told)
-  told_of_one (add_link u v) is acc told = inr (rerouted_leads s new after settled (changed_nodes s (Add u v) new acc) told)
-  told_of_one (join_nodes u v) is acc told = inr (rerouted_leads s new after settled (changed_nodes s (Join u v) new acc) told)
+  told_of_one (cut_link u v) is acc told =
+      inr (rerouted_leads s new after settled (changed_nodes s (Cut u v) new acc) told)
+  told_of_one (add_link u v) is acc told =
+      inr (rerouted_leads s new after settled (changed_nodes s (Add u v) new acc) told)
+  told_of_one (join_nodes u v) is acc told =
+      inr (rerouted_leads s new after settled (changed_nodes s (Join u v) new acc) told)
   told_of_one (make_edits edits) is acc told =
       inr (rerouted_leads s new after settled (acc.1.1.1.nodes ∙ made_nodes (net_at s) edits acc.1.0 acc.1.1.0) told)
-  told_of_one (move_dest d) is acc told = inr (rerouted_leads s new after settled (changed_nodes s (Destination d) new acc) told)
+  told_of_one (move_dest d) is acc told =
+      inr (rerouted_leads s new after settled (changed_nodes s (Destination d) new acc) told)
   told_of_one (walk_from x) is acc told = inl (ap Some acc.1)
   told_of_one (ask question) is acc told = inl (ap Some acc)
   told_of_one (ask_node question x) is acc told = inl (ap Some acc.1)
   told_of_one (push_ways table) is acc told = inl (ap Some acc.2)
   told_of_one (order_pushes table wanted) is acc told = absurd acc
 
-told_of : (s : Option State) → IsSettledSession s → (request : PlainRequest) (new : State) → IsSettled new → IsAccepted s request new
+told_of : (s : Option State) → IsSettledSession s → (request : PlainRequest) (new : State) → IsSettled new
+    → IsAccepted s request new
     → (before after : List ℕ) → TellsOf s request new before after → (Some new ≡ s) ⊎ Leads s (Some new) after
-told_of None settled (new_network n d links) new is acc before after told = inr (replaced_leads None new after settled is told)
+told_of None settled (new_network n d links) new is acc before after told =
+    inr (replaced_leads None new after settled is told)
 told_of None settled (cut_link u v) new is acc before after told = absurd acc
 told_of None settled (add_link u v) new is acc before after told = absurd acc
 told_of None settled (join_nodes u v) new is acc before after told = absurd acc
@@ -61,9 +70,11 @@ told_of None settled (ask question) new is acc before after told = absurd acc
 told_of None settled (ask_node question x) new is acc before after told = absurd acc
 told_of None settled (push_ways table) new is acc before after told = absurd acc
 told_of None settled (order_pushes table wanted) new is acc before after told = absurd acc
-told_of (Some s) settled request new is acc before after told = told_of_one s settled new before after request is acc told
+told_of (Some s) settled request new is acc before after told =
+    told_of_one s settled new before after request is acc told
 
-pub line_leads : (s next : Option State) → IsSettledSession s → IsSettledSession next → (asked : Result PlainRequest LineFault)
+pub line_leads : (s next : Option State) → IsSettledSession s → IsSettledSession next
+    → (asked : Result PlainRequest LineFault)
     → (before after : List ℕ) → IsLineTold s asked next before after → (next ≡ s) ⊎ Leads s next after
 line_leads s next settled settled' (Ok request) before after told = ⊎_elim
     (λ refused. inl refused.2)
@@ -80,7 +91,8 @@ line_leads s next settled settled' (Err fault) before after told = inl told.0
 -- an answer to a line leaves the session unchanged, or leads to other hops
 pub answer_leads : (s next : Option State) → IsSettledSession s → IsSettledSession next → (line : List ℕ)
     → (answer : Result (Option (String Global)) AnswerFault) (before after : List ℕ)
-    → IfOk answer (λ a. IfNone a ((is_blank line ≡ true) × (next ≡ s))) → OnErr answer ((is_blank line ≡ false) × (next ≡ s))
+    → IfOk answer (λ a. IfNone a ((is_blank line ≡ true) × (next ≡ s)))
+    → OnErr answer ((is_blank line ≡ false) × (next ≡ s))
     → TellsOfLine s (reading line) answer next before after → (next ≡ s) ⊎ Leads s next after
 answer_leads s next settled settled' line (Ok None) before after blank fault told = inl blank.1
 answer_leads s next settled settled' line (Ok (Some text)) before after blank fault told =
@@ -96,7 +108,8 @@ module _ (text : List ℕ) (other : slice_get text 0 ≢ Some 116) where
   no_report : (new : State) {T : Type 0} → IsReportLine new text → T
   no_report new line = absurd (other (reported line.0 line.1 text line.3))
 
-  accepted_keeps : (s new : State) (request : PlainRequest) → IsAccepted (Some s) request new → IsText new request text → new ≡ s
+  accepted_keeps : (s new : State) (request : PlainRequest) → IsAccepted (Some s) request new → IsText new request text
+      → new ≡ s
   accepted_keeps s new (new_network n d links) is line = no_report new line
   accepted_keeps s new (cut_link u v) is line = no_report new line
   accepted_keeps s new (add_link u v) is line = no_report new line
@@ -122,12 +135,14 @@ module _ (text : List ℕ) (other : slice_get text 0 ≢ Some 116) where
   first_keeps new (push_ways table) is line = is
   first_keeps new (order_pushes table wanted) is line = is
 
-  keeps_in : (s : Option State) (new : State) (request : PlainRequest) → IsAccepted s request new → IsText new request text
+  keeps_in : (s : Option State) (new : State) (request : PlainRequest) → IsAccepted s request new
+      → IsText new request text
       → Some new ≡ s
   keeps_in None new request is line = absurd (first_keeps new request is line)
   keeps_in (Some s) new request is line = ap Some (accepted_keeps s new request is line)
 
-  line_keeps : (s next : Option State) (asked : Result PlainRequest LineFault) → IsLineAnswer s asked text next → next ≡ s
+  line_keeps : (s next : Option State) (asked : Result PlainRequest LineFault) → IsLineAnswer s asked text next
+      → next ≡ s
   line_keeps s next (Ok request) is = ⊎_elim
       (λ refused. refused.3)
       (λ others. ⊎_elim (λ a. a.3 ∙ keeps_in s a.0 request a.1 a.2) (λ pushes. pushes.3) others)
@@ -138,7 +153,8 @@ module _ (text : List ℕ) (other : slice_get text 0 ≢ Some 116) where
 
 pub answer_keeps : (s next : Option State) (line : List ℕ) (answer : Result (Option (String Global)) AnswerFault)
     → IfOk answer (λ a. IfNone a ((is_blank line ≡ true) × (next ≡ s)))
-    → IfOk answer (λ a. IfSome a (λ text. (is_blank line ≡ false) × IsLineAnswer s (reading line) (string_bytes text) next))
+    → IfOk answer (λ a. IfSome a (λ text. (is_blank line ≡ false)
+    × IsLineAnswer s (reading line) (string_bytes text) next))
     → OnErr answer ((is_blank line ≡ false) × (next ≡ s))
     → IfOk answer (λ a. IfSome a (λ text. slice_get (string_bytes text) 0 ≢ Some 116)) → next ≡ s
 answer_keeps s next line (Ok None) blank text fault other = blank.1
@@ -159,7 +175,8 @@ same_pushes (Ok report) ps = tt
 same_pushes (Err why) ps = refl
 
 -- so does a change
-pub change_leads : (s next : State) → IsSettled s → (change : Change) (answer : Result Report NotMade) (before after : List ℕ)
+pub change_leads : (s next : State) → IsSettled s
+    → (change : Change) (answer : Result Report NotMade) (before after : List ℕ)
     → ChangesRouter s change answer next → TellsRerouted s answer next before after
     → (Some next ≡ Some s) ⊎ Leads (Some s) (Some next) after
 change_leads s next settled change (Ok report) before after changes told =
@@ -167,7 +184,8 @@ change_leads s next settled change (Ok report) before after changes told =
 change_leads s next settled change (Err why) before after changes told = inl (ap Some changes.unchanged)
 
 -- a change alters the ways, or leaves them
-pub change_alters : (s next : State) (change : Change) (answer : Result Report NotMade) (p : WayPushes) (k : WayKnowledge)
+pub change_alters : (s next : State) (change : Change) (answer : Result Report NotMade) (p : WayPushes)
+    (k : WayKnowledge)
     → HasWaysOf (Some s) k → ChangesRouter s change answer next
     → IfOk answer (λ _. AreWayChanges s next p.shrink p.grow)
     → MatchBool (is_ok answer) (AlterWays (last_table k) next p) (HasWaysOf (Some next) k)
@@ -191,20 +209,27 @@ change_notes s next (Err why) ps ps' ways left = record { made = tt; fault = lef
 
 module _ (s s' : Option State) (nodes nodes' : List ℕ) (t t' : Option Knowledge) (w w' : Option WayKnowledge) where
   -- what leaves the session, the list and the pushes unchanged leaves the tables unchanged
-  all_left : (ps ps' : WayPushes) → ps' ≡ ps → IfSome t (HasHopsOf s) → PublishesIn t s' nodes' t' → IfSome w (HasWaysOf s) → PublishesWaysIn w s' w'
+  all_left : (ps ps' : WayPushes) → ps' ≡ ps → IfSome t (HasHopsOf s) → PublishesIn t s' nodes' t'
+      → IfSome w (HasWaysOf s) → PublishesWaysIn w s' w'
       → s' ≡ s → nodes' ≡ nodes → published s' nodes' t' w' ps' ≡ published s nodes t w ps
   all_left ps ps' left has p had q same list =
-      let kept : t' ≡ t = left_in t s' nodes' t' (subst (λ (u : Option State). IfSome t (HasHopsOf u)) (sym same) has) p in
-      let kept_ways : w' ≡ w = ways_left_in w s' w' (subst (λ (u : Option State). IfSome w (HasWaysOf u)) (sym same) had) q in
+      let kept : t' ≡ t =
+      left_in t s' nodes' t' (subst (λ (u : Option State). IfSome t (HasHopsOf u)) (sym same) has) p in
+      let kept_ways : w' ≡ w =
+      ways_left_in w s' w' (subst (λ (u : Option State). IfSome w (HasWaysOf u)) (sym same) had) q in
       λ i. record { session = same i; rerouted = list i; table = kept i; ways = kept_ways i; pushes = left i }
 
-  pub line_answered : (ps : WayPushes) → IfSome t (HasHopsOf s) → PublishesIn t s' nodes' t' → IfSome w (HasWaysOf s) → PublishesWaysIn w s' w'
+  pub line_answered : (ps : WayPushes) → IfSome t (HasHopsOf s) → PublishesIn t s' nodes' t' → IfSome w (HasWaysOf s)
+      → PublishesWaysIn w s' w'
       → (line : List ℕ) (answer : Result (Option (String Global)) AnswerFault)
       → IfOk answer (λ a. IfNone a ((is_blank line ≡ true) × (s' ≡ s)))
-      → IfOk answer (λ a. IfSome a (λ text. (is_blank line ≡ false) × IsLineAnswer s (reading line) (string_bytes text) s'))
+      → IfOk answer (λ a. IfSome a (λ text. (is_blank line ≡ false)
+      × IsLineAnswer s (reading line) (string_bytes text) s'))
       → TellsOfLine s (reading line) answer s' nodes nodes' → OnErr answer ((is_blank line ≡ false) × (s' ≡ s))
-      → IfOk answer (λ a. IfSome a (λ text. ((s' ≡ s) × (nodes' ≡ nodes)) ⊎ (length (string_bytes text) ≤ longest_report)))
-      → IfErr answer (λ fault. fault ≢ Start) → AnswersLine (published s nodes t w ps) line answer (published s' nodes' t' w' ps)
+      → IfOk answer (λ a. IfSome a (λ text. ((s' ≡ s) × (nodes' ≡ nodes))
+      ⊎ (length (string_bytes text) ≤ longest_report)))
+      → IfErr answer (λ fault. fault ≢ Start)
+      → AnswersLine (published s nodes t w ps) line answer (published s' nodes' t' w' ps)
   line_answered ps has p had q line (Ok None) blank text told fault short no_start = record {
     blank = (blank.0, all_left ps ps refl has p had q blank.1 told.blank);
     text = tt;
@@ -240,7 +265,8 @@ module _ (s s' : Option State) (nodes nodes' : List ℕ) (t t' : Option Knowledg
   }
 
 module _ (s s' : State) (nodes nodes' : List ℕ) (t t' : Option Knowledge) (w w' : Option WayKnowledge) where
-  pub change_made : (ps ps' : WayPushes) → IfSome t (HasHopsOf (Some s)) → PublishesIn t (Some s') nodes' t' → IfSome w (HasWaysOf (Some s))
+  pub change_made : (ps ps' : WayPushes) → IfSome t (HasHopsOf (Some s)) → PublishesIn t (Some s') nodes' t'
+      → IfSome w (HasWaysOf (Some s))
       → PublishesWaysIn w (Some s') w' → (change : Change) (answer : Result Report NotMade)
       → ChangesRouter s change answer s' → TellsRerouted s answer s' nodes nodes' → OnErr answer (ps' ≡ ps)
       → MakesChange (published (Some s) nodes t w ps) change (Some answer) (published (Some s') nodes' t' w' ps')
@@ -264,7 +290,9 @@ module _ (s s' : State) (nodes nodes' : List ℕ) (t t' : Option Knowledge) (w w
     none = tt;
     made = tt;
     fault = record { before = s; was = refl; refused = changes.fault; no_start = changes.no_start };
-    unchanged = all_left (Some s) (Some s') nodes nodes' t t' w w' ps ps' left has p had q (ap Some changes.unchanged) told.untold;
+    unchanged =
+        all_left (Some s) (Some s') nodes nodes' t t' w w' ps ps' left has p had q (ap Some changes.unchanged)
+        told.untold;
     published = p;
     ways = q;
   }

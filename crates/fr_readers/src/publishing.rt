@@ -94,7 +94,7 @@ fn push_rerouted_hops(publisher: &mut Publisher, session: &Session, rerouted: &[
     publisher.push_all(hops, rerouted);
 }
 
-/// Does the same if there is a table.
+/// Pushes the hops of a session into a table as [`push_rerouted_hops`] does, if there is a table.
 pub(crate) fn publish_rerouted_hops(
     publisher: &mut Option<Publisher>,
     session: &Session,

@@ -1,5 +1,6 @@
 -- A line that is read by its bytes: from its lexemes to its request.
-use Rattle.std.proofs.Common.{Bool, Err, IsUtf8, List, None, Ok, Option, Some, [], ap, append_assoc, arith, codes, decimal, lt-ltb, map, ok_or, option_and_then, refl, sym, true}
+use Rattle.std.proofs.Common.{Bool, Err, IsUtf8, List, None, Ok, Option, Some, [], ap, append_assoc, arith, codes}
+use Rattle.std.proofs.Common.{decimal, lt-ltb, map, ok_or, option_and_then, refl, sym, true}
 use Rattle.std.proofs.Common.{ℕ, ◌++◌, ◌≤◌, ◌∙◌, ◌∷◌, ◌≡◌, false, if◌then◌else◌}
 use Rattle.std.proofs.lemmas.Bool.{false≢true}
 use Rattle.std.proofs.lemmas.List.{append-nil}
@@ -8,17 +9,22 @@ use Rattle.std.specs.Str.{bytes_eq}
 use Rattle.json.proofs.Printed.Trees.{value-json_tokens}
 use Rattle.json.specs.Json as json
 use Rattle.json.specs.Json.{Json, value}
-use Rattle.json.specs.Lex.{Lexeme, Place, after_comma, after_key, after_value, comma, fresh, lex, may_begin, punctuate, token, tokens}
+use Rattle.json.specs.Lex.{Lexeme, Place, after_comma, after_key, after_value, comma, fresh, lex, may_begin, punctuate}
+use Rattle.json.specs.Lex.{token, tokens}
 use Rattle.json.specs.Token.{Token}
 use Rattle.json.specs.Tree.{depth, items_depth, items_tokens, json_tokens}
 use Rattle.serde_json.proofs.Numbers.{number_of-decimal}
 use Rattle.serde_json.specs.Data.{Data, Items, array, item, no_items, no_members, number, object, string, unsigned}
 use Rattle.serde_json.specs.Read.{number_of, of_items, of_json}
 use Rattle.serde_json.specs.View.{items_of}
-use Rattle.fr_requests.specs.LineLexemes.{AreNumbers, AreSmall, Begins, Each, HasSmallEnds, IsNumber, IsReadAs, IsSmall, IsUnknownWord, edit_ends, edit_lexemes}
-use Rattle.fr_requests.specs.LineLexemes.{letters, link_lexemes, list_lexemes, number_lexeme, number_lexemes, opening, plain_edit, word_of}
-use Rattle.fr_requests.specs.Requests.{ask, edit_in, edit_of_word, edits_in, item_list, link_in, links_in, make_edits, move_dest, new_network, number_in}
-use Rattle.fr_requests.specs.Requests.{PlainRequest, read_all, reading, reading_of_value, request_of, request_of_word, walk_from}
+use Rattle.fr_requests.specs.LineLexemes.{AreNumbers, AreSmall, Begins, Each, HasSmallEnds, IsNumber, IsReadAs, IsSmall}
+use Rattle.fr_requests.specs.LineLexemes.{IsUnknownWord, edit_ends, edit_lexemes}
+use Rattle.fr_requests.specs.LineLexemes.{letters, link_lexemes, list_lexemes, number_lexeme, number_lexemes, opening}
+use Rattle.fr_requests.specs.LineLexemes.{plain_edit, word_of}
+use Rattle.fr_requests.specs.Requests.{ask, edit_in, edit_of_word, edits_in, item_list, link_in, links_in, make_edits}
+use Rattle.fr_requests.specs.Requests.{move_dest, new_network, number_in}
+use Rattle.fr_requests.specs.Requests.{PlainRequest, read_all, reading, reading_of_value, request_of, request_of_word}
+use Rattle.fr_requests.specs.Requests.{walk_from}
 use Rattle.fr_graph.specs.declared.edit.Edit.{Edit}
 use Rattle.fr_graph.specs.declared.edit.Edit.TheVariants.{Add, Cut, Join}
 use Rattle.fr_requests.specs.declared.requests.LineFault.TheVariants.{NotRequest}
@@ -48,15 +54,18 @@ pub last_before_bracket : {X : Type 0} (of_one : X → List Lexeme) (xs : List X
 last_before_bracket of_one [] x = refl
 last_before_bracket of_one (y ∷ []) x = append_assoc (of_one y) (comma ∷ []) _
 last_before_bracket of_one (y ∷ z ∷ zs) x =
-    append_assoc (of_one y) (comma ∷ each_before_comma of_one (z ∷ zs)) _ ∙ ap (λ ls. of_one y ++ comma ∷ ls) (last_before_bracket of_one (z ∷ zs) x)
+    append_assoc (of_one y) (comma ∷ each_before_comma of_one (z ∷ zs)) _
+    ∙ ap (λ ls. of_one y ++ comma ∷ ls) (last_before_bracket of_one (z ∷ zs) x)
 
 -- a list that is the last item of its line
 pub list_closes : {X : Type 0} (of_one : X → List Lexeme) (text mid behind : List ℕ) (xs : List X) (x : X)
     → Begins text (each_before_comma of_one xs) mid → Begins mid (of_one x) behind
-    → Begins behind (token Token.end_array ∷ token Token.end_array ∷ []) [] → Begins text (list_lexemes of_one (xs ++ x ∷ []) ++ token Token.end_array ∷ []) []
+    → Begins behind (token Token.end_array ∷ token Token.end_array ∷ []) []
+    → Begins text (list_lexemes of_one (xs ++ x ∷ []) ++ token Token.end_array ∷ []) []
 list_closes of_one text mid behind xs x before last end =
     let bracket = token Token.end_array ∷ [] in
-    let same : each_before_comma of_one xs ++ (of_one x ++ token Token.end_array ∷ token Token.end_array ∷ []) ≡ list_lexemes of_one (xs ++ x ∷ []) ++ bracket =
+    let same : each_before_comma of_one xs ++ (of_one x ++ token Token.end_array ∷ token Token.end_array ∷ [])
+    ≡ list_lexemes of_one (xs ++ x ∷ []) ++ bracket =
     ap (λ ls. each_before_comma of_one xs ++ ls) (sym (append_assoc (of_one x) bracket bracket))
     ∙ sym (append_assoc (each_before_comma of_one xs) (of_one x ++ bracket) bracket)
     ∙ ap (λ ls. ls ++ bracket) (last_before_bracket of_one xs x) in
@@ -114,10 +123,12 @@ number_placed n after_key more may = absurd (false≢true may)
 
 module _ {X : Type 0} (of_one : X → List Lexeme) (json_of : X → Json) (placed : IsPlaced of_one json_of) where
   some_tokens : (x : X) (xs : List X) (place : Place) (more : List Lexeme) → may_begin place ≡ true
-      → punctuate place (list_lexemes of_one (x ∷ xs) ++ more) ≡ items_tokens (items_json json_of (x ∷ xs)) ++ punctuate after_value more
+      → punctuate place (list_lexemes of_one (x ∷ xs) ++ more) ≡ items_tokens (items_json json_of (x ∷ xs))
+      ++ punctuate after_value more
   unfolding punctuate
   some_tokens x [] place more may =
-      ap (punctuate place) (append_assoc (of_one x) (token Token.end_array ∷ []) more) ∙ placed x place (token Token.end_array ∷ more) may
+      ap (punctuate place) (append_assoc (of_one x) (token Token.end_array ∷ []) more)
+      ∙ placed x place (token Token.end_array ∷ more) may
       ∙ sym (append_assoc (json_tokens (json_of x)) (Token.end_array ∷ []) (punctuate after_value more))
   some_tokens x (y ∷ ys) place more may =
       ap (punctuate place) (append_assoc (of_one x) (comma ∷ list_lexemes of_one (y ∷ ys)) more)
@@ -135,7 +146,8 @@ module _ {X : Type 0} (of_one : X → List Lexeme) (json_of : X → Json) (place
   closed_tokens : (text : List ℕ) (xs : List X) → Begins text (list_lexemes of_one xs ++ token Token.end_array ∷ []) []
       → tokens text ≡ items_tokens (items_json json_of xs) ++ Token.end_array ∷ []
   unfolding lex punctuate
-  closed_tokens text xs closes = ap (punctuate fresh) (closes.0 ∙ append-nil _) ∙ list_tokens xs (token Token.end_array ∷ [])
+  closed_tokens text xs closes =
+      ap (punctuate fresh) (closes.0 ∙ append-nil _) ∙ list_tokens xs (token Token.end_array ∷ [])
 
 -- ---- JSON as data
 
@@ -153,11 +165,14 @@ number_data n = number (unsigned n)
 
 -- a small item is this value of JSON, and is read from it again
 abbrev IsRead : {X : Type 0} → (X → Json) → (X → Data) → (X → Type 0) → (Data → Option X) → Type 0
-IsRead {X} json_of data_of P one = (x : X) → P x → (of_json (json_of x) ≡ Some (data_of x)) × (one (data_of x) ≡ Some x) × (depth (json_of x) ≤ 1)
+IsRead {X} json_of data_of P one =
+    (x : X) → P x → (of_json (json_of x) ≡ Some (data_of x)) × (one (data_of x) ≡ Some x) × (depth (json_of x) ≤ 1)
 
-module _ {X : Type 0} (json_of : X → Json) (data_of : X → Data) (P : X → Type 0) (one : Data → Option X) (is_read : IsRead json_of data_of P one) where
+module _ {X : Type 0} (json_of : X → Json) (data_of : X → Data) (P : X → Type 0) (one : Data
+    → Option X) (is_read : IsRead json_of data_of P one) where
   all_read : (xs : List X) → Each P xs
-      → (of_items (items_json json_of xs) ≡ Some (items_of (map data_of xs))) × (read_all one (map data_of xs) ≡ Some xs)
+      → (of_items (items_json json_of xs) ≡ Some (items_of (map data_of xs)))
+      × (read_all one (map data_of xs) ≡ Some xs)
       × (items_depth (items_json json_of xs) ≤ 1)
   all_read [] small = (refl, refl, omega arith)
   all_read (x ∷ xs) small =
@@ -172,31 +187,41 @@ number_is_read : IsRead number_json number_data IsSmall number_in
 number_is_read n small = (rw (wide n small), rw (lt-ltb _ _ small), omega arith)
 
 link_is_read : IsRead link_json link_data AreSmall link_in
-link_is_read link small = (rw (wide link.0 small.0, wide link.1 small.1), rw (lt-ltb _ _ small.0, lt-ltb _ _ small.1), omega arith)
+link_is_read link small =
+    (rw (wide link.0 small.0, wide link.1 small.1), rw (lt-ltb _ _ small.0, lt-ltb _ _ small.1), omega arith)
 
 edit_is_read : IsRead edit_json edit_data HasSmallEnds edit_in
 unfolding edit_of_word
-edit_is_read (Cut a b) small = (rw (wide a small.0, wide b small.1), rw (lt-ltb _ _ small.0, lt-ltb _ _ small.1), omega arith)
-edit_is_read (Add a b) small = (rw (wide a small.0, wide b small.1), rw (lt-ltb _ _ small.0, lt-ltb _ _ small.1), omega arith)
-edit_is_read (Join a b) small = (rw (wide a small.0, wide b small.1), rw (lt-ltb _ _ small.0, lt-ltb _ _ small.1), omega arith)
+edit_is_read (Cut a b) small =
+    (rw (wide a small.0, wide b small.1), rw (lt-ltb _ _ small.0, lt-ltb _ _ small.1), omega arith)
+edit_is_read (Add a b) small =
+    (rw (wide a small.0, wide b small.1), rw (lt-ltb _ _ small.0, lt-ltb _ _ small.1), omega arith)
+edit_is_read (Join a b) small =
+    (rw (wide a small.0, wide b small.1), rw (lt-ltb _ _ small.0, lt-ltb _ _ small.1), omega arith)
 
 -- ---- lines
 
 -- the request of a line whose tokens are those of a value
-reads_as : (line : List ℕ) (j : Json) (d : Data) → tokens line ≡ json_tokens j → IsUtf8 line → depth j ≤ 127 → of_json j ≡ Some d
+reads_as : (line : List ℕ) (j : Json) (d : Data) → tokens line ≡ json_tokens j → IsUtf8 line → depth j ≤ 127
+    → of_json j ≡ Some d
     → reading line ≡ ok_or (request_of d) NotRequest
 reads_as line j d told utf8 shallow is =
-    let whole : value 127 (tokens line) ≡ Some (j, []) = ap (value 127) (told ∙ sym (append-nil (json_tokens j))) ∙ value-json_tokens j 127 [] shallow in
-    ap reading_of_value (value_of_text line utf8) ∙ ap (λ found. reading_of_value (option_and_then of_json (option_and_then (λ p. json.if_last p.0 p.1) found))) whole ∙ ap reading_of_value is
+    let whole : value 127 (tokens line) ≡ Some (j, []) =
+    ap (value 127) (told ∙ sym (append-nil (json_tokens j))) ∙ value-json_tokens j 127 [] shallow in
+    ap reading_of_value (value_of_text line utf8)
+    ∙ ap (λ found. reading_of_value (option_and_then of_json (option_and_then (λ p. json.if_last p.0 p.1) found)))
+    whole ∙ ap reading_of_value is
 
 -- the same if the value is an array that begins with a word
 word_reads_as : (line word : List ℕ) (js : json.Items) (ds : Items)
     → tokens line ≡ Token.begin_array ∷ Token.string word ∷ items_tokens js → IsUtf8 line → items_depth js ≤ 126
     → of_items js ≡ Some ds → reading line ≡ ok_or (request_of_word word (item_list ds)) NotRequest
 word_reads_as line word js ds told utf8 shallow is =
-    reads_as line (json.array (json.item (json.string word) js)) (array (item (string word) ds)) told utf8 (omega arith) (rw is)
+    reads_as line (json.array (json.item (json.string word) js)) (array (item (string word) ds)) told utf8
+    (omega arith) (rw is)
 
-pub edit_reads : (line : List ℕ) (edit : Edit) → HasSmallEnds edit → Begins line (edit_lexemes edit) [] → reading line ≡ Ok (plain_edit edit)
+pub edit_reads : (line : List ℕ) (edit : Edit) → HasSmallEnds edit → Begins line (edit_lexemes edit) []
+    → reading line ≡ Ok (plain_edit edit)
 unfolding lex punctuate request_of_word
 edit_reads line (Cut u v) small is =
     word_reads_as line (codes "cut") (ends_json (u, v)) (ends_data (u, v)) (ap (punctuate fresh) is.0) (is.1 IsUtf8-nil)
@@ -207,15 +232,19 @@ edit_reads line (Add u v) small is =
     (omega arith) (rw (wide u small.0, wide v small.1))
     ∙ rw (lt-ltb _ _ small.0, lt-ltb _ _ small.1)
 edit_reads line (Join u v) small is =
-    word_reads_as line (codes "join") (ends_json (u, v)) (ends_data (u, v)) (ap (punctuate fresh) is.0) (is.1 IsUtf8-nil)
+    word_reads_as line (codes "join") (ends_json (u, v)) (ends_data (u, v)) (ap (punctuate fresh) is.0)
+    (is.1 IsUtf8-nil)
     (omega arith) (rw (wide u small.0, wide v small.1))
     ∙ rw (lt-ltb _ _ small.0, lt-ltb _ _ small.1)
 
-module _ (rest : List ℕ) (x : ℕ) (small : IsSmall x) (ends : Begins rest (comma ∷ number_lexeme x ∷ token Token.end_array ∷ []) []) where
-  node_reads : (word line : List ℕ) → Begins line (opening word) rest → reading line ≡ ok_or (request_of_word word (number_data x ∷ [])) NotRequest
+module _ (rest : List ℕ) (x : ℕ) (small : IsSmall x) (ends : Begins rest (comma ∷ number_lexeme x
+    ∷ token Token.end_array ∷ []) []) where
+  node_reads : (word line : List ℕ) → Begins line (opening word) rest
+      → reading line ≡ ok_or (request_of_word word (number_data x ∷ [])) NotRequest
   unfolding lex punctuate
   node_reads word line opens =
-      let is = begins_more line rest [] (opening word) (comma ∷ number_lexeme x ∷ token Token.end_array ∷ []) opens ends in
+      let is =
+      begins_more line rest [] (opening word) (comma ∷ number_lexeme x ∷ token Token.end_array ∷ []) opens ends in
       word_reads_as line word (json.item (number_json x) json.no_items) (item (number_data x) no_items)
       (ap (punctuate fresh) is.0) (is.1 IsUtf8-nil) (omega arith) (rw (wide x small))
 
@@ -232,7 +261,8 @@ pub question_reads : (rest : List ℕ) (question : Question) → Begins rest (to
 unfolding lex punctuate request_of_word
 question_reads rest question ends line opens =
     let is = begins_more line rest [] (opening (letters (word.Ask question))) (token Token.end_array ∷ []) opens ends in
-    word_reads_as line (letters (word.Ask question)) json.no_items no_items (ap (punctuate fresh) is.0) (is.1 IsUtf8-nil) (omega arith) refl ∙ go question
+    word_reads_as line (letters (word.Ask question)) json.no_items no_items (ap (punctuate fresh) is.0)
+    (is.1 IsUtf8-nil) (omega arith) refl ∙ go question
   where
     go : (question : Question) → ok_or (request_of_word (letters (word.Ask question)) []) NotRequest ≡ Ok (ask question)
     go Links = refl
@@ -241,21 +271,27 @@ question_reads rest question ends line opens =
     go Ways = refl
 
 pub network_reads : (rest items : List ℕ) (nodes dest : ℕ) (links : List (ℕ × ℕ)) → IsSmall nodes → IsSmall dest
-    → Begins rest (comma ∷ number_lexeme nodes ∷ comma ∷ number_lexeme dest ∷ comma ∷ token Token.begin_array ∷ []) items
+    → Begins rest (comma ∷ number_lexeme nodes ∷ comma ∷ number_lexeme dest ∷ comma ∷ token Token.begin_array
+    ∷ []) items
     → Begins items (list_lexemes link_lexemes links ++ token Token.end_array ∷ []) [] → Each AreSmall links
     → IsReadAs (codes "net") rest (new_network nodes dest links)
 unfolding punctuate request_of_word
 network_reads rest items nodes dest links n d head closes small line opens =
     let both = begins_more line rest items (opening (codes "net"))
     (comma ∷ number_lexeme nodes ∷ comma ∷ number_lexeme dest ∷ comma ∷ token Token.begin_array ∷ []) opens head in
-    let js = json.item (number_json nodes) (json.item (number_json dest) (json.item (json.array (items_json link_json links)) json.no_items)) in
-    let ds = item (number_data nodes) (item (number_data dest) (item (array (items_of (map link_data links))) no_items)) in
+    let js =
+    json.item (number_json nodes)
+    (json.item (number_json dest) (json.item (json.array (items_json link_json links)) json.no_items)) in
+    let ds =
+    item (number_data nodes) (item (number_data dest) (item (array (items_of (map link_data links))) no_items)) in
     let all = all_read link_json link_data AreSmall link_in link_is_read links small in
     let told : tokens line ≡ Token.begin_array ∷ Token.string (codes "net") ∷ items_tokens js =
     ap (punctuate fresh) both.0
-    ∙ ap (λ ts. Token.begin_array ∷ Token.string (codes "net") ∷ Token.number (decimal nodes) ∷ Token.number (decimal dest) ∷ Token.begin_array ∷ ts)
+    ∙ ap (λ ts. Token.begin_array ∷ Token.string (codes "net") ∷ Token.number (decimal nodes)
+    ∷ Token.number (decimal dest) ∷ Token.begin_array ∷ ts)
     (closed_tokens link_lexemes link_json link_placed items links closes) in
-    let listed : links_in (array (items_of (map link_data links))) ≡ Some links = rw (list_again (map link_data links)) all.1 in
+    let listed : links_in (array (items_of (map link_data links))) ≡ Some links =
+    rw (list_again (map link_data links)) all.1 in
     word_reads_as line (codes "net") js ds told (both.1 (closes.1 IsUtf8-nil)) (omega (arith, all.2))
     (rw (wide nodes n, wide dest d, all.0)) ∙ rw (lt-ltb _ _ n, lt-ltb _ _ d, listed)
 
@@ -264,22 +300,28 @@ pub batch_reads : (rest items : List ℕ) (edits : List Edit) → Begins rest (c
     → IsReadAs (codes "batch") rest (make_edits edits)
 unfolding punctuate request_of_word
 batch_reads rest items edits head closes small line opens =
-    let both = begins_more line rest items (opening (codes "batch")) (comma ∷ token Token.begin_array ∷ []) opens head in
+    let both =
+    begins_more line rest items (opening (codes "batch")) (comma ∷ token Token.begin_array ∷ []) opens head in
     let js = json.item (json.array (items_json edit_json edits)) json.no_items in
     let ds = item (array (items_of (map edit_data edits))) no_items in
     let all = all_read edit_json edit_data HasSmallEnds edit_in edit_is_read edits small in
     let told : tokens line ≡ Token.begin_array ∷ Token.string (codes "batch") ∷ items_tokens js =
     ap (punctuate fresh) both.0 ∙ ap (λ ts. Token.begin_array ∷ Token.string (codes "batch") ∷ Token.begin_array ∷ ts)
     (closed_tokens edit_lexemes edit_json edit_placed items edits closes) in
-    let listed : edits_in (array (items_of (map edit_data edits))) ≡ Some edits = rw (list_again (map edit_data edits)) all.1 in
-    word_reads_as line (codes "batch") js ds told (both.1 (closes.1 IsUtf8-nil)) (omega (arith, all.2)) (rw all.0) ∙ rw listed
+    let listed : edits_in (array (items_of (map edit_data edits))) ≡ Some edits =
+    rw (list_again (map edit_data edits)) all.1 in
+    word_reads_as line (codes "batch") js ds told (both.1 (closes.1 IsUtf8-nil)) (omega (arith, all.2)) (rw all.0)
+    ∙ rw listed
 
 -- ---- lines of only numbers, an array of one word, and an empty object
 
-pub word_is_none : (line items : List ℕ) → Begins line (token Token.begin_array ∷ []) items → IsUnknownWord items → reading line ≡ Err NotRequest
+pub word_is_none : (line items : List ℕ) → Begins line (token Token.begin_array ∷ []) items → IsUnknownWord items
+    → reading line ≡ Err NotRequest
 unfolding lex punctuate
 word_is_none line items opens is =
-    let both = begins_more line items [] (token Token.begin_array ∷ []) (token (Token.string is.0) ∷ token Token.end_array ∷ []) opens is.2 in
+    let both =
+    begins_more line items [] (token Token.begin_array ∷ []) (token (Token.string is.0) ∷ token Token.end_array
+    ∷ []) opens is.2 in
     word_reads_as line is.0 json.no_items no_items (ap (punctuate fresh) both.0) (both.1 IsUtf8-nil) (omega arith) refl
     ∙ ap (λ found. ok_or found NotRequest) is.1.1
 
@@ -289,9 +331,12 @@ pub asks_nothing : (word : List ℕ) → bytes_eq word (codes "links") ≡ false
 unfolding request_of_word
 asks_nothing word links counts hops ways =
     rw (links, counts, hops, ways)
-    (none_of (bytes_eq word (codes "net")) _ (none_of (bytes_eq word (codes "cut")) _ (none_of (bytes_eq word (codes "add")) _
-    (none_of (bytes_eq word (codes "join")) _ (none_of (bytes_eq word (codes "batch")) _ (none_of (bytes_eq word (codes "dest")) _
-    (none_of (bytes_eq word (codes "walk")) _ (none_of (bytes_eq word (codes "nearest")) _ (none_of (bytes_eq word (codes "pushes")) _
+    (none_of (bytes_eq word (codes "net")) _
+    (none_of (bytes_eq word (codes "cut")) _ (none_of (bytes_eq word (codes "add")) _
+    (none_of (bytes_eq word (codes "join")) _
+    (none_of (bytes_eq word (codes "batch")) _ (none_of (bytes_eq word (codes "dest")) _
+    (none_of (bytes_eq word (codes "walk")) _
+    (none_of (bytes_eq word (codes "nearest")) _ (none_of (bytes_eq word (codes "pushes")) _
     (none_of (bytes_eq word (codes "phases")) _ refl))))))))))
   where
     none_of : (test : Bool) (other : Option PlainRequest) → other ≡ None → (if test then None else other) ≡ None
@@ -303,11 +348,13 @@ unfolding lex punctuate
 number_is_none line is = reads_as line (number_json is.0) (number_data is.0) (ap (punctuate fresh) is.2.0)
     (is.2.1 IsUtf8-nil) (omega arith) (rw (wide is.0 is.1))
 
-numbers_are_none : (ns : List ℕ) → ok_or (request_of (array (items_of (map number_data ns)))) NotRequest ≡ Err NotRequest
+numbers_are_none : (ns : List ℕ)
+    → ok_or (request_of (array (items_of (map number_data ns)))) NotRequest ≡ Err NotRequest
 numbers_are_none [] = refl
 numbers_are_none (n ∷ ns) = refl
 
-pub list_is_none : (line items : List ℕ) → Begins line (token Token.begin_array ∷ []) items → AreNumbers items → reading line ≡ Err NotRequest
+pub list_is_none : (line items : List ℕ) → Begins line (token Token.begin_array ∷ []) items → AreNumbers items
+    → reading line ≡ Err NotRequest
 unfolding lex punctuate
 list_is_none line items opens are =
     let ns = are.0 in
@@ -324,4 +371,5 @@ pub object_is_none : (line members : List ℕ) → Begins line (token Token.begi
 unfolding lex punctuate
 object_is_none line members opens end =
     let both = begins_more line members [] (token Token.begin_object ∷ []) (token Token.end_object ∷ []) opens end in
-    reads_as line (json.object json.no_members) (object no_members) (ap (punctuate fresh) both.0) (both.1 IsUtf8-nil) (omega arith) refl
+    reads_as line (json.object json.no_members) (object no_members) (ap (punctuate fresh) both.0) (both.1 IsUtf8-nil)
+    (omega arith) refl

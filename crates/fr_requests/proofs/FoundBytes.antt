@@ -1,5 +1,6 @@
 -- Bytes as a pattern finds them, and a number that grows digit by digit.
-use Rattle.std.proofs.Common.{List, Some, [], ap, append_assoc, arith, decimal, drop, eqb-true, get_or, length, length-drop, sym, take, take_all, ℕ, ◌*◌, ◌+◌, ◌++◌}
+use Rattle.std.proofs.Common.{List, Some, [], ap, append_assoc, arith, decimal, drop, eqb-true, get_or, length}
+use Rattle.std.proofs.Common.{length-drop, sym, take, take_all, ℕ, ◌*◌, ◌+◌, ◌++◌}
 use Rattle.std.proofs.Common.{◌-◌, ◌/◌, ◌%◌, ◌<◌, ◌≤◌, ◌^◌, ◌∙◌, ◌∷◌, ◌≡◌, ◌==◌}
 use Rattle.std.specs.Prelude.{⊤}
 use Rattle.std.proofs.lemmas.Fmt.{decimal_step}
@@ -13,11 +14,13 @@ abbrev pub StandFrom : ℕ → List ℕ → List ℕ → Type 0
 StandFrom k [] bytes = ⊤
 StandFrom k (b ∷ bs) bytes = (get_or bytes k 0 ≡ b) × StandFrom (k + 1) bs bytes
 
-from_place : (k : ℕ) (front bytes : List ℕ) → k + length front ≤ length bytes → StandFrom k front bytes → drop k bytes ≡ front ++ drop (k + length front) bytes
+from_place : (k : ℕ) (front bytes : List ℕ) → k + length front ≤ length bytes → StandFrom k front bytes
+    → drop k bytes ≡ front ++ drop (k + length front) bytes
 from_place k [] bytes long h = let same : k ≡ k + 0 = omega arith in ap (λ j. drop j bytes) same
 from_place k (b ∷ bs) bytes long h =
     let further : k + 1 + length bs ≡ k + length (b ∷ bs) = omega arith in
-    drop_more bytes k 0 (omega arith) ∙ (λ i. h.0 i ∷ from_place (k + 1) bs bytes (omega arith) h.1 i) ∙ ap (λ j. b ∷ (bs ++ drop j bytes)) further
+    drop_more bytes k 0 (omega arith) ∙ (λ i. h.0 i ∷ from_place (k + 1) bs bytes (omega arith) h.1 i)
+    ∙ ap (λ j. b ∷ (bs ++ drop j bytes)) further
 
 -- bytes are those at their front, and those of the pattern's `..`
 pub front_and_rest : (front bytes : List ℕ) → length front ≤ length bytes → StandFrom 0 front bytes
@@ -26,7 +29,8 @@ front_and_rest front bytes long h =
     let n = length front in
     let none : 0 + n ≡ n = omega arith in
     let all = take_all (length bytes - n) (drop n bytes) (omega (arith, length-drop n bytes)) in
-    from_place 0 front bytes (omega arith) h ∙ ap (λ k. front ++ drop k bytes) none ∙ ap (λ rest. front ++ rest) (sym all)
+    from_place 0 front bytes (omega arith) h ∙ ap (λ k. front ++ drop k bytes) none
+    ∙ ap (λ rest. front ++ rest) (sym all)
 
 -- bytes are those before their first quote, the quote, and those after it
 pub cut_at_quote : (bytes : List ℕ) (i : ℕ) → position (λ b. b == 34) bytes ≡ Some i

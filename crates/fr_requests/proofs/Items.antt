@@ -1,5 +1,6 @@
 -- The items of an array, as values and as data.
-use Rattle.std.proofs.Common.{append_assoc, sym, ◌+◌, List, None, Option, Some, option_and_then, [], ap, arith, drop, get_or, length, map, option_map}
+use Rattle.std.proofs.Common.{append_assoc, sym, ◌+◌, List, None, Option, Some, option_and_then, [], ap, arith, drop}
+use Rattle.std.proofs.Common.{get_or, length, map, option_map}
 use Rattle.std.proofs.Common.{refl, suc, take, take_all, zero, ℕ, ◌++◌, ◌-◌, ◌<◌, ◌∷◌, ◌≡◌, ◌≤◌}
 use Rattle.std.proofs.Math.Seq.{drop-nil}
 use Rattle.std.proofs.lemmas.List.{append-nil}
@@ -30,11 +31,14 @@ reading_begins {X} one vs read e = rw e (go (read_all one (map view vs)))
 -- an item that is read is appended to those before it
 pub reading_goes_on : {X : Type 0} (one : Data → Option X) (vs : List Value) (i : ℕ) (v : Value) (read after : List X)
     → i < length vs → IsReadNext one read (view (get_or vs i v)) after
-    → option_map (λ more. read ++ more) (read_all one (map view (drop i vs))) ≡ option_map (λ more. after ++ more) (read_all one (map view (drop (i + 1) vs)))
+    → option_map (λ more. read ++ more) (read_all one (map view (drop i vs)))
+    ≡ option_map (λ more. after ++ more) (read_all one (map view (drop (i + 1) vs)))
 reading_goes_on one [] i v read after h next = absurd (omega arith)
 reading_goes_on {X} one (w ∷ vs) zero v read after h next = rw (next.1, next.2) (go next.0 (read_all one (map view vs)))
   where
-    go : (x : X) (o : Option (List X)) → option_map (λ more. read ++ more) (option_map (λ more. x ∷ more) o) ≡ option_map (λ more. (read ++ x ∷ []) ++ more) o
+    go : (x : X) (o : Option (List X))
+        → option_map (λ more. read ++ more) (option_map (λ more. x ∷ more) o)
+        ≡ option_map (λ more. (read ++ x ∷ []) ++ more) o
     go x None = refl
     go x (Some more) = ap Some (sym (append_assoc read (x ∷ []) more))
 reading_goes_on one (w ∷ vs) (suc i) v read after h next =
@@ -57,7 +61,8 @@ reading_ends one (x ∷ xs) (suc i) read h = reading_ends one xs i read (omega a
 
 -- the word and the items after it determine the meaning of an array
 pub word_settles : {X : Type 0} (by_word : List ℕ → List Data → Option X) (d : Data) (vs : List Value) (first : Value)
-    (word : List ℕ) → items_in d ≡ Some (map view vs) → 1 ≤ length vs → first ≡ get_or vs 0 first → as_str (view first) ≡ Some word
+    (word : List ℕ) → items_in d ≡ Some (map view vs) → 1 ≤ length vs → first ≡ get_or vs 0 first
+    → as_str (view first) ≡ Some word
     → option_and_then (read_by_word by_word) (items_in d) ≡ by_word word (map view (take (length vs - 1) (drop 1 vs)))
 word_settles by_word d [] first word array some is says = absurd (omega arith)
 word_settles by_word d (x ∷ xs) first word array some is says =

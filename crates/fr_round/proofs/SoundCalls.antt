@@ -42,11 +42,16 @@ module _ (words : Words) (w : Inside) (p : Caller) (x : ℕ) (reply : Reply) (s 
       subst (λ (k : ℕ). part k w'.known ≡ part k v.known ++ e ∷ []) s.numbered made.call.extends.own in
       omega (arith, ap (λ (h : List Entry). turn_count h) own, turn_count_push (part w.number v.known) e, s.counted)
 
-  pub turned_fits : IsNet words.round_setup.net.nodes words.round_setup.net.links → words.round_setup.net.nodes < 2 ^ 32 → w.turned + turn_of reply < 2 ^ 64
+  pub turned_fits : IsNet words.round_setup.net.nodes words.round_setup.net.links
+      → words.round_setup.net.nodes < 2 ^ 32 → w.turned + turn_of reply < 2 ^ 64
   turned_fits net small =
       let b = setup_of words.round_setup in
       let run = subst (λ (z : Setup). IsHistory z p.seat.me.0.known) of made.call.extends.run in
-      turns_fit b.nodes (w.turned + turn_of reply) small (omega (arith, turned_more, few_turns b p.seat.me.0.known w.number net run))
+      turns_fit b.nodes (w.turned + turn_of reply) small (omega (
+        arith,
+        turned_more,
+        few_turns b p.seat.me.0.known w.number net run,
+      ))
 
   same_setup : p.seat.me.0.setup ≡ w.caller.seat.me.0.setup
   same_setup = ap (λ (u : View). u.setup) made.call.same
@@ -59,19 +64,24 @@ module _ (words : Words) (w : Inside) (p : Caller) (x : ℕ) (reply : Reply) (s 
         works = ap (λ (u : View). u.works) made.call.same ∙ s.works;
         no_slot = made.stays.seat.2 ∙ s.no_slot;
         noted = made.stays.seen.counts;
-        numbers = subst (λ (z : Setup). IsCounted z.nodes z.links p.seen) (sym (same_setup ∙ of)) made.stays.seen.numbers;
+        numbers =
+            subst (λ (z : Setup). IsCounted z.nodes z.links p.seen) (sym (same_setup ∙ of)) made.stays.seen.numbers;
         numbered = ap (λ (u : View). u.number) made.call.same ∙ s.numbered;
         counted = count ∙ sym turned_more;
         run = subst (λ (z : Setup). IsHistory z v.known) (sym same_setup) made.call.extends.run;
         below = λ z.
-            let e : slice_index v.seen z ≡ slice_index p.seen.counts.items z = ap (λ l. slice_index l z) made.stays.seen.counts in
-            let r : reached b v.known z ≡ reached v.setup v.known z = ap (λ (i : Setup). reached i v.known z) (sym same_setup) in
+            let e : slice_index v.seen z ≡ slice_index p.seen.counts.items z =
+            ap (λ l. slice_index l z) made.stays.seen.counts in
+            let r : reached b v.known z ≡ reached v.setup v.known z =
+            ap (λ (i : Setup). reached i v.known z) (sym same_setup) in
             omega (arith, made.call.below z, e, r);
       }
 
   pub learns_after : (turned : ℕ) → LearnsReply (knowledge_of w) x reply (knowledge_of (with_caller w p turned))
   learns_after turned = record {
-    history = subst (λ (k : ℕ). Extends w.caller.seat.me.0.setup k w.caller.seat.me.0.known (entry k x reply) p.seat.me.0.known) s.numbered made.call.extends;
+    history =
+        subst (λ (k : ℕ). Extends w.caller.seat.me.0.setup k w.caller.seat.me.0.known (entry k x reply)
+        p.seat.me.0.known) s.numbered made.call.extends;
     count = subst (λ (l : List ℕ × List ℕ). ShowsCount w.caller.seat.me.0.setup.nodes l.0 l.1 x reply)
         (λ i. (s.noted i, made.stays.seen.counts i)) made.call.shows;
     known = knowledge_holds (with_caller w p (w.turned + turn_of reply)) (sound_after (w.turned + turn_of reply) refl);
@@ -81,7 +91,8 @@ module _ (words : Words) (w : Inside) (p : Caller) (x : ℕ) (reply : Reply) (s 
 abbrev pub taught : Inside → RoundSeat → Inside
 taught w p = with_caller w (record { seat = p; seen = w.caller.seen }) w.turned
 
-module _ (w : Inside) (past : KnownPast) (p : RoundSeat) (s : IsSoundWorker w) (table : p.table_id ≡ w.caller.seat.table_id)
+module _ (w : Inside) (past : KnownPast) (p : RoundSeat) (s : IsSoundWorker w) (table : p.table_id
+    ≡ w.caller.seat.table_id)
     (slots : p.me.1 ≡ []) (same : p.me.0 ≡ record w.caller.seat.me.0 { known = p.me.0.known; received = past.known })
     (caught : CatchesUp (record w.caller.seat.me.0 { received = past.known }) p.me.0.known) where
   setup_stays : p.me.0.setup ≡ w.caller.seat.me.0.setup
@@ -100,7 +111,8 @@ module _ (w : Inside) (past : KnownPast) (p : RoundSeat) (s : IsSoundWorker w) (
     counted = s.counted ∙ sym (ap (λ (h : List Entry). turn_count h) own_stays);
     run = subst (λ (z : Setup). IsHistory z p.me.0.known) (sym setup_stays) caught.run;
     below = λ z.
-        let e : slice_index w.caller.seat.me.0.seen z ≡ slice_index w.caller.seen.counts.items z = ap (λ l. slice_index l z) s.noted in
+        let e : slice_index w.caller.seat.me.0.seen z ≡ slice_index w.caller.seen.counts.items z =
+        ap (λ l. slice_index l z) s.noted in
         let r : reached p.me.0.setup p.me.0.known z ≡ reached w.caller.seat.me.0.setup p.me.0.known z =
         ap (λ (b : Setup). reached b p.me.0.known z) setup_stays in
         omega (arith, caught.below z, e, r);
@@ -108,7 +120,14 @@ module _ (w : Inside) (past : KnownPast) (p : RoundSeat) (s : IsSoundWorker w) (
 
   pub learns_past : LearnsPast (knowledge_of w) past (knowledge_of (taught w p))
   learns_past = record {
-    same = λ i. record { table = table i; setup = setup_stays i; number = w.number; known = p.me.0.known; seen = w.caller.seen.counts.items };
+    same =
+        λ i. record {
+          table = table i;
+          setup = setup_stays i;
+          number = w.number;
+          known = p.me.0.known;
+          seen = w.caller.seen.counts.items;
+        };
     keeps = caught.begins;
     learns = caught.received;
     own = own_stays;

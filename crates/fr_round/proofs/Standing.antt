@@ -1,5 +1,6 @@
 -- One history stands behind the words and behind what all workers know.
-use Rattle.std.proofs.Common.{◌≡◌, ◌≢◌, ℕ, zero, suc, ◌+◌, ◌<◌, ◌≤◌, Bool, true, false, List, [], ◌∷◌, ◌++◌, map, replicate, refl, sym, ap, subst}
+use Rattle.std.proofs.Common.{◌≡◌, ◌≢◌, ℕ, zero, suc, ◌+◌, ◌<◌, ◌≤◌, Bool, true, false, List, [], ◌∷◌, ◌++◌, map}
+use Rattle.std.proofs.Common.{replicate, refl, sym, ap, subst}
 use Rattle.std.proofs.Common.{arith, true≢false, ◌∙◌}
 use Rattle.std.specs.Prelude.{◌==◌, if◌then◌else◌}
 use Rattle.std.specs.List.{AllByRecursion as Each}
@@ -16,15 +17,18 @@ use Rattle.fr_core.specs.declared.entry.Entry.{Entry}
 use Rattle.fr_round.specs.declared.view.Setup.{Setup}
 use Rattle.fr_round.specs.declared.view.View.{View}
 use Rattle.fr_round.specs.Histories.{AreApart, moment}
-use Rattle.fr_round.specs.Laws.{CallSteps, SeatSteps, EveryStepGrowsTheList, EveryStepKeepsTheRule, Grows, KnowsPartOf, OneHistoryStandsBehindAll, NoOtherStateIsFirst, RuleHoldsAtFirst, first_state}
+use Rattle.fr_round.specs.Laws.{CallSteps, SeatSteps, EveryStepGrowsTheList, EveryStepKeepsTheRule, Grows, KnowsPartOf}
+use Rattle.fr_round.specs.Laws.{OneHistoryStandsBehindAll, NoOtherStateIsFirst, RuleHoldsAtFirst, first_state}
 use Rattle.fr_round.specs.Laws.{workers_at, workers_of}
 use Rattle.fr_round.specs.Opening.{HasNotBegun, KnowsNothing}
 use Rattle.fr_round.specs.Knowledge.{Knowledge, OpenRound, new_worker, new_workers}
 use Rattle.fr_round.specs.Rule.{HasList, IsTaken, ViewFits, closing_view, opening_view}
 use Rattle.fr_round.specs.Steps.{caught_up, exchange_made, look_begun, look_ended, neighbour_loaded, own_loaded}
 use Rattle.fr_round.proofs.Gathering.{some_run}
-use Rattle.fr_round.proofs.Keeping.{allowed, begins_look, catches_up, each_append, each_mapped, each_weaker, ends_look_at, exchanges_at, loads_against_at, loads_along_at, loads_own}
-use Rattle.fr_round.proofs.Seating.{apart_append, enters, first_keeps, hands_on, joins, kept_enter, kept_join, kept_split, receives, splits}
+use Rattle.fr_round.proofs.Keeping.{allowed, begins_look, catches_up, each_append, each_mapped, each_weaker}
+use Rattle.fr_round.proofs.Keeping.{ends_look_at, exchanges_at, loads_against_at, loads_along_at, loads_own}
+use Rattle.fr_round.proofs.Seating.{apart_append, enters, first_keeps, hands_on, joins, kept_enter, kept_join}
+use Rattle.fr_round.proofs.Seating.{kept_split, receives, splits}
 
 abbrev numbers : List (ℕ × List Entry) → List ℕ
 numbers ws = map (λ (w : ℕ × List Entry). w.0) ws
@@ -37,7 +41,8 @@ each_of_view P true false w taken own others = (own refl, tt)
 each_of_view P false true w taken own others = others refl
 each_of_view P false false w taken own others = tt
 
-apart_of_view : (works closes : Bool) (w : ℕ × List Entry) (taken : List (ℕ × List Entry)) → (works ≡ true → closes ≡ false)
+apart_of_view : (works closes : Bool) (w : ℕ × List Entry) (taken : List (ℕ × List Entry))
+    → (works ≡ true → closes ≡ false)
     → (closes ≡ true → AreApart (numbers taken))
     → AreApart (numbers ((if works then w ∷ [] else []) ++ (if closes then taken else [])))
 apart_of_view true true w taken one apart = absurd (true≢false (one refl))
@@ -53,16 +58,24 @@ record IsSeatedFrom (next : ℕ) (seat_of : ℕ → ℕ) (h : List Entry) (i : �
 
 module _ (b : Setup) (next : ℕ) (seat_of : ℕ → ℕ) (at : ℕ) (h : List Entry) (words : List ℕ) where
   -- the workers at one seat
-  here : (j : ℕ) (v : View) → ViewFits b next seat_of at h words j v → Each (IsTaken next seat_of j h) (workers_at v) × AreApart (numbers (workers_at v))
+  here : (j : ℕ) (v : View) → ViewFits b next seat_of at h words j v
+      → Each (IsTaken next seat_of j h) (workers_at v) × AreApart (numbers (workers_at v))
   here j v f = (
     each_of_view (IsTaken next seat_of j h) v.works v.closes (v.number, v.known) v.taken
-        (λ works. let w = f.worker works in record { begins = f.begins; own = w.own; placed = w.placed; numbered = w.numbered })
+        (λ works. let w = f.worker works in record {
+          begins = f.begins;
+          own = w.own;
+          placed = w.placed;
+          numbered = w.numbered;
+        })
         (λ closes. (f.closing closes).taken),
-    apart_of_view v.works v.closes (v.number, v.known) v.taken (λ works. (f.worker works).not_closing) (λ closes. (f.closing closes).apart),
+    apart_of_view v.works v.closes (v.number, v.known) v.taken (λ works. (f.worker works).not_closing)
+        (λ closes. (f.closing closes).apart),
   )
 
   -- the workers at the seats from seat i on
-  from : (views : List View) (i : ℕ) → ((j : ℕ) (v : View) → get_elem? views j ≡ some v → ViewFits b next seat_of at h words (i + j) v)
+  from : (views : List View) (i : ℕ)
+      → ((j : ℕ) (v : View) → get_elem? views j ≡ some v → ViewFits b next seat_of at h words (i + j) v)
       → Each (IsSeatedFrom next seat_of h i) (workers_of views) × AreApart (numbers (workers_of views))
   from [] i fits = (tt, tt)
   from (v ∷ vs) i fits =
@@ -78,12 +91,15 @@ module _ (b : Setup) (next : ℕ) (seat_of : ℕ → ℕ) (at : ℕ) (h : List E
                   t.placed in omega arith;
             }) (workers_at v) one.0)
             (each_weaker (IsSeatedFrom next seat_of h (i + 1)) (IsSeatedFrom next seat_of h i)
-            (λ w t. record { knows = t.knows; numbered = t.numbered; placed = let p = t.placed in omega arith }) (workers_of vs) others.0),
+            (λ w t. record { knows = t.knows; numbered = t.numbered; placed = let p = t.placed in omega arith })
+            (workers_of vs) others.0),
         subst AreApart (sym (map-append (λ (w : ℕ × List Entry). w.0) (workers_at v) (workers_of vs)))
             (apart_append (numbers (workers_at v)) (numbers (workers_of vs)) one.1 others.1
-            (each_mapped (IsTaken next seat_of (i + 0) h) (λ (k : ℕ). Each (λ (j : ℕ). j ≢ k) (numbers (workers_of vs))) (λ (w : ℕ × List Entry). w.0)
+            (each_mapped (IsTaken next seat_of (i
+            + 0) h) (λ (k : ℕ). Each (λ (j : ℕ). j ≢ k) (numbers (workers_of vs))) (λ (w : ℕ × List Entry). w.0)
             (λ w t. each_mapped (IsSeatedFrom next seat_of h (i + 1)) (λ (j : ℕ). j ≢ w.0) (λ (u : ℕ × List Entry). u.0)
-            (λ u q is. let same : seat_of u.0 ≡ seat_of w.0 = ap seat_of is in let p = t.placed in let past = q.placed in
+            (λ u q is. let same : seat_of u.0
+            ≡ seat_of w.0 = ap seat_of is in let p = t.placed in let past = q.placed in
             absurd (omega arith)) (workers_of vs) others.0)
             (workers_at v) one.0)),
       )
@@ -91,12 +107,15 @@ module _ (b : Setup) (next : ℕ) (seat_of : ℕ → ℕ) (at : ℕ) (h : List E
 pub one_history : OneHistoryStandsBehindAll
 one_history b s r =
     let all = from b r.next r.seat_of r.at r.history s.words s.views 0
-    (λ j v e. subst (λ (k : ℕ). ViewFits b r.next r.seat_of r.at r.history s.words k v) (omega arith) (r.views j v e)) in
+    (λ j v e. subst (λ (k : ℕ). ViewFits b r.next r.seat_of r.at r.history s.words k v) (omega arith) (r.views j v e))
+    in
     record {
       run = some_run b s r;
       opened = each_weaker (λ (e : Entry). e.worker < r.next) (λ (e : Entry). e.worker < b.workers)
           (λ e lt. let m = r.most in omega arith) r.history r.given_out;
-      parts = each_weaker (IsSeatedFrom r.next r.seat_of r.history 0) (KnowsPartOf r.history) (λ w t. t.knows) (workers_of s.views) all.0;
+      parts =
+          each_weaker (IsSeatedFrom r.next r.seat_of r.history 0) (KnowsPartOf r.history) (λ w t. t.knows)
+          (workers_of s.views) all.0;
       apart = all.1;
       numbered = each_weaker (IsSeatedFrom r.next r.seat_of r.history 0) (λ (w : ℕ × List Entry). w.0 < b.workers)
           (λ w t. let m = r.most in let lt = t.numbered in omega arith) (workers_of s.views) all.0;
@@ -143,13 +162,20 @@ none_given (e ∷ h) given = let low = given.0 in absurd (omega arith)
 pub only_first : NoOtherStateIsFirst
 only_first b words r =
     let none : r.next ≡ 0 = sym ((r.views 0 (opening_view b) refl).opening refl).counts in
-    let empty : r.history ≡ [] = none_given r.history (subst (λ (k : ℕ). Each (λ (e : Entry). e.worker < k) r.history) none r.given_out) in
+    let empty : r.history ≡ [] =
+    none_given r.history (subst (λ (k : ℕ). Each (λ (e : Entry). e.worker < k) r.history) none r.given_out) in
     ap (λ (ws : List ℕ). opening ws [] (opening_view b)) (r.words ∙ ap (λ (h : List Entry). (moment b h).counts) empty)
 
 calls_grow : (b : Setup) → CallSteps b (Grows b)
 calls_grow b = record {
-  own_load = λ slots id me x worker inside. loads_own b slots id me x worker.works (omega (arith, inside, ap (λ (z : Setup). z.nodes) worker.setup));
-  exchange = λ slots id me x c worker may room had met. exchanges_at b b slots id me x c (c + 1) refl room had worker may met;
+  own_load =
+      λ slots id me x worker inside. loads_own b slots id me x worker.works (omega (
+        arith,
+        inside,
+        ap (λ (z : Setup). z.nodes) worker.setup,
+      ));
+  exchange =
+      λ slots id me x c worker may room had met. exchanges_at b b slots id me x c (c + 1) refl room had worker may met;
   along = λ slots id me x c w call link. loads_along_at b b slots id me x c w call link;
   against = λ slots id me x c w call link. loads_against_at b b slots id me x c w call link;
   look_begins = λ slots id me x worker. begins_look b slots id me x worker.works;
@@ -175,24 +201,36 @@ steps_keep b =
     let grows = calls_grow b in
     record {
       calls = record {
-        own_load = λ slots id me x worker inside. allowed b slots id me x (λ n. n) (own_loaded (step slots x 0 0 none) me)
+        own_load =
+            λ slots id me x worker inside. allowed b slots id me x (λ n. n) (own_loaded (step slots x 0 0 none) me)
             (grows.own_load slots id me x worker inside);
-        exchange = λ slots id me x c worker may room had met. allowed b slots id me x (λ n. either (n == c) (c + 1) n) (exchange_made (step slots x c (c + 1) none) me)
+        exchange =
+            λ slots id me x c worker may room had met. allowed b slots id me x (λ n. either (n == c) (c
+            + 1) n) (exchange_made (step slots x c (c + 1) none) me)
             (grows.exchange slots id me x c worker may room had met);
-        along = λ slots id me x c w call link. allowed b slots id me w (λ n. n) (neighbour_loaded 1 (step slots w 0 0 none) me)
+        along =
+            λ slots id me x c w call link. allowed b slots id me w (λ n. n)
+            (neighbour_loaded 1 (step slots w 0 0 none) me)
             (grows.along slots id me x c w call link);
-        against = λ slots id me x c w call link. allowed b slots id me w (λ n. n) (neighbour_loaded 0 (step slots w 0 0 none) me)
+        against =
+            λ slots id me x c w call link. allowed b slots id me w (λ n. n)
+            (neighbour_loaded 0 (step slots w 0 0 none) me)
             (grows.against slots id me x c w call link);
         look_begins = λ slots id me x worker. allowed b slots id me x (λ n. n) (look_begun (step slots x 0 0 none) me)
             (grows.look_begins slots id me x worker);
-        look_ends = λ slots id me x c call may met. allowed b slots id me x (λ n. n) (look_ended (step slots x 0 0 none) me)
+        look_ends =
+            λ slots id me x c call may met. allowed b slots id me x (λ n. n) (look_ended (step slots x 0 0 none) me)
             (grows.look_ends slots id me x c call may met);
         catches_up = λ slots id me x worker. allowed b slots id me x (λ n. n) (caught_up (step slots x 0 0 none) me)
             (grows.catches_up slots id me x worker);
       };
       seats = record {
-        numbers = λ id v opens idle not_closing more. kept_split b id v _ _ (λ list. splits b list id v opens idle not_closing more);
-        closing_comes = λ slots x v setup. kept_enter b slots x (λ n w. w ≡ closing_view v.setup) (λ list. enters b list slots x v setup);
+        numbers =
+            λ id v opens idle not_closing more. kept_split b id v _ _
+            (λ list. splits b list id v opens idle not_closing more);
+        closing_comes =
+            λ slots x v setup. kept_enter b slots x (λ n w. w
+            ≡ closing_view v.setup) (λ list. enters b list slots x v setup);
         takes_back = λ id v other w closes idle not_opening works. kept_join b id v other w _ _
             (λ list. joins b list id v other w closes idle not_opening works);
         hands_on = λ id v. kept_split b id v _ _ (λ list. hands_on b list id v);

@@ -1,5 +1,6 @@
 -- Where all workers are handed back, their turns are all the turns of the history.
-use Rattle.std.proofs.Common.{◌≡◌, ◌≢◌, ◌⊎◌, ℕ, ◌+◌, ◌<◌, eqb, Contains, List, [], ◌∷◌, map, length, refl, sym, ap, ◌∙◌, subst, ⊎_elim, inl, inr}
+use Rattle.std.proofs.Common.{◌≡◌, ◌≢◌, ◌⊎◌, ℕ, ◌+◌, ◌<◌, eqb, Contains, List, [], ◌∷◌, map, length, refl, sym, ap, ◌∙◌}
+use Rattle.std.proofs.Common.{subst, ⊎_elim, inl, inr}
 use Rattle.std.proofs.Common.{arith, sum, sum_by}
 use Rattle.std.proofs.lemmas.Bool.{cases_eq}
 use Rattle.std.proofs.lemmas.List.{length-map, length-replicate}
@@ -26,7 +27,8 @@ each_at P (x ∷ xs) y a h = ⊎_elim (λ e. subst P e a.0) (λ r. each_at P xs 
 
 are_distinct : (ks : List ℕ) → AreApart ks → IsDistinct eqb ks
 are_distinct [] a = IsDistinct-none
-are_distinct (k ∷ ks) a = IsDistinct-more k ks (λ y h e. each_at (λ (j : ℕ). j ≢ k) ks y a.0 h (sym e)) (are_distinct ks a.1)
+are_distinct (k ∷ ks) a =
+    IsDistinct-more k ks (λ y h e. each_at (λ (j : ℕ). j ≢ k) ks y a.0 h (sym e)) (are_distinct ks a.1)
 
 cases_in : (ks : List ℕ) (j : ℕ) → Contains ks j ⊎ Each (λ (k : ℕ). k ≢ j) ks
 cases_in [] j = inr tt
@@ -36,13 +38,16 @@ cases_in (k ∷ ks) j = ⊎_elim
     (cases_eq k j)
 
 -- n different numbers below n are all of them
-all_in : (n : ℕ) (ks : List ℕ) → AreApart ks → Each (λ (k : ℕ). k < n) ks → length ks ≡ n → (j : ℕ) → j < n → Contains ks j
+all_in : (n : ℕ) (ks : List ℕ) → AreApart ks → Each (λ (k : ℕ). k < n) ks → length ks ≡ n → (j : ℕ) → j < n
+    → Contains ks j
 all_in n ks apart below long j lt = ⊎_elim (λ h. h)
     (λ a. absurd (omega (
       arith,
       long,
-      distinct_length n (j ∷ ks) (IsDistinct-more j ks (λ y h e. each_at (λ (k : ℕ). k ≢ j) ks y a h (sym e)) (are_distinct ks apart))
-          (λ q h. ⊎_elim (λ e. omega (arith, e, lt)) (λ r. each_at (λ (k : ℕ). k < n) ks q below r) (Contains-cases q j ks h)),
+      distinct_length n (j
+          ∷ ks) (IsDistinct-more j ks (λ y h e. each_at (λ (k : ℕ). k ≢ j) ks y a h (sym e)) (are_distinct ks apart))
+          (λ q h. ⊎_elim (λ e. omega (arith, e, lt)) (λ r. each_at (λ (k : ℕ). k
+          < n) ks q below r) (Contains-cases q j ks h)),
     )))
     (cases_in ks j)
 
@@ -50,7 +55,8 @@ abbrev part_turns : List Entry → ℕ → ℕ
 part_turns h k = turn_count (part k h)
 
 -- an entry counts for no worker but its own
-same_turns : (ks : List ℕ) (e : Entry) (h : List Entry) → Each (λ (k : ℕ). k ≢ e.worker) ks → sum_by (part_turns (e ∷ h)) ks ≡ sum_by (part_turns h) ks
+same_turns : (ks : List ℕ) (e : Entry) (h : List Entry) → Each (λ (k : ℕ). k ≢ e.worker) ks
+    → sum_by (part_turns (e ∷ h)) ks ≡ sum_by (part_turns h) ks
 same_turns [] e h a = refl
 same_turns (k ∷ ks) e h a = omega (
   arith,
@@ -89,9 +95,11 @@ no_turns [] = refl
 no_turns (k ∷ ks) = omega (arith, sum_by-cons (part_turns []) k ks, no_turns ks)
 
 -- different workers that have all the entries have all the turns
-sum_of_parts : (ks : List ℕ) (h : List Entry) → AreApart ks → Each (λ (e : Entry). Contains ks e.worker) h → sum_by (part_turns h) ks ≡ turn_count h
+sum_of_parts : (ks : List ℕ) (h : List Entry) → AreApart ks → Each (λ (e : Entry). Contains ks e.worker) h
+    → sum_by (part_turns h) ks ≡ turn_count h
 sum_of_parts ks [] apart a = no_turns ks
-sum_of_parts ks (e ∷ h) apart a = omega (arith, one_more ks e h apart a.0, sum_of_parts ks h apart a.1, turn_count_cons e h)
+sum_of_parts ks (e ∷ h) apart a =
+    omega (arith, one_more ks e h apart a.0, sum_of_parts ks h apart a.1, turn_count_cons e h)
 
 each_in_all : (n : ℕ) (ks : List ℕ) (h : List Entry) → ((j : ℕ) → j < n → Contains ks j)
     → Each (λ (e : Entry). e.worker < n) h → Each (λ (e : Entry). Contains ks e.worker) h
@@ -100,7 +108,8 @@ each_in_all n ks (e ∷ h) f a = (f e.worker a.0, each_in_all n ks h f a.1)
 
 -- the turns that are answered are those of the parts
 sum_of_pairs : (h : List Entry) (workers : List Knowledge) → Each (IsPartOf h) workers
-    → sum_by (λ (p : ℕ × ℕ). p.1) (map number_and_turns workers) ≡ sum_by (part_turns h) (map (λ (k : Knowledge). k.number) workers)
+    → sum_by (λ (p : ℕ × ℕ). p.1) (map number_and_turns workers)
+    ≡ sum_by (part_turns h) (map (λ (k : Knowledge). k.number) workers)
 sum_of_pairs h [] a = refl
 sum_of_pairs h (k ∷ ks) a = omega (
   arith,
@@ -112,12 +121,15 @@ sum_of_pairs h (k ∷ ks) a = omega (
 
 pub all_handed_back : (b : Setup) (h : List Entry) (counts : List ℕ) (workers : List Knowledge)
     → IsRunTo b.nodes b.dest b.links h counts → Each (λ (e : Entry). e.worker < b.workers) h → Each (IsPartOf h) workers
-    → AreApart (map (λ (k : Knowledge). k.number) workers) → Each (λ (k : Knowledge). k.number < b.workers) workers → length workers ≡ b.workers
+    → AreApart (map (λ (k : Knowledge). k.number) workers) → Each (λ (k : Knowledge). k.number < b.workers) workers
+    → length workers ≡ b.workers
     → sum_by (λ (p : ℕ × ℕ). p.1) (map number_and_turns workers) ≡ sum counts
 all_handed_back b h counts workers run opened parts apart numbered long =
     let ks : List ℕ = map (λ (k : Knowledge). k.number) workers in
-    let all = all_in b.workers ks apart (each_mapped (λ (k : Knowledge). k.number < b.workers) (λ (k : ℕ). k < b.workers)
-    (λ (k : Knowledge). k.number) (λ k lt. lt) workers numbered) (length-map workers (λ (k : Knowledge). k.number) ∙ long) in
+    let all =
+    all_in b.workers ks apart (each_mapped (λ (k : Knowledge). k.number < b.workers) (λ (k : ℕ). k < b.workers)
+    (λ (k : Knowledge). k.number) (λ k lt. lt) workers numbered) (length-map workers (λ (k : Knowledge). k.number)
+    ∙ long) in
     omega (
       arith,
       sum_of_pairs h workers parts,

@@ -1,5 +1,6 @@
 -- How many turns a history has: no worker has more than the counts allow.
-use Rattle.std.proofs.Common.{◌≡◌, ℕ, ◌+◌, ◌*◌, ◌^◌, ◌<◌, ◌≤◌, Bool, true, false, cond, eqb, List, [], ◌∷◌, ◌++◌, arith, le_refl, mul-le-mul}
+use Rattle.std.proofs.Common.{◌≡◌, ℕ, ◌+◌, ◌*◌, ◌^◌, ◌<◌, ◌≤◌, Bool, true, false, cond, eqb, List, [], ◌∷◌, ◌++◌, arith}
+use Rattle.std.proofs.Common.{le_refl, mul-le-mul}
 use Rattle.std.proofs.lemmas.List.{length-replicate}
 use Rattle.std.proofs.lemmas.List.Sums.{sum_by-cons, sum_by_push}
 use Rattle.fr_graph.specs.Links.{IsNet}
@@ -25,11 +26,13 @@ turn_count_part : (k : ℕ) (h : List Entry) → turn_count (part k h) ≤ turn_
 turn_count_part k [] = le_refl 0
 turn_count_part k (e ∷ es) = go (eqb e.worker k) (turn_count_part k es)
   where
-    go : (b : Bool) → turn_count (part k es) ≤ turn_count es → turn_count (cond b (e ∷ part k es) (part k es)) ≤ turn_count (e ∷ es)
+    go : (b : Bool) → turn_count (part k es) ≤ turn_count es
+        → turn_count (cond b (e ∷ part k es) (part k es)) ≤ turn_count (e ∷ es)
     go true le = omega (arith, le, turn_count_cons e es, turn_count_cons e (part k es))
     go false le = omega (arith, le, turn_count_cons e es)
 
-pub few_turns : (b : Setup) (h : List Entry) (k : ℕ) → IsNet b.nodes b.links → IsHistory b h → turn_count (part k h) ≤ b.nodes * b.nodes
+pub few_turns : (b : Setup) (h : List Entry) (k : ℕ) → IsNet b.nodes b.links → IsHistory b h
+    → turn_count (part k h) ≤ b.nodes * b.nodes
 few_turns b h k net run = omega (
   arith,
   run_sum b.nodes b.dest (start b) h (length-replicate b.nodes 0) run,

@@ -1,5 +1,6 @@
 -- The numbers whose hop has changed, with their hops in the table after a round.
-use Rattle.std.proofs.Common.{◌≡◌, ◌≢◌, ◌∙◌, ℕ, List, [], ◌∷◌, Option, ap, arith, get_or, length, map, refl, slice_get, sym, subst, ⊎_elim}
+use Rattle.std.proofs.Common.{◌≡◌, ◌≢◌, ◌∙◌, ℕ, List, [], ◌∷◌, Option, ap, arith, get_or, length, map, refl, slice_get}
+use Rattle.std.proofs.Common.{sym, subst, ⊎_elim}
 use Rattle.std.specs.List.{AllByRecursion}
 use Rattle.std.proofs.lemmas.Bool.{cases_lt}
 use Rattle.std.proofs.lemmas.Option.{slice_get-get_or, slice_get_past}
@@ -24,14 +25,16 @@ module _ (s : State) (after : IsAfterRound s) (hops : List Hop) (are : AreHops s
   hop_is x = ⊎_elim
       (λ low. let is = slice_get-get_or hops x CutOff low in
       subst (λ (o : Option Hop). IsHop s x (hop_in o)) (sym is) (are.each x (get_or hops x CutOff) is))
-      (λ out. subst (λ (o : Option Hop). IsHop s x (hop_in o)) (sym (slice_get_past hops x out)) (outside_cut s after x (omega (arith, out, are.one_each))))
+      (λ out. subst (λ (o : Option Hop). IsHop s x (hop_in o)) (sym (slice_get_past hops x out))
+      (outside_cut s after x (omega (arith, out, are.one_each))))
       (cases_lt x (length hops))
 
   these_are : (numbers : List ℕ) → map (λ (change : ℕ × Hop). change.0) (changes_of hops numbers) ≡ numbers
   these_are [] = refl
   these_are (x ∷ xs) = ap (λ (rest : List ℕ). x ∷ rest) (these_are xs)
 
-  hops_are : (numbers : List ℕ) → AllByRecursion (λ (change : ℕ × Hop). IsHop s change.0 change.1) (changes_of hops numbers)
+  hops_are : (numbers : List ℕ)
+      → AllByRecursion (λ (change : ℕ × Hop). IsHop s change.0 change.1) (changes_of hops numbers)
   hops_are [] = tt
   hops_are (x ∷ xs) = (hop_is x, hops_are xs)
 
@@ -39,8 +42,10 @@ module _ (s : State) (after : IsAfterRound s) (hops : List Hop) (are : AreHops s
   changes_are numbers = record { these = these_are numbers; hops = hops_are numbers }
 
 -- the numbers and the state determine the hops
-same_changes : (s : State) (some other : List (ℕ × Hop)) → map (λ (change : ℕ × Hop). change.0) some ≡ map (λ (change : ℕ × Hop). change.0) other
-    → AllByRecursion (λ (change : ℕ × Hop). IsHop s change.0 change.1) some → AllByRecursion (λ (change : ℕ × Hop). IsHop s change.0 change.1) other → some ≡ other
+same_changes : (s : State) (some other : List (ℕ × Hop))
+    → map (λ (change : ℕ × Hop). change.0) some ≡ map (λ (change : ℕ × Hop). change.0) other
+    → AllByRecursion (λ (change : ℕ × Hop). IsHop s change.0 change.1) some
+    → AllByRecursion (λ (change : ℕ × Hop). IsHop s change.0 change.1) other → some ≡ other
 same_changes s [] [] e h k = refl
 same_changes s [] (y ∷ ys) e h k = cc
 same_changes s (x ∷ xs) [] e h k = cc
@@ -51,7 +56,8 @@ same_changes s (x ∷ xs) (y ∷ ys) e h k =
     let first : x ≡ y = (λ i. (number i, hop i)) in
     (λ i. first i ∷ same_changes s xs ys rest h.1 k.1 i)
 
-pub changes_unique : (s : State) (numbers : List ℕ) (some other : List (ℕ × Hop)) → AreChanges s numbers some → AreChanges s numbers other → some ≡ other
+pub changes_unique : (s : State) (numbers : List ℕ) (some other : List (ℕ × Hop)) → AreChanges s numbers some
+    → AreChanges s numbers other → some ≡ other
 changes_unique s numbers some other h k = same_changes s some other (h.these ∙ sym k.these) h.hops k.hops
 
 -- the report of a round in each form

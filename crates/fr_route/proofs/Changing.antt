@@ -1,5 +1,6 @@
 -- What a change makes, from the edits that it makes and the destination after them.
-use Rattle.std.proofs.Common.{List, [], ap, arith, inl, inr, refl, subst, sym, length, take, ℕ, ◌++◌, ◌<◌, ◌≤◌, ◌∙◌, ◌∷◌, ◌≡◌, ◌≢◌}
+use Rattle.std.proofs.Common.{List, [], ap, arith, inl, inr, refl, subst, sym, length, take, ℕ, ◌++◌, ◌<◌, ◌≤◌, ◌∙◌}
+use Rattle.std.proofs.Common.{◌∷◌, ◌≡◌, ◌≢◌}
 use Rattle.std.specs.List.{HoldsAt}
 use Rattle.fr_graph.specs.Batches.{AreMade, IsBatchFault, IsEditFault, IsMade}
 use Rattle.fr_graph.specs.Edits.{IsJoined, without}
@@ -36,7 +37,8 @@ edited_nodes net (edit.Cut u v) after made = nodes_of net.nodes (without u v net
 edited_nodes net (edit.Add u v) after made = nodes_of net.nodes (net.links ++ (u, v) ∷ []) after made
 edited_nodes net (edit.Join u v) after made = joined_nodes net.nodes net.links u v after made
 
-pub made_nodes : (net : Network) (edits : List Edit) (after : Network) → AreMade net edits after → after.nodes ≡ net.nodes
+pub made_nodes : (net : Network) (edits : List Edit) (after : Network) → AreMade net edits after
+    → after.nodes ≡ net.nodes
 made_nodes net [] after made = ap (λ (m : Network). m.nodes) made
 made_nodes net (e ∷ es) after made = made_nodes made.0 es after made.1.1 ∙ edited_nodes net e made.0 made.1.0
 
@@ -70,7 +72,8 @@ pub round_fault : (s : State) (edits : List Edit) (net : Network) (d at : ℕ) (
     → length edits ≤ most_edits → AreMade (net_at s) edits net → IsOpenFault net.nodes d fault
     → (IsStill net d → fault ≢ Start) → IsPlacedFault s edits d at fault
 round_fault s edits net d at (Net fault) below few made why moves = absurd why
-round_fault s edits net d at Range below few made why moves = omega (arith, below, why, made_nodes (net_at s) edits net made)
+round_fault s edits net d at Range below few made why moves =
+    omega (arith, below, why, made_nodes (net_at s) edits net made)
 round_fault s edits net d at Start below few made why moves = (few, below, (net, (made, λ still. moves still refl)))
 round_fault s edits net d at Memory below few made why moves = few
 
@@ -80,11 +83,13 @@ pub record IsBy (s : State) (change : Change) (e : Edit) : Type 0 where
   pub undone : (why : NotMade) → IsPlaced s (e ∷ []) s.dest why → IsUndone s change why
 
 -- the only edit of a change is refused
-pub refused_edit : (s : State) (e : Edit) (refused : EditFault) → IsBatchFault (net_at s) (e ∷ []) refused → IsEditFault (net_at s) e refused.fault
+pub refused_edit : (s : State) (e : Edit) (refused : EditFault) → IsBatchFault (net_at s) (e ∷ []) refused
+    → IsEditFault (net_at s) e refused.fault
 refused_edit s e refused (inl more) = absurd (omega (arith, more.0))
 refused_edit s e refused (inr (few, at)) =
     let first : refused.at ≡ 0 = omega (arith, at.inside) in
-    let before : at.before ≡ net_at s = subst (λ (k : ℕ). AreMade (net_at s) (take k (e ∷ [])) at.before) first at.made in
+    let before : at.before ≡ net_at s =
+    subst (λ (k : ℕ). AreMade (net_at s) (take k (e ∷ [])) at.before) first at.made in
     let here : IsEditFault at.before e refused.fault =
     subst (λ (k : ℕ). HoldsAt (λ edit. IsEditFault at.before edit refused.fault) (e ∷ []) k) first at.refused e in
     subst (λ (m : Network). IsEditFault m e refused.fault) before here
@@ -104,10 +109,14 @@ pub cut_by : (s : State) (u v : ℕ) → IsBy s (Cut u v) (edit.Cut u v)
 cut_by s u v = record { done = done; undone = λ why h. by_place why.at why.fault h }
   where
     done : (new : State) → IsEdited s (edit.Cut u v ∷ []) s.dest new → IsChanged s (Cut u v) new
-    done new (few, (net, ((next, (made, is)), round))) =
-        (made.0, round_listed s.nodes s.dest (without u v s.links) next new made.1 (subst (λ (m : Network). IsRound m.nodes s.dest m.links new) is round))
+    done new (few, (net, ((next, (made, is)), round))) = (
+      made.0,
+      round_listed s.nodes s.dest (without u v s.links) next new made.1
+          (subst (λ (m : Network). IsRound m.nodes s.dest m.links new) is round),
+    )
 
-    by_place : (at : ℕ) (fault : RouteFault) → IsPlacedFault s (edit.Cut u v ∷ []) s.dest at fault → IsRouteFault s (Cut u v) fault
+    by_place : (at : ℕ) (fault : RouteFault) → IsPlacedFault s (edit.Cut u v ∷ []) s.dest at fault
+        → IsRouteFault s (Cut u v) fault
     by_place at (Net fault) (why, names) = refused_edit s (edit.Cut u v) (record { at = at; fault = fault }) why
     by_place at Range h = h
     by_place at Start h = h
@@ -123,7 +132,8 @@ add_by s u v = record { done = done; undone = λ why h. by_place why.at why.faul
           (subst (λ (m : Network). IsRound m.nodes s.dest m.links new) is round),
     )
 
-    by_place : (at : ℕ) (fault : RouteFault) → IsPlacedFault s (edit.Add u v ∷ []) s.dest at fault → IsRouteFault s (Add u v) fault
+    by_place : (at : ℕ) (fault : RouteFault) → IsPlacedFault s (edit.Add u v ∷ []) s.dest at fault
+        → IsRouteFault s (Add u v) fault
     by_place at (Net fault) (why, names) =
         let refused : EditFault = record { at = at; fault = fault } in
         (refused_edit s (edit.Add u v) refused why, named_edit s (edit.Add u v) refused why names)
@@ -135,9 +145,11 @@ pub join_by : (s : State) (u v : ℕ) → IsBy s (Join u v) (edit.Join u v)
 join_by s u v = record { done = done; undone = λ why h. by_place why.at why.fault h }
   where
     done : (new : State) → IsEdited s (edit.Join u v ∷ []) s.dest new → IsChanged s (Join u v) new
-    done new (few, (net, ((next, (made, is)), round))) = (next, (made, subst (λ (m : Network). IsRound m.nodes s.dest m.links new) is round))
+    done new (few, (net, ((next, (made, is)), round))) =
+        (next, (made, subst (λ (m : Network). IsRound m.nodes s.dest m.links new) is round))
 
-    by_place : (at : ℕ) (fault : RouteFault) → IsPlacedFault s (edit.Join u v ∷ []) s.dest at fault → IsRouteFault s (Join u v) fault
+    by_place : (at : ℕ) (fault : RouteFault) → IsPlacedFault s (edit.Join u v ∷ []) s.dest at fault
+        → IsRouteFault s (Join u v) fault
     by_place at (Net fault) (why, names) =
         let refused : EditFault = record { at = at; fault = fault } in
         (refused_edit s (edit.Join u v) refused why, named_edit s (edit.Join u v) refused why names)
@@ -146,14 +158,16 @@ join_by s u v = record { done = done; undone = λ why h. by_place why.at why.fau
     by_place at Memory h = tt
 
 -- why a change is not made, without the place
-pub placeless_fault : (s : State) (change : Change) (why : NotMade) → IsUndone s change why → IsRouteFault s change why.fault
+pub placeless_fault : (s : State) (change : Change) (why : NotMade) → IsUndone s change why
+    → IsRouteFault s change why.fault
 placeless_fault s (Cut u v) why h = h
 placeless_fault s (Add u v) why h = h
 placeless_fault s (Join u v) why h = h
 placeless_fault s (Destination d) why h = h
 placeless_fault s (Batch edits) why h = by_place why.at why.fault h
   where
-    by_place : (at : ℕ) (fault : RouteFault) → IsPlacedFault s edits.items s.dest at fault → IsRouteFault s (Batch edits) fault
+    by_place : (at : ℕ) (fault : RouteFault) → IsPlacedFault s edits.items s.dest at fault
+        → IsRouteFault s (Batch edits) fault
     by_place at (Net fault) h = (at, h)
     by_place at Range h = h
     by_place at Start h = h

@@ -1,5 +1,6 @@
 -- The state and the request determine the answer, the hops and the report; and so do the state and lines.
-use Rattle.std.proofs.Common.{◌≡◌, ◌==◌, ◌∙◌, ℕ, zero, suc, ◌+◌, ◌<◌, ◌++◌, Bool, true, false, MatchBool, List, [], ◌∷◌, get_or, length, refl, sym, ap}
+use Rattle.std.proofs.Common.{◌≡◌, ◌==◌, ◌∙◌, ℕ, zero, suc, ◌+◌, ◌<◌, ◌++◌, Bool, true, false, MatchBool, List, [], ◌∷◌}
+use Rattle.std.proofs.Common.{get_or, length, refl, sym, ap}
 use Rattle.std.proofs.Common.{subst, inl, inr, arith, Option, Some, None, Result, Ok, Err}
 use Rattle.std.proofs.lemmas.List.{ext_get_or}
 use Rattle.std.proofs.lemmas.Option.{slice_get-get_or}
@@ -7,7 +8,8 @@ use Rattle.fr_graph.specs.Batches.{IsBatchFault, IsEditFault}
 use Rattle.fr_graph.specs.Edits.{without}
 use Rattle.fr_graph.specs.Faults.{IsFirstFault}
 use Rattle.fr_graph.specs.Network.{Network}
-use Rattle.fr_requests.specs.Requests.{PlainRequest, new_network, cut_link, add_link, join_nodes, make_edits, move_dest, walk_from, ask, ask_node, order_pushes, push_ways, reading}
+use Rattle.fr_requests.specs.Requests.{PlainRequest, new_network, cut_link, add_link, join_nodes, make_edits, move_dest}
+use Rattle.fr_requests.specs.Requests.{walk_from, ask, ask_node, order_pushes, push_ways, reading}
 use Rattle.fr_graph.specs.declared.edit.Edit.{Edit}
 use Rattle.fr_graph.specs.declared.edit.Edit.TheVariants as edit
 use Rattle.fr_graph.specs.declared.fault.EditFault.{EditFault}
@@ -31,7 +33,8 @@ use Rattle.fr_nearest.proofs.Walking.{one_list}
 use Rattle.fr_route.proofs.WaysExist.{nearest_unique}
 use Rattle.fr_route.proofs.NodeWays.{ways_below_unique, nearest_connected}
 use Rattle.fr_route.proofs.WayPushes.{phases_text_unique, way_refusal_unique}
-use Rattle.fr_route.specs.Answers.{fault_number, IsRefused, IsAccepted, IsReportLine, IsWalkLine, IsText, IsAnswer, IsLineAnswer, AreAnswers}
+use Rattle.fr_route.specs.Answers.{fault_number, IsRefused, IsAccepted, IsReportLine, IsWalkLine, IsText, IsAnswer}
+use Rattle.fr_route.specs.Answers.{IsLineAnswer, AreAnswers}
 use Rattle.fr_tables.specs.declared.hop.Hop.{Hop}
 use Rattle.fr_tables.specs.declared.hop.Hop.TheVariants as hop
 use Rattle.fr_route.proofs.CutNodes.{cut_unique}
@@ -55,14 +58,16 @@ pub hops_unique : (s : State) (n : ℕ) (a b : List Hop) → AreHops s n a → A
 hops_unique s n a b h g = ext_get_or hop.Here a b (h.one_each ∙ sym g.one_each) (λ i low.
     let inside : i < length b = omega (arith, h.one_each, g.one_each) in
     one_hop s i (get_or a i hop.Here) (get_or b i hop.Here)
-    (h.each i (get_or a i hop.Here) (slice_get-get_or a i hop.Here low)) (g.each i (get_or b i hop.Here) (slice_get-get_or b i hop.Here inside)))
+    (h.each i (get_or a i hop.Here) (slice_get-get_or a i hop.Here low))
+    (g.each i (get_or b i hop.Here) (slice_get-get_or b i hop.Here inside)))
 
 -- faults of one kind have the same number
 number_at : ℕ → ℕ
 number_at zero = 9
 number_at (suc k) = k + 4
 
-number_by_place : (n : ℕ) (links : List (ℕ × ℕ)) (f : NetFault) → IsFirstFault n links f → fault_number f ≡ number_at (fault_place f)
+number_by_place : (n : ℕ) (links : List (ℕ × ℕ)) (f : NetFault) → IsFirstFault n links f
+    → fault_number f ≡ number_at (fault_place f)
 unfolding number_at
 number_by_place n links TooMany h = refl
 number_by_place n links (Range x) h = refl
@@ -72,32 +77,42 @@ number_by_place n links (Cycle walk) h = refl
 number_by_place n links NoLink h = absurd h
 number_by_place n links Memory h = absurd h
 
-one_number : (n : ℕ) (links : List (ℕ × ℕ)) (f g : NetFault) → IsFirstFault n links f → IsFirstFault n links g → fault_number f ≡ fault_number g
-one_number n links f g hf hg = number_by_place n links f hf ∙ (ap number_at (first_fault_place n links f g hf hg) ∙ sym (number_by_place n links g hg))
+one_number : (n : ℕ) (links : List (ℕ × ℕ)) (f g : NetFault) → IsFirstFault n links f → IsFirstFault n links g
+    → fault_number f ≡ fault_number g
+one_number n links f g hf hg =
+    number_by_place n links f hf
+    ∙ (ap number_at (first_fault_place n links f g hf hg) ∙ sym (number_by_place n links g hg))
 
 -- faults of edits have the numbers of their kinds, too
-edit_number : (net : Network) (e : Edit) (f : NetFault) → IsEditFault net e f → fault_number f ≡ number_at (fault_place f)
+edit_number : (net : Network) (e : Edit) (f : NetFault) → IsEditFault net e f
+    → fault_number f ≡ number_at (fault_place f)
 unfolding number_at
 edit_number net (edit.Cut u v) f h = let is = (cut_fault_is net.links u v f h).0 in
     subst (λ (x : NetFault). fault_number x ≡ number_at (fault_place x)) (sym is) refl
 edit_number net (edit.Add u v) f h = number_by_place net.nodes (net.links ++ (u, v) ∷ []) f h
-edit_number net (edit.Join u v) f h = number_by_place net.nodes (net.links ++ (u, v) ∷ []) f (as_first net.nodes net.links u v f h)
+edit_number net (edit.Join u v) f h =
+    number_by_place net.nodes (net.links ++ (u, v) ∷ []) f (as_first net.nodes net.links u v f h)
 
-batch_number : (net : Network) (edits : List Edit) (f : EditFault) → IsBatchFault net edits f → fault_number f.fault ≡ number_at (fault_place f.fault)
+batch_number : (net : Network) (edits : List Edit) (f : EditFault) → IsBatchFault net edits f
+    → fault_number f.fault ≡ number_at (fault_place f.fault)
 unfolding number_at
 batch_number net edits f (inl h) = subst (λ (x : NetFault). fault_number x ≡ number_at (fault_place x)) (sym h.2) refl
-batch_number net edits f (inr h) = edit_number h.1.before (get_or edits f.at (edit.Cut 0 0)) f.fault (h.1.refused (edit.Cut 0 0))
+batch_number net edits f (inr h) =
+    edit_number h.1.before (get_or edits f.at (edit.Cut 0 0)) f.fault (h.1.refused (edit.Cut 0 0))
 
 one_batch_number : (net : Network) (edits : List Edit) (f g : EditFault) → IsBatchFault net edits f
     → IsBatchFault net edits g → fault_number f.fault ≡ fault_number g.fault
-one_batch_number net edits f g hf hg = batch_number net edits f hf ∙ (ap number_at (batch_fault_place net edits f g hf hg) ∙ sym (batch_number net edits g hg))
+one_batch_number net edits f g hf hg =
+    batch_number net edits f hf
+    ∙ (ap number_at (batch_fault_place net edits f g hf hg) ∙ sym (batch_number net edits g hg))
 
 refused_unique : (s : Option State) (r : PlainRequest) (j k : ℕ) → IsRefused s r j → IsRefused s r k → j ≡ k
 refused_unique s (new_network n d links) j k (inl a) (inl b) = a.2 ∙ (one_number n links a.0 b.0 a.1 b.1 ∙ sym b.2)
 refused_unique s (new_network n d links) j k (inl a) (inr b) = absurd (no_first_fault n links a.0 b.0 a.1)
 refused_unique s (new_network n d links) j k (inr a) (inl b) = absurd (no_first_fault n links b.0 a.0 b.1)
 refused_unique s (new_network n d links) j k (inr a) (inr b) = a.2 ∙ sym b.2
-refused_unique s (order_pushes table wanted) j k a b = (pushes_refusal_unique hops_unique s table wanted j k a.0 b.0 a.1 b.1).0
+refused_unique s (order_pushes table wanted) j k a b =
+    (pushes_refusal_unique hops_unique s table wanted j k a.0 b.0 a.1 b.1).0
 refused_unique None (cut_link u v) j k a b = a ∙ sym b
 refused_unique None (add_link u v) j k a b = a ∙ sym b
 refused_unique None (join_nodes u v) j k a b = a ∙ sym b
@@ -108,10 +123,13 @@ refused_unique None (ask q) j k a b = a ∙ sym b
 refused_unique None (ask_node q x) j k a b = a ∙ sym b
 refused_unique None (push_ways table) j k a b = a ∙ sym b
 refused_unique (Some s) (cut_link u v) j k a b =
-    (a.2 ∙ ap fault_number (cut_fault_is s.links u v a.0 a.1).0) ∙ sym (b.2 ∙ ap fault_number (cut_fault_is s.links u v b.0 b.1).0)
-refused_unique (Some s) (add_link u v) j k a b = a.2 ∙ (one_number s.nodes (s.links ++ (u, v) ∷ []) a.0 b.0 a.1 b.1 ∙ sym b.2)
+    (a.2 ∙ ap fault_number (cut_fault_is s.links u v a.0 a.1).0)
+    ∙ sym (b.2 ∙ ap fault_number (cut_fault_is s.links u v b.0 b.1).0)
+refused_unique (Some s) (add_link u v) j k a b =
+    a.2 ∙ (one_number s.nodes (s.links ++ (u, v) ∷ []) a.0 b.0 a.1 b.1 ∙ sym b.2)
 refused_unique (Some s) (join_nodes u v) j k a b =
-    a.2 ∙ (one_number s.nodes (s.links ++ (u, v) ∷ []) a.0 b.0 (as_first s.nodes s.links u v a.0 a.1) (as_first s.nodes s.links u v b.0 b.1) ∙ sym b.2)
+    a.2 ∙ (one_number s.nodes (s.links ++ (u, v)
+    ∷ []) a.0 b.0 (as_first s.nodes s.links u v a.0 a.1) (as_first s.nodes s.links u v b.0 b.1) ∙ sym b.2)
 refused_unique (Some s) (make_edits edits) j k a b = a.2 ∙ (one_batch_number (net_at s) edits a.0 b.0 a.1 b.1 ∙ sym b.2)
 refused_unique (Some s) (move_dest d) j k a b = a.1 ∙ sym b.1
 refused_unique (Some s) (walk_from x) j k a b = a.1 ∙ sym b.1
@@ -135,10 +153,12 @@ accepted_unique (Some s) (cut_link u v) a b h g = round_unique s.nodes s.dest (w
 accepted_unique (Some s) (add_link u v) a b h g = round_unique s.nodes s.dest (s.links ++ (u, v) ∷ []) a b h.1 g.1
 accepted_unique (Some s) (join_nodes u v) a b h g =
     let same = joined_one s.nodes s.links u v h.0 g.0 h.1.0 g.1.0 in
-    round_unique g.0.nodes s.dest g.0.links a b (subst (λ (m : Network). IsRound m.nodes s.dest m.links a) same h.1.1) g.1.1
+    round_unique g.0.nodes s.dest g.0.links a b (subst (λ (m : Network). IsRound m.nodes s.dest m.links a) same h.1.1)
+    g.1.1
 accepted_unique (Some s) (make_edits edits) a b h g =
     let same = all_made_one (net_at s) edits h.1.0 g.1.0 h.1.1.0 g.1.1.0 in
-    round_unique g.1.0.nodes s.dest g.1.0.links a b (subst (λ (m : Network). IsRound m.nodes s.dest m.links a) same h.1.1.1) g.1.1.1
+    round_unique g.1.0.nodes s.dest g.1.0.links a b
+    (subst (λ (m : Network). IsRound m.nodes s.dest m.links a) same h.1.1.1) g.1.1.1
 accepted_unique (Some s) (move_dest d) a b h g = round_unique s.nodes d s.links a b h.1 g.1
 accepted_unique (Some s) (walk_from x) a b h g = h.1 ∙ sym g.1
 accepted_unique (Some s) (ask q) a b h g = h ∙ sym g
@@ -170,7 +190,8 @@ not_both (Some s) (push_ways table) k new (nodes, inl a) h = omega (arith, a.0, 
 not_both (Some s) (push_ways table) k new (nodes, inr a) h = omega (arith, a.1, h.1)
 
 -- a request for pushes that has an answer is neither refused nor accepted
-pub asked_not_refused : (s : Option State) (r : PlainRequest) (pushes : List (ℕ × Hop)) (k : ℕ) → AreAsked s r pushes → ¬ IsRefused s r k
+pub asked_not_refused : (s : Option State) (r : PlainRequest) (pushes : List (ℕ × Hop)) (k : ℕ) → AreAsked s r pushes
+    → ¬ IsRefused s r k
 asked_not_refused s (new_network n d links) pushes k h a = h
 asked_not_refused s (cut_link u v) pushes k h a = h
 asked_not_refused s (add_link u v) pushes k h a = h
@@ -181,9 +202,11 @@ asked_not_refused s (walk_from x) pushes k h a = h
 asked_not_refused s (ask q) pushes k h a = h
 asked_not_refused s (ask_node q x) pushes k h a = h
 asked_not_refused s (push_ways table) pushes k h a = h
-asked_not_refused s (order_pushes table wanted) pushes k h a = pushes_not_refused hops_unique s table wanted pushes k a.0 h a.1
+asked_not_refused s (order_pushes table wanted) pushes k h a =
+    pushes_not_refused hops_unique s table wanted pushes k a.0 h a.1
 
-pub asked_not_accepted : (s : Option State) (r : PlainRequest) (pushes : List (ℕ × Hop)) (new : State) → AreAsked s r pushes → ¬ IsAccepted s r new
+pub asked_not_accepted : (s : Option State) (r : PlainRequest) (pushes : List (ℕ × Hop)) (new : State)
+    → AreAsked s r pushes → ¬ IsAccepted s r new
 asked_not_accepted s (new_network n d links) pushes new h a = h
 asked_not_accepted s (cut_link u v) pushes new h a = h
 asked_not_accepted s (add_link u v) pushes new h a = h
@@ -200,10 +223,12 @@ pub report_unique : (s : State) (t u k l : ℕ) → IsReport s t k → IsReport 
 report_unique s t u k l r q = (r.turns ∙ sym q.turns, cut_unique s.nodes s.dest s.links k l r.cut_off q.cut_off)
 
 report_line_unique : (s : State) (t u : List ℕ) → IsReportLine s t → IsReportLine s u → t ≡ u
-report_line_unique s t u (a, k, r, e) (b, l, q, f) = let same = report_unique s a b k l r q in e ∙ ((λ i. report_text (same.0 i) (same.1 i)) ∙ sym f)
+report_line_unique s t u (a, k, r, e) (b, l, q, f) =
+    let same = report_unique s a b k l r q in e ∙ ((λ i. report_text (same.0 i) (same.1 i)) ∙ sym f)
 
 walk_line_unique : (s : State) (x : ℕ) (t u : List ℕ) → IsWalkLine s x t → IsWalkLine s x u → t ≡ u
-walk_line_unique s x t u (inl a) (inl b) = a.2 ∙ (ap (λ (rest : List ℕ). walk_text (x ∷ rest)) (route_unique s.links s.dest x a.0 b.0 a.1 b.1) ∙ sym b.2)
+walk_line_unique s x t u (inl a) (inl b) =
+    a.2 ∙ (ap (λ (rest : List ℕ). walk_text (x ∷ rest)) (route_unique s.links s.dest x a.0 b.0 a.1 b.1) ∙ sym b.2)
 walk_line_unique s x t u (inl a) (inr b) = absurd (b.0.1 (route_joined s.links s.dest x a.0 a.1))
 walk_line_unique s x t u (inr a) (inl b) = absurd (a.0.1 (route_joined s.links s.dest x b.0 b.1))
 walk_line_unique s x t u (inr a) (inr b) = a.1 ∙ sym b.1
@@ -239,8 +264,10 @@ text_unique s (ask_node node.Ways x) t u a b = node_ways_line_unique s x t u a b
 text_unique s (ask_node node.Nearest x) t u a b = nearest_line_unique s x t u a b
 text_unique s (ask Hops) t u a b = a.2 ∙ (ap hops_text (hops_unique s s.nodes a.0 b.0 a.1 b.1) ∙ sym b.2)
 
-pub answer_unique : (s : Option State) (r : PlainRequest) (t u : List ℕ) (p q : Option State) → IsAnswer s r t p → IsAnswer s r u q → (t ≡ u) × (p ≡ q)
-answer_unique s r t u p q (inl (j, a, e, l)) (inl (k, b, f, m)) = (e ∙ (ap refusal_text (refused_unique s r j k a b) ∙ sym f), l ∙ sym m)
+pub answer_unique : (s : Option State) (r : PlainRequest) (t u : List ℕ) (p q : Option State) → IsAnswer s r t p
+    → IsAnswer s r u q → (t ≡ u) × (p ≡ q)
+answer_unique s r t u p q (inl (j, a, e, l)) (inl (k, b, f, m)) =
+    (e ∙ (ap refusal_text (refused_unique s r j k a b) ∙ sym f), l ∙ sym m)
 answer_unique s r t u p q (inl (j, a, e, l)) (inr (inl (n, b, f, m))) = absurd (not_both s r j n a b)
 answer_unique s r t u p q (inl (j, a, e, l)) (inr (inr (n, b, f, m))) = absurd (asked_not_refused s r n j b a)
 answer_unique s r t u p q (inr (inl (m, a, e, l))) (inl (k, b, f, g)) = absurd (not_both s r k m b a)
@@ -270,15 +297,18 @@ pub by_blank : (b : Bool) (P Q R S T : Type 0) → (P → R → T) → (Q → S 
 by_blank true P Q R S T f g h k = f h k
 by_blank false P Q R S T f g h k = g h k
 
-pub answers_unique : (s : Option State) (lines : List (List ℕ)) (a b : List ℕ) (p q : Option State) → AreAnswers s lines a p
+pub answers_unique : (s : Option State) (lines : List (List ℕ)) (a b : List ℕ) (p q : Option State)
+    → AreAnswers s lines a p
     → AreAnswers s lines b q → (a ≡ b) × (p ≡ q)
 answers_unique s [] a b p q h k = (h.0 ∙ sym k.0, h.1 ∙ sym k.1)
 answers_unique s (line ∷ rest) a b p q h k =
-    by_blank (is_blank line) (AreAnswers s rest a p) (Answered s line rest a p) (AreAnswers s rest b q) (Answered s line rest b q) ((a ≡ b) × (p ≡ q))
+    by_blank (is_blank line) (AreAnswers s rest a p) (Answered s line rest a p) (AreAnswers s rest b q)
+    (Answered s line rest b q) ((a ≡ b) × (p ≡ q))
     (answers_unique s rest a b p q)
     (λ h k.
     let one = line_unique s (reading line) h.0 k.0 h.1 k.1 h.3 k.3 in
-    let rest_too = answers_unique k.1 rest h.2 k.2 p q (subst (λ (t : Option State). AreAnswers t rest h.2 p) one.1 h.4) k.4 in
+    let rest_too =
+    answers_unique k.1 rest h.2 k.2 p q (subst (λ (t : Option State). AreAnswers t rest h.2 p) one.1 h.4) k.4 in
     let texts : (h.0 ++ 10 ∷ []) ++ h.2 ≡ (k.0 ++ 10 ∷ []) ++ k.2 = (λ i. (one.0 i ++ 10 ∷ []) ++ rest_too.0 i) in
     (h.5 ∙ (texts ∙ sym k.5), rest_too.1))
     h k

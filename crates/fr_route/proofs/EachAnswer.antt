@@ -1,5 +1,6 @@
 -- Each line has an answer in each state after a round, and in the state before any.
-use Rattle.std.proofs.Common.{◌≡◌, ◌==◌, ℕ, zero, suc, ◌+◌, ◌<◌, ◌++◌, ◌⊎◌, List, [], ◌∷◌, length, max, ap, arith, inl, inr, refl, subst, ⊎_elim, Option, Some}
+use Rattle.std.proofs.Common.{◌≡◌, ◌==◌, ℕ, zero, suc, ◌+◌, ◌<◌, ◌++◌, ◌⊎◌, List, [], ◌∷◌, length, max, ap, arith, inl}
+use Rattle.std.proofs.Common.{inr, refl, subst, ⊎_elim, Option, Some}
 use Rattle.std.proofs.Common.{None, Result}
 use Rattle.std.specs.Prelude.{slice_get, slice_index, ok_or, sum}
 use Rattle.std.proofs.lemmas.Bool.{cases_eq, cases_lt}
@@ -18,7 +19,8 @@ use Rattle.fr_graph.specs.Limits.{most_edits, most_nodes}
 use Rattle.fr_graph.specs.Links.{HasPath, IsAcyclic, IsNet, Points}
 use Rattle.fr_graph.specs.Network.{Network, net_of}
 use Rattle.fr_graph.specs.Order.{in_order}
-use Rattle.fr_requests.specs.Requests.{PlainRequest, new_network, cut_link, add_link, join_nodes, make_edits, move_dest, walk_from, ask, ask_node, order_pushes, push_ways, reading}
+use Rattle.fr_requests.specs.Requests.{PlainRequest, new_network, cut_link, add_link, join_nodes, make_edits, move_dest}
+use Rattle.fr_requests.specs.Requests.{walk_from, ask, ask_node, order_pushes, push_ways, reading}
 use Rattle.fr_requests.specs.Requests.{reading_of_value, request_of, value_of_line}
 use Rattle.fr_graph.specs.declared.fault.EditFault.{EditFault}
 use Rattle.fr_graph.specs.declared.fault.NetFault.{NetFault}
@@ -38,7 +40,8 @@ use Rattle.fr_core.proofs.Unique.{settled_lawful}
 use Rattle.fr_route.specs.States.{State, IsAfterRound, IsReport, IsRound, net_at}
 use Rattle.fr_route.specs.Routes.{IsHop, AreHops, is_cut_off}
 use Rattle.fr_route.specs.Answers.{fault_number, IsReportLine, IsHopsLine, IsWalkLine, IsAnswer, IsLineAnswer, IsText}
-use Rattle.fr_route.specs.Texts.{counts_text, links_text, hops_text, walk_text, no_walk_text, pushes_text, report_text, refusal_text}
+use Rattle.fr_route.specs.Texts.{counts_text, links_text, hops_text, walk_text, no_walk_text, pushes_text, report_text}
+use Rattle.fr_route.specs.Texts.{refusal_text}
 use Rattle.fr_route.specs.Texts.{nearest_text, no_nearest_text, node_ways_text, phases_text, ways_text}
 use Rattle.fr_ways.specs.Phases.{growths, shrinks}
 use Rattle.fr_tables.specs.declared.hop.Hop.{Hop}
@@ -68,21 +71,35 @@ IsReached None = Unit {0}
 IsReached (Some s) = IsSettledState s
 
 -- faultless links make a network, and in order they are faultless, too
-made_network : (n : ℕ) (listed : List (ℕ × ℕ)) → IsFaultless n listed → IsNetworkOf n listed (net_of n listed) × IsFaultless n (in_order listed)
+made_network : (n : ℕ) (listed : List (ℕ × ℕ)) → IsFaultless n listed
+    → IsNetworkOf n listed (net_of n listed) × IsFaultless n (in_order listed)
 made_network n listed clear =
     let same = in_order_permutes listed in
-    let sorted = permuted_net n listed (in_order listed) same clear.is_net in
-    (record { is = refl; same_links = same; faultless = clear }, faultless_sorted n listed (in_order listed) same sorted.acyclic clear)
+    let sorted = permuted_net n listed (in_order listed) same clear.is_net in (
+      record { is = refl; same_links = same; faultless = clear },
+      faultless_sorted n listed (in_order listed) same sorted.acyclic clear,
+    )
 
 -- each round ends
-settled_state : (n d : ℕ) (first : List (ℕ × ℕ)) → IsFaultless n first → d < n → (s : State) × IsRound n d first s × IsSettledState s
+settled_state : (n d : ℕ) (first : List (ℕ × ℕ)) → IsFaultless n first → d < n
+    → (s : State) × IsRound n d first s × IsSettledState s
 settled_state n d first clear below =
     let made = settled_exists n d first clear.is_net below in
     let listed : List (ℕ × ℕ) = links_at first made.0 in
-    let turned : IsFaultless n listed = turned_faultless n first made.0 (settled_lawful n d first clear.is_net below made.0 made.1).kept clear in
+    let turned : IsFaultless n listed =
+    turned_faultless n first made.0 (settled_lawful n d first clear.is_net below made.0 made.1).kept clear in
     let s : State = record { nodes = n; dest = d; links = in_order listed; counts = made.0 } in
-    let round : IsRound n d first s = record { nodes = refl; dest = refl; counts = made.1; links = refl } in
-    (s, round, record { first = first; net = clear.is_net; dest = below; round = round; faultless = (made_network n listed turned).1 })
+    let round : IsRound n d first s = record { nodes = refl; dest = refl; counts = made.1; links = refl } in (
+      s,
+      round,
+      record {
+        first = first;
+        net = clear.is_net;
+        dest = below;
+        round = round;
+        faultless = (made_network n listed turned).1;
+      },
+    )
 
 module _ (s : State) (good : IsSettledState s) where
   -- each node has a hop
@@ -92,7 +109,13 @@ module _ (s : State) (good : IsSettledState s) where
       (λ apart. ⊎_elim
       (λ capped. (CutOff, capped_cut_off s.nodes s.dest good.first s good.net good.dest good.round x apart capped))
       (λ free. ⊎_elim
-      (λ f. (To f.0, hop_leads_on s.nodes s.dest good.first s good.net good.dest good.round x f.0 apart free (record { link = f.2; least = f.3 })))
+      (λ f. (
+        To f.0,
+        hop_leads_on s.nodes s.dest good.first s good.net good.dest good.round x f.0 apart free (record {
+          link = f.2;
+          least = f.3;
+        }),
+      ))
       (λ none. (
         CutOff,
         still_cut_off s.nodes s.dest good.first s good.net good.dest good.round x apart
@@ -153,7 +176,8 @@ module _ (s : State) (good : IsSettledState s) where
 abbrev HasAnswer : Option State → PlainRequest → Type 0
 HasAnswer s r = (text : List ℕ) × (next : Option State) × IsAnswer s r text next × IsReached next
 
-network_answer : (s : Option State) → IsReached s → (n d : ℕ) (links : List (ℕ × ℕ)) → HasAnswer s (new_network n d links)
+network_answer : (s : Option State) → IsReached s → (n d : ℕ) (links : List (ℕ × ℕ))
+    → HasAnswer s (new_network n d links)
 network_answer s reached n d links = ⊎_elim
     (λ clear. ⊎_elim
     (λ below.
@@ -168,10 +192,16 @@ network_answer s reached n d links = ⊎_elim
 cut_answer : (s : State) → IsSettledState s → (u v : ℕ) → HasAnswer (Some s) (cut_link u v)
 cut_answer s good u v = ⊎_elim
     (λ joined.
-    let new = settled_state s.nodes s.dest (without u v s.links) (faultless_cut s.nodes s.links u v good.faultless) good.dest in
+    let new =
+    settled_state s.nodes s.dest (without u v s.links) (faultless_cut s.nodes s.links u v good.faultless) good.dest in
     let line = report_line new.0 new.2 in
     (line.0, Some new.0, inr (inl (new.0, (joined, new.1), line.1, refl)), new.2))
-    (λ none. (refusal_text (fault_number NoLink), Some s, inl (fault_number NoLink, (NoLink, none, refl), refl, refl), good))
+    (λ none. (
+      refusal_text (fault_number NoLink),
+      Some s,
+      inl (fault_number NoLink, (NoLink, none, refl), refl, refl),
+      good,
+    ))
     (cases_joins s.links u v)
 
 add_answer : (s : State) → IsSettledState s → (u v : ℕ) → HasAnswer (Some s) (add_link u v)
@@ -186,7 +216,8 @@ add_answer s good u v = ⊎_elim
 -- two nodes can be joined in one of the two directions, or there is a fault
 abbrev IsJoinable : ℕ → List (ℕ × ℕ) → ℕ → ℕ → Type 0
 IsJoinable n links u v =
-    ((net : Network) × IsJoined n links u v net × IsFaultless net.nodes net.links) ⊎ ((fault : NetFault) × IsJoinFault n links u v fault)
+    ((net : Network) × IsJoined n links u v net × IsFaultless net.nodes net.links)
+    ⊎ ((fault : NetFault) × IsJoinFault n links u v fault)
 
 joined_back : (n : ℕ) (links : List (ℕ × ℕ)) (u v : ℕ) → IsFaultless n links → (fault : NetFault)
     → IsFirstFault n (links ++ (u, v) ∷ []) fault → IsJoinable n links u v
@@ -195,8 +226,10 @@ joined_back n links u v clear (Range x) h = inr (Range x, h)
 joined_back n links u v clear (SelfLink x) h = inr (SelfLink x, h)
 joined_back n links u v clear (Twice x y) h = inr (Twice x y, h)
 joined_back n links u v clear (Cycle walk) h =
-    let cyclic : ¬ IsAcyclic (links ++ (u, v) ∷ []) = λ acyclic. no_cycle_stands (links ++ (u, v) ∷ []) walk.items acyclic h.4 in
-    let made = made_network n (links ++ (v, u) ∷ []) (faultless_turned n links u v clear.is_net.acyclic h.0 h.1 h.2 h.3 cyclic) in
+    let cyclic : ¬ IsAcyclic (links ++ (u, v) ∷ []) =
+    λ acyclic. no_cycle_stands (links ++ (u, v) ∷ []) walk.items acyclic h.4 in
+    let made =
+    made_network n (links ++ (v, u) ∷ []) (faultless_turned n links u v clear.is_net.acyclic h.0 h.1 h.2 h.3 cyclic) in
     inl (net_of n (links ++ (v, u) ∷ []), inr (cyclic, made.0), made.1)
 joined_back n links u v clear NoLink h = inr (NoLink, h)
 joined_back n links u v clear Memory h = inr (Memory, h)
@@ -221,7 +254,8 @@ join_answer s good u v = ⊎_elim
 
 -- each edit is made, or refused for a fault
 edit_made : (net : Network) → IsFaultless net.nodes net.links → (edit : Edit)
-    → ((after : Network) × IsMade net edit after × IsFaultless after.nodes after.links) ⊎ ((fault : NetFault) × IsEditFault net edit fault)
+    → ((after : Network) × IsMade net edit after × IsFaultless after.nodes after.links)
+    ⊎ ((fault : NetFault) × IsEditFault net edit fault)
 edit_made net clear (Cut u v) = ⊎_elim
     (λ joined.
     let made = made_network net.nodes (without u v net.links) (faultless_cut net.nodes net.links u v clear) in
@@ -238,7 +272,8 @@ edit_made net clear (Join u v) = joined_or_fault net.nodes net.links u v clear
 
 -- several edits are all made in order, or one is refused first
 edits_made : (net : Network) → IsFaultless net.nodes net.links → (edits : List Edit)
-    → ((after : Network) × AreMade net edits after × IsFaultless after.nodes after.links) ⊎ ((at : ℕ) × (fault : NetFault) × IsRefusedAt net edits at fault)
+    → ((after : Network) × AreMade net edits after × IsFaultless after.nodes after.links)
+    ⊎ ((at : ℕ) × (fault : NetFault) × IsRefusedAt net edits at fault)
 edits_made net clear [] = inl (net, refl, clear)
 edits_made net clear (edit ∷ rest) = ⊎_elim
     (λ one. ⊎_elim
@@ -261,8 +296,12 @@ edits_made net clear (edit ∷ rest) = ⊎_elim
 batch_answer : (s : State) → IsSettledState s → (edits : List Edit) → HasAnswer (Some s) (make_edits edits)
 batch_answer s good edits = ⊎_elim
     (λ many.
-    let refused : EditFault = record { at = most_edits; fault = TooMany } in
-    (refusal_text (fault_number TooMany), Some s, inl (fault_number TooMany, (refused, inl (many, refl, refl), refl), refl, refl), good))
+    let refused : EditFault = record { at = most_edits; fault = TooMany } in (
+      refusal_text (fault_number TooMany),
+      Some s,
+      inl (fault_number TooMany, (refused, inl (many, refl, refl), refl), refl, refl),
+      good,
+    ))
     (λ few. ⊎_elim
     (λ all.
     let nodes : all.0.nodes ≡ s.nodes = made_nodes (net_at s) edits all.0 all.1 in
@@ -270,8 +309,12 @@ batch_answer s good edits = ⊎_elim
     let line = report_line new.0 new.2 in
     (line.0, Some new.0, inr (inl (new.0, (few, (all.0, (all.1, new.1))), line.1, refl)), new.2))
     (λ r.
-    let refused : EditFault = record { at = r.0; fault = r.1 } in
-    (refusal_text (fault_number r.1), Some s, inl (fault_number r.1, (refused, inr (few, r.2), refl), refl, refl), good))
+    let refused : EditFault = record { at = r.0; fault = r.1 } in (
+      refusal_text (fault_number r.1),
+      Some s,
+      inl (fault_number r.1, (refused, inr (few, r.2), refl), refl, refl),
+      good,
+    ))
     (edits_made (net_at s) good.faultless edits))
     (cases_lt most_edits (length edits))
 
@@ -321,9 +364,15 @@ node_text s good node.Nearest x = elim (decide s good x) [
     after : IsAfterRound s
     after = record { first = good.first; is_net = good.net; dest = good.dest; round = good.round }
 
-node_answer : (s : State) → IsSettledState s → (question : NodeQuestion) (x : ℕ) → HasAnswer (Some s) (ask_node question x)
+node_answer : (s : State) → IsSettledState s → (question : NodeQuestion) (x : ℕ)
+    → HasAnswer (Some s) (ask_node question x)
 node_answer s good question x = ⊎_elim
-    (λ below. let line = node_text s good question x in (line.0, Some s, inr (inl (s, (below, refl), line.1, refl)), good))
+    (λ below. let line = node_text s good question x in (
+      line.0,
+      Some s,
+      inr (inl (s, (below, refl), line.1, refl)),
+      good,
+    ))
     (λ past. (refusal_text 4, Some s, inl (4, (past, refl), refl, refl), good))
     (cases_lt x s.nodes)
 
@@ -343,7 +392,8 @@ way_pushes_answer s good table = elim (cases_lt most_nodes (length table)) [
   ]
 ]
 
-tables_answer : (s : Option State) → IsReached s → (table : List Hop) (wanted : Option (List Hop)) → HasAnswer s (order_pushes table wanted)
+tables_answer : (s : Option State) → IsReached s → (table : List Hop) (wanted : Option (List Hop))
+    → HasAnswer s (order_pushes table wanted)
 tables_answer s reached table (Some new) = elim (from_or_fault table (padded (max (length table) (length new)) new)) [
   | inl pushes ↦ (pushes_text pushes.0, s, inr (inr (pushes.0, pushes.1, refl, refl)), reached)
   | inr fault ↦ (refusal_text fault.0, s, inl (fault.0, (fault.1, fault.2), refl, refl), reached)

@@ -1,9 +1,11 @@
 -- Which nodes can be sinks after edits are made or the destination moves, and where the others send on to. The others
 -- are not touched, and the last round left each of them that has links with a way home.
-use Rattle.std.proofs.Common.{List, arith, inl, inr, refl, ◌≢◌, slice_index, subst, sym, ℕ, ⊎_elim, ◌<◌, ◌∙◌, ◌∷◌, ◌≡◌, ◌⊎◌, Contains}
+use Rattle.std.proofs.Common.{List, arith, inl, inr, refl, ◌≢◌, slice_index, subst, sym, ℕ, ⊎_elim, ◌<◌, ◌∙◌, ◌∷◌, ◌≡◌}
+use Rattle.std.proofs.Common.{◌⊎◌, Contains}
 use Rattle.std.specs.List.{All}
 use Rattle.std.proofs.lemmas.Bool.{cases_eq}
-use Rattle.std.proofs.lemmas.List.Elements.{All-append, All-cons, All-contains, Contains-append_left, Contains-append_right}
+use Rattle.std.proofs.lemmas.List.Elements.{All-append, All-cons, All-contains, Contains-append_left}
+use Rattle.std.proofs.lemmas.List.Elements.{Contains-append_right}
 use Rattle.fr_graph.specs.Batches.{AreMade}
 use Rattle.fr_graph.specs.Links.{IsNet, Joins, Points}
 use Rattle.fr_graph.specs.Network.{Network, net_of}
@@ -29,24 +31,28 @@ use Rattle.fr_tables.specs.declared.hop.Hop.{Hop}
 use Rattle.fr_tables.specs.declared.hop.Hop.TheVariants.{CutOff, Here, To}
 use Rattle.fr_route.proofs.Changing.{made_nodes}
 use Rattle.fr_route.proofs.CutNodes.{capped_cut, cut_below, ended}
-use Rattle.fr_route.proofs.RoundEnds.{hop_leads_on, lawful, linked_joined, linked_out, round_joined, round_joins, round_net, still_cut_off}
+use Rattle.fr_route.proofs.RoundEnds.{hop_leads_on, lawful, linked_joined, linked_out, round_joined, round_joins}
+use Rattle.fr_route.proofs.RoundEnds.{round_net, still_cut_off}
 use Rattle.fr_route.proofs.Touched.{AreAt, HaveSameAt, edits_at, edits_keep, ends_below}
 
 here : (s : State) → IsAfterRound s → IsNet s.nodes s.links
 here s after = round_net s.nodes s.dest after.first s after.is_net after.dest after.round
 
 -- edits of the network after a round make a network
-pub made_net : (s : State) (edits : List Edit) (net : Network) → IsAfterRound s → AreMade (net_at s) edits net → IsNet net.nodes net.links
+pub made_net : (s : State) (edits : List Edit) (net : Network) → IsAfterRound s → AreMade (net_at s) edits net
+    → IsNet net.nodes net.links
 made_net s edits net after made =
     let left : AreAt (net_at s) edits net = edits_at (net_at s) edits net (here s after) made in left.is_net
 
 module _ (s : State) (after : IsAfterRound s) where
   -- a node with links that do not change has a link that points away from it, unless it was cut off or is the
   -- destination
-  no_sink : (links : List (ℕ × ℕ)) (x : ℕ) → HaveSameAt s.links links x → ¬ (x ≡ s.dest) → ¬ (slice_index s.counts x ≡ s.nodes) → ¬ IsSink links x
+  no_sink : (links : List (ℕ × ℕ)) (x : ℕ) → HaveSameAt s.links links x → ¬ (x ≡ s.dest)
+      → ¬ (slice_index s.counts x ≡ s.nodes) → ¬ IsSink links x
   no_sink links x same apart free sink =
       let joins : Joins s.links x sink.0.0 = inr ((same.into sink.0.0).1 sink.0.1) in
-      let out = linked_out s.nodes s.dest after.first s after.is_net after.dest after.round x sink.0.0 joins free apart in
+      let out =
+      linked_out s.nodes s.dest after.first s after.is_net after.dest after.round x sink.0.0 joins free apart in
       sink.1 out.0 ((same.out out.0).0 out.1)
 
   module _ (edits : List Edit) (net : Network) (d : ℕ) (below : d < s.nodes) (made : AreMade (net_at s) edits net) where
@@ -57,16 +63,19 @@ module _ (s : State) (after : IsAfterRound s) where
     same_nodes = made_nodes (net_at s) edits net made
 
     -- a node that is not touched is not a destination, and its links do not change
-    untouched : (x : ℕ) → ¬ Contains (touched s d edits) x → (¬ (x ≡ s.dest)) × (¬ (x ≡ d)) × HaveSameAt s.links net.links x
+    untouched : (x : ℕ) → ¬ Contains (touched s d edits) x
+        → (¬ (x ≡ s.dest)) × (¬ (x ≡ d)) × HaveSameAt s.links net.links x
     untouched x none = (
       (λ e. none (subst (Contains (touched s d edits)) (sym e) (Contains-head s.dest (d ∷ ends_of edits)))),
-      (λ e. none (subst (Contains (touched s d edits)) (sym e) (Contains-tail d s.dest (d ∷ ends_of edits) (Contains-head d (ends_of edits))))),
+      (λ e. none (subst (Contains (touched s d edits)) (sym e) (Contains-tail d s.dest (d
+          ∷ ends_of edits) (Contains-head d (ends_of edits))))),
       edits_keep (net_at s) edits net x left
           (λ h. none (Contains-tail x s.dest (d ∷ ends_of edits) (Contains-tail x d (ends_of edits) h))),
     )
 
     -- a node that cannot move is not touched, and was not cut off with links
-    unmoved : (x : ℕ) → ¬ Contains (movable s d edits) x → (¬ Contains (touched s d edits) x) × ¬ (slice_index s.counts x ≡ s.nodes)
+    unmoved : (x : ℕ) → ¬ Contains (movable s d edits) x
+        → (¬ Contains (touched s d edits) x) × ¬ (slice_index s.counts x ≡ s.nodes)
     unmoved x none = (
       (λ h. none (Contains-append_left (touched s d edits) (cut_off_nodes s) x h)),
       (λ e. none (Contains-append_right (touched s d edits) (cut_off_nodes s) x (capped_cut s after x e))),
@@ -75,7 +84,9 @@ module _ (s : State) (after : IsAfterRound s) where
     movable_below : All (λ (x : ℕ). x < net.nodes) (movable s d edits)
     movable_below = subst (λ (n : ℕ). All (λ (x : ℕ). x < n) (movable s d edits)) (sym same_nodes)
         (All-append (λ (x : ℕ). x < s.nodes) (touched s d edits) (cut_off_nodes s)
-        (All-cons (λ (x : ℕ). x < s.nodes) s.dest (d ∷ ends_of edits) after.dest (All-cons (λ (x : ℕ). x < s.nodes) d (ends_of edits) below (ends_below s.nodes edits left.below)))
+        (All-cons (λ (x : ℕ). x < s.nodes) s.dest (d
+        ∷ ends_of edits) after.dest (All-cons (λ (x : ℕ). x
+        < s.nodes) d (ends_of edits) below (ends_below s.nodes edits left.below)))
         (cut_below s after))
 
     -- each sink can move
@@ -96,18 +107,23 @@ module _ (s : State) (after : IsAfterRound s) where
       round = ended net d counts left.is_net counted
 
       -- a node that has not turned keeps its links that point away from it to nodes that have not turned
-      still_away : (x y : ℕ) → slice_index counts x ≡ 0 → slice_index counts y ≡ 0 → Points net.links x y → Points (settled_state net d counts).links x y
-      still_away x y rests stays h = into_order (links_at net.links counts) (x, y) (Points-links_at_same net.links counts x y h (stays ∙ sym rests))
+      still_away : (x y : ℕ) → slice_index counts x ≡ 0 → slice_index counts y ≡ 0 → Points net.links x y
+          → Points (settled_state net d counts).links x y
+      still_away x y rests stays h =
+          into_order (links_at net.links counts) (x, y) (Points-links_at_same net.links counts x y h (stays
+          ∙ sym rests))
 
       -- it gets no other link that points away from it
-      was_away : (x y : ℕ) → slice_index counts x ≡ 0 → Points (settled_state net d counts).links x y → Points net.links x y
+      was_away : (x y : ℕ) → slice_index counts x ≡ 0 → Points (settled_state net d counts).links x y
+          → Points net.links x y
       was_away x y rests h = ⊎_elim (λ p. p.0) (λ p. absurd (omega (arith, rests, p.1)))
           (Points-links_at_from net.links counts x y (out_of_order (links_at net.links counts) (x, y) h))
 
       -- so if its links did not change in the edits, and it was not cut off with links, it sends on to the same node,
       -- unless that node has turned, or is or was the destination
       hop_stands : (x : ℕ) (hop : Hop) → HaveSameAt s.links net.links x → ¬ (x ≡ s.dest) → ¬ (x ≡ d)
-          → ¬ (slice_index s.counts x ≡ s.nodes) → ¬ IsStale (settled_state net d counts) x hop → slice_index counts x ≡ 0
+          → ¬ (slice_index s.counts x ≡ s.nodes) → ¬ IsStale (settled_state net d counts) x hop
+          → slice_index counts x ≡ 0
           → IsHop s x hop → IsHop (settled_state net d counts) x hop
       hop_stands x Here same was becomes free fresh rests h = absurd (was h)
       hop_stands x (To y) same was becomes free fresh rests h =
@@ -118,15 +134,24 @@ module _ (s : State) (after : IsAfterRound s) where
             y,
             (
               omega (arith, some),
-              inr ((round_joins net.nodes d net.links (settled_state net d counts) left.is_net counted.destination round x y).0 (inl link), refl),
+              inr (
+                (round_joins net.nodes d net.links (settled_state net d counts) left.is_net counted.destination round x
+                    y).0 (inl link),
+                refl,
+              ),
             ),
           )))
           (cases_eq (slice_index counts y) 0) in
-          hop_leads_on net.nodes d net.links (settled_state net d counts) left.is_net counted.destination round x y becomes
+          hop_leads_on net.nodes d net.links (settled_state net d counts) left.is_net counted.destination round x y
+          becomes
           (λ e. omega (arith, e, rests, counted.destination))
-          (record { link = still_away x y rests stays link; least = λ w g. h.1.1.least w ((same.out w).1 (was_away x w rests g)) })
+          (record {
+            link = still_away x y rests stays link;
+            least = λ w g. h.1.1.least w ((same.out w).1 (was_away x w rests g));
+          })
       hop_stands x CutOff same was becomes free fresh rests h =
-          still_cut_off net.nodes d net.links (settled_state net d counts) left.is_net counted.destination round x becomes
+          still_cut_off net.nodes d net.links (settled_state net d counts) left.is_net counted.destination round x
+          becomes
           (λ w g.
           let joins : Joins s.links x w = inl ((same.out w).1 (was_away x w rests g)) in
           h.1 ((round_joined s.nodes s.dest after.first s after.is_net after.dest after.round x).0
@@ -149,7 +174,8 @@ module _ (s : State) (after : IsAfterRound s) where
           ⊎ (Points (settled_state net d counts).links w x × HasTurnedEnd counts x w))
       link_kept x w h = elim (left.kept x w h) [
         | inl cut ↦ inl cut
-        | inr stays ↦ elim ((round_joins net.nodes d net.links (settled_state net d counts) left.is_net counted.destination
+        | inr stays ↦ elim ((round_joins net.nodes d net.links (settled_state net d counts) left.is_net
+            counted.destination
             round x w).0 (inl stays)) [
               | inl same ↦ inr (inl same)
               | inr back ↦ elim (turned_end x w) [
@@ -172,7 +198,8 @@ module _ (s : State) (after : IsAfterRound s) where
           → AreOldDistances (net_of net.nodes (links_at net.links counts)) counts edits m
       old_distances m has = record {
         links = s.links;
-        node = subst (λ (n : ℕ). m.dest < n) (sym same_nodes) (subst (λ (e : ℕ). e < s.nodes) (sym has.dest) after.dest);
+        node =
+            subst (λ (n : ℕ). m.dest < n) (sym same_nodes) (subst (λ (e : ℕ). e < s.nodes) (sym has.dest) after.dest);
         were = subst (λ (n : ℕ). AreDistances n s.links m.dest m.table) (sym same_nodes)
             (subst (λ (e : ℕ). AreDistances s.nodes s.links e m.table) (sym has.dest) has.table);
         counted = counted.settled.one_each;
@@ -202,7 +229,10 @@ module _ (s : State) (after : IsAfterRound s) where
           into h =
               let link : Points net.links x w = (same.out w).0 h in
               ⊎_elim
-              (λ equal. inl (into_order (links_at net.links counts) (x, w) (Points-links_at_same net.links counts x w link equal), sym equal))
+              (λ equal. inl (
+                into_order (links_at net.links counts) (x, w) (Points-links_at_same net.links counts x w link equal),
+                sym equal,
+              ))
               (λ more. inr (
                 into_order (links_at net.links counts) (w, x) (Points-links_at_turned net.links counts w x link more),
                 λ e. omega (arith, e, more),
@@ -245,13 +275,15 @@ module _ (s : State) (after : IsAfterRound s) where
       }
 
       -- the hop of each node that cannot move stays right, unless it is stale
-      pub unmoved_hops : (hops : List Hop) → AreHops s s.nodes hops → HoldsMoved (settled_state net d counts) hops (movable s d edits)
+      pub unmoved_hops : (hops : List Hop) → AreHops s s.nodes hops
+          → HoldsMoved (settled_state net d counts) hops (movable s d edits)
       unmoved_hops hops are = record {
         below = movable_below;
         others = λ x hop at none fresh.
             let un = unmoved x none in
             let not = untouched x un.0 in
             let rests : slice_index counts x ≡ 0 =
-            ⊎_elim (λ e. e) (λ some. absurd (fresh (x, (omega (arith, some), inl refl)))) (cases_eq (slice_index counts x) 0) in
+            ⊎_elim (λ e. e) (λ some. absurd (fresh (x, (omega (arith, some), inl refl))))
+            (cases_eq (slice_index counts x) 0) in
             hop_stands x hop not.2 not.0 not.1 un.1 fresh rests (are.each x hop at);
       }

@@ -1,5 +1,6 @@
 -- Links that have a fault have one that names its evidence, and so does an edit that is refused.
-use Rattle.std.proofs.Common.{Any, Bool, Contains, List, Some, [], add-one, ap, arith, count_by, drop, eqb, false, find, get_or}
+use Rattle.std.proofs.Common.{Any, Bool, Contains, List, Some, [], add-one, ap, arith, count_by, drop, eqb, false, find}
+use Rattle.std.proofs.Common.{get_or}
 use Rattle.std.proofs.Common.{inl, inr, length, length-append, length-drop, refl, subst, suc, sym, take, true, zero, ℕ}
 use Rattle.std.proofs.Common.{⊎_elim, ◌+◌, ◌-◌, ◌++◌, ◌<◌, ◌≤◌, ◌∙◌, ◌∷◌, ◌≡◌, ◌≢◌, ◌⊎◌}
 use Rattle.std.proofs.lemmas.Bool.{cases_Bool, cases_eq, cases_lt, eq-eqb, eqb-true, le-leb, leb-true}
@@ -25,7 +26,8 @@ use Rattle.fr_graph.specs.Batches.{AreMade, IsBatchFault, IsEditFault, IsMade}
 use Rattle.fr_graph.specs.Edits.{IsJoinFault, without}
 use Rattle.fr_graph.specs.Faults.{IsFaultless, IsFirstFault, IsNetworkOf, IsOutOfRange}
 use Rattle.fr_graph.specs.Limits.{IsWithinLimits, most_links, most_nodes}
-use Rattle.fr_graph.specs.Links.{AreBelow, AreSingle, HasNoSelfLink, HasPath, IsAcyclic, IsClosedWalk, IsCycle, IsPath, Points, end_of, is_between}
+use Rattle.fr_graph.specs.Links.{AreBelow, AreSingle, HasNoSelfLink, HasPath, IsAcyclic, IsClosedWalk, IsCycle, IsPath}
+use Rattle.fr_graph.specs.Links.{Points, end_of, is_between}
 use Rattle.fr_graph.specs.Network.{Network}
 use Rattle.fr_graph.specs.Order.{in_order}
 use Rattle.fr_graph.specs.declared.edit.Edit.{Edit}
@@ -36,9 +38,11 @@ use Rattle.fr_graph.specs.declared.fault.NetFault.TheVariants.{Cycle, Memory, No
 use Rattle.fr_core.proofs.Pigeons.{IsDistinct-more, IsDistinct-none, distinct_length}
 use Rattle.fr_core.proofs.Searching.{cases_below}
 use Rattle.fr_core.proofs.Turning.{All-from_Contains}
-use Rattle.fr_route.proofs.FirstFaults.{PathOf, again, below_of, closed_begins, first_part, part_to, path_in_range, path_on, path_or_not}
+use Rattle.fr_route.proofs.FirstFaults.{PathOf, again, below_of, closed_begins, first_part, part_to, path_in_range}
+use Rattle.fr_route.proofs.FirstFaults.{path_on, path_or_not}
 use Rattle.fr_route.proofs.FirstFaults.{single_or_twice, vec_with}
-use Rattle.fr_graph.specs.Evidence.{AreJoinedTwice, IsLowest, IsLowestCycle, IsLowestCycleBy, IsWayBy, LeadsIn, LeadsIntoCycle, LeadsTowards}
+use Rattle.fr_graph.specs.Evidence.{AreJoinedTwice, IsLowest, IsLowestCycle, IsLowestCycleBy, IsWayBy, LeadsIn}
+use Rattle.fr_graph.specs.Evidence.{LeadsIntoCycle, LeadsTowards}
 use Rattle.fr_graph.specs.Evidence.{NamesFirst, NamesInBatch, NamesOfEdit, NamesOfLink, ends_of}
 
 -- a link to a node that leads into a cycle
@@ -51,7 +55,8 @@ into_before links x y step into = record {
 }
 
 -- a path visits no node twice, or its first node leads into a cycle
-distinct_or_into : (links : List (ℕ × ℕ)) (u : ℕ) (vs : List ℕ) → IsPath links u vs → IsDistinct eqb (u ∷ vs) ⊎ LeadsIntoCycle links u
+distinct_or_into : (links : List (ℕ × ℕ)) (u : ℕ) (vs : List ℕ) → IsPath links u vs
+    → IsDistinct eqb (u ∷ vs) ⊎ LeadsIntoCycle links u
 distinct_or_into links u [] path = inl (IsDistinct-more u [] (λ y h. absurd (Contains-none y h)) IsDistinct-none)
 distinct_or_into links u (v ∷ vs) path = ⊎_elim
     (λ distinct. ⊎_elim
@@ -80,11 +85,13 @@ one_on links x into = go into.path.0 into.path.1.0 into.node into.path.1.1 into.
   where
     round : (y : ℕ) (rest : List ℕ) → IsClosedWalk links y rest → (w : ℕ) × Points links y w × LeadsIntoCycle links w
     round y [] closed = absurd closed
-    round y (v ∷ vs) closed = (v, closed.0.0, record { node = y; path = (vs, (closed.0.1, closed.1)); rest = v ∷ vs; closed = closed })
+    round y (v ∷ vs) closed =
+        (v, closed.0.0, record { node = y; path = (vs, (closed.0.1, closed.1)); rest = v ∷ vs; closed = closed })
 
     go : (vs : List ℕ) → IsPath links x vs → (y : ℕ) → end_of x vs ≡ y → (rest : List ℕ) → IsClosedWalk links y rest
         → (w : ℕ) × Points links x w × LeadsIntoCycle links w
-    go [] path y ends rest closed = subst (λ (z : ℕ). (w : ℕ) × Points links z w × LeadsIntoCycle links w) (sym ends) (round y rest closed)
+    go [] path y ends rest closed =
+        subst (λ (z : ℕ). (w : ℕ) × Points links z w × LeadsIntoCycle links w) (sym ends) (round y rest closed)
     go (v ∷ vs) path y ends rest closed =
         (v, path.0, record { node = y; path = (vs, (path.1, ends)); rest = rest; closed = closed })
 
@@ -93,7 +100,8 @@ module _ (n : ℕ) (links : List (ℕ × ℕ)) (below : AreBelow n links) where
   into_below x into = let on = one_on links x into in (below_of n links x on.0 below on.1).0
 
   into_or_not : (x : ℕ) → LeadsIntoCycle links x ⊎ ¬ LeadsIntoCycle links x
-  into_or_not x = ⊎_elim (λ long. inl (leads long.0 long.1 long.2)) (λ none. inr (λ into. none (any_length links x (suc n) into)))
+  into_or_not x =
+      ⊎_elim (λ long. inl (leads long.0 long.1 long.2)) (λ none. inr (λ into. none (any_length links x (suc n) into)))
       (path_or_not links (suc n) x)
     where
       leads : (vs : List ℕ) → IsPath links x vs → length vs ≡ suc n → LeadsIntoCycle links x
@@ -139,7 +147,8 @@ module _ (n : ℕ) (links : List (ℕ × ℕ)) (below : AreBelow n links) where
 
     before_is : (k y : ℕ) → Contains (before k) y → (i : ℕ) × (i < k) × (at i ≡ y)
     before_is zero y h = absurd (Contains-none y h)
-    before_is (suc k) y h = ⊎_elim (λ e. (k, omega arith, e)) (λ r. let i = before_is k y r in (i.0, omega (arith, i.1), i.2))
+    before_is (suc k) y h =
+        ⊎_elim (λ e. (k, omega arith, e)) (λ r. let i = before_is k y r in (i.0, omega (arith, i.1), i.2))
         (Contains-cases y (at k) (before k) h)
 
     length_before : (k : ℕ) → length (before k) ≡ k
@@ -166,7 +175,8 @@ module _ (n : ℕ) (links : List (ℕ × ℕ)) (below : AreBelow n links) where
           arith,
           length_before (suc n),
           distinct_length n (before (suc n)) (distinct_before (suc n) none)
-              (λ q h. let i = before_is (suc n) q h in subst (λ (z : ℕ). z < n) i.2 (into_below (at i.0) (place i.0).1)),
+              (λ q h. let i = before_is (suc n) q h in subst (λ (z : ℕ). z
+              < n) i.2 (into_below (at i.0) (place i.0).1)),
         )))
         (cases_below Met met_or_not (suc n))
 
@@ -223,7 +233,10 @@ module _ (n : ℕ) (links : List (ℕ × ℕ)) (below : AreBelow n links) where
       is_cycle = cycle_from_steps links walk (last - back) long (omega (arith, earlier))
           (let e : back + (last - back) ≡ last = omega (arith, earlier) in
           let z : back ≡ back + 0 = omega arith in
-          walk_at (last - back) (omega (arith, e)) ∙ ap at e ∙ sym first_met.2.2 ∙ ap at z ∙ sym (walk_at 0 (omega (arith, earlier))))
+          walk_at (last - back) (omega (arith, e)) ∙ ap at e ∙ sym first_met.2.2 ∙ ap at z ∙ sym (walk_at 0 (omega (
+            arith,
+            earlier,
+          ))))
           (λ k h.
           let l : back + (k + 1) < suc last = omega (arith, h, long) in
           let e : back + (k + 1) ≡ suc (back + k) = omega arith in
@@ -234,13 +247,21 @@ module _ (n : ℕ) (links : List (ℕ × ℕ)) (below : AreBelow n links) where
         way = all;
         last = last;
         whole = omega (arith, length_way (suc last));
-        begins = subst (λ (z : ℕ). IsLowest (LeadsIntoCycle links) z) (sym (is_at 0 (omega arith))) (record { holds = begins; least = lowest });
+        begins =
+            subst (λ (z : ℕ). IsLowest (LeadsIntoCycle links) z) (sym (is_at 0 (omega arith))) (record {
+              holds = begins;
+              least = lowest;
+            });
         goes_on = steps;
         back = back;
         earlier = earlier;
         again = again_at;
         first = λ i j lt l same.
-            omega (arith, l, first_met.3 j (i, lt, sym (is_at i (omega (arith, lt, l))) ∙ same ∙ is_at j (omega (arith, l))));
+            omega (
+              arith,
+              l,
+              first_met.3 j (i, lt, sym (is_at i (omega (arith, lt, l))) ∙ same ∙ is_at j (omega (arith, l))),
+            );
         is = refl;
       }
 
@@ -249,7 +270,8 @@ module _ (n : ℕ) (links : List (ℕ × ℕ)) (below : AreBelow n links) where
       named_cycle = (walk, is_named, is_cycle, omega (arith, length-drop back all, length_way (suc last), first_met.1))
 
 -- the first element that passes a test, or none passes
-first_or_none : {X : Type 0} (p : X → Bool) (xs : List X) → ((x : X) × (find p xs ≡ Some x) × (p x ≡ true) × Contains xs x)
+first_or_none : {X : Type 0} (p : X → Bool) (xs : List X)
+    → ((x : X) × (find p xs ≡ Some x) × (p x ≡ true) × Contains xs x)
     ⊎ ((x : X) → Contains xs x → p x ≡ false)
 first_or_none p [] = inr (λ x h. absurd (Contains-none x h))
 first_or_none p (y ∷ ys) =
@@ -262,7 +284,8 @@ first_or_none p (y ∷ ys) =
     ]
 
 -- an end of the links is an end of one of them
-end_of_one : (links : List (ℕ × ℕ)) (x : ℕ) → Contains (ends_of links) x → (l : ℕ × ℕ) × Contains links l × ((l.0 ≡ x) ⊎ (l.1 ≡ x))
+end_of_one : (links : List (ℕ × ℕ)) (x : ℕ) → Contains (ends_of links) x
+    → (l : ℕ × ℕ) × Contains links l × ((l.0 ≡ x) ⊎ (l.1 ≡ x))
 end_of_one [] x h = absurd (Contains-none x h)
 end_of_one (l ∷ ls) x h =
     let rest : Contains (l.0 ∷ (l.1 ∷ ends_of ls)) x = rw (← flat_map-cons (λ (k : ℕ × ℕ). k.0 ∷ (k.1 ∷ [])) l ls) h in
@@ -272,11 +295,13 @@ end_of_one (l ∷ ls) x h =
     (Contains-cases x l.1 (ends_of ls) r))
     (Contains-cases x l.0 (l.1 ∷ ends_of ls) rest)
 
-both_ends : (links : List (ℕ × ℕ)) (l : ℕ × ℕ) → Contains links l → Contains (ends_of links) l.0 × Contains (ends_of links) l.1
+both_ends : (links : List (ℕ × ℕ)) (l : ℕ × ℕ) → Contains links l
+    → Contains (ends_of links) l.0 × Contains (ends_of links) l.1
 both_ends [] l h = absurd (Contains-none l h)
 both_ends (k ∷ ks) l h =
     let is : ends_of (k ∷ ks) ≡ k.0 ∷ (k.1 ∷ ends_of ks) = flat_map-cons (λ (j : ℕ × ℕ). j.0 ∷ (j.1 ∷ [])) k ks in
-    let back : (x : ℕ) → Contains (k.0 ∷ (k.1 ∷ ends_of ks)) x → Contains (ends_of (k ∷ ks)) x = λ x h. subst (λ (xs : List ℕ). Contains xs x) (sym is) h in
+    let back : (x : ℕ) → Contains (k.0 ∷ (k.1 ∷ ends_of ks)) x → Contains (ends_of (k ∷ ks)) x =
+    λ x h. subst (λ (xs : List ℕ). Contains xs x) (sym is) h in
     ⊎_elim
     (λ e. subst (λ (j : ℕ × ℕ). Contains (ends_of (k ∷ ks)) j.0 × Contains (ends_of (k ∷ ks)) j.1) e (
       back k.0 (Contains-head k.0 (k.1 ∷ ends_of ks)),
@@ -294,7 +319,8 @@ not_le n x fails = ⊎_elim (λ l. l) (λ g. let bad : ⊥ = cc (le-leb n x g, f
 
 -- all ends are nodes, or a first one is not
 below_or_named : (n : ℕ) (links : List (ℕ × ℕ)) → AreBelow n links
-    ⊎ ((x : ℕ) × (find (nat_le n) (ends_of links) ≡ Some x) × (n ≤ x) × Any (λ (l : ℕ × ℕ). (l.0 ≡ x) ⊎ (l.1 ≡ x)) links)
+    ⊎ ((x : ℕ) × (find (nat_le n) (ends_of links) ≡ Some x) × (n ≤ x)
+    × Any (λ (l : ℕ × ℕ). (l.0 ≡ x) ⊎ (l.1 ≡ x)) links)
 below_or_named n links =
     elim (first_or_none (nat_le n) (ends_of links)) [
       | inl r ↦
@@ -315,12 +341,16 @@ self_or_named links =
       | inl r ↦
           let is = itself r.0 (eqb-true r.0.0 r.0.1 r.2) in
           inr (r.0.0, r.1 ∙ ap Some is, subst (λ (l : ℕ × ℕ). Contains links l) is r.3)
-      | inr none ↦ inl (All-from_Contains (λ (l : ℕ × ℕ). ¬ (l.0 ≡ l.1)) links (λ l h e. cc (eq-eqb l.0 l.1 e, none l h)))
+      | inr none ↦ inl (All-from_Contains (λ (l : ℕ × ℕ). ¬ (l.0 ≡ l.1)) links (λ l h e. cc (
+        eq-eqb l.0 l.1 e,
+        none l h,
+      )))
     ]
 
 -- two links join x and y, or they do not; then both are nodes
 twice_or_not : (links : List (ℕ × ℕ)) (x y : ℕ) → AreJoinedTwice links x y ⊎ ¬ AreJoinedTwice links x y
-twice_or_not links x y = ⊎_elim (λ few. inr (λ many. omega (arith, few, many))) inl (cases_lt (count_by (is_between x y) links) 2)
+twice_or_not links x y =
+    ⊎_elim (λ few. inr (λ many. omega (arith, few, many))) inl (cases_lt (count_by (is_between x y) links) 2)
 
 twice_below : (n : ℕ) (links : List (ℕ × ℕ)) (x y : ℕ) → AreBelow n links → AreJoinedTwice links x y → (x < n) × (y < n)
 twice_below n links x y below many =
@@ -332,7 +362,8 @@ twice_below n links x y below many =
 
 -- no two links join the same nodes, or the lowest nodes that two join are named
 single_or_named : (n : ℕ) (links : List (ℕ × ℕ)) → AreBelow n links → AreSingle links
-    ⊎ ((u : ℕ) × (v : ℕ) × AreJoinedTwice links u v × IsLowest (λ x. (y : ℕ) × AreJoinedTwice links x y) u × IsLowest (AreJoinedTwice links u) v)
+    ⊎ ((u : ℕ) × (v : ℕ) × AreJoinedTwice links u v × IsLowest (λ x. (y : ℕ) × AreJoinedTwice links x y) u
+    × IsLowest (AreJoinedTwice links u) v)
 single_or_named n links below =
     elim (single_or_twice links) [
       | inl single ↦ inl single
@@ -340,10 +371,12 @@ single_or_named n links below =
     ]
   where
     some_or_not : (x : ℕ) → ((y : ℕ) × AreJoinedTwice links x y) ⊎ ¬ ((y : ℕ) × AreJoinedTwice links x y)
-    some_or_not x = ⊎_elim (λ l. inl (l.0, l.2)) (λ none. inr (λ h. none h.0 (twice_below n links x h.0 below h.1).1 h.1))
+    some_or_not x =
+        ⊎_elim (λ l. inl (l.0, l.2)) (λ none. inr (λ h. none h.0 (twice_below n links x h.0 below h.1).1 h.1))
         (cases_below (AreJoinedTwice links x) (twice_or_not links x) n)
 
-    with_node : (u : ℕ) → IsLowest (λ x. (y : ℕ) × AreJoinedTwice links x y) u → (u : ℕ) × (v : ℕ) × AreJoinedTwice links u v
+    with_node : (u : ℕ) → IsLowest (λ x. (y : ℕ) × AreJoinedTwice links x y) u
+        → (u : ℕ) × (v : ℕ) × AreJoinedTwice links u v
         × IsLowest (λ x. (y : ℕ) × AreJoinedTwice links x y) u × IsLowest (AreJoinedTwice links u) v
     with_node u is = ⊎_elim
         (λ l. (u, l.0, l.2, is, record { holds = l.2; least = l.3 }))
@@ -381,7 +414,8 @@ faultless_or_named n links = ⊎_elim
     (cases_lt most_links (length links)))
     (cases_lt most_nodes n)
   where
-    cycles : IsWithinLimits n links → 0 < n → AreBelow n links → HasNoSelfLink links → AreSingle links → IsFaultless n links ⊎ NamedFault n links
+    cycles : IsWithinLimits n links → 0 < n → AreBelow n links → HasNoSelfLink links → AreSingle links
+        → IsFaultless n links ⊎ NamedFault n links
     cycles limits some below no_self single =
         elim (acyclic_or_named n links below) [
           | inl acyclic ↦ inl (record {
@@ -393,7 +427,13 @@ faultless_or_named n links = ⊎_elim
               let walk = vec_with c.0 (omega (arith, c.3, limits.nodes_few)) in
               inr (
                 Cycle walk.0,
-                (limits, record { some = some; below = below }, no_self, single, subst (IsCycle links) (sym walk.1) c.2),
+                (
+                  limits,
+                  record { some = some; below = below },
+                  no_self,
+                  single,
+                  subst (IsCycle links) (sym walk.1) c.2,
+                ),
                 subst (IsLowestCycle links) (sym walk.1) c.1,
               )
         ]
@@ -410,8 +450,13 @@ faultless_or_named n links = ⊎_elim
 
     ends : IsWithinLimits n links → IsFaultless n links ⊎ NamedFault n links
     ends limits = ⊎_elim
-        (λ some. ⊎_elim (pairs limits some) (λ p. inr (Range p.0, (limits, inr (some, p.2, p.3)), inr (some, p.1))) (below_or_named n links))
-        (λ none. let none' : n ≡ 0 = omega (arith, none) in inr (Range 0, (limits, inl (none', refl)), inl (none', refl)))
+        (λ some. ⊎_elim (pairs limits some) (λ p. inr (Range p.0, (limits, inr (some, p.2, p.3)), inr (some, p.1)))
+        (below_or_named n links))
+        (λ none. let none' : n ≡ 0 = omega (arith, none) in inr (
+          Range 0,
+          (limits, inl (none', refl)),
+          inl (none', refl),
+        ))
         (cases_lt 0 n)
 
 -- a path from x to u of at most k links
@@ -423,7 +468,8 @@ abbrev OnReaches : List (ℕ × ℕ) → ℕ → ℕ → ℕ → ℕ × ℕ → 
 OnReaches links u k x l = (l.0 ≡ x) × Reaches links u k l.1
 
 reaches_or_not : (links : List (ℕ × ℕ)) (u k x : ℕ) → Reaches links u k x ⊎ ¬ Reaches links u k x
-reaches_or_not links u zero x = ⊎_elim (λ e. inl ([], tt, e, omega arith)) (λ ne. inr (λ r. here r.0 r.2 r.3 ne)) (cases_eq x u)
+reaches_or_not links u zero x =
+    ⊎_elim (λ e. inl ([], tt, e, omega arith)) (λ ne. inr (λ r. here r.0 r.2 r.3 ne)) (cases_eq x u)
   where
     here : (vs : List ℕ) → end_of x vs ≡ u → length vs ≤ 0 → x ≢ u → ⊥
     here [] e l ne = ne e
@@ -438,11 +484,13 @@ reaches_or_not links u (suc k) x = ⊎_elim
     (cases_some (OnReaches links u k x) (on_or_not (reaches_or_not links u k)) links))
     (cases_eq x u)
   where
-    on_or_not : ((y : ℕ) → Reaches links u k y ⊎ ¬ Reaches links u k y) → (l : ℕ × ℕ) → OnReaches links u k x l ⊎ ¬ OnReaches links u k x l
+    on_or_not : ((y : ℕ) → Reaches links u k y ⊎ ¬ Reaches links u k y) → (l : ℕ × ℕ)
+        → OnReaches links u k x l ⊎ ¬ OnReaches links u k x l
     on_or_not shorter l = ⊎_elim (λ e. ⊎_elim (λ r. inl (e, r)) (λ none. inr (λ h. none h.1)) (shorter l.1))
         (λ ne. inr (λ h. ne h.0)) (cases_eq l.0 x)
 
-    further : x ≢ u → ((l : ℕ × ℕ) → Contains links l → ¬ OnReaches links u k x l) → (vs : List ℕ) → IsPath links x vs → end_of x vs ≡ u → length vs ≤ suc k → ⊥
+    further : x ≢ u → ((l : ℕ × ℕ) → Contains links l → ¬ OnReaches links u k x l) → (vs : List ℕ) → IsPath links x vs
+        → end_of x vs ≡ u → length vs ≤ suc k → ⊥
     further ne none [] path e l = ne e
     further ne none (v ∷ vs) path e l = none (x, v) path.0 (refl, (vs, path.1, e, omega (arith, l)))
 
@@ -464,7 +512,9 @@ module _ (n : ℕ) (links : List (ℕ × ℕ)) (below : AreBelow n links) (acycl
       (distinct_or_into links x (v ∷ vs) path)
 
   leads_or_not : (x : ℕ) → HasPath links x u ⊎ ¬ HasPath links x u
-  leads_or_not x = ⊎_elim (λ r. inl (r.0, (r.1, r.2))) (λ none. inr (λ p. none (p.0, p.1.0, p.1.1, short x p.0 p.1.0))) (reaches_or_not links u n x)
+  leads_or_not x =
+      ⊎_elim (λ r. inl (r.0, (r.1, r.2))) (λ none. inr (λ p. none (p.0, p.1.0, p.1.1, short x p.0 p.1.0)))
+      (reaches_or_not links u n x)
 
   towards_next : (x : ℕ) → x ≢ u → HasPath links x u → (y : ℕ) × LeadsTowards links u x y
   towards_next x apart path = go path.0 path.1.0 path.1.1
@@ -514,11 +564,13 @@ module _ (n : ℕ) (links : List (ℕ × ℕ)) (below : AreBelow n links) (acycl
     few = omega (arith, w.few);
   }
     where
-      steps : (k : ℕ) → k + 1 < length (x ∷ w.way) → LeadsTowards links u (get_or (x ∷ w.way) k 0) (get_or (x ∷ w.way) (k + 1) 0)
+      steps : (k : ℕ) → k + 1 < length (x ∷ w.way)
+          → LeadsTowards links u (get_or (x ∷ w.way) k 0) (get_or (x ∷ w.way) (k + 1) 0)
       steps zero l = subst (λ (z : ℕ). LeadsTowards links u x z) (sym w.begins) step
       steps (suc k) l =
           let shift : suc k + 1 ≡ suc (k + 1) = omega arith in
-          subst (λ (j : ℕ). LeadsTowards links u (get_or w.way k 0) (get_or (x ∷ w.way) j 0)) (sym shift) (w.goes_on k (omega (arith, l)))
+          subst (λ (j : ℕ). LeadsTowards links u (get_or w.way k 0) (get_or (x
+          ∷ w.way) j 0)) (sym shift) (w.goes_on k (omega (arith, l)))
 
   way_or_long : (k x : ℕ) → HasPath links x u → Way x k ⊎ PathOf links k x
   way_or_long zero x path = inr ([], tt, refl)
@@ -540,23 +592,35 @@ module _ (n : ℕ) (links : List (ℕ × ℕ)) (below : AreBelow n links) (acycl
       ]
 
   -- the lowest cycle that a link from u to v closes
-  cycle_by : (v : ℕ) → HasPath links v u → (walk : List ℕ) × IsLowestCycleBy links u v walk × IsCycle (added links u v) walk
+  cycle_by : (v : ℕ) → HasPath links v u
+      → (walk : List ℕ) × IsLowestCycleBy links u v walk × IsCycle (added links u v) walk
       × (length walk ≤ suc (suc (suc n)))
   cycle_by v path =
       let w = way_to v path in
       let all = u ∷ w.way in
-      let follows : (k : ℕ) → k + 1 < length all → Points (added links u v) (get_or all k 0) (get_or all (k + 1) 0) = steps w in (
+      let follows : (k : ℕ) → k + 1 < length all → Points (added links u v) (get_or all k 0) (get_or all (k + 1) 0) =
+      steps w in (
         all,
-        record { way = w.way; last = w.last; whole = w.whole; begins = w.begins; goes_on = w.goes_on; ends = w.ends; is = refl },
+        record {
+          way = w.way;
+          last = w.last;
+          whole = w.whole;
+          begins = w.begins;
+          goes_on = w.goes_on;
+          ends = w.ends;
+          is = refl;
+        },
         cycle_from_steps (added links u v) all (suc w.last) (omega (arith, w.whole)) (omega arith) w.ends follows,
         omega (arith, w.whole, w.few),
       )
     where
-      steps : (w : Way v (suc n)) (k : ℕ) → k + 1 < length (u ∷ w.way) → Points (added links u v) (get_or (u ∷ w.way) k 0) (get_or (u ∷ w.way) (k + 1) 0)
+      steps : (w : Way v (suc n)) (k : ℕ) → k + 1 < length (u ∷ w.way)
+          → Points (added links u v) (get_or (u ∷ w.way) k 0) (get_or (u ∷ w.way) (k + 1) 0)
       steps w zero l = subst (λ (z : ℕ). Points (added links u v) u z) (sym w.begins) (Contains-push links (u, v))
       steps w (suc k) l =
           let shift : suc k + 1 ≡ suc (k + 1) = omega arith in
-          let step : Points links (get_or w.way k 0) (get_or w.way (k + 1) 0) = (w.goes_on k (omega (arith, l))).lowest.holds.0 in
+          let step : Points links (get_or w.way k 0) (get_or w.way (k + 1) 0) =
+          (w.goes_on k (omega (arith, l))).lowest.holds.0 in
           subst (λ (j : ℕ). Points (added links u v) (get_or w.way k 0) (get_or (u ∷ w.way) j 0)) (sym shift)
           (Contains-append_left links ((u, v) ∷ []) (get_or w.way k 0, get_or w.way (k + 1) 0) step)
 
@@ -577,7 +641,9 @@ module _ (n : ℕ) (links : List (ℕ × ℕ)) (clear : IsFaultless n links) (u 
       outside y l is = out_of_range_added n links u v y (inr (clear.some, l, (0, (u, v), omega arith, refl, is)))
 
       past : u < n → (x : ℕ) → IsOutOfRange n (added links u v) x → n ≤ v
-      past inside x out = ⊎_elim (λ l. absurd (range_stands n (added links u v) x clear.some (in_range n links u v clear.is_net.in_range inside l).below out))
+      past inside x out =
+          ⊎_elim (λ l. absurd (range_stands n (added links u v) x clear.some
+          (in_range n links u v clear.is_net.in_range inside l).below out))
           (λ g. g) (cases_lt v n)
 
   self_named : (w : ℕ) → Contains (added links u v) (w, w) → w ≡ u
@@ -588,7 +654,8 @@ module _ (n : ℕ) (links : List (ℕ × ℕ)) (clear : IsFaultless n links) (u 
       ]
 
   -- if two links join the same nodes, the added link is one of them
-  twice_named : (a b : ℕ) → 2 ≤ count_by (is_between a b) (added links u v) → 2 ≤ count_by (is_between u v) (added links u v)
+  twice_named : (a b : ℕ) → 2 ≤ count_by (is_between a b) (added links u v)
+      → 2 ≤ count_by (is_between u v) (added links u v)
   twice_named a b many =
       let once = not_twice links a b clear.is_net.single in
       let more = count_added links u v a b in
@@ -602,7 +669,8 @@ module _ (n : ℕ) (links : List (ℕ × ℕ)) (clear : IsFaultless n links) (u 
             absurd (omega (arith, once, more, none, many))
       ]
 
-  cycle_named : (walk : List ℕ) → IsCycle (added links u v) walk → (w : Vec ℕ Global) × IsCycle (added links u v) w.items × IsLowestCycleBy links u v w.items
+  cycle_named : (walk : List ℕ) → IsCycle (added links u v) walk
+      → (w : Vec ℕ Global) × IsCycle (added links u v) w.items × IsLowestCycleBy links u v w.items
   cycle_named walk cycle =
       let by = cycle_by n links clear.is_net.in_range clear.is_net.acyclic u v (back walk cycle) in
       let w = vec_with by.0 (omega (arith, by.3, clear.limits.nodes_few)) in
@@ -614,7 +682,8 @@ module _ (n : ℕ) (links : List (ℕ × ℕ)) (clear : IsFaultless n links) (u 
 
   -- an added link that has a fault has one that names its evidence
   link_named : (fault : NetFault) → IsFirstFault n (added links u v) fault
-      → (other : NetFault) × IsFirstFault n (added links u v) other × NamesOfLink (record { nodes = n; links = links }) u v other
+      → (other : NetFault) × IsFirstFault n (added links u v) other
+      × NamesOfLink (record { nodes = n; links = links }) u v other
   link_named TooMany h = (TooMany, h, tt)
   link_named (Range x) h = let e = end_named x h.1 in (Range e.0, (h.0, e.1), e.2)
   link_named (SelfLink w) h = (SelfLink w, h, self_named w h.2)
@@ -634,34 +703,41 @@ module _ (n : ℕ) (links : List (ℕ × ℕ)) (clear : IsFaultless n links) (u 
   join_named Memory h = absurd h
 
 -- an edit that is refused has a fault that names its evidence
-pub edit_named : (net : Network) (edit : Edit) (fault : NetFault) → IsFaultless net.nodes net.links → IsEditFault net edit fault
+pub edit_named : (net : Network) (edit : Edit) (fault : NetFault) → IsFaultless net.nodes net.links
+    → IsEditFault net edit fault
     → NamedEditFault net edit
 edit_named net (Cut u v) fault clear h = (fault, h, tt)
 edit_named net (Add u v) fault clear h = link_named net.nodes net.links clear u v fault h
 edit_named net (Join u v) fault clear h = join_named net.nodes net.links clear u v fault h
 
-network_faultless : (n : ℕ) (listed : List (ℕ × ℕ)) (net : Network) → IsNetworkOf n listed net → IsFaultless net.nodes net.links
+network_faultless : (n : ℕ) (listed : List (ℕ × ℕ)) (net : Network) → IsNetworkOf n listed net
+    → IsFaultless net.nodes net.links
 network_faultless n listed net made =
     let same = in_order_permutes listed in
     let sorted = permuted_net n listed (in_order listed) same made.faultless.is_net in
     subst (λ (m : Network). IsFaultless m.nodes m.links) (sym made.is)
     (faultless_sorted n listed (in_order listed) same sorted.acyclic made.faultless)
 
-one_faultless : (net : Network) (edit : Edit) (after : Network) → IsMade net edit after → IsFaultless after.nodes after.links
+one_faultless : (net : Network) (edit : Edit) (after : Network) → IsMade net edit after
+    → IsFaultless after.nodes after.links
 one_faultless net (Cut u v) after made = network_faultless net.nodes (without u v net.links) after made.1
 one_faultless net (Add u v) after made = network_faultless net.nodes (added net.links u v) after made
 one_faultless net (Join u v) after (inl made) = network_faultless net.nodes (added net.links u v) after made
 one_faultless net (Join u v) after (inr made) = network_faultless net.nodes (added net.links v u) after made.1
 
-made_faultless : (net : Network) (edits : List Edit) (after : Network) → IsFaultless net.nodes net.links → AreMade net edits after
+made_faultless : (net : Network) (edits : List Edit) (after : Network) → IsFaultless net.nodes net.links
+    → AreMade net edits after
     → IsFaultless after.nodes after.links
 made_faultless net [] after clear made = subst (λ (m : Network). IsFaultless m.nodes m.links) (sym made) clear
-made_faultless net (edit ∷ rest) after clear made = made_faultless made.0 rest after (one_faultless net edit made.0 made.1.0) made.1.1
+made_faultless net (edit ∷ rest) after clear made =
+    made_faultless made.0 rest after (one_faultless net edit made.0 made.1.0) made.1.1
 
 -- a batch that is refused has a fault that names its evidence
-pub batch_named : (net : Network) (edits : List Edit) (refused : EditFault) → IsFaultless net.nodes net.links → IsBatchFault net edits refused
+pub batch_named : (net : Network) (edits : List Edit) (refused : EditFault) → IsFaultless net.nodes net.links
+    → IsBatchFault net edits refused
     → (other : EditFault) × IsBatchFault net edits other × NamesInBatch net edits other
-batch_named net edits refused clear (inl many) = (refused, inl many, λ before made d. names before (get_or edits refused.at d) refused.fault many.2)
+batch_named net edits refused clear (inl many) =
+    (refused, inl many, λ before made d. names before (get_or edits refused.at d) refused.fault many.2)
   where
     names : (before : Network) (edit : Edit) (fault : NetFault) → fault ≡ TooMany → NamesOfEdit before edit fault
     names before edit fault is = subst (λ (f : NetFault). NamesOfEdit before edit f) (sym is) (of_many before edit)
@@ -674,7 +750,9 @@ batch_named net edits refused clear (inr few) =
     let r = few.1 in
     let some = Cut 0 0 in
     let edit = get_or edits refused.at some in
-    let named = edit_named r.before edit refused.fault (made_faultless net (take refused.at edits) r.before clear r.made) (r.refused some) in
+    let named =
+    edit_named r.before edit refused.fault (made_faultless net (take refused.at edits) r.before clear r.made)
+    (r.refused some) in
     let same : (d : Edit) → get_or edits refused.at d ≡ edit = λ d. get_or_default edits refused.at d some r.inside in (
       record { at = refused.at; fault = named.0 },
       inr (
@@ -688,5 +766,6 @@ batch_named net edits refused clear (inr few) =
       ),
       λ before made d.
           subst (λ (e : Edit). NamesOfEdit before e named.0) (sym (same d))
-          (subst (λ (b : Network). NamesOfEdit b edit named.0) (all_made_one net (take refused.at edits) r.before before r.made made) named.2),
+          (subst (λ (b : Network). NamesOfEdit b edit named.0)
+          (all_made_one net (take refused.at edits) r.before before r.made made) named.2),
     )

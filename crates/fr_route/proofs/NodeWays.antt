@@ -1,5 +1,6 @@
 -- Each node of a settled network has exactly one list of ways, and a connected one exactly one nearest route.
-use Rattle.std.proofs.Common.{[], Bool, List, Option, ap, false, get_or, slice_index, true, ◌==◌, arith, inl, inr, length, refl, suc, sym, zero, ℕ, ◌+◌, ◌++◌, ◌<◌, ◌∙◌, ◌∷◌, ◌≡◌, ◌⊎◌}
+use Rattle.std.proofs.Common.{[], Bool, List, Option, ap, false, get_or, slice_index, true, ◌==◌, arith, inl, inr}
+use Rattle.std.proofs.Common.{length, refl, suc, sym, zero, ℕ, ◌+◌, ◌++◌, ◌<◌, ◌∙◌, ◌∷◌, ◌≡◌, ◌⊎◌}
 use Rattle.std.specs.Prelude.{MatchOption}
 use Rattle.std.proofs.lemmas.Bool.{cases_eq, eqb-true, false≢true}
 use Rattle.std.proofs.lemmas.List.{get_or_append_left, get_or_push, length_push}

@@ -1,6 +1,7 @@
 -- A line and the states before and after it determine the list of rerouted nodes.
 use Rattle.std.proofs.Common.{◌≡◌, ◌∙◌, ℕ, List, max, Option, Some, None, Result, Ok, Err, inl, inr, subst, sym}
-use Rattle.fr_requests.specs.Requests.{PlainRequest, new_network, cut_link, add_link, join_nodes, make_edits, move_dest, walk_from, ask, ask_node, order_pushes, push_ways}
+use Rattle.fr_requests.specs.Requests.{PlainRequest, new_network, cut_link, add_link, join_nodes, make_edits, move_dest}
+use Rattle.fr_requests.specs.Requests.{walk_from, ask, ask_node, order_pushes, push_ways}
 use Rattle.fr_requests.specs.declared.requests.LineFault.{LineFault}
 use Rattle.fr_tables.specs.declared.hop.Hop.{Hop}
 use Rattle.fr_tables.specs.Pushes.{IsPushOrder}
@@ -31,7 +32,8 @@ hops_in_unique : (s : Option State) (n : ℕ) (a b : List Hop) → AreHopsIn s n
 hops_in_unique None n a b h k = h ∙ sym k
 hops_in_unique (Some s) n a b h k = hops_unique s n a b h k
 
-pub replaced_unique : (old : Option State) (new : State) (a b : List ℕ) → AreReplaced old new a → AreReplaced old new b → a ≡ b
+pub replaced_unique : (old : Option State) (new : State) (a b : List ℕ) → AreReplaced old new a → AreReplaced old new b
+    → a ≡ b
 replaced_unique old new a b h k =
     let count : h.count ≡ k.count = h.all ∙ sym k.all in
     let were : AreHopsIn old k.count h.before = subst (λ (n : ℕ). AreHopsIn old n h.before) count h.were in
@@ -83,9 +85,11 @@ told_unique s r next old a b (inl (j, h, e, same)) (inl (k, g, f, too)) = same �
 told_unique s r next old a b (inl (j, h, e, same)) (inr (inl (n, g, f, tells))) = absurd (not_both s r j n h g)
 told_unique s r next old a b (inl (j, h, e, same)) (inr (inr (n, g, f, too))) = same ∙ sym too
 told_unique s r next old a b (inr (inl (m, h, e, tells))) (inl (k, g, f, same)) = absurd (not_both s r k m g h)
-told_unique s r next old a b (inr (inl (m, h, e, tells))) (inr (inr (n, g, f, same))) = absurd (asked_not_accepted s r n m g h)
+told_unique s r next old a b (inr (inl (m, h, e, tells))) (inr (inr (n, g, f, same))) =
+    absurd (asked_not_accepted s r n m g h)
 told_unique s r next old a b (inr (inr (m, h, e, same))) (inl (k, g, f, too)) = same ∙ sym too
-told_unique s r next old a b (inr (inr (m, h, e, same))) (inr (inl (n, g, f, tells))) = absurd (asked_not_accepted s r m n h g)
+told_unique s r next old a b (inr (inr (m, h, e, same))) (inr (inl (n, g, f, tells))) =
+    absurd (asked_not_accepted s r m n h g)
 told_unique s r next old a b (inr (inr (m, h, e, same))) (inr (inr (n, g, f, too))) = same ∙ sym too
 told_unique s r next old a b (inr (inl (m, h, e, tells))) (inr (inl (n, g, f, too))) =
     let one : m ≡ n = cc (e, f) in

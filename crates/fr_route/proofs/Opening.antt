@@ -27,11 +27,14 @@ new_fault n d links net.Memory why names = tt
 open_fault : (n d : ℕ) (links : List (ℕ × ℕ)) (net : Network) (fault : RouteFault) → IsNetworkOf n links net
     → IsOpenFault net.nodes d fault → (IsStill net d → fault ≢ Start) → IsNewFault n d links fault
 open_fault n d links net (Net fault) made why moves = absurd why
-open_fault n d links net Range made why moves = (made.faultless, omega (arith, ap (λ (m : Network). m.nodes) made.is, why))
-open_fault n d links net Start made why moves = (omega (arith, ap (λ (m : Network). m.nodes) made.is, why), (net, (made, λ still. moves still refl)))
+open_fault n d links net Range made why moves =
+    (made.faultless, omega (arith, ap (λ (m : Network). m.nodes) made.is, why))
+open_fault n d links net Start made why moves =
+    (omega (arith, ap (λ (m : Network). m.nodes) made.is, why), (net, (made, λ still. moves still refl)))
 open_fault n d links net Memory made why moves = tt
 
-pub opening_fault : {X : Type 0} (never : Type 0) (n d : ℕ) (links : List (ℕ × ℕ)) (net : Network) (opened : Result X RouteFault)
+pub opening_fault : {X : Type 0} (never : Type 0) (n d : ℕ) (links : List (ℕ
+    × ℕ)) (net : Network) (opened : Result X RouteFault)
     → IsNetworkOf n links net → IfErr opened (IsRoundFault never net d) → IfErr opened (IsNewFault n d links)
 opening_fault never n d links net (Ok router) made why = tt
 opening_fault never n d links net (Err fault) made why = open_fault n d links net fault made why.why why.still

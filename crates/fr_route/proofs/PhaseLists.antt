@@ -1,5 +1,6 @@
 -- The pushes of a phase, one after another.
-use Rattle.std.proofs.Common.{List, [], ap, arith, drop, get_or, length, map, slice_index, suc, sym, take, ℕ, ◌+◌, ◌*◌, ◌<◌, ◌≤◌, ◌∙◌, ◌∷◌, ◌≡◌}
+use Rattle.std.proofs.Common.{List, [], ap, arith, drop, get_or, length, map, slice_index, suc, sym, take, ℕ, ◌+◌, ◌*◌}
+use Rattle.std.proofs.Common.{◌<◌, ◌≤◌, ◌∙◌, ◌∷◌, ◌≡◌}
 use Rattle.std.specs.List.{concat}
 use Rattle.std.proofs.lemmas.List.{drop_more, get_or-map, length-map}
 use Rattle.std.specs.Prelude.{Err, Ok, Result, String, string_capacity, string_len}

@@ -15,15 +15,18 @@ use Rattle.fr_tables.specs.declared.hop.Hop.{Hop}
 use Rattle.fr_tables.specs.declared.hop.Hop.TheVariants.{To}
 
 -- no hop is updated
-pub renewed_none : (s : State) (hops : List Hop) (left : ℕ → Hop → Type 0) → ((x : ℕ) (hop : Hop) → left x hop) → AreRenewed s hops hops left
+pub renewed_none : (s : State) (hops : List Hop) (left : ℕ → Hop → Type 0) → ((x : ℕ) (hop : Hop) → left x hop)
+    → AreRenewed s hops hops left
 renewed_none s hops left all = record { each = λ x hop at. inr (at, all x hop) }
 
 -- the hop of x in the table is right
-pub renewed_right : (s : State) (hops : List Hop) (x : ℕ) (hop d : Hop) → IsHop s x hop → get_or hops x d ≡ hop → AreRenewed s hops hops (λ y _. ¬ (y ≡ x))
+pub renewed_right : (s : State) (hops : List Hop) (x : ℕ) (hop d : Hop) → IsHop s x hop → get_or hops x d ≡ hop
+    → AreRenewed s hops hops (λ y _. ¬ (y ≡ x))
 renewed_right s hops x hop d right is = record {
   each = λ y other at. ⊎_elim
       (λ e.
-      let same : hop ≡ other = sym is ∙ (ap (λ (z : ℕ). get_or hops z d) (sym e) ∙ get_or_from_slice_get hops y other d at) in
+      let same : hop ≡ other =
+      sym is ∙ (ap (λ (z : ℕ). get_or hops z d) (sym e) ∙ get_or_from_slice_get hops y other d at) in
       inl (subst (λ (z : ℕ). IsHop s z other) (sym e) (subst (IsHop s x) same right)))
       (λ apart. inr (at, apart))
       (cases_eq y x);
@@ -41,7 +44,8 @@ renewed_then s a b c first then left h g both = record {
 -- the property `left` can be replaced by a weaker one
 pub renewed_as : (s : State) (a b : List Hop) (left other : ℕ → Hop → Type 0) → AreRenewed s a b left
     → ((x : ℕ) (hop : Hop) → left x hop → other x hop) → AreRenewed s a b other
-renewed_as s a b left other h into = record { each = λ x hop at. ⊎_elim inl (λ was. inr (was.0, into x hop was.1)) (h.each x hop at) }
+renewed_as s a b left other h into =
+    record { each = λ x hop at. ⊎_elim inl (λ was. inr (was.0, into x hop was.1)) (h.each x hop at) }
 
 -- no hop of the first k neighbours in a row sends on to x
 abbrev pub NoneSends : List (ℕ × First) → ℕ → ℕ → ℕ → Hop → Type 0
@@ -58,7 +62,8 @@ none_more entries k e x y hop inside before here j d low is = ⊎_elim
 
 -- at the end of the row of x, no neighbour of x is left that sends on to it
 pub none_left : (n : ℕ) (links : List (ℕ × ℕ)) (x : ℕ) (entries : List (ℕ × First)) (k : ℕ) → IsNet n links
-    → entries ≡ row n links x → length entries ≤ k → (y : ℕ) (hop : Hop) → ¬ (y ≡ x) → NoneSends entries k x y hop → ¬ SendsTo links x y hop
+    → entries ≡ row n links x → length entries ≤ k → (y : ℕ) (hop : Hop) → ¬ (y ≡ x) → NoneSends entries k x y hop
+    → ¬ SendsTo links x y hop
 none_left n links x entries k net is past y hop apart none sends = go sends
   where
     from_row : NoneSends (row n links x) k x y hop
@@ -70,6 +75,8 @@ none_left n links x entries k net is past y hop apart none sends = go sends
     go : SendsTo links x y hop → ⊥
     go (inl e) = apart e
     go (inr (joins, to)) = ⊎_elim
-        (λ h. let (j, low, at) = row_of_in n links x y net h in from_row j (y, Inward) (omega (arith, low, short)) (ap (λ (p : ℕ × First). p.0) at) to)
-        (λ h. let (j, low, at) = row_of_out n links x y net h in from_row j (y, Outward) (omega (arith, low, short)) (ap (λ (p : ℕ × First). p.0) at) to)
+        (λ h. let (j, low, at) = row_of_in n links x y net h in from_row j (y, Inward) (omega (arith, low, short))
+        (ap (λ (p : ℕ × First). p.0) at) to)
+        (λ h. let (j, low, at) = row_of_out n links x y net h in from_row j (y, Outward) (omega (arith, low, short))
+        (ap (λ (p : ℕ × First). p.0) at) to)
         joins

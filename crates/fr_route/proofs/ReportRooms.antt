@@ -60,7 +60,8 @@ round_length : (n d : ℕ) (first : List (ℕ × ℕ)) (s : State) → IsNet n f
 round_length n d first s net low round = omega (
   arith,
   ap length round.links,
-  length_permutation (links_at first s.counts) (in_order (links_at first s.counts)) (in_order_permutes (links_at first s.counts)),
+  length_permutation (links_at first s.counts) (in_order (links_at first s.counts))
+      (in_order_permutes (links_at first s.counts)),
   length-links_at first s.counts (lawful n d first s net low round).kept,
 )
 

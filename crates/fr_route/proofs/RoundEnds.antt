@@ -65,7 +65,8 @@ round_within s turned total first net below round =
 same_in_order : (links : List (ℕ × ℕ)) → HaveSameLinks links (in_order links)
 same_in_order links u v = (into_order links (u, v), out_of_order links (u, v))
 
-module _ (n d : ℕ) (first : List (ℕ × ℕ)) (s : State) (net : IsNet n first) (below : d < n) (round : IsRound n d first s) where
+module _ (n d : ℕ) (first : List (ℕ × ℕ)) (s : State) (net : IsNet n first) (below : d
+    < n) (round : IsRound n d first s) where
   pub lawful : AreLawful n d first s.counts
   lawful = settled_lawful n d first net below s.counts round.counts
 
@@ -89,14 +90,16 @@ module _ (n d : ℕ) (first : List (ℕ × ℕ)) (s : State) (net : IsNet n firs
   -- the same nodes are linked
   pub round_joins : (x y : ℕ) → Joins first x y ↔ Joins s.links x y
   round_joins x y = (
-    (λ h. ⊎_elim (λ a. inl ((as_given x y).0 a)) (λ a. inr ((as_given y x).0 a)) (joins_kept first s.counts lawful.kept x y h)),
+    (λ h. ⊎_elim (λ a. inl ((as_given x y).0 a)) (λ a. inr ((as_given y x).0 a))
+        (joins_kept first s.counts lawful.kept x y h)),
     (λ h. joins_at first s.counts x y (⊎_elim (λ a. inl ((given_back x y).0 a)) (λ a. inr ((given_back y x).0 a)) h)),
   )
 
   pub round_joined : (x : ℕ) → IsConnected first d x ↔ IsConnected s.links d x
   round_joined x = (
     (λ j. same_joined (links_at first s.counts) s.links as_given d x ((joined_at first s.counts lawful.kept d x).0 j)),
-    (λ j. (joined_at first s.counts lawful.kept d x).1 (same_joined s.links (links_at first s.counts) given_back d x j)),
+    (λ j. (joined_at first s.counts lawful.kept d x).1
+        (same_joined s.links (links_at first s.counts) given_back d x j)),
   )
 
   pub route_home : (x : ℕ) → IsConnected s.links d x → (rest : List ℕ) × IsRoute s.links d x rest
@@ -106,13 +109,15 @@ module _ (n d : ℕ) (first : List (ℕ × ℕ)) (s : State) (net : IsNet n firs
 
   -- a node whose count is the cap is cut off
   pub capped_cut_off : (x : ℕ) → ¬ (x ≡ d) → slice_index s.counts x ≡ n → IsCutOff d s.links x
-  capped_cut_off x apart capped = (apart, λ j. not_joined_from_cap n d first net below s.counts round.counts x capped ((round_joined x).1 j))
+  capped_cut_off x apart capped =
+      (apart, λ j. not_joined_from_cap n d first net below s.counts round.counts x capped ((round_joined x).1 j))
 
   -- so is a node without a link
   pub alone_cut_off : (x : ℕ) → ¬ (x ≡ d) → IsAlone first x → IsCutOff d s.links x
   alone_cut_off x apart alone = (
     apart,
-    (λ j. let joined : IsConnected first d x = (round_joined x).1 j in ⊎_elim apart (λ h. alone h.0 h.1) (walk_linked first d joined.1.0 joined.0 x joined.1.1)),
+    (λ j. let joined : IsConnected first d x = (round_joined x).1 j in ⊎_elim apart (λ h. alone h.0 h.1)
+        (walk_linked first d joined.1.0 joined.0 x joined.1.1)),
   )
 
   -- so is a node from which no link points away
@@ -132,13 +137,15 @@ module _ (n d : ℕ) (first : List (ℕ × ℕ)) (s : State) (net : IsNet n firs
       go (inr out) = absurd (free out.1)
 
   -- a link points away from it, unless it is the destination
-  pub linked_out : (x y : ℕ) → Joins s.links x y → ¬ (slice_index s.counts x ≡ n) → ¬ (x ≡ d) → (w : ℕ) × Points s.links x w
+  pub linked_out : (x y : ℕ) → Joins s.links x y → ¬ (slice_index s.counts x ≡ n) → ¬ (x ≡ d)
+      → (w : ℕ) × Points s.links x w
   linked_out x y h free apart =
       let out = out_of_joined n d first net below s.counts round.counts x (linked_joined x y h free) apart in
       (out.0, (as_given x out.0).0 out.1)
 
   -- from every other node except the destination the next hop leads on
-  pub hop_leads_on : (x y : ℕ) → ¬ (x ≡ d) → ¬ (slice_index s.counts x ≡ n) → IsNextHop s.links x y → (rest : List ℕ) × IsRoute s.links d x (y ∷ rest)
+  pub hop_leads_on : (x y : ℕ) → ¬ (x ≡ d) → ¬ (slice_index s.counts x ≡ n) → IsNextHop s.links x y
+      → (rest : List ℕ) × IsRoute s.links d x (y ∷ rest)
   hop_leads_on x y apart free hop =
       let link = (given_back x y).0 hop.link in
       let r = route n d first net below s.counts round.counts y

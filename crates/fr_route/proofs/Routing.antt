@@ -1,6 +1,7 @@
 -- Routes: they are simple paths to the destination, no node has two, and at settled counts exactly the nodes that are
 -- connected to the destination have one.
-use Rattle.std.proofs.Common.{List, [], ap, ap₂, arith, eqb, inl, inr, length, refl, slice_index, subst, suc, sym, zero, ℕ, ⊎_elim, ◌<◌, ◌∷◌, ◌≡◌, ◌⊎◌}
+use Rattle.std.proofs.Common.{List, [], ap, ap₂, arith, eqb, inl, inr, length, refl, slice_index, subst, suc, sym, zero}
+use Rattle.std.proofs.Common.{ℕ, ⊎_elim, ◌<◌, ◌∷◌, ◌≡◌, ◌⊎◌}
 use Rattle.std.proofs.lemmas.Bool.{cases_eq}
 use Rattle.std.specs.List.{IsDistinct}
 use Rattle.fr_graph.proofs.Acyclic.{links_at_acyclic}
@@ -19,7 +20,8 @@ use Rattle.fr_core.specs.Walks.{IsConnected, IsLeastAway}
 use Rattle.fr_route.specs.Routes.{IsNextHop, IsRoute}
 
 -- a node from which a link points away has a next hop
-next_hop : (links : List (ℕ × ℕ)) (n : ℕ) → ((u v : ℕ) → Points links u v → v < n) → (x y : ℕ) → Points links x y → (z : ℕ) × IsNextHop links x z
+next_hop : (links : List (ℕ × ℕ)) (n : ℕ) → ((u v : ℕ) → Points links u v → v < n) → (x y : ℕ) → Points links x y
+    → (z : ℕ) × IsNextHop links x z
 next_hop links n below x y h = ⊎_elim
     (λ f. (f.0, record { link = f.2; least = f.3 }))
     (λ none. absurd (none y (below x y h) h))
@@ -35,7 +37,8 @@ route_end links d x (y ∷ ys) r = route_end links d y ys r.2
 
 pub route_simple : (links : List (ℕ × ℕ)) (d x : ℕ) (ys : List ℕ) → IsAcyclic links → IsRoute links d x ys
     → IsPath links x ys × (end_of x ys ≡ d) × IsDistinct eqb (x ∷ ys)
-route_simple links d x ys acyclic r = let path = route_path links d x ys r in (path, route_end links d x ys r, path_distinct links acyclic x ys path)
+route_simple links d x ys acyclic r =
+    let path = route_path links d x ys r in (path, route_end links d x ys r, path_distinct links acyclic x ys path)
 
 pub route_joined : (links : List (ℕ × ℕ)) (d x : ℕ) (ys : List ℕ) → IsRoute links d x ys → IsConnected links d x
 route_joined links d x ys r = (0, walk_from_path links d x ys (route_path links d x ys r) (route_end links d x ys r))
@@ -43,22 +46,26 @@ route_joined links d x ys r = (0, walk_from_path links d x ys (route_path links 
 pub hop_unique : (links : List (ℕ × ℕ)) (x y z : ℕ) → IsNextHop links x y → IsNextHop links x z → y ≡ z
 hop_unique links x y z h g = omega (arith, h.least z g.link, g.least y h.link)
 
-pub route_unique : (links : List (ℕ × ℕ)) (d x : ℕ) (ys zs : List ℕ) → IsRoute links d x ys → IsRoute links d x zs → ys ≡ zs
+pub route_unique : (links : List (ℕ × ℕ)) (d x : ℕ) (ys zs : List ℕ) → IsRoute links d x ys → IsRoute links d x zs
+    → ys ≡ zs
 route_unique links d x [] [] r s = refl
 route_unique links d x [] (z ∷ zs) r s = absurd (s.0 r)
 route_unique links d x (y ∷ ys) [] r s = absurd (r.0 s)
 route_unique links d x (y ∷ ys) (z ∷ zs) r s =
     let e = hop_unique links x y z r.1 s.1 in
-    ap₂ (λ (h : ℕ) (t : List ℕ). h ∷ t) e (route_unique links d y ys zs r.2 (subst (λ (w : ℕ). IsRoute links d w zs) (sym e) s.2))
+    ap₂ (λ (h : ℕ) (t : List ℕ). h
+    ∷ t) e (route_unique links d y ys zs r.2 (subst (λ (w : ℕ). IsRoute links d w zs) (sym e) s.2))
 
 pub same_hop : (a b : List (ℕ × ℕ)) → HaveSameLinks a b → (x y : ℕ) → IsNextHop a x y → IsNextHop b x y
 same_hop a b same x y h = record { link = (same x y).0 h.link; least = λ w g. h.least w ((same x w).1 g) }
 
-pub same_route : (a b : List (ℕ × ℕ)) → HaveSameLinks a b → (d x : ℕ) (ys : List ℕ) → IsRoute a d x ys → IsRoute b d x ys
+pub same_route : (a b : List (ℕ × ℕ)) → HaveSameLinks a b → (d x : ℕ) (ys : List ℕ) → IsRoute a d x ys
+    → IsRoute b d x ys
 same_route a b same d x [] r = r
 same_route a b same d x (y ∷ ys) r = (r.0, same_hop a b same x y r.1, same_route a b same d y ys r.2)
 
-module _ (n d : ℕ) (first : List (ℕ × ℕ)) (net : IsNet n first) (in_range : d < n) (c : List ℕ) (settled : AreSettled n d first c) where
+module _ (n d : ℕ) (first : List (ℕ × ℕ)) (net : IsNet n first) (in_range : d
+    < n) (c : List ℕ) (settled : AreSettled n d first c) where
   now_below : (x y : ℕ) → Points (links_at first c) x y → y < n
   now_below x y h = go (Points-links_at_from first c x y h)
     where
@@ -83,7 +90,9 @@ module _ (n d : ℕ) (first : List (ℕ × ℕ)) (net : IsNet n first) (in_range
 
       go : (x ≡ d) ⊎ ((w : ℕ) × Joins first x w) → (y : ℕ) × Points (links_at first c) x y
       go (inl e) = absurd (apart e)
-      go (inr (w, h)) = settled_out n d first net in_range c settled x (least_of (of_linked n d first net in_range c settled x w h)) (λ e. apart (sym e))
+      go (inr (w, h)) =
+          settled_out n d first net in_range c settled x (least_of (of_linked n d first net in_range c settled x w h))
+          (λ e. apart (sym e))
 
   -- after k hops the destination is reached, or there is a path of k links
   route_by : (k x : ℕ) → IsConnected first d x → ((ys : List ℕ) × IsRoute (links_at first c) d x ys)
@@ -99,9 +108,16 @@ module _ (n d : ℕ) (first : List (ℕ × ℕ)) (net : IsNet n first) (in_range
       (cases_eq x d)
 
   pub joined_in_range : (x : ℕ) → IsConnected first d x → x < n
-  joined_in_range x joined = ⊎_elim (λ e. omega (arith, e)) (λ h. (joined_below n first x h.0 net h.1).0) (walk_linked first d joined.1.0 joined.0 x joined.1.1)
+  joined_in_range x joined =
+      ⊎_elim (λ e. omega (arith, e)) (λ h. (joined_below n first x h.0 net h.1).0)
+      (walk_linked first d joined.1.0 joined.0 x joined.1.1)
 
   pub route : (x : ℕ) → IsConnected first d x → (ys : List ℕ) × IsRoute (links_at first c) d x ys
   route x joined = ⊎_elim (λ r. r)
-      (λ p. absurd (omega (arith, p.1, path_short (links_at first c) n (links_at_acyclic first c net.acyclic) now_below x p.0 (joined_in_range x joined) p.2)))
+      (λ p. absurd (omega (
+        arith,
+        p.1,
+        path_short (links_at first c) n (links_at_acyclic first c net.acyclic) now_below x p.0
+            (joined_in_range x joined) p.2,
+      )))
       (route_by n x joined)

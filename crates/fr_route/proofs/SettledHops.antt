@@ -63,8 +63,10 @@ module _ (s : State) (after : IsAfterRound s) where
   outside_cut x out = (
     λ same. omega (arith, same, out, after.dest),
     λ joined.
-        let at_first : IsConnected after.first s.dest x = (round_joined s.nodes s.dest after.first s after.is_net after.dest after.round x).1 joined in
-        let below : x < s.nodes = joined_in_range s.nodes s.dest after.first after.is_net after.dest s.counts after.round.counts x at_first in
+        let at_first : IsConnected after.first s.dest x =
+        (round_joined s.nodes s.dest after.first s after.is_net after.dest after.round x).1 joined in
+        let below : x < s.nodes =
+        joined_in_range s.nodes s.dest after.first after.is_net after.dest s.counts after.round.counts x at_first in
         omega (arith, out, below),
   )
 
@@ -119,7 +121,9 @@ rerouted_told old new nodes x same r = (
   λ (below, at). (r.order.these x).1 (λ alike.
       let was = slice_get-get_or r.before x Here (omega (arith, below, r.were.one_each, same)) in
       let is = slice_get-get_or r.after x Here (omega (arith, below, r.are.one_each)) in
-      let one : at.before ≡ get_or r.before x Here = one_hop old x at.before (get_or r.before x Here) at.was (r.were.each x (get_or r.before x Here) was) in
-      let other : at.after ≡ get_or r.after x Here = one_hop new x at.after (get_or r.after x Here) at.is (r.are.each x (get_or r.after x Here) is) in
+      let one : at.before ≡ get_or r.before x Here =
+      one_hop old x at.before (get_or r.before x Here) at.was (r.were.each x (get_or r.before x Here) was) in
+      let other : at.after ≡ get_or r.after x Here =
+      one_hop new x at.after (get_or r.after x Here) at.is (r.are.each x (get_or r.after x Here) is) in
       at.another (cc (one, other, was, is, alike))),
 )

@@ -1,5 +1,6 @@
 -- What edits and a new destination touch: the links of every other node are unchanged, and so is its hop.
-use Rattle.std.proofs.Common.{Contains, List, [], ap, append_assoc, arith, ◌≤◌, get_or, inl, inr, length, refl, subst, sym, take}
+use Rattle.std.proofs.Common.{Contains, List, [], ap, append_assoc, arith, ◌≤◌, get_or, inl, inr, length, refl, subst}
+use Rattle.std.proofs.Common.{sym, take}
 use Rattle.std.proofs.Common.{ℕ, ⊎_elim, ◌+◌, ◌++◌, ◌<◌, ◌↔◌, ◌∙◌, ◌∷◌, ◌≡◌, ◌⊎◌}
 use Rattle.std.specs.Prelude.{not}
 use Rattle.std.specs.List.{All}
@@ -56,10 +57,12 @@ record IsAt (net : Network) (e : Edit) (after : Network) : Type 0 where
   below : HasEndsBelow net.nodes e
   few : length after.links ≤ length net.links + 1
 
-network_net : (n : ℕ) (listed : List (ℕ × ℕ)) (after : Network) → IsNetworkOf n listed after → IsNet after.nodes after.links
+network_net : (n : ℕ) (listed : List (ℕ × ℕ)) (after : Network) → IsNetworkOf n listed after
+    → IsNet after.nodes after.links
 network_net n listed after made =
     let same : after.nodes ≡ n = ap (λ (m : Network). m.nodes) made.is in
-    subst (λ (k : ℕ). IsNet k after.links) (sym same) (permuted_net n listed after.links made.same_links made.faultless.is_net)
+    subst (λ (k : ℕ). IsNet k after.links) (sym same)
+    (permuted_net n listed after.links made.same_links made.faultless.is_net)
 
 network_order : (n : ℕ) (listed : List (ℕ × ℕ)) (after : Network) → IsNetworkOf n listed after → AreInOrder after.links
 network_order n listed after made = subst (λ (m : Network). AreInOrder m.links) (sym made.is) (in_order_order listed)
@@ -135,7 +138,8 @@ join_at net u v after (inr made) =
     let at : IsAddedAt net v u after = added_at net v u after made.1 in
     by_added net (Join u v) v u after at (λ x w ends. ⊎_elim (λ e. inr e) (λ e. inl e) ends) (at.below.1, at.below.0)
 
-edit_at : (net : Network) (e : Edit) (after : Network) → IsNet net.nodes net.links → IsMade net e after → IsAt net e after
+edit_at : (net : Network) (e : Edit) (after : Network) → IsNet net.nodes net.links → IsMade net e after
+    → IsAt net e after
 edit_at net (Cut u v) after is made = cut_at net u v after is made
 edit_at net (Add u v) after is made = add_at net u v after made
 edit_at net (Join u v) after is made = join_at net u v after made
@@ -221,11 +225,13 @@ pub edits_keep : (net : Network) (edits : List Edit) (after : Network) (x : ℕ)
     → ¬ Contains (ends_of edits) x → HaveSameAt net.links after.links x
 edits_keep net edits after x at none = record {
   out = λ w. (
-    λ h. ⊎_elim (λ cut. absurd (none (edited_ends edits x w cut.0 cut.1 (inl cut.2)).0)) (λ stays. stays) (at.kept x w h),
+    λ h. ⊎_elim (λ cut. absurd (none (edited_ends edits x w cut.0 cut.1 (inl cut.2)).0)) (λ stays. stays)
+        (at.kept x w h),
     λ h. ⊎_elim (λ add. absurd (none (edited_ends edits x w add.0 add.1 (inr add.2)).0)) (λ was. was) (at.new x w h),
   );
   into = λ w. (
-    λ h. ⊎_elim (λ cut. absurd (none (edited_ends edits w x cut.0 cut.1 (inl cut.2)).1)) (λ stays. stays) (at.kept w x h),
+    λ h. ⊎_elim (λ cut. absurd (none (edited_ends edits w x cut.0 cut.1 (inl cut.2)).1)) (λ stays. stays)
+        (at.kept w x h),
     λ h. ⊎_elim (λ add. absurd (none (edited_ends edits w x add.0 add.1 (inr add.2)).1)) (λ was. was) (at.new w x h),
   );
 }
@@ -259,7 +265,8 @@ ends_more es k e first nodes u v low is so_far =
     let before : List ℕ = ends_of (take k es) in
     let longer : ends_of (take (k + 1) es) ≡ (before ++ u ∷ []) ++ v ∷ [] =
     ap ends_of (take_more es k e low)
-    ∙ (ends_push (take k es) (get_or es k e) ∙ (ap (λ (ends : List ℕ). before ++ ends) is ∙ sym (append_assoc before (u ∷ []) (v ∷ [])))) in
+    ∙ (ends_push (take k es) (get_or es k e)
+    ∙ (ap (λ (ends : List ℕ). before ++ ends) is ∙ sym (append_assoc before (u ∷ []) (v ∷ [])))) in
     ap (λ (ends : List ℕ). (ends ++ u ∷ []) ++ v ∷ []) so_far
     ∙ (ap (λ (ends : List ℕ). ends ++ v ∷ []) (append_assoc first before (u ∷ []))
     ∙ (append_assoc first (before ++ u ∷ []) (v ∷ []) ∙ ap (λ (ends : List ℕ). first ++ ends) (sym longer)))

@@ -49,7 +49,8 @@ pub edit_as : (never : Type 0) (edit : Edit) (d : ℕ) (other : Trial) (s : Stat
     (answer : Result Report NotMade) (next : State) (more : ChangedNodes)
     → ((new : State) → IsEdited s (edit ∷ []) s.dest new → other.Made new)
     → ((why : NotMade) → IsPlaced s (edit ∷ []) s.dest why → other.Undone why)
-    → d ≡ s.dest → IsTried never (edit_of s edit d) s told answer next more → IsTried never other s told answer next more
+    → d ≡ s.dest → IsTried never (edit_of s edit d) s told answer next more
+    → IsTried never other s told answer next more
 edit_as never edit d other s told answer next more made undone here is =
     tried_as never (edit_of s edit s.dest) other s told answer next more made undone
     (subst (λ (at : ℕ). IsTried never (edit_of s edit at) s told answer next more) here is)
@@ -60,7 +61,8 @@ pub batch_as : (never : Type 0) (batch : Vec Edit Global) (edits : List Edit) (d
     → IsTried never (edits_of s edits d) s told answer next more
     → IsTried never (change_of s (Batch batch)) s told answer next more
 batch_as never batch edits d s told answer next more same here is =
-    tried_as never (edits_of s batch.items s.dest) (change_of s (Batch batch)) s told answer next more (λ new h. h) (λ why h. h)
+    tried_as never (edits_of s batch.items s.dest) (change_of s (Batch batch)) s told answer next more (λ new h. h)
+    (λ why h. h)
     (subst (λ (e : ℕ). IsTried never (edits_of s batch.items e) s told answer next more) here
     (subst (λ (es : List Edit). IsTried never (edits_of s es d) s told answer next more) same is))
 

@@ -1,9 +1,11 @@
 -- How the ways that a change alters are noted, node by node.
-use Rattle.std.proofs.Common.{[], Contains, List, arith, inl, inr, length, slice_index, subst, suc, take, zero, ℕ, ⊎_elim, ◌+◌, ◌++◌, ◌<◌, ◌∙◌, ◌∷◌, ◌≡◌, ◌≤◌, ◌⊎◌}
+use Rattle.std.proofs.Common.{[], Contains, List, arith, inl, inr, length, slice_index, subst, suc, take, zero, ℕ}
+use Rattle.std.proofs.Common.{⊎_elim, ◌+◌, ◌++◌, ◌<◌, ◌∙◌, ◌∷◌, ◌≡◌, ◌≤◌, ◌⊎◌}
 use Rattle.std.specs.List.Sorted.{IsStrictlyIncreasing}
 use Rattle.std.proofs.lemmas.List.Elements.{All-contains, Contains-get_or}
 use Rattle.std.proofs.lemmas.Bool.{cases_eq, cases_lt}
-use Rattle.std.proofs.lemmas.List.{get_or-take, get_or_append_left, get_or_default, get_or_push, length-take-le, length_push}
+use Rattle.std.proofs.lemmas.List.{get_or-take, get_or_append_left, get_or_default, get_or_push, length-take-le}
+use Rattle.std.proofs.lemmas.List.{length_push}
 use Rattle.fr_graph.specs.Links.{HasPath, IsNet, IsPath, end_of}
 use Rattle.fr_graph.specs.declared.edit.Edit.{Edit}
 use Rattle.fr_graph.proofs.Linking.{link_below}
@@ -73,7 +75,8 @@ ways_of_more n links d nodes table k list low so_far here = record {
               let early : i < k = omega (arith, place, apart) in
               let was : slice_index (take k nodes) i ≡ slice_index nodes i = get_or-take k nodes i 0 early in
               rw (at, get_or_append_left table (list ∷ []) [] i (omega (arith, early, long)))
-              (rw was at (so_far.each i (omega (arith, early, length-take-le k nodes (omega (arith, low))))) (rw at at below))
+              (rw was at (so_far.each i (omega (arith, early, length-take-le k nodes (omega (arith, low)))))
+              (rw at at below))
         ]
 
 -- z is above the nodes before this place, and not above those from it on
@@ -175,7 +178,8 @@ module _ (s next : State) (edits : List Edit) (m : Measured) (before after : Lis
       → MayNote before after x old new notes.changes
   may_note old new were are = record {
     below = is.noted;
-    ways_before = one_list s.links s.dest x (ways before x) old (is.were.each x (omega (arith, is.node, leads.same_nodes))) were;
+    ways_before =
+        one_list s.links s.dest x (ways before x) old (is.were.each x (omega (arith, is.node, leads.same_nodes))) were;
     ways_after = one_list next.links next.dest x (ways after x) new (is.are.each x is.node) are;
     inside = omega (arith, is.node, is.are.one_each);
     range = ways_in_range next leads.is_net next.nodes after (omega arith) is.are;
@@ -183,7 +187,8 @@ module _ (s next : State) (edits : List Edit) (m : Measured) (before after : Lis
   }
 
   -- at an end of an edit, the old list is kept
-  pub may_note_end : (place : ℕ) (new : List ℕ) → place < length notes.ends.items → slice_index notes.ends.items place ≡ x
+  pub may_note_end : (place : ℕ) (new : List ℕ) → place < length notes.ends.items
+      → slice_index notes.ends.items place ≡ x
       → AreWays next.links next.dest x new → MayNote before after x (ways notes.end_ways place) new notes.changes
   may_note_end place new low at are =
       may_note (ways notes.end_ways place) new
@@ -249,7 +254,8 @@ noting_first s next touched m before after notes leads were are turned affected 
     others : (y : ℕ) → y < next.nodes → ¬ Contains nodes y → KeepsWays s.links s.dest next.links next.dest y
     others = affected.others s.links s.dest next.dest leads.were leads.are
         (λ x w link. ⊎_elim (λ cut. inl cut)
-        (λ left. inr (⊎_elim (λ same. inl same) (λ back. inr (back.0, has_turned x w back.1)) left)) (leads.kept x w link))
+        (λ left. inr (⊎_elim (λ same. inl same) (λ back. inr (back.0, has_turned x w back.1)) left))
+        (leads.kept x w link))
         (λ x w link. ⊎_elim (λ add. inl add)
         (λ left. inr (⊎_elim (λ was. inl was) (λ ends. inr (has_turned x w ends)) left)) (leads.new x w link))
 
@@ -316,7 +322,8 @@ noting_last {s} {next} {edits} {m} {before} {after} {place} {notes} are noting p
 pub both_exist : (s next : State) (edits : List Edit) (m : Measured) (notes : WayNotes) → LeadsOn s next edits m notes
     → (before : List (List ℕ)) × AreAllWays s before × ((after : List (List ℕ)) × AreAllWays next after)
 both_exist s next edits m notes leads =
-    let was = tables_exist s (rw leads.same_nodes leads.was_net) (omega (arith, leads.was_below, leads.same_nodes)) m.before
+    let was =
+    tables_exist s (rw leads.same_nodes leads.was_net) (omega (arith, leads.was_below, leads.same_nodes)) m.before
     (rw leads.same_nodes leads.were) in
     let is = tables_exist next leads.is_net leads.is_below m.table leads.are in
     (was.0, was.1, (is.0, is.1))

@@ -1,6 +1,7 @@
 -- The ways of a settled network as a table: each names a node, and no list is longer than there are nodes. And the
 -- pushes that lead to this table.
-use Rattle.std.proofs.Common.{[], Bool, Contains, List, ap, arith, eqb, get_or, inl, inr, length, map, ne_eqb, refl, slice_index}
+use Rattle.std.proofs.Common.{[], Bool, Contains, List, ap, arith, eqb, get_or, inl, inr, length, map, ne_eqb, refl}
+use Rattle.std.proofs.Common.{slice_index}
 use Rattle.std.proofs.Common.{subst, sym, ℕ, ⊎_elim, ◌^◌, ◌+◌, ◌++◌, ◌<◌, ◌∙◌, ◌∷◌, ◌≡◌, ◌≤◌}
 use Rattle.std.specs.List.{IsDistinct, filter}
 use Rattle.std.proofs.lemmas.Bool.{cases_lt}
@@ -16,7 +17,8 @@ use Rattle.fr_nearest.specs.Ways.{IsNearer}
 use Rattle.fr_nearest.proofs.Walking.{one_distance}
 use Rattle.fr_tables.proofs.Members.{Contains-none}
 use Rattle.fr_ways.specs.Faults.{ArePhases, ArePushes}
-use Rattle.fr_ways.specs.Phases.{empties, growing_nodes, grows, growths, kept, nodes_of, sheds, shrinking_nodes, shrinks}
+use Rattle.fr_ways.specs.Phases.{empties, growing_nodes, grows, growths, kept, nodes_of, sheds, shrinking_nodes}
+use Rattle.fr_ways.specs.Phases.{shrinks}
 use Rattle.fr_ways.specs.Ways.{IsInRange, ways}
 use Rattle.fr_ways.specs.declared.plan.Pushes.{Pushes}
 use Rattle.fr_ways.specs.declared.plan.TwoPhases.{TwoPhases}
@@ -54,7 +56,8 @@ module _ (s : State) (net : IsNet s.nodes s.links) where
     | inl low ↦
         let each = are.each x (omega (arith, low, are.one_each)) in
         omega (arith, way_low x (ways table x) each y sends, are.one_each, enough)
-    | inr past ↦ absurd (Contains-none y (subst (λ (list : List ℕ). Contains list y) (get_or_past table x [] past) sends))
+    | inr past ↦ absurd (Contains-none y
+        (subst (λ (list : List ℕ). Contains list y) (get_or_past table x [] past) sends))
   ]
 
   -- a number that is not a node has no ways

@@ -1,5 +1,6 @@
 -- Each node has a list of its ways, nearest first, and each node with a path exactly one walk by first ways.
-use Rattle.std.proofs.Common.{[], Bool, List, arith, false, get_or, true, inl, inr, length, refl, slice_index, subst, suc, sym, zero, ℕ, ⊎_elim, ap}
+use Rattle.std.proofs.Common.{[], Bool, List, arith, false, get_or, true, inl, inr, length, refl, slice_index, subst}
+use Rattle.std.proofs.Common.{suc, sym, zero, ℕ, ⊎_elim, ap}
 use Rattle.std.proofs.Common.{Contains, ◌<◌, ◌∙◌, ◌∷◌, ◌≡◌, ◌≤◌, ◌⊎◌}
 use Rattle.std.proofs.lemmas.Bool.{cases_eq, cases_lt, false≢true}
 use Rattle.std.proofs.lemmas.List.{get_or_default}
@@ -25,7 +26,8 @@ sorted_at R [] sorted i j lt low = absurd (omega (arith, low))
 sorted_at R (x ∷ xs) sorted zero zero lt low = absurd (omega (arith, lt))
 sorted_at R (x ∷ xs) sorted zero (suc j) lt low = sorted.0 (get_or xs j 0) (Contains-get_or xs j 0 (omega (arith, low)))
 sorted_at R (x ∷ xs) sorted (suc i) zero lt low = absurd (omega (arith, lt))
-sorted_at R (x ∷ xs) sorted (suc i) (suc j) lt low = sorted_at R xs sorted.1 i j (omega (arith, lt)) (omega (arith, low))
+sorted_at R (x ∷ xs) sorted (suc i) (suc j) lt low =
+    sorted_at R xs sorted.1 i j (omega (arith, lt)) (omega (arith, low))
 
 module _ (links : List (ℕ × ℕ)) (d : ℕ) where
   -- w comes before u
@@ -83,7 +85,8 @@ module _ (links : List (ℕ × ℕ)) (d : ℕ) where
       ((λ u has. absurd (Contains-none u has)), tt),
       λ u. (
         (λ has. ⊎_elim (λ e. inl (sym e)) inr (Contains-cases u w [] has)),
-        (λ h. ⊎_elim (λ e. subst (Contains (w ∷ [])) (sym e) (Contains-head w [])) (λ has. absurd (Contains-none u has)) h),
+        (λ h. ⊎_elim (λ e. subst (Contains (w
+            ∷ [])) (sym e) (Contains-head w [])) (λ has. absurd (Contains-none u has)) h),
       ),
     ),
   )
@@ -201,7 +204,8 @@ module _ (links : List (ℕ × ℕ)) (d : ℕ) where
       }
     where
       later : (u : ℕ) → Contains ws u → Near w u
-      later u (k, low, is) = subst (Near w) (get_or_default ws k 0 u low ∙ is) (are.order 0 (suc k) (omega arith) (omega (arith, low)))
+      later u (k, low, is) =
+          subst (Near w) (get_or_default ws k 0 u low ∙ is) (are.order 0 (suc k) (omega arith) (omega (arith, low)))
 
   pub first_unique : (x w u : ℕ) → IsFirstWay links d x w → IsFirstWay links d x u → w ≡ u
   first_unique x w u a b = elim (cases_eq w u) [
@@ -216,7 +220,8 @@ module _ (links : List (ℕ × ℕ)) (d : ℕ) where
   nearest_unique x (y ∷ ys) (z ∷ zs) p q =
       let same = first_unique x y z p.1 q.1 in
       ap (λ (w : ℕ). w ∷ ys) same
-      ∙ ap (λ (ws : List ℕ). z ∷ ws) (nearest_unique z ys zs (subst (λ (w : ℕ). IsNearestWalk links d w ys) same p.2) q.2)
+      ∙ ap (λ (ws : List ℕ). z
+      ∷ ws) (nearest_unique z ys zs (subst (λ (w : ℕ). IsNearestWalk links d w ys) same p.2) q.2)
 
   -- a node with a distance above 0 has a way that is one link nearer
   way_nearer : (x k : ℕ) → IsDistance links d x (suc k) → (w : ℕ) × IsWay links d x w × IsDistance links d w k

@@ -16,13 +16,15 @@ pushes_same n = record { shrink = refl; emptied = refl; grow = refl; nodes = ome
 -- with the same notes the caller asks for the same, and has the same pushes
 pub same_pushes : (a b : ChangedNodes) → notes_told b ≡ notes_told a → KeepsPushes (ways_told a) (ways_told b)
 same_pushes a b same =
-    subst (λ (notes : Option WayNotes). KeepsPushes (ways_told a) (ways_in notes)) (sym same) (pushes_same (ways_told a))
+    subst (λ (notes : Option WayNotes). KeepsPushes (ways_told a) (ways_in notes)) (sym same)
+    (pushes_same (ways_told a))
 
 pub same_asking : (a b : ChangedNodes) → notes_told b ≡ notes_told a → AsksWays a → AsksWays b
 same_asking a b same (notes, is) = (notes, same ∙ is)
 
 -- other notes beside the same list
-pub same_list : (list : Vec ℕ Global) (a b : Box WayNotes Global) → HasSameList (InList list (Some a)) (InList list (Some b))
+pub same_list : (list : Vec ℕ Global) (a b : Box WayNotes Global)
+    → HasSameList (InList list (Some a)) (InList list (Some b))
 same_list list a b = record {
   nodes = refl;
   places = λ n has. has;

@@ -56,7 +56,7 @@ impl KeptDistances {
         }
     }
 
-    /// Does the same, if this is asked for.
+    /// Keeps the distances from now on, if this is asked for.
     pub(crate) fn keep_if_asked(&mut self, is_asked: bool, net: &Net, dest: u32)
         requires node { dest < net.now.nodes }
         requires one_each { length self.old.table.table ≡ net.now.nodes }

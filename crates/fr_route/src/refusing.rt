@@ -39,8 +39,9 @@ pub(crate) fn refuse(
     Ok(true)
 }
 
-/// Does the same for the fault with which a request fails. `named` are nodes of the request: the two that no link joins,
-/// or the one that is not a node. A fault that is not a refusal is returned.
+/// Writes the answer that refuses a line for the fault with which a request fails, and returns that it is refused.
+/// `named` are nodes of the request: the two that no link joins, or the one that is not a node. A fault that is not a
+/// refusal is returned.
 fn refuse_fault(
     draft: &mut Draft,
     fault: &RouteFault,
@@ -59,7 +60,7 @@ fn refuse_fault(
     }
 }
 
-/// Does the same as `refuse_fault`, and drops the fault.
+/// Refuses a line as [`refuse_fault`] does, and drops the fault.
 pub(crate) fn refuse_for(
     draft: &mut Draft,
     fault: RouteFault,
@@ -73,7 +74,7 @@ pub(crate) fn refuse_for(
     refuse_fault(draft, &fault, named, edit)
 }
 
-/// Does the same as `refuse_fault` for a fault of links or of an edit.
+/// Refuses a line as [`refuse_fault`] does, for a fault of links or of an edit.
 fn refuse_net_fault(
     draft: &mut Draft,
     fault: &NetFault,

@@ -320,7 +320,7 @@ impl<'a, F: Fn(&Net, u32, Option<&[u32]>, Turns) -> Result<Turns, CrewFault>> Se
         }
     }
 
-    /// Does the same for JSON with ways. It is not inlined, so that other answers do not pay for its local variables.
+    /// Answers a line in JSON with ways. It is not inlined, so that other answers do not pay for its local variables.
     #[inline(never)]
     fn reply_with_ways(
         &self,

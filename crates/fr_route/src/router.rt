@@ -299,8 +299,8 @@ impl Router {
         .open(net, dest)
     }
 
-    /// Does the same on the calling thread. It starts no thread, does not wait, and never fails with `Start`. O(n + m),
-    /// and the cost of [`Net::turn`].
+    /// Opens a router as [`open`](Self::open) does, on the calling thread. It starts no thread, does not wait, and
+    /// never fails with `Start`. O(n + m), and the cost of [`Net::turn`].
     pub fn open_alone(alloc: Global, net: Net, dest: u32) -> Result<Router, RouteFault>
         ensures opened { IfOk result (λ router. (dest < net.nodes) × IsRound net.nodes dest net.links router) }
         ensures fault { IfErr result (IsOpenFault net.nodes dest) }
@@ -395,8 +395,8 @@ impl Router {
         .change(self, &change, &mut ChangedNodes::Unlisted))
     }
 
-    /// Does the same on the calling thread. It starts no thread, does not wait, and never fails with `Start`. The cost
-    /// is that of `change`, with [`settled_counts_alone`] if nodes turn.
+    /// Changes the network as [`change`](Self::change) does, on the calling thread. It starts no thread, does not wait,
+    /// and never fails with `Start`. The cost is that of `change`, with [`settled_counts_alone`] if nodes turn.
     pub fn change_alone(&mut self, alloc: Global, change: Change) -> Result<Report, RouteFault>
         ensures changed { IfOk result (λ _. IsChanged self.old change self.new) }
         ensures report { IfOk result (λ report. IsReport self.new report.turned report.cut) }

@@ -137,8 +137,8 @@ impl Session {
         .text_for_line(self, line, &mut ChangedNodes::Unlisted)
     }
 
-    /// Does the same on the calling thread. It starts no thread, does not wait, and never fails with `Start`. The cost
-    /// is the same, with the router's calls that end in `_alone`.
+    /// Answers a line as [`answer_line`](Self::answer_line) does, on the calling thread. It starts no thread, does not
+    /// wait, and never fails with `Start`. The cost is the same, with the router's calls that end in `_alone`.
     pub fn answer_line_alone(
         &mut self,
         alloc: Global,
@@ -161,10 +161,11 @@ impl Session {
         )
     }
 
-    /// Does the same, and lists the nodes that the line reroutes in the caller's list, in push order: after a change as
-    /// [`Router::change_telling_alone`] does, after a new network as [`Router::changed_since`] does. Any other answer
-    /// leaves the list unchanged, and so does a failure. The list gets room for all nodes before anything is changed,
-    /// and keeps it. The cost is the same, with the router's calls that list rerouted nodes.
+    /// Answers a line as [`answer_line_alone`](Self::answer_line_alone) does, and lists the nodes that the line
+    /// reroutes in the caller's list, in push order: after a change as [`Router::change_telling_alone`] does, after a
+    /// new network as [`Router::changed_since`] does. Any other answer leaves the list unchanged, and so does a
+    /// failure. The list gets room for all nodes before anything is changed, and keeps it. The cost is the same, with
+    /// the router's calls that list rerouted nodes.
     pub fn answer_line_telling_alone(
         &mut self,
         alloc: Global,
@@ -221,8 +222,8 @@ impl Session {
         .text_for_request(self, request, &mut ChangedNodes::Unlisted)
     }
 
-    /// Does the same on the calling thread. It starts no thread, does not wait, and never fails with `Start`. The cost
-    /// is the same, with the router's calls that end in `_alone`.
+    /// Answers a request as [`answer`](Self::answer) does, on the calling thread. It starts no thread, does not wait,
+    /// and never fails with `Start`. The cost is the same, with the router's calls that end in `_alone`.
     pub fn answer_alone(&mut self, alloc: Global, request: &Request) -> Result<String, AnswerFault>
         ensures text { IfOk result (λ text. IsAnswer self.old (plain request.now) (string_bytes text) self.new) }
         ensures unchanged { OnErr result (self.new ≡ self.old) }
@@ -236,9 +237,9 @@ impl Session {
         )
     }
 
-    /// Does the same, and lists the nodes that the request reroutes in the caller's list, as
-    /// [`Session::answer_line_telling_alone`] does for a line. The cost is the same, with the router's calls that list
-    /// rerouted nodes.
+    /// Answers a request as [`answer_alone`](Self::answer_alone) does, and lists the nodes that the request reroutes in
+    /// the caller's list, as [`Session::answer_line_telling_alone`] does for a line. The cost is the same, with the
+    /// router's calls that list rerouted nodes.
     pub fn answer_telling_alone(
         &mut self,
         alloc: Global,
@@ -302,8 +303,9 @@ impl Session {
         .reply_line_in(self, form, line, space)
     }
 
-    /// Does the same on the calling thread. It starts no thread, does not wait, and never fails with `Start`. The cost
-    /// is the same, with the router's calls that end in `_alone`.
+    /// Answers a line in this form as [`answer_line_in`](Self::answer_line_in) does, on the calling thread. It starts
+    /// no thread, does not wait, and never fails with `Start`. The cost is the same, with the router's calls that end
+    /// in `_alone`.
     pub fn answer_line_in_alone(
         &mut self,
         alloc: Global,

@@ -1,5 +1,6 @@
 -- Pushes that look at listed nodes only.
-use Rattle.std.proofs.Common.{append-nil, Bool, Contains, List, ap, arith, cond, false, get_or, inl, inr, length, refl, subst}
+use Rattle.std.proofs.Common.{append-nil, Bool, Contains, List, ap, arith, cond, false, get_or, inl, inr, length, refl}
+use Rattle.std.proofs.Common.{subst}
 use Rattle.std.proofs.Common.{suc, sym, zero, ℕ, ⊎_elim, ◌++◌, ◌+◌, ◌-◌, ◌<◌, ◌≤◌, ◌∙◌, ◌≡◌, ◌⊎◌}
 use Rattle.std.specs.List.Sorted.{IsNonDecreasing}
 use Rattle.std.proofs.lemmas.Bool.{cases_Bool, cases_eq, cases_lt}
@@ -130,7 +131,8 @@ module _ (nodes : List ℕ) (old new : List (List ℕ)) (lists : ListsChanges no
 
   -- the nodes that were listed are still all that differ
   pub still_listed : (emptied : Bool) (now : List (List ℕ))
-      → ((y : ℕ) → ways now y ≡ cond (drops emptied old new y) (kept old new y) (ways old y)) → ListsChanges nodes now new
+      → ((y : ℕ) → ways now y ≡ cond (drops emptied old new y) (kept old new y) (ways old y))
+      → ListsChanges nodes now new
   still_listed emptied now are = record {
     by_number = lists.by_number;
     in_table = lists.in_table;
@@ -160,7 +162,8 @@ unpushed {now} {after} {b} x list none is = is
     ∙ ap (λ (h : List Push). record now { known = h }) (append-nil now.known))
 
 module _ (old now after : Knowledge) (new : List (List ℕ)) (nodes : List ℕ) (i : ℕ)
-    (lists : ListsChanges nodes (last_table old) new) (one_each : length new ≡ old.nodes) (inside : i < length nodes) where
+    (lists : ListsChanges nodes (last_table old) new) (one_each : length new ≡ old.nodes) (inside : i
+    < length nodes) where
   low : get_or nodes i 0 < old.nodes
   low = omega (arith, lists.in_table i 0 inside, one_each)
 
@@ -188,5 +191,6 @@ module _ (old now after : Knowledge) (new : List (List ℕ)) (nodes : List ℕ) 
   grow_listed seen is =
       see_more seen lists.by_number (changes_quiet nodes (last_table old) new lists) inside low
       (λ done. grow_more old now after new (get_or nodes i 0) low done is)
-      (λ was. unpushed (get_or nodes i 0) (ways new (get_or nodes i 0)) (differs_no (ways (last_table now) (get_or nodes i 0)) (ways new (get_or nodes i 0))
+      (λ was. unpushed (get_or nodes i 0) (ways new (get_or nodes i 0))
+      (differs_no (ways (last_table now) (get_or nodes i 0)) (ways new (get_or nodes i 0))
       (grown (last_table old) new (get_or nodes i 0) (ways (last_table now) (get_or nodes i 0)) was)) is)

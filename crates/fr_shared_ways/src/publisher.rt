@@ -88,8 +88,9 @@ impl Publisher {
         self.grow(new);
     }
 
-    /// Does the same, but looks only at these nodes. Each other node must have the same ways in the new table as in this
-    /// one. The nodes must be sorted by number. A node may be listed more than once: it gets its pushes once.
+    /// Pushes the ways of the new table in two phases as [`push_all`](Self::push_all) does, but looks only at these
+    /// nodes. Each other node must have the same ways in the new table as in this one. The nodes must be sorted by
+    /// number. A node may be listed more than once: it gets its pushes once.
     ///
     /// It makes three loads for each listed node, and one store for each push. It does not allocate or wait. O(k) for k
     /// listed nodes.
@@ -124,7 +125,7 @@ impl Publisher {
         }
     }
 
-    /// Does the same, but looks only at these nodes.
+    /// Pushes to nodes that lose ways as [`shrink`](Self::shrink) does, but looks only at these nodes.
     fn shrink_listed(&mut self, new: &FirstWays, nodes: &[u32], emptied: bool)
         requires one_each { length new.now ≡ self.old.nodes }
         requires listed { ListsChanges nodes.now (last_table self.old) new.now }
@@ -175,7 +176,7 @@ impl Publisher {
         }
     }
 
-    /// Does the same, but looks only at these nodes.
+    /// Pushes new ways as [`grow`](Self::grow) does, but looks only at these nodes.
     fn grow_listed(&mut self, new: &FirstWays, nodes: &[u32])
         requires new { IsTable self.old.nodes new.now }
         requires part { IsPartOf (last_table self.old) new.now }

@@ -1,5 +1,6 @@
 -- Which nodes have a route: those downstream of a node with a route, and only such nodes.
-use Rattle.std.proofs.Common.{Contains, List, None, Option, Some, [], inl, inr, refl, slice_get, subst, sym, ℕ, ⊎_elim, ◌∙◌, ◌∷◌, ◌≡◌, ◌↔◌, ◌⊎◌}
+use Rattle.std.proofs.Common.{Contains, List, None, Option, Some, [], inl, inr, refl, slice_get, subst, sym, ℕ, ⊎_elim}
+use Rattle.std.proofs.Common.{◌∙◌, ◌∷◌, ◌≡◌, ◌↔◌, ◌⊎◌}
 use Rattle.fr_tables.specs.Pushes.{AreAlike}
 use Rattle.fr_tables.specs.Tables.{Arrives, IsDownstream, IsWalk, IsWholeWalk, SendsOn, end_of}
 use Rattle.fr_tables.specs.declared.hop.Hop.{Hop}
@@ -16,7 +17,8 @@ module _ (table : List Hop) where
     where
       go : (by : List ℕ) → IsWalk table x by → slice_get table (end_of x by) ≡ Some Here → Arrives table y
       go [] goes home = let e : Some (To y) ≡ Some Here = sym sends ∙ home in cc
-      go (z ∷ zs) goes home = subst (Arrives table) (sends_one table x z y goes.0 sends) (record { by = zs; goes = goes.1; home = home })
+      go (z ∷ zs) goes home =
+          subst (Arrives table) (sends_one table x z y goes.0 sends) (record { by = zs; goes = goes.1; home = home })
 
   -- a node that sends on to none
   pub arrives_end : (x : ℕ) → ((y : ℕ) → ¬ SendsOn table x y) → Arrives table x ↔ (slice_get table x ≡ Some Here)
@@ -33,7 +35,8 @@ module _ (table : List Hop) where
       (λ r. more.0 (arrives_next x y goes.0 r), λ r. arrives_before x y goes.0 (more.1 r))
 
   pub alike_downstream : (x y : ℕ) → IsDownstream table x y → AreAlike table x y
-  alike_downstream x y down = subst (λ (z : ℕ). Arrives table x ↔ Arrives table z) down.ends (arrives_along x down.by down.goes)
+  alike_downstream x y down =
+      subst (λ (z : ℕ). Arrives table x ↔ Arrives table z) down.ends (arrives_along x down.by down.goes)
 
   -- the nodes of a walk all have a route, or none has
   member_alike : (x z : ℕ) (ys : List ℕ) → IsWalk table x ys → Contains (x ∷ ys) z → Arrives table x ↔ Arrives table z
@@ -48,10 +51,12 @@ module _ (table : List Hop) where
       (λ r. more.0 (arrives_next x y goes.0 r), λ r. arrives_before x y goes.0 (more.1 r)))
       (Contains-cases z x (y ∷ ys) found)
 
-  pub arrives_member : (x z : ℕ) (ys : List ℕ) → Arrives table x → IsWalk table x ys → Contains (x ∷ ys) z → Arrives table z
+  pub arrives_member : (x z : ℕ) (ys : List ℕ) → Arrives table x → IsWalk table x ys → Contains (x ∷ ys) z
+      → Arrives table z
   arrives_member x z ys home goes found = (member_alike x z ys goes found).0 home
 
-  pub arrives_not : (x z : ℕ) (ys : List ℕ) → ¬ Arrives table x → IsWalk table x ys → Contains (x ∷ ys) z → ¬ Arrives table z
+  pub arrives_not : (x z : ℕ) (ys : List ℕ) → ¬ Arrives table x → IsWalk table x ys → Contains (x ∷ ys) z
+      → ¬ Arrives table z
   arrives_not x z ys lost goes found home = lost ((member_alike x z ys goes found).1 home)
 
   -- a walk that ends shows whether its node has a route

@@ -1,11 +1,15 @@
 -- Nodes on loops, and walks that come back.
-use Rattle.std.proofs.Common.{All, Contains, List, [], ap, arith, drop, eqb, false, get_or, inl, inr, length, length-drop, length-set, length-take, refl}
-use Rattle.std.proofs.Common.{set, subst, suc, sym, take, true, zero, ℕ, ⊎_elim, ◌++◌, ◌+◌, ◌<◌, ◌∙◌, ◌∷◌, ◌≡◌, ◌≤◌, ◌⊎◌}
+use Rattle.std.proofs.Common.{All, Contains, List, [], ap, arith, drop, eqb, false, get_or, inl, inr, length}
+use Rattle.std.proofs.Common.{length-drop, length-set, length-take, refl}
+use Rattle.std.proofs.Common.{set, subst, suc, sym, take, true, zero, ℕ, ⊎_elim, ◌++◌, ◌+◌, ◌<◌, ◌∙◌, ◌∷◌, ◌≡◌, ◌≤◌}
+use Rattle.std.proofs.Common.{◌⊎◌}
 use Rattle.std.specs.Cmp.{nat_eq_equiv}
 use Rattle.std.specs.List.{IsDistinct}
 use Rattle.std.proofs.lemmas.Bool.{cases_eq, cases_lt, eqb-true, false≢true}
-use Rattle.std.proofs.lemmas.List.{get_or-drop, get_or-set_other, get_or-set_same, get_or-take, get_or_default, get_or_past, length_push, take-append-drop}
-use Rattle.std.proofs.lemmas.List.Elements.{Contains-append_cases, Contains-append_left, Contains-append_right, Contains-get_or, Contains-push, Contains-push_cases}
+use Rattle.std.proofs.lemmas.List.{get_or-drop, get_or-set_other, get_or-set_same, get_or-take, get_or_default}
+use Rattle.std.proofs.lemmas.List.{get_or_past, length_push, take-append-drop}
+use Rattle.std.proofs.lemmas.List.Elements.{Contains-append_cases, Contains-append_left, Contains-append_right}
+use Rattle.std.proofs.lemmas.List.Elements.{Contains-get_or, Contains-push, Contains-push_cases}
 use Rattle.std.proofs.lemmas.Map.Keys.{IsDistinct-push, apart_from_distinct}
 use Rattle.std.proofs.lemmas.Map.Steps.{length-le_from_distinct_below}
 use Rattle.std.proofs.lemmas.Map.Views.{Contains-from_any}
@@ -19,7 +23,8 @@ use Rattle.fr_tables.specs.declared.hop.Hop.TheVariants.{To}
 use Rattle.fr_tables.specs.declared.loops.Mark.{Mark}
 use Rattle.fr_tables.specs.declared.loops.Mark.TheVariants.{OffLoop, OnLoop, OnWalk, Unmet}
 use Rattle.fr_tables.proofs.Members.{Contains-cases, Contains-head, Contains-none, Contains-tail, cases_member, not_any}
-use Rattle.fr_tables.proofs.Relations.{cycle_from, downstream_trans, end_append, here_downstream, trail_push, walk_append, walk_tail, walk_to}
+use Rattle.fr_tables.proofs.Relations.{cycle_from, downstream_trans, end_append, here_downstream, trail_push}
+use Rattle.fr_tables.proofs.Relations.{walk_append, walk_tail, walk_to}
 use Rattle.fr_tables.proofs.Walks.{sends_one}
 
 module _ (table : List Hop) where
@@ -29,18 +34,22 @@ module _ (table : List Hop) where
     where
       go : (xs : List ℕ) → IsWalk table x (xs ++ x ∷ []) → IsOnLoop table y × IsDownstream table y x
       go [] goes =
-          let same : x ≡ y = sends_one table x x y goes.0 sends in
-          (subst (IsOnLoop table) same ([], goes), subst (λ (z : ℕ). IsDownstream table z x) same (here_downstream (SendsOn table) x))
+          let same : x ≡ y = sends_one table x x y goes.0 sends in (
+            subst (IsOnLoop table) same ([], goes),
+            subst (λ (z : ℕ). IsDownstream table z x) same (here_downstream (SendsOn table) x),
+          )
       go (z ∷ zs) goes =
           let same : z ≡ y = sends_one table x z y goes.0 sends in
           let ends = end_append z zs (x ∷ []) in
           let round : IsWalk table z ((zs ++ x ∷ []) ++ z ∷ []) =
-          walk_append (SendsOn table) z (zs ++ x ∷ []) (z ∷ []) goes.1 (subst (λ (w : ℕ). IsWalk table w (z ∷ [])) (sym ends) (goes.0, tt)) in (
+          walk_append (SendsOn table) z (zs ++ x ∷ []) (z
+          ∷ []) goes.1 (subst (λ (w : ℕ). IsWalk table w (z ∷ [])) (sym ends) (goes.0, tt)) in (
             subst (IsOnLoop table) same (zs ++ x ∷ [], round),
             subst (λ (w : ℕ). IsDownstream table w x) same (record { by = zs ++ x ∷ []; goes = goes.1; ends = ends }),
           )
 
-  on_along : (x : ℕ) (ys : List ℕ) → IsOnLoop table x → IsWalk table x ys → IsOnLoop table (end_of x ys) × IsDownstream table (end_of x ys) x
+  on_along : (x : ℕ) (ys : List ℕ) → IsOnLoop table x → IsWalk table x ys
+      → IsOnLoop table (end_of x ys) × IsDownstream table (end_of x ys) x
   on_along x [] on goes = (on, here_downstream (SendsOn table) x)
   on_along x (y ∷ ys) on goes =
       let (next, back) = on_next x y on goes.0 in
@@ -48,7 +57,8 @@ module _ (table : List Hop) where
       (last, downstream_trans (SendsOn table) (end_of y ys) y x far back)
 
   pub on_downstream : (x y : ℕ) → IsOnLoop table x → IsDownstream table x y → IsOnLoop table y × IsDownstream table y x
-  on_downstream x y on down = subst (λ (z : ℕ). IsOnLoop table z × IsDownstream table z x) down.ends (on_along x down.by on down.goes)
+  on_downstream x y on down =
+      subst (λ (z : ℕ). IsOnLoop table z × IsDownstream table z x) down.ends (on_along x down.by on down.goes)
 
   -- each node of a loop is on it
   pub member_on_loop : (nodes : List ℕ) (y : ℕ) → IsLoop table nodes → Contains nodes y → IsOnLoop table y
@@ -69,7 +79,8 @@ module _ (table : List Hop) where
       go (z ∷ zs) goes = (z, goes.0)
 
   -- what walks lead to stays within a set that next hops do not leave
-  stays_in : (P : ℕ → Type 0) → ((a b : ℕ) → P a → SendsOn table a b → P b) → (x y : ℕ) → P x → IsDownstream table x y → P y
+  stays_in : (P : ℕ → Type 0) → ((a b : ℕ) → P a → SendsOn table a b → P b) → (x y : ℕ) → P x → IsDownstream table x y
+      → P y
   stays_in P keeps x y inside down = subst P down.ends (go x down.by inside down.goes)
     where
       go : (x : ℕ) (ys : List ℕ) → P x → IsWalk table x ys → P (end_of x ys)
@@ -80,19 +91,27 @@ module _ (table : List Hop) where
   trail_leads : (xs : List ℕ) (y z : ℕ) → IsTrail table (xs ++ y ∷ []) → Contains xs z → IsDownstream table z y
   trail_leads [] y z trail found = absurd (Contains-none z found)
   trail_leads (x ∷ xs) y z trail found = ⊎_elim
-      (λ e. subst (λ (w : ℕ). IsDownstream table w y) e (record { by = xs ++ y ∷ []; goes = trail; ends = end_append x xs (y ∷ []) }))
+      (λ e. subst (λ (w : ℕ). IsDownstream table w y) e (record {
+        by = xs ++ y ∷ [];
+        goes = trail;
+        ends = end_append x xs (y ∷ []);
+      }))
       (trail_leads xs y z (walk_tail (SendsOn table) x (xs ++ y ∷ []) trail))
       (Contains-cases z x xs found)
 
-  trail_next : (xs : List ℕ) (y a b : ℕ) → IsTrail table (xs ++ y ∷ []) → Contains xs a → SendsOn table a b → Contains (xs ++ y ∷ []) b
+  trail_next : (xs : List ℕ) (y a b : ℕ) → IsTrail table (xs ++ y ∷ []) → Contains xs a → SendsOn table a b
+      → Contains (xs ++ y ∷ []) b
   trail_next [] y a b trail found sends = absurd (Contains-none a found)
   trail_next (x ∷ xs) y a b trail found sends = ⊎_elim
       (λ e. first xs trail (subst (λ (w : ℕ). SendsOn table w b) (sym e) sends))
-      (λ later. Contains-tail b x (xs ++ y ∷ []) (trail_next xs y a b (walk_tail (SendsOn table) x (xs ++ y ∷ []) trail) later sends))
+      (λ later. Contains-tail b x (xs ++ y
+      ∷ []) (trail_next xs y a b (walk_tail (SendsOn table) x (xs ++ y ∷ []) trail) later sends))
       (Contains-cases a x xs found)
     where
       first : (xs : List ℕ) → IsWalk table x (xs ++ y ∷ []) → SendsOn table x b → Contains (x ∷ (xs ++ y ∷ [])) b
-      first [] goes sends = Contains-tail b x (y ∷ []) (subst (Contains (y ∷ [])) (sends_one table x y b goes.0 sends) (Contains-head y []))
+      first [] goes sends =
+          Contains-tail b x (y
+          ∷ []) (subst (Contains (y ∷ [])) (sends_one table x y b goes.0 sends) (Contains-head y []))
       first (z ∷ zs) goes sends = Contains-tail b x (z ∷ (zs ++ y ∷ []))
           (subst (Contains (z ∷ (zs ++ y ∷ []))) (sends_one table x z b goes.0 sends) (Contains-head z (zs ++ y ∷ [])))
 
@@ -116,7 +135,12 @@ marked_low marks x is = elim (cases_lt x (length marks)) [
 
 module _ (table : List Hop) (before marks : List Mark) (walk : List ℕ) (held : IsHeld table before marks walk) where
   held_inside : All (λ (x : ℕ). x < length table) walk
-  held_inside k d low = omega (arith, marked_low marks (get_or walk k d) ((held.these (get_or walk k d)).0 (Contains-get_or walk k d low)), held.one_each)
+  held_inside k d low =
+      omega (
+        arith,
+        marked_low marks (get_or walk k d) ((held.these (get_or walk k d)).0 (Contains-get_or walk k d low)),
+        held.one_each,
+      )
 
   -- a node with another mark was met before the walk
   pub met_before : (x : ℕ) → (seen marks x ≡ OnLoop) ⊎ (seen marks x ≡ OffLoop) → ¬ (seen before x ≡ Unmet)
@@ -172,17 +196,20 @@ module _ (table : List Hop) (before marks : List Mark) (walk : List ℕ) (held :
       length-le_from_distinct_below (walk ++ x ∷ []) (length table) held_push.once (λ q any.
           omega (
             arith,
-            marked_low (set marks x OnWalk) q ((held_push.these q).0 (Contains-from_any {eq = eqb} eqb-true q (walk ++ x ∷ []) any)),
+            marked_low (set marks x OnWalk) q ((held_push.these q).0 (Contains-from_any {eq = eqb} eqb-true q (walk
+                ++ x ∷ []) any)),
             held_push.one_each,
           )),
     )
 
 -- the first node of a walk
-first_is : (walk : List ℕ) (at x : ℕ) (rest : List ℕ) → walk ++ at ∷ [] ≡ x ∷ rest → ((walk ≡ []) × (at ≡ x)) ⊎ ((more : List ℕ) × (walk ≡ x ∷ more))
+first_is : (walk : List ℕ) (at x : ℕ) (rest : List ℕ) → walk ++ at ∷ [] ≡ x ∷ rest
+    → ((walk ≡ []) × (at ≡ x)) ⊎ ((more : List ℕ) × (walk ≡ x ∷ more))
 first_is [] at x rest is = inl (refl, ap (λ (ws : List ℕ). get_or ws 0 0) is)
 first_is (w ∷ ws) at x rest is = inr (ws, ap (λ (v : ℕ). v ∷ ws) (ap (λ (vs : List ℕ). get_or vs 0 0) is))
 
-pub tracing_none : (table : List Hop) (marks : List Mark) (x : ℕ) → AreDecided table marks → x < length table → IsTracing table marks marks [] x x
+pub tracing_none : (table : List Hop) (marks : List Mark) (x : ℕ) → AreDecided table marks → x < length table
+    → IsTracing table marks marks [] x x
 unfolding IsDistinct
 tracing_none table marks x decided low = record {
   held = record {
@@ -197,7 +224,8 @@ tracing_none table marks x decided low = record {
   begins = ([], refl);
 }
 
-module _ (table : List Hop) (before marks : List Mark) (walk : List ℕ) (x at : ℕ) (tracing : IsTracing table before marks walk x at)
+module _ (table : List Hop) (before marks : List Mark) (walk : List ℕ) (x at : ℕ)
+    (tracing : IsTracing table before marks walk x at)
     (decided : AreDecided table before) where
   pub tracing_push : (next : ℕ) → seen marks at ≡ Unmet → SendsOn table at next
       → IsTracing table before (set marks at OnWalk) (walk ++ at ∷ []) x next
@@ -279,7 +307,11 @@ module _ (table : List Hop) (before marks : List Mark) (walk : List ℕ) (x at :
         let at_j : get_or walk (k + j) 0 ≡ y =
         sym (get_or-drop k walk j 0) ∙ (get_or_default (drop k walk) j 0 y in_part ∙ there) in
         let apart : eqb y (get_or walk (k + j) 0) ≡ false =
-        apart_from_distinct eqb walk i (k + j) 0 tracing.held.once (omega (arith, before_k)) (omega (arith, in_part, length-drop k walk)) in
+        apart_from_distinct eqb walk i (k + j) 0 tracing.held.once (omega (arith, before_k)) (omega (
+          arith,
+          in_part,
+          length-drop k walk,
+        )) in
         false≢true (sym apart ∙ subst (λ (w : ℕ). eqb y w ≡ true) (sym at_j) (nat_eq_equiv.refl y));
     on = λ _. cycle_from (SendsOn table) walk k at low is tracing.trail;
     begins = λ _. ⊎_elim
@@ -293,17 +325,22 @@ module _ (table : List Hop) (before marks : List Mark) (walk : List ℕ) (x at :
 
       part_head : Contains (drop k walk) at
       part_head =
-          let e : k + 0 ≡ k = omega arith in
-          (0, omega (arith, low, length-drop k walk), get_or-drop k walk 0 at ∙ (ap (λ (i : ℕ). get_or walk i at) e ∙ (get_or_default walk k at 0 low ∙ is)))
+          let e : k + 0 ≡ k = omega arith in (
+            0,
+            omega (arith, low, length-drop k walk),
+            get_or-drop k walk 0 at ∙ (ap (λ (i : ℕ). get_or walk i at) e ∙ (get_or_default walk k at 0 low ∙ is)),
+          )
 
       part_closed : (a b : ℕ) → Contains (drop k walk) a → SendsOn table a b → Contains (drop k walk) b
       part_closed a b found sends = ⊎_elim
           (λ was. was)
           (λ e. subst (Contains (drop k walk)) e part_head)
-          (Contains-push_cases (drop k walk) at b (trail_next table (drop k walk) at a b (trail_drop table walk k at tracing.trail) found sends))
+          (Contains-push_cases (drop k walk) at b
+          (trail_next table (drop k walk) at a b (trail_drop table walk k at tracing.trail) found sends))
 
 -- one more node is marked
-pub marked_more : (mark : Mark) (nodes : List ℕ) (before after : List Mark) (x : ℕ) → x < length after → AreMarkedAs mark nodes before after
+pub marked_more : (mark : Mark) (nodes : List ℕ) (before after : List Mark) (x : ℕ) → x < length after
+    → AreMarkedAs mark nodes before after
     → AreMarkedAs mark (nodes ++ x ∷ []) before (set after x mark)
 marked_more mark nodes before after x low are = record {
   one_each = length-set after x mark ∙ are.one_each;
@@ -316,11 +353,13 @@ marked_more mark nodes before after x low are = record {
       (cases_eq y x);
   others = λ y out.
       let apart : ¬ (y ≡ x) = λ e. out (subst (Contains (nodes ++ x ∷ [])) (sym e) (Contains-push nodes x)) in
-      get_or-set_other after x y mark Unmet apart ∙ are.others y (λ was. out (Contains-append_left nodes (x ∷ []) y was));
+      get_or-set_other after x y mark Unmet apart
+      ∙ are.others y (λ was. out (Contains-append_left nodes (x ∷ []) y was));
 }
 
 -- all nodes of a traced walk get their marks
-module _ (table : List Hop) (before after some all : List Mark) (walk : List ℕ) (x start : ℕ) (decided : AreDecided table before)
+module _ (table : List Hop) (before after some all : List Mark) (walk : List ℕ) (x start : ℕ)
+    (decided : AreDecided table before)
     (traced : IsTraced table before after walk x start) (first : AreMarkedAs OffLoop (take start walk) after some)
     (rest : AreMarkedAs OnLoop (drop start walk) some all) where
   -- a node of the part on a loop, one of the part before it, or any other
@@ -332,7 +371,8 @@ module _ (table : List Hop) (before after some all : List Mark) (walk : List ℕ
       (λ found. inr (inl (found, rest.others y not_on ∙ first.these y found)))
       (λ not_off.
       let out : ¬ Contains walk y = λ found. ⊎_elim not_off not_on
-      (Contains-append_cases (take start walk) (drop start walk) y (subst (λ (ws : List ℕ). Contains ws y) (sym (take-append-drop start walk)) found)) in
+      (Contains-append_cases (take start walk) (drop start walk) y
+      (subst (λ (ws : List ℕ). Contains ws y) (sym (take-append-drop start walk)) found)) in
       inr (inr (out, rest.others y not_on ∙ (first.others y not_off ∙ traced.others y out))))
       (cases_member (take start walk) y))
       (cases_member (drop start walk) y)
@@ -383,7 +423,8 @@ module _ (table : List Hop) (before after some all : List Mark) (walk : List ℕ
       taken : (y : ℕ) → Contains (take start walk) y → ¬ IsOnLoop table y
       taken y (i, low, is) =
           let lt : i < start = omega (arith, low, length-take start walk) in
-          let at : get_or walk i 0 ≡ y = sym (get_or-take start walk i 0 lt) ∙ (get_or_default (take start walk) i 0 y low ∙ is) in
+          let at : get_or walk i 0 ≡ y =
+          sym (get_or-take start walk i 0 lt) ∙ (get_or_default (take start walk) i 0 y low ∙ is) in
           subst (λ (z : ℕ). ¬ IsOnLoop table z) at (traced.off i lt)
 
   pub met_more : ¬ (seen all x ≡ Unmet)
@@ -393,7 +434,8 @@ module _ (table : List Hop) (before after some all : List Mark) (walk : List ℕ
       (cases_unmet (seen before x))
 
 -- a node that was decided and is not on a loop
-pub off_loop : (table : List Hop) (marks : List Mark) (x : ℕ) → AreDecided table marks → ¬ (seen marks x ≡ Unmet) → ¬ (seen marks x ≡ OnLoop)
+pub off_loop : (table : List Hop) (marks : List Mark) (x : ℕ) → AreDecided table marks → ¬ (seen marks x ≡ Unmet)
+    → ¬ (seen marks x ≡ OnLoop)
     → ¬ IsOnLoop table x
 off_loop table marks x decided met not = by_mark (seen marks x) refl
   where
@@ -411,7 +453,8 @@ free_from_none table none (x ∷ xs) is =
     none x (slice_get_within table x (To y) sends) (xs, is)
 
 -- the walk from the lowest node on a loop goes round its loop
-pub lowest_loop : (table : List Hop) (before after : List Mark) (walk : List ℕ) (x start : ℕ) → IsTraced table before after walk x start
+pub lowest_loop : (table : List Hop) (before after : List Mark) (walk : List ℕ) (x start : ℕ)
+    → IsTraced table before after walk x start
     → seen before x ≡ Unmet → IsOnLoop table x → ((y : ℕ) → IsOnLoop table y → x ≤ y) → IsLowestLoop table walk
 lowest_loop table before after walk x start traced unmet on lowest =
     let (more, is) = traced.begins unmet in

@@ -1,5 +1,5 @@
 -- First ways, where ways are listed by their distances from the destination.
-use Rattle.std.proofs.Common.{List, [], ap, arith, get_or, inl, inr, length, refl, slice_get, Some, subst, suc, sym}
+use Rattle.std.proofs.Common.{List, [], ap, arith, get_or, inl, inr, length, refl, subst, suc, sym}
 use Rattle.std.proofs.Common.{zero, ℕ, ◌<◌, ◌∙◌, ◌∷◌, ◌≡◌, ◌≤◌}
 use Rattle.std.proofs.lemmas.Bool.{cases_eq}
 use Rattle.std.proofs.lemmas.List.{get_or_default}

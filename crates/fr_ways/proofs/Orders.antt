@@ -2,7 +2,7 @@
 -- determine them.
 use Rattle.std.proofs.Common.{Contains, List, [], ap, arith, get_or, inl, inr, length, length-append, refl, subst}
 use Rattle.std.proofs.Common.{sym, ℕ, ⊎_elim}
-use Rattle.std.proofs.Common.{◌++◌, ◌<◌, ◌≤◌, ◌⊎◌, ◌∙◌, ◌∷◌, ◌≡◌}
+use Rattle.std.proofs.Common.{◌++◌, ◌⊎◌, ◌∙◌, ◌∷◌, ◌≡◌}
 use Rattle.std.proofs.lemmas.Bool.{cases_eq, cases_lt}
 use Rattle.std.proofs.lemmas.List.{ext_get_or, get_or_append_left, get_or_at, get_or_default}
 use Rattle.fr_tables.specs.Walks.{IsDownstream}

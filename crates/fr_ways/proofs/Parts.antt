@@ -4,7 +4,6 @@ use Rattle.std.proofs.Common.{◌∷◌, ◌≡◌, ◌⊎◌}
 use Rattle.std.specs.List.{IsDistinct}
 use Rattle.std.proofs.lemmas.Bool.{cases_eq}
 use Rattle.fr_tables.specs.Walks.{IsCycle, IsCycleFree, IsDownstream, IsWalk, end_of}
-use Rattle.fr_tables.proofs.Members.{Contains-head, Contains-tail}
 use Rattle.fr_tables.proofs.Relations.{Contains-end, all_below, end_append, free_short, free_simple, here_downstream}
 use Rattle.fr_tables.proofs.Relations.{next_downstream}
 use Rattle.fr_tables.proofs.Relations.{simple_distinct, walk_append}

@@ -28,14 +28,6 @@ differs_yes some other apart = elim (cases_Bool (bytes_eq some other)) [
   | inr f ↦ ap not f
 ]
 
-pub empty_yes : (list : List ℕ) → length list ≡ 0 → is_empty list ≡ true
-empty_yes [] none = refl
-empty_yes (y ∷ ys) none = absurd (omega (arith, none))
-
-pub empty_no : (list : List ℕ) → ¬ (length list ≡ 0) → is_empty list ≡ false
-empty_no [] some = absurd (some refl)
-empty_no (y ∷ ys) some = refl
-
 empty_is : (list : List ℕ) → is_empty list ≡ true → list ≡ []
 empty_is [] t = refl
 empty_is (y ∷ ys) t = absurd (false≢true t)
@@ -50,12 +42,6 @@ pub pushed_no : (x : ℕ) (list : List ℕ) (test : Bool) (before after : Pushes
 pushed_no x list test before after fails same = subst (λ (a : Pushes). IsPushedIf test x list before a) (sym same)
     (subst (λ (b : Bool). IsPushedIf b x list before before) (sym fails)
     (record { nodes = sym (append-nil before.nodes.items); lists = sym (append-nil before.lists) }))
-
-pub pushed_yes : (x : ℕ) (list : List ℕ) (test : Bool) (before after : Pushes) → test ≡ true
-    → after.nodes.items ≡ before.nodes.items ++ x ∷ []
-    → after.lists ≡ before.lists ++ list ∷ [] → IsPushedIf test x list before after
-pushed_yes x list test before after passes nodes lists =
-    subst (λ (b : Bool). IsPushedIf b x list before after) (sym passes) (record { nodes = nodes; lists = lists })
 
 map_id : (xs : List ℕ) → map (λ (k : ℕ). k) xs ≡ xs
 map_id [] = refl

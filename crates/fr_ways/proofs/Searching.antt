@@ -1,5 +1,5 @@
 -- The search for a cycle: what it knows while it opens and leaves nodes.
-use Rattle.std.proofs.Common.{All, Bool, Contains, List, None, Option, [], ap, arith, cond, drop, eqb, false, get_or}
+use Rattle.std.proofs.Common.{Bool, Contains, List, None, Option, [], ap, arith, cond, drop, eqb, false, get_or}
 use Rattle.std.proofs.Common.{inl, inr, length, length-set, refl, replicate}
 use Rattle.std.proofs.Common.{set, subst, suc, sym, take, zero, ℕ, ◌++◌, ◌+◌, ◌<◌, ◌∙◌, ◌∷◌, ◌≡◌, ◌≢◌, ◌≤◌}
 use Rattle.std.specs.Cmp.{nat_eq_equiv}

@@ -66,7 +66,8 @@ pub same_loses : (old new : List (List ℕ)) (x : ℕ) → ways old x ≡ ways n
 same_loses old new x same = elim (cases_Bool (loses old new x)) [
   | inl t ↦
       let (y, was, lost) = any_true (λ y. not (is_way (ways new x) y)) (ways old x) t in
-      absurd (false≢true (sym (ap not (way_yes (ways new x) y (subst (λ (zs : List ℕ). Contains zs y) same was))) ∙ lost))
+      absurd (false≢true (sym (ap not (way_yes (ways new x) y (subst (λ (zs : List ℕ). Contains zs y) same was)))
+      ∙ lost))
   | inr f ↦ f
 ]
 

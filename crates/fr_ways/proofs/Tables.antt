@@ -9,7 +9,7 @@ use Rattle.std.proofs.lemmas.List.{get_or-set_other, get_or-set_same}
 use Rattle.std.proofs.lemmas.List.Elements.{Contains-append_left, Contains-push, Contains-push_cases}
 use lib.Pointwise.{bytes_decides}
 use Rattle.fr_tables.specs.Walks.{IsWalk}
-use Rattle.fr_tables.proofs.ClosedSets.{IsClean, IsMove, clean_walk, comes_twice, no_cycle_is_new, walk_clean}
+use Rattle.fr_tables.proofs.ClosedSets.{IsMove, clean_walk, comes_twice, no_cycle_is_new, walk_clean}
 use Rattle.fr_tables.proofs.Members.{Contains-none}
 use Rattle.fr_ways.specs.Pushes.{DifferAt, Grows, IsClosedDownstream, IsPushed, Moves, SendsMeanwhile, SendsOncePushed}
 use Rattle.fr_ways.specs.Ways.{HasCycle, HasNoCycle, IsPartOf, Sends, ways}

@@ -1,4 +1,5 @@
--- How the pushes of a phase lie in three lists: the nodes, and their rows, each from its start on.
+-- How the pushes of a phase lie in three lists: the nodes, and their rows, each from its start on. The definition is
+-- this project's own.
 use Rattle.std.specs.Prelude.{◌≡◌, ℕ, List, map}
 use Rattle.fr_ways.specs.Rows.{IsLaidOut}
 use Rattle.fr_ways.specs.declared.push_list.PushList.{PushList}

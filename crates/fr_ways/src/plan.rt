@@ -104,9 +104,9 @@ pub fn phases(alloc: Global, old: &WayTable, new: &WayTable) -> Result<TwoPhases
     Ok(known_phases(alloc, old, new)?)
 }
 
-/// Does the same as [`phases`] without any test. All ways of `new` must name nodes. A node that is missing at the end of
-/// `old` has no ways there, and `old` should not be longer than `new`: its other nodes get no push. Fails with
-/// `AllocError` if an allocation is refused.
+/// Plans the pushes that lead from one table to another as [`phases`] does, without any test. All ways of `new` must
+/// name nodes. A node that is missing at the end of `old` has no ways there, and `old` should not be longer than `new`:
+/// its other nodes get no push. Fails with `AllocError` if an allocation is refused.
 ///
 /// O(n + m) time and memory.
 pub fn known_phases(alloc: Global, old: &WayTable, new: &WayTable) -> Result<TwoPhases, AllocError>

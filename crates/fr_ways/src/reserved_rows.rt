@@ -77,7 +77,7 @@ impl Rows {
         self.starts.push_reserved(self.list.len());
     }
 
-    /// Does the same, if the test holds.
+    /// Adds a node with its list, if the test holds.
     pub(crate) fn push_if(&mut self, test: bool, x: u32, row: &[u32])
         requires { HasPlace row.now self.old }
         ensures pairs { self.new.pairs ≡ self.old.pairs ++ cond test ((x, row.now) ∷ []) [] }

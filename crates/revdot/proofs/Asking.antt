@@ -1,5 +1,6 @@
 -- How many lines of an input a session has answered. Comments are none of them.
-use Rattle.std.proofs.Common.{◌≡◌, ℕ, true, false, List, [], ◌∷◌, ◌++◌, Option, Some, None, Global, String, string_bytes, IfSome, IfNone, append-nil}
+use Rattle.std.proofs.Common.{◌≡◌, ℕ, true, false, List, [], ◌∷◌, ◌++◌, Option, Some, None, Global, String}
+use Rattle.std.proofs.Common.{string_bytes, IfSome, IfNone, append-nil}
 use Rattle.std.proofs.Common.{Bool, ap, cond, not, refl, subst, sym, ◌∙◌}
 use Rattle.fr_requests.specs.Requests.{reading}
 use Rattle.fr_route.specs.Answers.{IsLineAnswer, AreAnswers}
@@ -12,9 +13,11 @@ use Rattle.revdot.specs.Drawings.{IsLeftBy}
 
 -- the session has answered the lines up to those that are left
 abbrev pub IsAsked : List ℕ → List (List ℕ) → Option State → Type 0
-IsAsked whole left now = (answers : List ℕ) × HasAsked (without_comments (lines_of whole)) (without_comments left) now answers
+IsAsked whole left now =
+    (answers : List ℕ) × HasAsked (without_comments (lines_of whole)) (without_comments left) now answers
 
-pub at_start : (whole : List ℕ) (left : List (List ℕ)) (now : Option State) → left ≡ lines_of whole → now ≡ None → IsAsked whole left now
+pub at_start : (whole : List ℕ) (left : List (List ℕ)) (now : Option State) → left ≡ lines_of whole → now ≡ None
+    → IsAsked whole left now
 at_start whole left now all none = rw (all, none) ([], none_asked (without_comments (lines_of whole)))
 
 -- a comment is not answered
@@ -37,7 +40,8 @@ answer_of line now next answer asks blank told = of (is_comment line) asks (any 
         → IfSome answer (λ text. (is_blank line ≡ false) × IsLineAnswer now (reading line) (string_bytes text) next)
         → (text : List ℕ) × AreAnswers now (line ∷ []) text next
     any None blank told = ([], blank_line line now next blank.0 blank.1)
-    any (Some text) blank told = (string_bytes text ++ 10 ∷ [], answered_line line (string_bytes text) now next told.0 told.1)
+    any (Some text) blank told =
+        (string_bytes text ++ 10 ∷ [], answered_line line (string_bytes text) now next told.0 told.1)
 
     of : (b : Bool) → b ≡ false → (text : List ℕ) × AreAnswers now (line ∷ []) text next
         → (text : List ℕ) × AreAnswers now (cond (not b) (line ∷ []) []) text next
@@ -45,10 +49,14 @@ answer_of line now next answer asks blank told = of (is_comment line) asks (any 
     of false e is = is
 
 -- one more line
-pub one_line_more : (whole line : List ℕ) (all left : List (List ℕ)) (now next : Option State) → all ≡ line ∷ left → IsAsked whole all now
+pub one_line_more : (whole line : List ℕ) (all left : List (List ℕ)) (now next : Option State) → all ≡ line ∷ left
+    → IsAsked whole all now
     → ((text : List ℕ) × AreAnswers now (without_comments (line ∷ [])) text next) → IsAsked whole left next
-one_line_more whole line all left now next first h is =
-    (h.0 ++ is.0, of (not (is_comment line)) is.1 (subst (λ (ls : List (List ℕ)). HasAsked lines (without_comments ls) now h.0) first h.1))
+one_line_more whole line all left now next first h is = (
+  h.0 ++ is.0,
+  of (not (is_comment line)) is.1
+      (subst (λ (ls : List (List ℕ)). HasAsked lines (without_comments ls) now h.0) first h.1),
+)
   where
     lines : List (List ℕ)
     lines = without_comments (lines_of whole)
@@ -63,9 +71,11 @@ one_line_more whole line all left now next first h is =
         (subst (λ (t : List ℕ). HasAsked lines (without_comments left) now t) (sym none) asked)
 
 -- no line is left
-pub all_asked : (whole : List ℕ) (left : List (List ℕ)) (last : Option State) → left ≡ [] → IsAsked whole left last → IsLeftBy whole last
+pub all_asked : (whole : List ℕ) (left : List (List ℕ)) (last : Option State) → left ≡ [] → IsAsked whole left last
+    → IsLeftBy whole last
 all_asked whole left last none h =
     let lines = without_comments (lines_of whole) in
-    let asked : HasAsked lines [] last h.0 = subst (λ (ls : List (List ℕ)). HasAsked lines (without_comments ls) last h.0) none h.1 in
+    let asked : HasAsked lines [] last h.0 =
+    subst (λ (ls : List (List ℕ)). HasAsked lines (without_comments ls) last h.0) none h.1 in
     let all : asked.done ≡ lines = sym (asked.cut ∙ append-nil asked.done) in
     (h.0, subst (λ (ls : List (List ℕ)). AreAnswers None ls h.0 last) all asked.are_answers)

@@ -1,5 +1,6 @@
 -- The links before a round, from those after it.
-use Rattle.std.proofs.Common.{◌≡◌, ◌∙◌, ℕ, ◌<◌, List, [], ◌∷◌, map, slice_index, arith, eq-eqb, ne_eqb, inl, inr, subst, sym}
+use Rattle.std.proofs.Common.{◌≡◌, ◌∙◌, ℕ, ◌<◌, List, [], ◌∷◌, map, slice_index, arith, eq-eqb, ne_eqb, inl, inr, subst}
+use Rattle.std.proofs.Common.{sym}
 use Rattle.std.proofs.lemmas.Bool.{cond-false, cond-true}
 use Rattle.std.proofs.lemmas.List.Elements.{All-contains}
 use Rattle.std.specs.List.{Contains}
@@ -20,7 +21,8 @@ contains_map f (y ∷ ys) x has =
       | inr later ↦ Contains-tail (f x) (f y) (map f ys) (contains_map f ys x later)
     ]
 
-map_contains : (f : ℕ × ℕ → ℕ × ℕ) (xs : List (ℕ × ℕ)) (z : ℕ × ℕ) → Contains (map f xs) z → (x : ℕ × ℕ) × Contains xs x × (f x ≡ z)
+map_contains : (f : ℕ × ℕ → ℕ × ℕ) (xs : List (ℕ × ℕ)) (z : ℕ × ℕ) → Contains (map f xs) z
+    → (x : ℕ × ℕ) × Contains xs x × (f x ≡ z)
 map_contains f [] z has = absurd (Contains-none z has)
 map_contains f (y ∷ ys) z has =
     elim (Contains-cases z (f y) (map f ys) has) [
@@ -34,7 +36,8 @@ first-same c a b e = cond-true _ _ _ (eq-eqb (slice_index c a) (slice_index c b)
 first-turned : (c : List ℕ) (a b : ℕ) → ¬ (slice_index c a ≡ slice_index c b) → first_link c (a, b) ≡ (b, a)
 first-turned c a b ne = cond-false _ _ _ (ne_eqb (slice_index c a) (slice_index c b) ne)
 
-module _ (n d : ℕ) (first : List (ℕ × ℕ)) (s : State) (net : IsNet n first) (below : d < n) (round : IsRound n d first s) where
+module _ (n d : ℕ) (first : List (ℕ × ℕ)) (s : State) (net : IsNet n first) (below : d
+    < n) (round : IsRound n d first s) where
   back : (u v : ℕ) → Points (map (first_link s.counts) s.links) u v → Points first u v
   back u v has =
       let m = map_contains (first_link s.counts) s.links (u, v) has in
@@ -45,7 +48,8 @@ module _ (n d : ℕ) (first : List (ℕ × ℕ)) (s : State) (net : IsNet n firs
       (subst (λ (ls : List (ℕ × ℕ)). Points ls a b) round.links at) in
       elim (Points-links_at_from first s.counts a b given) [
         | inl same ↦ subst (Contains first) (sym (first-same s.counts a b (sym same.1)) ∙ m.2) same.0
-        | inr turned ↦ subst (Contains first) (sym (first-turned s.counts a b (λ e. omega (arith, e, turned.1))) ∙ m.2) turned.0
+        | inr turned ↦ subst (Contains first) (sym (first-turned s.counts a b (λ e. omega (arith, e, turned.1)))
+            ∙ m.2) turned.0
       ]
 
   into : (u v : ℕ) → Points first u v → Points (map (first_link s.counts) s.links) u v
@@ -54,13 +58,28 @@ module _ (n d : ℕ) (first : List (ℕ × ℕ)) (s : State) (net : IsNet n firs
       let kept : IsKept s.counts (u, v) = All-contains (IsKept s.counts) first (u, v) lawful.kept has in
       elim kept [
         | inl same ↦
-            let given : Points (links_at first s.counts) u v = Points-links_at_back first s.counts u v (inl (has, same)) in
-            let at : Points s.links u v = subst (λ (ls : List (ℕ × ℕ)). Points ls u v) (sym round.links) (into_order (links_at first s.counts) (u, v) given) in
-            subst (Contains (map (first_link s.counts) s.links)) (first-same s.counts u v (sym same)) (contains_map (first_link s.counts) s.links (u, v) at)
+            let given : Points (links_at first s.counts) u v =
+            Points-links_at_back first s.counts u v (inl (has, same)) in
+            let at : Points s.links u v =
+            subst (λ (ls : List (ℕ × ℕ)). Points ls u v) (sym round.links) (into_order (links_at first s.counts) (
+              u,
+              v,
+            ) given) in
+            subst (Contains (map (first_link s.counts) s.links)) (first-same s.counts u v (sym same))
+            (contains_map (first_link s.counts) s.links (u, v) at)
         | inr turned ↦
-            let given : Points (links_at first s.counts) v u = Points-links_at_back first s.counts v u (inr (has, turned)) in
-            let at : Points s.links v u = subst (λ (ls : List (ℕ × ℕ)). Points ls v u) (sym round.links) (into_order (links_at first s.counts) (v, u) given) in
-            subst (Contains (map (first_link s.counts) s.links)) (first-turned s.counts v u (λ e. omega (arith, e, turned)))
+            let given : Points (links_at first s.counts) v u =
+            Points-links_at_back first s.counts v u (inr (has, turned)) in
+            let at : Points s.links v u =
+            subst (λ (ls : List (ℕ × ℕ)). Points ls v u) (sym round.links) (into_order (links_at first s.counts) (
+              v,
+              u,
+            ) given) in
+            subst (Contains (map (first_link s.counts) s.links)) (first-turned s.counts v u (λ e. omega (
+              arith,
+              e,
+              turned,
+            )))
             (contains_map (first_link s.counts) s.links (v, u) at)
       ]
 

@@ -44,7 +44,8 @@ module _ (before after : List (ℕ × ℕ)) (one : IsOneWay before) (two : IsOne
       → ¬ Joins (gone_links before after) u v × ¬ Joins (new_links before after) u v
   stayed u v here had = (
     ⊎_elim (λ gone. not_after u v gone (inl here)) (λ gone. not_after v u gone (inr here)),
-    ⊎_elim (λ fresh. not_before u v fresh had) (λ fresh. two.no_return u v here (out_of_filter is_new after (v, u) fresh)),
+    ⊎_elim (λ fresh. not_before u v fresh had)
+        (λ fresh. two.no_return u v here (out_of_filter is_new after (v, u) fresh)),
   )
 
   to : (u v : ℕ) → Points after u v → Points (new_links before after) u v
@@ -56,7 +57,8 @@ module _ (before after : List (ℕ × ℕ)) (one : IsOneWay before) (two : IsOne
       ]
 
   back : (u v : ℕ) → Points (new_links before after) u v
-      ⊎ (Points before u v × ¬ Joins (gone_links before after) u v × ¬ Joins (new_links before after) u v) → Points after u v
+      ⊎ (Points before u v × ¬ Joins (gone_links before after) u v × ¬ Joins (new_links before after) u v)
+      → Points after u v
   back u v (inl fresh) = out_of_filter is_new after (u, v) fresh
   back u v (inr (had, kept, same)) =
       elim (cases_Bool (has_link after u v)) [

@@ -16,7 +16,8 @@ leading v (w, Outward) h = ap (λ (x : ℕ). (x, Outward)) (eqb-true w v h)
 leading v (w, Inward) h = absurd (false≢true h)
 
 -- a row has an entry of a link to a node exactly if there is this link
-pub row_any : (n : ℕ) (links : List (ℕ × ℕ)) (u v : ℕ) → IsNet n links → list_any (leads_to v) (row n links u) ≡ has_link links u v
+pub row_any : (n : ℕ) (links : List (ℕ × ℕ)) (u v : ℕ) → IsNet n links
+    → list_any (leads_to v) (row n links u) ≡ has_link links u v
 row_any n links u v net =
     elim (cases_Bool (has_link links u v)) [
       | inl has ↦

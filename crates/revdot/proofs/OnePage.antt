@@ -1,5 +1,6 @@
 -- The input determines its page.
-use Rattle.std.proofs.Common.{◌≡◌, ◌∙◌, ℕ, ◌+◌, Bool, true, false, List, [], ◌∷◌, ◌++◌, Option, None, Some, MatchBool, ap, inl, inr, subst, sym}
+use Rattle.std.proofs.Common.{◌≡◌, ◌∙◌, ℕ, ◌+◌, Bool, true, false, List, [], ◌∷◌, ◌++◌, Option, None, Some, MatchBool}
+use Rattle.std.proofs.Common.{ap, inl, inr, subst, sym}
 use Rattle.std.specs.Prelude.{Result, Ok, Err, codes}
 use Rattle.fr_requests.specs.Requests.{PlainRequest, ask, reading}
 use Rattle.fr_requests.specs.declared.requests.LineFault.{LineFault}
@@ -9,7 +10,8 @@ use Rattle.fr_route.specs.Blank.{is_blank}
 use Rattle.fr_route.specs.States.{State}
 use Rattle.fr_graph.specs.Network.{Network}
 use Rattle.fr_route.proofs.AnsweredIn.{refusal_unique}
-use Rattle.fr_route.proofs.Determined.{answer_unique, asked_not_accepted, asked_not_refused, hops_unique, line_unique, not_both}
+use Rattle.fr_route.proofs.Determined.{answer_unique, asked_not_accepted, asked_not_refused, hops_unique, line_unique}
+use Rattle.fr_route.proofs.Determined.{not_both}
 use Rattle.fr_route.proofs.NodeWays.{ways_below_unique}
 use Rattle.fr_route.proofs.OneTelling.{line_told_unique}
 use Rattle.fr_route.proofs.Replying.{refused_by}
@@ -20,14 +22,19 @@ use Rattle.revdot.specs.Pages.{IsPage}
 use Rattle.revdot.specs.Asked.{asked_text}
 use Rattle.revdot.specs.Comments.{comment_text, is_comment}
 use Rattle.revdot.specs.Changes.{changes_text, listed_line, pushes_line}
-use Rattle.revdot.specs.Stories.{AreBlocks, AreListed, AreSettledLines, AreWaysBefore, IsAnswerLine, IsAnsweredBlock, IsBlock, IsLineSequel, IsMark}
-use Rattle.revdot.specs.Stories.{IsRefusalLine, IsRequestBlock, IsResult, IsRoundStory, IsSequel, IsStep, IsToldRound, IsTurnByTurn, answer_text}
-use Rattle.revdot.specs.Stories.{is_marked, is_told, makes_round, most_told_turns, net_before, net_text, refusal_line, turns_line}
+use Rattle.revdot.specs.Stories.{AreBlocks, AreListed, AreSettledLines, AreWaysBefore, IsAnswerLine, IsAnsweredBlock}
+use Rattle.revdot.specs.Stories.{IsBlock, IsLineSequel, IsMark}
+use Rattle.revdot.specs.Stories.{IsRefusalLine, IsRequestBlock, IsResult, IsRoundStory, IsSequel, IsStep, IsToldRound}
+use Rattle.revdot.specs.Stories.{IsTurnByTurn, answer_text}
+use Rattle.revdot.specs.Stories.{is_marked, is_told, makes_round, most_told_turns, net_before, net_text, refusal_line}
+use Rattle.revdot.specs.Stories.{turns_line}
 use Rattle.revdot.specs.Strips.{beginning}
 use Rattle.revdot.proofs.OneDrawing.{all_turns_unique}
 
-line_text_unique : (s : Option State) (question : Question) (a b : List ℕ) → IsAnswerLine s question a → IsAnswerLine s question b → a ≡ b
-line_text_unique s question a b h k = h.2 ∙ (ap (λ (t : List ℕ). t ++ codes "\n") (answer_unique s (ask question) h.0 k.0 s s h.1 k.1).0 ∙ sym k.2)
+line_text_unique : (s : Option State) (question : Question) (a b : List ℕ) → IsAnswerLine s question a
+    → IsAnswerLine s question b → a ≡ b
+line_text_unique s question a b h k =
+    h.2 ∙ (ap (λ (t : List ℕ). t ++ codes "\n") (answer_unique s (ask question) h.0 k.0 s s h.1 k.1).0 ∙ sym k.2)
 
 settled_unique : (s : Option State) (a b : List ℕ) → AreSettledLines s a → AreSettledLines s b → a ≡ b
 settled_unique s a b h k =
@@ -40,7 +47,8 @@ settled_unique s a b h k =
     h.text ∙ (texts ∙ sym k.text)
 
 listed_unique : (old : List (List ℕ)) (s : State) (a b : List ℕ) → AreListed old s a → AreListed old s b → a ≡ b
-listed_unique old s a b h k = h.2 ∙ (ap (listed_line s.nodes old) (ways_below_unique s s.nodes h.0 k.0 h.1 k.1) ∙ sym k.2)
+listed_unique old s a b h k =
+    h.2 ∙ (ap (listed_line s.nodes old) (ways_below_unique s s.nodes h.0 k.0 h.1 k.1) ∙ sym k.2)
 
 result_unique : (before : Option Network) (old : List (List ℕ)) (s : State) (a b : List ℕ) → IsResult before old s a
     → IsResult before old s b → a ≡ b
@@ -77,7 +85,8 @@ told_round_unique before old s rerouted a b h k = of (is_told s) h k
     of true h k = turn_by_turn_unique before old s rerouted a b h k
     of false h k = h ∙ sym k
 
-round_story_unique : (began : Bool) (before : Option Network) (old : List (List ℕ)) (s : Option State) (rerouted a b : List ℕ)
+round_story_unique : (began : Bool) (before : Option Network) (old : List (List ℕ)) (s : Option State)
+    (rerouted a b : List ℕ)
     → IsRoundStory began before old s rerouted a → IsRoundStory began before old s rerouted b → a ≡ b
 round_story_unique true before old (Some s) rerouted a b h k =
     let one = told_round_unique before old s rerouted h.0 k.0 h.1 k.1 in
@@ -85,7 +94,8 @@ round_story_unique true before old (Some s) rerouted a b h k =
 round_story_unique true before old None rerouted a b h k = h ∙ sym k
 round_story_unique false before old s rerouted a b h k = h ∙ sym k
 
-refusal_line_unique : (s : Option State) (number : ℕ) (request : PlainRequest) (a b : List ℕ) → IsRefusalLine s number request a
+refusal_line_unique : (s : Option State) (number : ℕ) (request : PlainRequest) (a b : List ℕ)
+    → IsRefusalLine s number request a
     → IsRefusalLine s number request b → a ≡ b
 refusal_line_unique s number request a b h k =
     let same : h.0 ≡ k.0 = refusal_unique s request h.0 k.0 h.1 k.1 in
@@ -94,37 +104,48 @@ refusal_line_unique s number request a b h k =
 sequel_unique : (s : Option State) (number : ℕ) (request : PlainRequest) (next : Option State) (rerouted a b : List ℕ)
     → IsSequel s number request next rerouted a → IsSequel s number request next rerouted b → a ≡ b
 sequel_unique s number request next rerouted a b (inl h) (inl k) = refusal_line_unique s number request a b h k
-sequel_unique s number request next rerouted a b (inl h) (inr (inl (n, g, v, x, f))) = absurd (not_both s request h.0.number n (refused_by s request h.0 h.1) g)
-sequel_unique s number request next rerouted a b (inl h) (inr (inr (n, g, f))) = absurd (asked_not_refused s request n h.0.number g (refused_by s request h.0 h.1))
-sequel_unique s number request next rerouted a b (inr (inl (m, h, u, w, e))) (inl k) = absurd (not_both s request k.0.number m (refused_by s request k.0 k.1) h)
+sequel_unique s number request next rerouted a b (inl h) (inr (inl (n, g, v, x, f))) =
+    absurd (not_both s request h.0.number n (refused_by s request h.0 h.1) g)
+sequel_unique s number request next rerouted a b (inl h) (inr (inr (n, g, f))) =
+    absurd (asked_not_refused s request n h.0.number g (refused_by s request h.0 h.1))
+sequel_unique s number request next rerouted a b (inr (inl (m, h, u, w, e))) (inl k) =
+    absurd (not_both s request k.0.number m (refused_by s request k.0 k.1) h)
 sequel_unique s number request next rerouted a b (inr (inl (m, h, u, w, e))) (inr (inl (n, g, v, x, f))) =
     let same : u ≡ v = before_unique s (net_before s request) u v w x in
     let at : IsRoundStory (makes_round request) (net_before s request) v next rerouted a =
     subst (λ (t : List (List ℕ)). IsRoundStory (makes_round request) (net_before s request) t next rerouted a) same e in
     round_story_unique (makes_round request) (net_before s request) v next rerouted a b at f
-sequel_unique s number request next rerouted a b (inr (inl (m, h, u, w, e))) (inr (inr (n, g, f))) = absurd (asked_not_accepted s request n m g h)
-sequel_unique s number request next rerouted a b (inr (inr (m, h, e))) (inl k) = absurd (asked_not_refused s request m k.0.number h (refused_by s request k.0 k.1))
-sequel_unique s number request next rerouted a b (inr (inr (m, h, e))) (inr (inl (n, g, v, x, f))) = absurd (asked_not_accepted s request m n h g)
+sequel_unique s number request next rerouted a b (inr (inl (m, h, u, w, e))) (inr (inr (n, g, f))) =
+    absurd (asked_not_accepted s request n m g h)
+sequel_unique s number request next rerouted a b (inr (inr (m, h, e))) (inl k) =
+    absurd (asked_not_refused s request m k.0.number h (refused_by s request k.0 k.1))
+sequel_unique s number request next rerouted a b (inr (inr (m, h, e))) (inr (inl (n, g, v, x, f))) =
+    absurd (asked_not_accepted s request m n h g)
 sequel_unique s number request next rerouted a b (inr (inr (m, h, e))) (inr (inr (n, g, f))) = e ∙ sym f
 
-line_sequel_unique : (s : Option State) (number : ℕ) (asked : Result PlainRequest LineFault) (next : Option State) (rerouted a b : List ℕ)
+line_sequel_unique : (s : Option State) (number : ℕ) (asked : Result PlainRequest LineFault) (next : Option State)
+    (rerouted a b : List ℕ)
     → IsLineSequel s number asked next rerouted a → IsLineSequel s number asked next rerouted b → a ≡ b
 line_sequel_unique s number (Ok request) next rerouted a b h k = sequel_unique s number request next rerouted a b h k
 line_sequel_unique s number (Err fault) next rerouted a b h k = h ∙ sym k
 
-answered_unique : (s : Option State) (number : ℕ) (asked : Result PlainRequest LineFault) (a b : List ℕ) (p q : Option State)
+answered_unique : (s : Option State) (number : ℕ) (asked : Result PlainRequest LineFault) (a b : List ℕ)
+    (p q : Option State)
     → IsAnsweredBlock s number asked a p → IsAnsweredBlock s number asked b q → (a ≡ b) × (p ≡ q)
 answered_unique s number asked a b p q h k =
     let one = line_unique s asked h.answer k.answer p q h.is_answer k.is_answer in
     let are_rerouted = subst (λ (t : Option State). IsLineTold s asked t [] h.rerouted) one.1 h.are_rerouted in
-    let same : h.rerouted ≡ k.rerouted = line_told_unique s asked q [] h.rerouted k.rerouted are_rerouted k.are_rerouted in
+    let same : h.rerouted ≡ k.rerouted =
+    line_told_unique s asked q [] h.rerouted k.rerouted are_rerouted k.are_rerouted in
     let is_sequel : IsLineSequel s number asked q k.rerouted h.told = rw (← one.1, ← same) h.is_sequel in
     let told : h.told ≡ k.told = line_sequel_unique s number asked q k.rerouted h.told k.told is_sequel k.is_sequel in
-    let texts : answer_text number h.answer ++ (asked_text asked ++ h.told) ≡ answer_text number k.answer ++ (asked_text asked ++ k.told) =
+    let texts : answer_text number h.answer ++ (asked_text asked ++ h.told) ≡ answer_text number k.answer
+    ++ (asked_text asked ++ k.told) =
     (λ i. answer_text number (one.0 i) ++ (asked_text asked ++ told i)) in
     (h.text ∙ (texts ∙ sym k.text), one.1)
 
-request_block_unique : (s : Option State) (number : ℕ) (line a b : List ℕ) (p q : Option State) → IsRequestBlock s number line a p
+request_block_unique : (s : Option State) (number : ℕ) (line a b : List ℕ) (p q : Option State)
+    → IsRequestBlock s number line a p
     → IsRequestBlock s number line b q → (a ≡ b) × (p ≡ q)
 request_block_unique s number line a b p q h k = of (is_blank line) h k
   where
@@ -140,7 +161,8 @@ block_unique : (s : Option State) (number : ℕ) (line a b : List ℕ) (p q : Op
 block_unique s number line a b p q h k = of (is_comment line) h k
   where
     IsOf : Bool → List ℕ → Option State → Type 0
-    IsOf comment out next = MatchBool comment ((out ≡ comment_text line) × (next ≡ s)) (IsRequestBlock s number line out next)
+    IsOf comment out next =
+        MatchBool comment ((out ≡ comment_text line) × (next ≡ s)) (IsRequestBlock s number line out next)
 
     of : (comment : Bool) → IsOf comment a p → IsOf comment b q → (a ≡ b) × (p ≡ q)
     of true h k = (h.0 ∙ sym k.0, h.1 ∙ sym k.1)
@@ -150,7 +172,8 @@ mark_unique : (number : ℕ) (s : Option State) (a b : List ℕ) → IsMark numb
 mark_unique number s a b h k = of (is_marked number s) h k
   where
     IsOf : Bool → List ℕ → Type 0
-    IsOf marked out = MatchBool marked ((lines : List ℕ) × AreSettledLines s lines × (out ≡ codes "state\n" ++ lines)) (out ≡ [])
+    IsOf marked out =
+        MatchBool marked ((lines : List ℕ) × AreSettledLines s lines × (out ≡ codes "state\n" ++ lines)) (out ≡ [])
 
     of : (marked : Bool) → IsOf marked a → IsOf marked b → a ≡ b
     of true h k =
@@ -180,4 +203,5 @@ blocks_unique s number (line ∷ rest) a b h k =
 
 -- an input has only one page
 pub page_unique : (first last bytes a b : List ℕ) → IsPage first last bytes a → IsPage first last bytes b → a ≡ b
-page_unique first last bytes a b h k = h.2 ∙ (ap (λ (t : List ℕ). first ++ (t ++ last)) (blocks_unique None 1 (lines_of bytes) h.0 k.0 h.1 k.1) ∙ sym k.2)
+page_unique first last bytes a b h k =
+    h.2 ∙ (ap (λ (t : List ℕ). first ++ (t ++ last)) (blocks_unique None 1 (lines_of bytes) h.0 k.0 h.1 k.1) ∙ sym k.2)

@@ -24,4 +24,12 @@ module _ {T : Type 0} (IsText : List ℕ → List ℕ → Type 0) (bytes out : L
           → IfErr r (λ fault. fault ≡ Write) → IfErr r (IsTextFault IsText before after old new)
       go (Ok x) part kind = tt
       go (Err fault) part kind = only_fault {T = T} (Err fault) Write (IsTextFault IsText before after old new) kind
-          (record { bytes = bytes; whole = out; out = part.0; reads = reads; text = text; begins = part.1; writes = part.2 })
+          (record {
+            bytes = bytes;
+            whole = out;
+            out = part.0;
+            reads = reads;
+            text = text;
+            begins = part.1;
+            writes = part.2;
+          })

@@ -13,7 +13,8 @@ pub hop_numbers : (s : State) (hops : List Hop) → AreHops s s.nodes hops → A
 hop_numbers s hops are = record {
   one_each = length-map hops number_of ∙ are.one_each;
   each = λ x number is.
-      let low : x < length hops = subst (λ (n : ℕ). x < n) (length-map hops number_of) (slice_get_within (map number_of hops) x number is) in
+      let low : x < length hops =
+      subst (λ (n : ℕ). x < n) (length-map hops number_of) (slice_get_within (map number_of hops) x number is) in
       let hop : Hop = get_or hops x Here in (
         hop,
         (
@@ -24,7 +25,8 @@ hop_numbers s hops are = record {
 }
 
 -- they are written if the place begins with them
-pub numbers_written : (hops : List Hop) (before front : List ℕ) → front ≡ map number_of hops → length hops ≤ length before
+pub numbers_written : (hops : List Hop) (before front : List ℕ) → front ≡ map number_of hops
+    → length hops ≤ length before
     → IsWritten (map number_of hops) before (front ++ drop (length hops) before)
 numbers_written hops before front is low =
     let numbers : List ℕ = map number_of hops in

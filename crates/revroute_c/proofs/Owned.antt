@@ -34,19 +34,22 @@ module _ {M : Type 1} {𝓤 : Ura M} (𝓛 : Logic 𝓤) (S : RattleType) (a : G
   tested : ent 𝓤 (sem 𝓛 (boxed S a p s)) (guard 𝓤 (Testable p) (sem 𝓛 (boxed S a p s)))
   tested =
       fact_use 𝓤 (Testable p) (via 𝓤 _
-      (snd∗ 𝓤 (sem 𝓛 (lies_at S full_share p s)) (sem 𝓛 (ghosts.dealloc_token a (bare (lone S.mir)) p))) (dealloc_token-Testable 𝓛 a (bare (lone S.mir)) p))
+      (snd∗ 𝓤 (sem 𝓛 (lies_at S full_share p s)) (sem 𝓛 (ghosts.dealloc_token a (bare (lone S.mir)) p)))
+      (dealloc_token-Testable 𝓛 a (bare (lone S.mir)) p))
       (guard_i 𝓤 (Testable p) (sem 𝓛 (boxed S a p s)))
 
 module _ (S : RattleType) (none : S.Denot) where
   -- it may go to another thread if the value may, because its block may be released there
   pub owned_keyless : IsSend S → (p : Ptr) (s : S.Denot) → Keyless (owned_at S none p s)
   owned_keyless sends null_ptr s = λ _. tt
-  owned_keyless sends (block_ptr b o) s = λ alloc. (part_keyless S sends full_share s b o, frees.frees alloc (bare (lone S.mir)) (block_ptr b o))
+  owned_keyless sends (block_ptr b o) s =
+      λ alloc. (part_keyless S sends full_share s b o, frees.frees alloc (bare (lone S.mir)) (block_ptr b o))
 
   module _ {M : Type 1} {𝓤 : Ura M} {𝓛 : Logic 𝓤} {K : Type 0} {Γ : List (Item 𝓤)} {G : Goal 𝓤 𝓛.H} where
     -- by cases on the pointer: at null there is no value, otherwise it is in a box
     pub either_owned : K → (p : Ptr) (s : S.Denot) → (p ≡ null_ptr → s ≡ none → Seq K 𝓛 Γ G)
-        → ((b o : ℕ) (a : Global) → p ≡ block_ptr b o → Testable (block_ptr b o) → Seq K 𝓛 (‵ (boxed S a (block_ptr b o) s) ∷ Γ) G)
+        → ((b o : ℕ) (a : Global) → p ≡ block_ptr b o → Testable (block_ptr b o)
+        → Seq K 𝓛 (‵ (boxed S a (block_ptr b o) s) ∷ Γ) G)
         → Seq K 𝓛 (‵ (owned_at S none p s) ∷ Γ) G
     either_owned t null_ptr s is_none one = fpick t (λ e. drop t $ is_none refl e)
     either_owned t (block_ptr b o) s is_none one =

@@ -23,7 +23,8 @@ pub numbers_more : (pushes : List (ℕ × List ℕ)) (lists : PushList) (k : ℕ
     → ((numbers ++ x ∷ []) ++ n ∷ []) ++ row ≡ numbers_of (take (k + 1) pushes)
 numbers_more pushes lists k numbers row x n are low were at_x at_row at_n =
     let push : ℕ × List ℕ = get_or pushes k (0, []) in
-    let node : x ≡ push.0 = at_x ∙ (ap (λ (xs : List ℕ). get_or xs k 0) are.nodes ∙ get_or-map (λ p. p.0) pushes k (0, []) 0 low) in
+    let node : x ≡ push.0 =
+    at_x ∙ (ap (λ (xs : List ℕ). get_or xs k 0) are.nodes ∙ get_or-map (λ p. p.0) pushes k (0, []) 0 low) in
     let list : row ≡ push.1 = at_row ∙ get_or-map (λ p. p.1) pushes k (0, []) [] low in
     rw (at_n, list, node, were, take_more pushes k (0, []) low, numbers_push (take k pushes) push)
     (append_assoc (numbers_of (take k pushes) ++ push.0 ∷ []) (length push.1 ∷ []) push.1

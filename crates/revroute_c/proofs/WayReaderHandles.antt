@@ -28,10 +28,16 @@ module _ {M : Type 1} {𝓤 : Ura M} {𝓛 : Logic 𝓤} {K : Type 0} {Γ : List
       → Seq K 𝓛 (‵ (handle.the_row.own_val d vs) ∷ Γ) G
   handle_out t d vs k =
       fsplit t $ fpick t (λ vss. fsplit t $ feq_l t
-      (λ ev. fsplit t $ feq_l t (λ ep. drop t $ k (subst (λ (ps : List Val). vs ≡ vstruct (of_list (ps ++ [])) ∷ []) ep ev))))
+      (λ ev. fsplit t $ feq_l t (λ ep. drop t $ k (subst (λ (ps : List Val). vs ≡ vstruct (of_list (ps ++ []))
+      ∷ []) ep ev))))
 
   pub handle_in : K → (p : Ptr) (k : Knowledge)
-      → Step K 𝓛 (‵ (handle.the_row.own_val (handle_of p k) (word p ∷ [])) ∷ Γ) G (‵ (owned_at S no_way_reader p k) ∷ Γ) G
+      → Step K 𝓛 (‵ (handle.the_row.own_val (handle_of p k) (word p ∷ [])) ∷ Γ) G (‵ (owned_at S no_way_reader p k)
+      ∷ Γ) G
   handle_in t p s = step (λ k. nothing t $ feq_i t (List Val) (ptr_val p ∷ []) (ptr_val p ∷ []) refl $ fjoin t $ feq_i t
       (List Val) (word p ∷ []) (word p ∷ []) refl $ fjoin t $
-      fpack t (Valss (RawPtr ∷ [])) (within (shape handle.the_type) (p, tt) (word p ∷ [])) (ptr_val p ∷ [], tt) $ fjoin t $ k)
+      fpack t (Valss (RawPtr ∷ [])) (within (shape handle.the_type) (p, tt) (word p ∷ [])) (
+        ptr_val p
+            ∷ [],
+        tt,
+      ) $ fjoin t $ k)

@@ -13,7 +13,7 @@ use Rattle.fr_node.specs.Bytes.{bytes_of}
 use Rattle.fr_node.specs.Distances.{AreWays, IsDistance}
 use Rattle.fr_node.specs.Events.{IsAfterEvent, IsNews, IsStarted, KnowsLaterStart, SaysMessage, gates_of}
 use Rattle.fr_node.specs.Histories.{IsHistory}
-use Rattle.fr_node.specs.Links.{Hears, IsKnown, IsTaken, SetsUp, after_tick, is_lost, link_to, unknown}
+use Rattle.fr_node.specs.Links.{Hears, IsKnown, IsTaken, SetsCost, SetsUp, after_tick, is_lost, link_to, unknown}
 use Rattle.fr_node.specs.Nodes.{Steps, router}
 use Rattle.fr_node.specs.Policies.{Acts}
 use Rattle.fr_node.specs.Routers.{IsOpen, IsWay}
@@ -88,6 +88,14 @@ pub record TurnsLink (neighbour : ℕ) (up : Bool) (status : ℕ) (k j : Node) :
   pub set : SetsUp neighbour up k.links.items j.links.items
   pub after : IsAfterEvent [] k j
   pub statuses : status ≡ REVROUTE_ANSWERED
+
+-- the link to a neighbour has another cost. The cost 0 is refused, and changes nothing
+pub record SetsCostTo (neighbour cost status : ℕ) (k j : Node) : Type 0 where
+  pub refused : (status ≡ REVROUTE_REFUSED) ↔ (cost ≡ 0)
+  pub set : status ≡ REVROUTE_ANSWERED → SetsCost neighbour cost k.links.items j.links.items
+  pub after : status ≡ REVROUTE_ANSWERED → IsAfterEvent [] k j
+  pub kept : status ≡ REVROUTE_REFUSED → j ≡ k
+  pub statuses : (status ≡ REVROUTE_ANSWERED) ⊎ (status ≡ REVROUTE_REFUSED)
 
 -- a tick passes on all links. 1: for one of them it ends that the link counts as up, which is an event. 0: no event
 pub record TicksOnce (patience flag : ℕ) (k j : Node) : Type 0 where

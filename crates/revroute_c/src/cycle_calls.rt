@@ -50,9 +50,9 @@ pub extern "C" fn revroute_closed_walk(
     }
 }
 
-/// Does the same for the links with which [`revroute_open`] refuses a network with this number of nodes. It needs no
-/// session. It also needs no memory to return `NO_WALK` for the faults that [`revroute_open`] finds without memory.
-/// O(n + m).
+/// Writes the cycle for which [`revroute_open`] refuses these links with this number of nodes, as
+/// [`revroute_closed_walk`] does for edits. It needs no session. It also needs no memory to return `NO_WALK` for the
+/// faults that [`revroute_open`] finds without memory. O(n + m).
 #[unsafe(no_mangle)]
 pub extern "C" fn revroute_closed_walk_of(
     alloc: Global,

@@ -4,7 +4,7 @@ ghost use Rattle.std.specs.Prelude.{◌≡◌, ◌<◌, ◌≤◌, ◌⊎◌, []
 ghost use Rattle.fr_node.specs.Events.{gates_of};
 ghost use Rattle.fr_node.specs.Nodes.{lets_in, sends_to};
 ghost use Rattle.revroute_c.specs.NodeCalls.{ActsAgain, AreGatesOf, AreNeighbours, AreWaysOf, ConfirmsWritten, HearsBytes};
-ghost use Rattle.revroute_c.specs.NodeCalls.{HearsMessage, InNode, IsSafeGate, IsSafeWay, IsStateOf, KnowsNeighbour, OfNode, SaysBytesTo};
+ghost use Rattle.revroute_c.specs.NodeCalls.{HearsMessage, InNode, IsSafeGate, IsSafeWay, IsStateOf, KnowsNeighbour, OfNode, SaysBytesTo, SetsCostTo};
 ghost use Rattle.revroute_c.specs.NodeCalls.{TellsNews, TellsNodeDistance, TicksOnce, TurnsLink, neighbours_of};
 ghost use Rattle.revroute_c.specs.NodeCalls.{number_of_flag};
 ghost use Rattle.revroute_c.specs.Replies.{outcome, GivesList, IsWritten};
@@ -82,6 +82,17 @@ impl NodeState {
         ANSWERED
     }
 
+    /// Takes the event that it costs something else to send a packet to a neighbour.
+    pub(crate) fn set_cost(&mut self, neighbour: u32, cost: u32) -> u32
+        ensures { InNode (SetsCostTo neighbour cost result) ⊥ self.old self.new }
+    {
+        if cost == 0 {
+            return self.unchanged(REFUSED);
+        }
+        self.node.set_cost(neighbour, cost);
+        ANSWERED
+    }
+
     /// Lets a tick pass. Returns whether a link was lost, as a number.
     pub(crate) fn tick(&mut self, patience: u32) -> u32
         ensures { InNode (TicksOnce patience result) ⊥ self.old self.new }
@@ -102,18 +113,18 @@ impl NodeState {
     {
         match Message::read(bytes) {
             Some(message) => self.hear_message(&message),
-            None => self.ignore(),
+            None => self.unchanged(NO_MESSAGE),
         }
     }
 
-    /// Bytes that are not a message change nothing.
-    fn ignore(&self) -> u32
+    /// The status of a call that changes nothing.
+    fn unchanged(&self, status: u32) -> u32
         ensures held { OfNode (λ _. ⊤) ⊥ self.now }
-        ensures status { result ≡ NO_MESSAGE }
+        ensures status { result ≡ status }
     {
         // A field has to be read, because only then the proof knows that the machine holds a node.
         let _read = self.node.state();
-        NO_MESSAGE
+        status
     }
 
     /// Hears a message.

@@ -5,7 +5,7 @@ ghost use denote.RawPtr.{null_ptr};
 ghost use Rattle.fr_node.specs.Nodes.{lets_in, sends_to};
 ghost use Rattle.revroute_c.specs.NodeCalls.{ActsAgain, AreGatesOf, AreWaysOf, ConfirmsWritten, HearsBytes, InNode};
 ghost use Rattle.revroute_c.specs.NodeCalls.{IsNoStart, IsOpened, IsOpenedGateway, IsSafeGate, IsSafeWay, IsStateOf};
-ghost use Rattle.revroute_c.specs.NodeCalls.{KnowsNeighbour, OfNode, SaysBytesTo, TellsNews, TellsNodeDistance, TicksOnce};
+ghost use Rattle.revroute_c.specs.NodeCalls.{KnowsNeighbour, OfNode, SaysBytesTo, SetsCostTo, TellsNews, TellsNodeDistance, TicksOnce};
 ghost use Rattle.revroute_c.specs.NodeCalls.{TurnsLink, number_of_flag, policy_of};
 ghost use Rattle.revroute_c.specs.NodeLending.{IsSameNode};
 ghost use Rattle.revroute_c.specs.Replies.{outcome, GivesList};
@@ -35,7 +35,7 @@ pub struct NodePolicy {
 /// The node raises its height above all neighbours if it has no way.
 const FULL: u32 = 0;
 
-/// The node rises to the top if no neighbour offers its height, and comes down to the best offer.
+/// The node rises to the top if no neighbour offers its height or less, and comes down to the best offer.
 const TOP: u32 = 1;
 
 /// The policy that a struct of C names. A kind that is not `FULL` counts as `TOP`.
@@ -164,6 +164,28 @@ pub extern "C" fn revroute_node_link_down(handle: &mut NodeHandle, neighbour: u3
 {
     match handle.node_state_mut() {
         Some(machine) => machine.set_link_state(neighbour, false),
+        None => NO_NETWORK,
+    }
+}
+
+/// Changes what it costs this router to send a packet to a neighbour, as [`Node::set_cost`] does. What was heard on the
+/// link stays. If the neighbour is not known, no link changes. All else is as for [`revroute_node_link_up`]. Returns
+/// `ANSWERED`, or:
+///
+/// - `REFUSED`: the cost is 0.
+/// - `NO_NETWORK`: the handle is null.
+///
+/// In these cases the node is unchanged. O(d).
+#[unsafe(no_mangle)]
+pub extern "C" fn revroute_node_set_cost(handle: &mut NodeHandle, neighbour: u32, cost: u32) -> u32
+    // `REFUSED` exactly for the cost 0. Otherwise the link has this cost, nothing else that is known of links changes,
+    // and the call is a step of `routers_law`.
+    ensures cost { InNode (SetsCostTo neighbour cost result) (result ≡ REVROUTE_NO_NETWORK)
+        handle.old.machine handle.new.machine }
+    ensures same_handle { handle.new.at ≡ handle.old.at }
+{
+    match handle.node_state_mut() {
+        Some(machine) => machine.set_cost(neighbour, cost),
         None => NO_NETWORK,
     }
 }

@@ -82,7 +82,7 @@ pub(crate) fn take_front(
     }
 }
 
-/// Does the same in a new session. The null handle gets the session if it holds anything then.
+/// Takes a piece as [`take_front`] does, in a new session. The null handle gets the session if it holds anything then.
 pub(crate) fn take_in_new_session(
     handle: &mut Handle,
     alloc: Global,

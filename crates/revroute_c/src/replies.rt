@@ -52,7 +52,7 @@ pub(crate) fn reply(
     }
 }
 
-/// Does the same in a new session. The null handle gets the session if the line is answered.
+/// Answers a line as [`reply`] does, in a new session. The null handle gets the session if the line is answered.
 pub(crate) fn reply_in_new_session(
     handle: &mut Handle,
     alloc: Global,

@@ -147,7 +147,8 @@ pub(crate) fn open_in(
     ANSWERED
 }
 
-/// Does the same in a new session. The null handle gets the session if the network is accepted.
+/// Opens a network in a new session, and lists the nodes whose hop has changed. The null handle gets the session if the
+/// network is accepted.
 pub(crate) fn open_in_new_session(
     handle: &mut Handle,
     alloc: Global,

@@ -228,7 +228,7 @@ fn put_net<R: Alloc<A = Global> + Eprint>(rt: &R, answer: &mut Answer, net: &Net
     put_line(rt, answer, links_line(rt.alloc(), net.links()));
 }
 
-/// Does the same for a network that was just made.
+/// Appends the links of a network that was just made, or why it was not made.
 fn put_made<R: Alloc<A = Global> + Eprint>(
     rt: &R,
     answer: &mut Answer,

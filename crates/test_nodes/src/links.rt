@@ -3,13 +3,13 @@
 ghost use Rattle.std.specs.Prelude.{◌<◌};
 
 use crate::draws::Draws;
-use crate::world::MOST_ROUTERS;
+use crate::world::{MOST_ROUTERS, World};
 use fr_node::CUT_OFF;
 
 /// The greatest cost of a link.
 pub const MOST_COST: u32 = 9;
 
-/// What it costs router x to send a packet to router w. In every other world each link costs 1, and otherwise the two
+/// What it costs router x to send a packet to router w at first. In every other world each link costs 1, and otherwise the two
 /// directions of a link may have different costs.
 pub fn cost(seed: u64, x: u32, w: u32) -> u32
     ensures { 0 < result }
@@ -94,7 +94,7 @@ impl Links {
         &self,
         some: u32,
         ceilings: &[u32; MOST_ROUTERS],
-        seed: u64,
+        world: &World,
     ) -> [u32; MOST_ROUTERS] {
         let mut least = [CUT_OFF; MOST_ROUTERS];
         for (x, it) in least.iter_mut().enumerate() {
@@ -107,7 +107,7 @@ impl Links {
                 let ceiling = ceilings.get(x as usize).copied().unwrap_or(0);
                 for w in 0..MOST_ROUTERS as u32 {
                     let beyond = least.get(w as usize).copied().unwrap_or(CUT_OFF);
-                    let over = beyond.saturating_add(cost(seed, x, w));
+                    let over = beyond.saturating_add(world.cost(x, w));
                     if let Some(it) = least.get_mut(x as usize)
                         && self.works(x, w)
                         && over < ceiling

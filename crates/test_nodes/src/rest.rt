@@ -121,7 +121,7 @@ impl Rests {
             Promise::Served | Promise::Bounded => joined,
             Promise::AllRest | Promise::Shortest => u32::MAX,
         };
-        let least = links.least_costs(gateways, &world.ceilings(), world.seed());
+        let least = links.least_costs(gateways, &world.ceilings(), world);
         let served = match promise {
             Promise::Shortest => routers_where(all, |x| cost_at(&least, x) != CUT_OFF),
             _ => joined,

@@ -118,6 +118,19 @@ impl Rules {
         self.used
     }
 
+    pub fn cost(&self, w: u32) -> u32 {
+        match self.seen(w) {
+            Some(seen) => seen.cost,
+            None => CUT_OFF,
+        }
+    }
+
+    pub fn set_cost(&mut self, w: u32, cost: u32) {
+        if let Some(seen) = self.seen.get_mut(w as usize) {
+            seen.cost = cost;
+        }
+    }
+
     pub fn set_up(&mut self, w: u32, up: bool) {
         if let Some(seen) = self.seen.get_mut(w as usize) {
             seen.carrier = up;

@@ -125,14 +125,12 @@ impl World {
         self.count
     }
 
-    /// The number from which all that is drawn in this world follows.
-    pub fn seed(&self) -> u64 {
-        self.seed
-    }
-
     /// What it costs router x to send a packet to router w.
     pub fn cost(&self, x: u32, w: u32) -> u32 {
-        cost(self.seed, x, w)
+        match self.routers.get(x as usize) {
+            Some(both) => both.rules.cost(w),
+            None => CUT_OFF,
+        }
     }
 
     /// The ceiling of each router: costs from there on do not count.
@@ -177,7 +175,8 @@ impl World {
         match self.draws.below(400) {
             0 => self.restart(x)?,
             1..=3 => self.set_up(x, w, false)?,
-            4..=40 => self.set_up(x, w, true)?,
+            4..=36 => self.set_up(x, w, true)?,
+            37..=40 => self.set_cost(x, w)?,
             41..=60 => {
                 let patience = self.draws.below(12);
                 self.tick(x, patience)?;
@@ -233,6 +232,25 @@ impl World {
         } else {
             both.node.link_down(w);
         }
+        self.end_event(x)
+    }
+
+    /// It costs a router something else to send a packet to a neighbour. In a world in which each link costs 1 it costs 1
+    /// again.
+    fn set_cost(&mut self, x: u32, w: u32) -> Result<(), NodeFault> {
+        let other = self
+            .seed
+            .wrapping_add(u64::from(self.draws.below(100)).wrapping_mul(2));
+        let cost = cost(other, x, w);
+        let Some(both) = self.routers.get_mut(x as usize) else {
+            return Ok(());
+        };
+        if x == w {
+            return Ok(());
+        }
+        both.rules.set_cost(w, cost);
+        both.rules.act()?;
+        both.node.set_cost(w, cost);
         self.end_event(x)
     }
 

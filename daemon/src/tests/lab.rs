@@ -11,7 +11,7 @@ use std::net::IpAddr;
 use std::rc::Rc;
 use std::time::Duration;
 
-const STEP: Duration = Duration::from_millis(5);
+pub const STEP: Duration = Duration::from_millis(5);
 
 pub struct Dice(pub u64);
 
@@ -295,6 +295,17 @@ impl Lab {
         }
         self.world.borrow_mut().own.insert(router, all.clone());
         self.world.borrow_mut().check(Some(prefix));
+        self.configure(router);
+    }
+
+    /// It costs a router something else to send packets over a device.
+    pub fn set_cost(&mut self, router: u32, device: u32, cost: u32) {
+        self.costs.insert((router, device), cost);
+        self.configure(router);
+    }
+
+    /// A router reads its configuration again.
+    fn configure(&mut self, router: u32) {
         let mut set = self.settings(router);
         set.router = self.doubles.get(&router).copied().unwrap_or(router);
         if let Some(machine) = self.machines.get_mut(&router) {

@@ -118,6 +118,29 @@ class NodeTest(unittest.TestCase):
         settle(nodes)
         self.assertEqual([(it.height, it.distance) for it in nodes], [(0, 0), (9, 9), (3, 3)])
 
+    def test_a_cost_changes_and_ways_stay(self):
+        """The link to the gateway gets cheap for router 1, so it sends over it. Then it gets dear for router 2, whose other
+        route, over router 1, is dearer still."""
+        nodes = [Node.gateway(0, 1), Node(1, 1, ceiling=16), Node(2, 1, ceiling=16)]
+        for me, costs in enumerate(({1: 1, 2: 1}, {0: 9, 2: 2}, {0: 3, 1: 7})):
+            for other, cost in costs.items():
+                nodes[me].know(other, cost)
+                nodes[me].link_up(other)
+            write(nodes[me])
+        settle(nodes)
+        for me, cost, picture in ((1, 4, [(0, []), (4, [0, 2]), (3, [0])]), (2, 9, [(0, []), (4, [0]), (9, [0, 1])])):
+            nodes[me].set_cost(0, cost)
+            self.assertTrue(nodes[me].ways())
+            self.assertRaises(Unwritten, nodes[me].say, 0)
+            write(nodes[me])
+            settle(nodes)
+            self.assertEqual([(it.distance, it.ways()) for it in nodes], picture)
+        before = nodes[1].table()
+        self.assertRaises(ValueError, nodes[1].set_cost, 0, 0)
+        self.assertEqual(nodes[1].table(), before)
+        nodes[1].set_cost(7, 2)
+        self.assertEqual(nodes[1].ways(), before[0])
+
     def test_a_node_speaks_only_once_its_table_is_written(self):
         node = Node(1, 1)
         node.know(2)

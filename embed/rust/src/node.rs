@@ -28,11 +28,11 @@ pub enum Rise {
     /// If it has no way: above all neighbours. This is full link reversal. Routers that are cut off from all gateways
     /// raise their heights for ever.
     Full,
-    /// If no neighbour offers its height: at once to [`u32::MAX`], the height of a router without a route. A neighbour
-    /// offers its own height and the cost of the link together, if that is below this ceiling. The node comes down to its
-    /// best offer once each neighbour at a link that is up is let in. So once all is quiet, routes have the least costs,
-    /// if these are below the ceiling, and routers that are cut off from all gateways are silent. Start such nodes at
-    /// [`u32::MAX`].
+    /// If no neighbour offers its height or less: at once to [`u32::MAX`], the height of a router without a route. A
+    /// neighbour offers its own height and the cost of the link together, if that is below this ceiling. The node comes
+    /// down to its best offer once each neighbour at a link that is up is let in. So once all is quiet, routes have the
+    /// least costs, if these are below the ceiling, and routers that are cut off from all gateways are silent. Start such
+    /// nodes at [`u32::MAX`].
     Top(u32),
 }
 
@@ -329,7 +329,8 @@ impl Node {
 
     /// Makes a neighbour known. `cost` is what it costs this router to send a packet to it: 1 if you have no other number.
     /// The neighbour may know another cost for the other direction. The link is down, until it comes up. A neighbour
-    /// that is known stays as it is, with its cost. It may come at any time, and is no event. `O(d)`.
+    /// that is known stays as it is, with its cost: [`set_cost`](Node::set_cost) changes that. It may come at any time,
+    /// and is no event. `O(d)`.
     ///
     /// # Errors
     ///
@@ -359,6 +360,22 @@ impl Node {
         // SAFETY: the handle is the library's own, and no other call has it.
         let status = unsafe { sys::revroute_node_link_down(self.handle.get(), neighbour) };
         assert_eq!(status, sys::ANSWERED, "a node is not null");
+    }
+
+    /// An event: it costs this router something else to send a packet to a neighbour, as when the bandwidth of the link
+    /// changes. What was heard on the link stays. If the neighbour is not known, no link changes. `O(d)`, and needs no
+    /// memory.
+    ///
+    /// # Errors
+    ///
+    /// [`FreeLink`](NodeFault::FreeLink) for the cost 0. Then nothing has changed.
+    pub fn set_cost(&mut self, neighbour: u32, cost: u32) -> Result<(), NodeFault> {
+        // SAFETY: the handle is the library's own, and no other call has it.
+        match unsafe { sys::revroute_node_set_cost(self.handle.get(), neighbour, cost) } {
+            sys::ANSWERED => Ok(()),
+            sys::REFUSED => Err(NodeFault::FreeLink),
+            _ => unreachable!("a node is not null"),
+        }
     }
 
     /// Notices links that do not work both ways. Call this at a steady interval, such as that at which you say messages

@@ -425,6 +425,8 @@ unsafe extern "C" {
 
     pub fn revroute_node_link_down(node: *mut NodeHandle, neighbour: u32) -> u32;
 
+    pub fn revroute_node_set_cost(node: *mut NodeHandle, neighbour: u32, cost: u32) -> u32;
+
     pub fn revroute_node_tick(node: *mut NodeHandle, patience: u32) -> u32;
 
     pub fn revroute_node_act(node: *mut NodeHandle) -> u32;

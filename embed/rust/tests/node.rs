@@ -163,6 +163,14 @@ fn routes_have_the_least_costs() -> Result<(), Box<dyn Error>> {
     ring.settle()?;
     assert_eq!(ring.picture(), [(0, Some(0)), (5, Some(5)), (3, Some(3))]);
     assert_eq!(ring.nodes[1].table()?.ways(), [2, 0]);
+    // The link to the gateway gets cheap for router 1.
+    ring.nodes[1].set_cost(0, 4)?;
+    assert_eq!(ring.nodes[1].table()?.ways(), [0, 2]);
+    write(&mut ring.nodes[1])?;
+    ring.settle()?;
+    assert_eq!(ring.picture(), [(0, Some(0)), (4, Some(4)), (3, Some(3))]);
+    assert_eq!(ring.nodes[1].set_cost(0, 0), Err(NodeFault::FreeLink));
+    assert_eq!(ring.nodes[1].has_news(0), Ok(false));
     Ok(())
 }
 

@@ -117,6 +117,7 @@ _WORDS: dict[str, list[Any]] = {
     "node_open_gateway": [_node, _number, _wide],
     "node_know": [_node, _number, _number],
     "node_link_up": [_node, _number],
+    "node_set_cost": [_node, _number, _number],
     "node_link_down": [_node, _number],
     "node_tick": [_node, _number],
     "node_act": [_node],

@@ -122,8 +122,8 @@ class Node:
     Without a `ceiling`, a router that has no way rises above all its neighbours: this is full link reversal, and
     routers that are cut off from all gateways rise for ever. With `lower`, such a router lowers its height to its
     distance if a way with a smaller distance stays a way. With a `ceiling`, a router rises if no neighbour offers its
-    height, and at once to 2^32 - 1, the height of a router without a route. A neighbour offers its own height and the
-    cost of the link together, if that is below the ceiling. The router comes down to its best offer once each
+    height or less, and at once to 2^32 - 1, the height of a router without a route. A neighbour offers its own height
+    and the cost of the link together, if that is below the ceiling. The router comes down to its best offer once each
     neighbour at a link that is up is let in. So once all is quiet, routes have the least costs, if these are below
     the ceiling, and routers that are cut off are silent. With `wait`, a router keeps its old height and ways until
     the neighbours that it lets in have acknowledged a greater height. No choice can make a loop.
@@ -180,7 +180,7 @@ class Node:
     def know(self, neighbour: int, cost: int = 1) -> None:
         """Makes a neighbour known. `cost` is what it costs this router to send a packet to it. The neighbour may know
         another cost for the other direction. The link to it is down until `link_up`. A neighbour that is known stays as
-        it is, with its cost.
+        it is, with its cost: `set_cost` changes that.
 
         Raises ValueError if it is the router itself or the cost is 0, OverflowError if a number has more than 32 bits,
         and MemoryError if memory runs out. Then nothing has changed.
@@ -199,6 +199,15 @@ class Node:
     def link_down(self, neighbour: int) -> None:
         """An event: the link to a neighbour goes down. What was heard on it is kept."""
         self._call(questions.revroute_node_link_down, _number(neighbour))
+
+    def set_cost(self, neighbour: int, cost: int) -> None:
+        """An event: it costs this router something else to send a packet to a neighbour. What was heard on the link
+        stays. If the neighbour is not known, no link changes.
+
+        Raises ValueError if the cost is 0. Then nothing has changed.
+        """
+        if self._call(questions.revroute_node_set_cost, _number(neighbour), _number(cost)) == _calls.REFUSED:
+            raise ValueError("a link costs 1 or more")
 
     def tick(self, patience: int) -> bool:
         """Notices links that do not work both ways. Call this at a steady interval, such as that at which you say

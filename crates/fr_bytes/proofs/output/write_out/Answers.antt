@@ -7,4 +7,8 @@ pub returns-in_err-write_whole-clause-err : goal.returns-in_err-write_whole-clau
 returns-in_err-write_whole-clause-err g c =
     let bytes = c.args.bytes.now in
     let part = c.in_err-write_whole.ensures.err in
-    on_err c.from_residual.result _ (take part.0 bytes, (drop part.0 bytes, sym (take-append-drop part.0 bytes)), part.1)
+    on_err c.from_residual.result _ (
+      take part.0 bytes,
+      (drop part.0 bytes, sym (take-append-drop part.0 bytes)),
+      part.1,
+    )

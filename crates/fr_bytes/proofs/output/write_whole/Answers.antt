@@ -8,7 +8,8 @@ use Rattle.fr_bytes.proofs.output.write_whole.Goals as goal
 
 pub loop-done-preserved : goal.loop-done-preserved
 loop-done-preserved g c =
-    let in_range : c.loop-done.done + c.in-Ok.count ≤ length c.args.bytes.now = omega (arith, simp (length-take, length-drop) at c.in-Ok.ensures.bound) in
+    let in_range : c.loop-done.done + c.in-Ok.count ≤ length c.args.bytes.now =
+    omega (arith, simp (length-take, length-drop) at c.in-Ok.ensures.bound) in
     record {
       in_range = in_range;
       written = subst (Appends (g.W.Write.contents c.args.writer.now) (g.W.Write.contents c.write.new.self))

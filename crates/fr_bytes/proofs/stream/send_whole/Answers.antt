@@ -10,7 +10,8 @@ pub loop-done-preserved : goal.loop-done-preserved
 loop-done-preserved g c =
     let done = c.loop-done.done in
     let count = c.in_ok-count.count in
-    let in_range : done + count ≤ length c.args.bytes.now = omega (arith, simp (length-take, length-drop) at c.in_ok-count.ensures.bound) in
+    let in_range : done + count ≤ length c.args.bytes.now =
+    omega (arith, simp (length-take, length-drop) at c.in_ok-count.ensures.bound) in
     record {
       in_range = in_range;
       written = subst (Writes (g.S.Stream.traffic c.args.stream.now) (g.S.Stream.traffic c.write.new.self))

@@ -5,9 +5,12 @@ use Rattle.fr_cli.proofs.command.play_command.Goals as goal
 
 pub returns : goal.returns
 returns c =
-    makes_rule _ _ _ _ _ (c.option-steps.ensures.rule ∙ (λ i. option_of (codes "steps") (codes "100") (c.step_numbers.ensures i)))
+    makes_rule _ _ _ _ _ (c.option-steps.ensures.rule
+    ∙ (λ i. option_of (codes "steps") (codes "100") (c.step_numbers.ensures i)))
     c.with_option-3.ensures
-    (makes_rule _ _ _ _ _ (c.option-seed.ensures.rule ∙ (λ i. option_of (codes "seed") (codes "0") (c.value_parser.ensures i)))
+    (makes_rule _ _ _ _ _ (c.option-seed.ensures.rule
+    ∙ (λ i. option_of (codes "seed") (codes "0") (c.value_parser.ensures i)))
     c.with_option-2.ensures
-    (makes_rule _ _ _ _ _ (c.option-workers.ensures.rule ∙ (λ i. option_of (codes "workers") (codes "2") (c.worker_numbers.ensures i)))
+    (makes_rule _ _ _ _ _ (c.option-workers.ensures.rule
+    ∙ (λ i. option_of (codes "workers") (codes "2") (c.worker_numbers.ensures i)))
     c.with_option.ensures c.described_command-command.ensures))

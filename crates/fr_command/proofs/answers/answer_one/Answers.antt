@@ -20,7 +20,9 @@ returns-in-Ok-Some g c =
     record {
       ok = on_ok_weaker c.write_whole-written.result (λ (whole : Appends old new answer). (answer, kept, whole))
           (rw c.as_bytes.ensures.value at c.write_whole-written.ensures.ok);
-      fault = of_the_fault c.write_whole-written.result Write (IsLineFault c.args.form c.args.responder.now c.args.line.now old new)
+      fault =
+          of_the_fault c.write_whole-written.result Write
+          (IsLineFault c.args.form c.args.responder.now c.args.line.now old new)
           ((n : ℕ) × Appends old new (take n answer)) c.write_whole-written.ensures.kind
           (rw c.as_bytes.ensures.value at c.write_whole-written.ensures.err)
           (λ part. record {

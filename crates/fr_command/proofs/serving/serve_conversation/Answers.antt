@@ -26,9 +26,11 @@ reads-init g c =
     }
 
 -- what was said before a read, which writes nothing
-said_at : (form : _) (bytes : List ℕ) (talk : _) (u v w : Option (List ℕ)) → w ≡ v → Says (silence_in form) bytes talk u v
+said_at : (form : _) (bytes : List ℕ) (talk : _) (u v w : Option (List ℕ)) → w ≡ v
+    → Says (silence_in form) bytes talk u v
     → Says (silence_in form) bytes talk u w
-said_at form bytes talk u v w same h = subst (λ (x : Option (List ℕ)). Says (silence_in form) bytes talk u x) (sym same) h
+said_at form bytes talk u v w same h =
+    subst (λ (x : Option (List ℕ)). Says (silence_in form) bytes talk u x) (sym same) h
 
 pub returns-then-count-eq0-clause-ok : goal.returns-then-count-eq0-clause-ok
 returns-then-count-eq0-clause-ok g c =
@@ -81,7 +83,8 @@ returns-then-count-eq0-clause-fault g c =
     let says = said_at form h.bytes talk first.written old.written mid.written is.1 h.says in
     IfErr-weaker c.answer_last_line.result (IsLineFault talk.form (point_of talk) talk.begun mid.written new.written)
     (IsServeFaultIn form first new)
-    (λ fault why. end_failed form h.bytes talk first mid.written says new fault (rw c.answer_last_line.ensures.unread.0 reads) why)
+    (λ fault why. end_failed form h.bytes talk first mid.written says new fault
+    (rw c.answer_last_line.ensures.unread.0 reads) why)
     c.answer_last_line.ensures.fault
 
 pub returns-then-count-eq0-clause-in_time : goal.returns-then-count-eq0-clause-in_time
@@ -106,7 +109,8 @@ reads-preserved g c =
     let few : c.in_ok-count.count
     ≤ length c.read.new.piece = omega (arith, c.in_ok-count.ensures.bound, c.read.auto.piece) in
     let is = c.in_ok-count.ensures.ok in
-    let reads = read_on first.left old.left mid.left h.bytes c.read.new.piece room c.in_ok-count.count few h.reads is.0 in
+    let reads =
+    read_on first.left old.left mid.left h.bytes c.read.new.piece room c.in_ok-count.count few h.reads is.0 in
     let says = said_at form h.bytes talk first.written old.written mid.written is.1 h.says in
     let answers = c.in_ok-answer_piece.ensures.ok in
     let served : HasServed form first.left new.left first.written new.written last = record {
@@ -141,7 +145,8 @@ returns-in_err-answer_piece-clause-fault g c =
     let few : c.in_ok-count.count
     ≤ length c.read.new.piece = omega (arith, c.in_ok-count.ensures.bound, c.read.auto.piece) in
     let is = c.in_ok-count.ensures.ok in
-    let reads = read_on first.left old.left mid.left h.bytes c.read.new.piece room c.in_ok-count.count few h.reads is.0 in
+    let reads =
+    read_on first.left old.left mid.left h.bytes c.read.new.piece room c.in_ok-count.count few h.reads is.0 in
     let short : length c.reads.conversation.begun + length piece ≤ most_bytes + 1 =
     omega (
       arith,

@@ -1,4 +1,5 @@
-use Rattle.std.proofs.Common.{◌≡◌, ℕ, ◌+◌, List, [], Vec, Global, refl, replicate, rules, slice_index, slice_index_or, slice_set, arith, sym, ap, ◌∙◌}
+use Rattle.std.proofs.Common.{◌≡◌, ℕ, ◌+◌, List, [], Vec, Global, refl, replicate, rules, slice_index, slice_index_or}
+use Rattle.std.proofs.Common.{slice_set, arith, sym, ap, ◌∙◌}
 use Rattle.std.proofs.lemmas.List.{get_or_read}
 use Rattle.fr_core.proofs.Checking.{one_more, bad_at, same_after}
 use Rattle.fr_core.proofs.Finishing.{zeros_lawful}
@@ -28,7 +29,8 @@ unfolding none
 returns-in-Some-clause-refused c _ =
     let net = c.args.net.now in
     let fails : Fails net.nodes c.args.dest (moment_of net.links c.loop-index.counts.items)
-    (slice_index_or c.args.entries.now c.loop-index.index none) c.in-Some.why = rw c.deref.ensures.value at c.in-Some.ensures.some in (
+    (slice_index_or c.args.entries.now c.loop-index.index none) c.in-Some.why =
+    rw c.deref.ensures.value at c.in-Some.ensures.some in (
       omega (arith, c.if-dest-nodes.false),
       bad_at net.nodes c.args.dest net.links c.args.entries.now c.loop-index.index none c.loop-index.counts.items
           c.in-Some.why c.loop-index.invariant (omega arith) fails,
@@ -47,8 +49,10 @@ loop-index-preserved c =
     (elim c.match-entry.branch [
       | in-Turned w ↦
           let read : w.index_mut.result.now ≡ slice_index old e.node = get_or_read old e.node w.index_mut.result.now
-          (let l = legal.0 in let each = c.loop-index.invariant.lawful.one_each in omega (arith, l, each)) w.index_mut.ensures.value 0 in
+          (let l = legal.0 in let each = c.loop-index.invariant.lawful.one_each in omega (arith, l, each))
+          w.index_mut.ensures.value 0 in
           ap (λ (v : Vec ℕ Global). v.items) w.counts-is ∙ ap (λ (k : ℕ). slice_set old e.node (k + 1)) read
           ∙ ap (λ (r : Reply). (after_reply m e.node r).counts) (sym w.in-Turned.is)
-      | in_default-reply w ↦ ap (λ (v : Vec ℕ Global). v.items) w.counts-is ∙ same_after m e.node e.reply w.in_default-reply.not-Turned
+      | in_default-reply w ↦ ap (λ (v : Vec ℕ Global). v.items) w.counts-is
+          ∙ same_after m e.node e.reply w.in_default-reply.not-Turned
     ])

@@ -8,7 +8,8 @@ returns-then-counts-x c = (
   λ f. absurd (false≢true f),
   λ fits.
       let at = fits c.loop-x.x (omega arith) in
-      absurd (⊎_elim {C = ⊥} (λ none. omega (arith, at.1 none.0, none.1)) (λ some. omega (arith, at.0, some.1)) c.most_count.ensures),
+      absurd (⊎_elim {C = ⊥} (λ none. omega (arith, at.1 none.0, none.1)) (λ some. omega (arith, at.0, some.1))
+      c.most_count.ensures),
 )
 
 pub loop-x-preserved : goal.loop-x-preserved

@@ -10,4 +10,7 @@ returns-then-degree-eq0 c =
 pub returns-else-degree-eq0 : goal.returns-else-degree-eq0
 returns-else-degree-eq0 c =
     let net = c.args.net.now in
-    inr (λ alone. (let link = row_linked net.nodes net.links c.args.x (omega arith) in alone link.0 link.1), c.nodes-nodes.ensures.value)
+    inr (
+      λ alone. (let link = row_linked net.nodes net.links c.args.x (omega arith) in alone link.0 link.1),
+      c.nodes-nodes.ensures.value,
+    )

@@ -10,7 +10,11 @@ use Rattle.fr_core.proofs.cut_off.are_turned_nodes_apart.Goals as goal
 pub have_neighbours_turned-requires-clause-node : goal.have_neighbours_turned-requires-clause-node
 have_neighbours_turned-requires-clause-node c =
     let turned = c.nodes-turned.result.now in
-    omega (arith, turned_below c.args.turns.now turned c.nodes-turned.ensures c.loop-x.x-index 0 c.loop-x-test.true, c.requires)
+    omega (
+      arith,
+      turned_below c.args.turns.now turned c.nodes-turned.ensures c.loop-x.x-index 0 c.loop-x-test.true,
+      c.requires,
+    )
 
 pub returns-then-not-have_neighbours_turned : goal.returns-then-not-have_neighbours_turned
 returns-then-not-have_neighbours_turned c =
@@ -41,6 +45,7 @@ returns c =
     (take_all c.loop-x.x-index turned c.loop-x-test.false) c.loop-x.invariant in (
       λ t. apart_by_rows net.nodes net.links c.args.turns.now c.network_law.ensures.is_net
           (λ x some. rw c.counts-counts.ensures at (All-contains
-          (λ (y : ℕ). All (HasTurned c.counts-counts.result.now) (row net.nodes net.links y)) turned x whole ((c.nodes-turned.ensures.each x).1 some))),
+          (λ (y : ℕ). All (HasTurned c.counts-counts.result.now) (row net.nodes net.links y)) turned x whole
+          ((c.nodes-turned.ensures.each x).1 some))),
       λ apart. refl,
     )

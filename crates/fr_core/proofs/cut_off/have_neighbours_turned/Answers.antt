@@ -10,7 +10,8 @@ use Rattle.fr_core.proofs.cut_off.have_neighbours_turned.Goals as goal
 pub bounds-counts-w : goal.bounds-counts-w
 bounds-counts-w c =
     let net = c.args.net.now in
-    let below : All (λ (e : ℕ × First). e.0 < net.nodes) c.row-row.result.now = rw c.row-row.ensures (row_below net.nodes net.links c.args.x) in
+    let below : All (λ (e : ℕ × First). e.0 < net.nodes) c.row-row.result.now =
+    rw c.row-row.ensures (row_below net.nodes net.links c.args.x) in
     omega (arith, c.requires.one_each, below c.loop-w.w-index (0, first.Outward) c.loop-w-test.true)
 
 pub returns-then-counts-w-eq0 : goal.returns-then-counts-w-eq0

@@ -9,7 +9,8 @@ use Rattle.fr_core.proofs.finisher.finish.Goals as goal
 pub total_turns-before-requires : goal.total_turns-before-requires
 total_turns-before-requires c =
     let net = c.args.net.now in
-    lawful_sum_fits net.nodes c.args.dest net.links c.args.counts.now c.network_law.ensures.limits.nodes_few c.requires.lawful
+    lawful_sum_fits net.nodes c.args.dest net.links c.args.counts.now c.network_law.ensures.limits.nodes_few
+    c.requires.lawful
 
 pub total_turns-requires : goal.total_turns-requires
 total_turns-requires c =

@@ -12,7 +12,8 @@ exact_before : (c : After-total-after) → c.total-before.result ≡ sum c.args.
 exact_before c =
     let net = c.args.net.now in
     let small : sum c.args.turns.now < 2 ^ 64 =
-    lawful_sum_fits net.nodes c.args.dest net.links c.args.turns.now c.network_law.ensures.limits.nodes_few c.requires.lawful in
+    lawful_sum_fits net.nodes c.args.dest net.links c.args.turns.now c.network_law.ensures.limits.nodes_few
+    c.requires.lawful in
     omega (arith, small, c.total-before.ensures)
 
 exact_after : (c : After-total-after) → c.total-after.result ≡ sum c.settle.new.turns
@@ -29,7 +30,12 @@ overflow_sub-result c =
     let net = c.args.net.now in
     let run = run_to_settled net.nodes c.args.dest net.links c.args.turns.now c.settle.new.turns
     c.network_law.ensures.is_net c.requires.node c.requires.lawful c.settle.ensures in
-    omega (arith, run.0, exact_before (goal.at.overflow_sub-result c).After-total-after, exact_after (goal.at.overflow_sub-result c).After-total-after)
+    omega (
+      arith,
+      run.0,
+      exact_before (goal.at.overflow_sub-result c).After-total-after,
+      exact_after (goal.at.overflow_sub-result c).After-total-after,
+    )
 
 pub returns-clause-run : goal.returns-clause-run
 returns-clause-run c =
@@ -38,7 +44,8 @@ returns-clause-run c =
     c.network_law.ensures.is_net c.requires.node c.requires.lawful c.settle.ensures in
     let before = exact_before (goal.at.returns-clause-run c).After-total-after in
     let after = exact_after (goal.at.returns-clause-run c).After-total-after in
-    let made : sum c.settle.new.turns - sum c.args.turns.now ≡ c.total-after.result - c.total-before.result = omega (arith, before, after) in
+    let made : sum c.settle.new.turns - sum c.args.turns.now ≡ c.total-after.result - c.total-before.result =
+    omega (arith, before, after) in
     subst (IsFinish net.nodes c.args.dest net.links c.args.turns.now c.settle.new.turns) made run.1
 
 pub returns-clause-work : goal.returns-clause-work

@@ -1,5 +1,6 @@
 use Rattle.fr_core.proofs.Finishing.{links_at-zeros, zeros_lawful}
-use Rattle.fr_core.proofs.SameLinks.{same_from_permutation, same_joined, same_lawful, same_links_at, same_settled, same_sink}
+use Rattle.fr_core.proofs.SameLinks.{same_from_permutation, same_joined, same_lawful, same_links_at, same_settled}
+use Rattle.fr_core.proofs.SameLinks.{same_sink}
 use Rattle.fr_core.proofs.SensesByRow.{link_at-first_link}
 use Rattle.fr_graph.proofs.Acyclic.{links_at_acyclic}
 use Rattle.fr_graph.proofs.Building.{permuted_net}
@@ -11,7 +12,8 @@ pub returns-clause-acyclic : goal.returns-clause-acyclic
 returns-clause-acyclic c = links_at_acyclic
 
 pub returns-clause-comes : goal.returns-clause-comes
-returns-clause-comes c = λ first counts u v. (Points-links_at_from first counts u v, Points-links_at_back first counts u v)
+returns-clause-comes c =
+    λ first counts u v. (Points-links_at_from first counts u v, Points-links_at_back first counts u v)
 
 pub returns-clause-sense : goal.returns-clause-sense
 returns-clause-sense c = link_at-first_link

@@ -12,7 +12,11 @@ use Rattle.fr_graph.specs.Links.{IsAcyclic}
 use Rattle.fr_core.proofs.laws.run_law.Goals as goal
 
 pub returns-clause-one : goal.returns-clause-one
-returns-clause-one c = λ n d first counts x net lawful can. (turn-links_at n d first net counts lawful x can, turn_lawful n d first net counts lawful x can)
+returns-clause-one c =
+    λ n d first counts x net lawful can. (
+      turn-links_at n d first net counts lawful x can,
+      turn_lawful n d first net counts lawful x can,
+    )
 
 pub returns-clause-all : goal.returns-clause-all
 returns-clause-all c = λ n d first counts h net lawful run.

@@ -22,8 +22,13 @@ returns-clause-each c = λ n d first counts entries net below lawful run.
     let whole = run_append n d start entries f.entries run f.run in
     let end = run_keeps n d first net start (record { links = refl; lawful = lawful }) (entries ++ f.entries) whole in
     let none_left : NoneCanTurn n d (after_all start (entries ++ f.entries)) =
-    subst (NoneCanTurn n d) (sym (after_all-append start entries f.entries)) f.ends in
-    (f.entries, whole, f.turns_alone, none_left, settled_at_end n d first net below (after_all start (entries ++ f.entries)) end none_left)
+    subst (NoneCanTurn n d) (sym (after_all-append start entries f.entries)) f.ends in (
+      f.entries,
+      whole,
+      f.turns_alone,
+      none_left,
+      settled_at_end n d first net below (after_all start (entries ++ f.entries)) end none_left,
+    )
 
 pub returns-clause-alike : goal.returns-clause-alike
 returns-clause-alike c = λ n d first b e some other net below lb le rb re sb se.
@@ -38,5 +43,7 @@ pub returns-clause-bounded : goal.returns-clause-bounded
 returns-clause-bounded c = λ n d first counts settled entries x net below lawful ends run l.
     let at = run_keeps n d first net (moment_of first counts) (record { links = refl; lawful = lawful }) entries run in
     let most = lawful_le_settled n d first _ settled at.lawful ends x l in
-    let count = run_count n d (moment_of first counts) entries lawful.one_each run x in
-    (omega (arith, most, count), λ path. omega (arith, most, count, path_gives_zero n d first x _ (ends.settled x l) path))
+    let count = run_count n d (moment_of first counts) entries lawful.one_each run x in (
+      omega (arith, most, count),
+      λ path. omega (arith, most, count, path_gives_zero n d first x _ (ends.settled x l) path),
+    )

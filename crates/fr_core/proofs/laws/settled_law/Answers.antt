@@ -7,7 +7,8 @@ pub returns-clause-bound : goal.returns-clause-bound
 returns-clause-bound c = λ n d first counts x away lawful walk. lawful_at_most n d first counts lawful x away walk
 
 pub returns-clause-settled : goal.returns-clause-settled
-returns-clause-settled c = λ n d first counts net below lawful none_left. settled_from_none n d first net below counts lawful none_left
+returns-clause-settled c =
+    λ n d first counts net below lawful none_left. settled_from_none n d first net below counts lawful none_left
 
 pub returns-clause-last : goal.returns-clause-last
 returns-clause-last c = λ n d first counts net below settled. (

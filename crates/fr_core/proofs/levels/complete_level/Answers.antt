@@ -11,7 +11,8 @@ loop-at-preserved c =
     record {
       search = close_step net.nodes (slice_index c.args.queue.now 0) net.links c.requires.net c.loop-at.counts
           c.loop-at.queue c.loop-at.at c.args.start c.args.start c.args.count s
-          c.reach_neighbours.new.counts c.reach_neighbours.new.queue (omega arith) (omega arith) (omega arith) only reached;
+          c.reach_neighbours.new.counts c.reach_neighbours.new.queue (omega arith) (omega arith) (omega arith) only
+          reached;
       longer = omega (arith, c.reach_neighbours.ensures.only.longer);
       past = omega arith;
     }

@@ -11,7 +11,9 @@ loop-at-preserved c =
     let only = rw c.node.ensures at c.reach_neighbours.ensures.only in
     let reached = rw c.node.ensures at c.reach_neighbours.ensures.reached in
     record {
-      search = open_step net.nodes (slice_index q 0) net.links c.requires.net c.loop-at.counts c.loop-at.queue (length q) c.loop-at.at (length q) c.args.count s
+      search =
+          open_step net.nodes (slice_index q 0) net.links c.requires.net c.loop-at.counts c.loop-at.queue (length q)
+          c.loop-at.at (length q) c.args.count s
           c.reach_neighbours.new.counts c.reach_neighbours.new.queue (omega arith) (omega arith) only reached;
       longer = omega (arith, c.reach_neighbours.ensures.only.longer);
     }

@@ -13,7 +13,8 @@ loop-worker-preserved c =
     get_or-map (λ (v : Vec Target Global). v.items) c.args.targets.now at c.index-targets-worker.result [] (omega arith)
     ∙ ap (λ (v : Vec Target Global). v.items) (sym c.index-targets-worker.is) ∙ sym c.deref.ensures.value in
     let long = length-map c.args.targets.now (λ (v : Vec Target Global). v.items) in
-    All-more (AreAccepted net.nodes c.args.dest net.links) (lists_of c.args.targets.now) at [] (omega (arith, long)) c.loop-worker.invariant
+    All-more (AreAccepted net.nodes c.args.dest net.links) (lists_of c.args.targets.now) at [] (omega (arith, long))
+    c.loop-worker.invariant
     (subst (AreAccepted net.nodes c.args.dest net.links) (sym here) c.in_default.ensures.none)
 
 pub returns-clause-none : goal.returns-clause-none

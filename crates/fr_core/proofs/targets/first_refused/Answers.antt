@@ -9,10 +9,12 @@ use Rattle.fr_core.proofs.targets.first_refused.Goals as goal
 pub loop-at-preserved : goal.loop-at-preserved
 loop-at-preserved c =
     let net = c.args.net.now in
-    All-more (λ (t : Target). ¬ IsTargetRefused net.nodes c.args.dest net.links t) c.args.targets.now c.loop-at.at (Turn 0) (omega arith) c.loop-at.invariant
+    All-more (λ (t : Target). ¬ IsTargetRefused net.nodes c.args.dest net.links t) c.args.targets.now c.loop-at.at
+    (Turn 0) (omega arith) c.loop-at.invariant
     (λ refused. false≢true (sym c.if-is_refused.false ∙ c.is_refused.ensures.1 refused))
 
 pub returns-clause-none : goal.returns-clause-none
 returns-clause-none c =
     let net = c.args.net.now in
-    subst (AreAccepted net.nodes c.args.dest net.links) (take_all c.loop-at.at c.args.targets.now (omega arith)) c.loop-at.invariant
+    subst (AreAccepted net.nodes c.args.dest net.links) (take_all c.loop-at.at c.args.targets.now (omega arith))
+    c.loop-at.invariant

@@ -33,7 +33,8 @@ loop-x-preserved c =
               let e : y ≡ x = omega (arith, below, ge) in
               absurd (cc (
                 c.can_turn.ensures.1
-                    (subst (CanTurn c.args.net.now.nodes c.args.dest (moment_of c.args.net.now.links c.args.counts.now)) e can),
+                    (subst (CanTurn c.args.net.now.nodes c.args.dest
+                    (moment_of c.args.net.now.links c.args.counts.now)) e can),
                 w.if-can_turn.false,
               ))
         ];

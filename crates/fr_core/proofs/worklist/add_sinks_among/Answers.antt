@@ -18,7 +18,9 @@ loop-x-preserved g c =
     let below : at < length from = omega arith in
     elim c.if-can_turn.branch [
       | then-can_turn+else-not-has_room w ↦ rw (w.work-is, w.push.ensures) (record {
-        nodes = nodes_push c.args.net.now.nodes work x (All-get_or (λ (y : ℕ). y < c.args.net.now.nodes) from at 0 below c.requires.from.nodes) l.nodes;
+        nodes =
+            nodes_push c.args.net.now.nodes work x (All-get_or (λ (y : ℕ). y
+            < c.args.net.now.nodes) from at 0 below c.requires.from.nodes) l.nodes;
         all = λ i less can. elim (cases_lt i at) [
           | inl before ↦ queued_push work x (slice_index from i) (l.all i before can)
           | inr ge ↦

@@ -9,5 +9,6 @@ use Rattle.fr_core.proofs.worklist.add_sinks_among.Given as goal
 abbrev pub invariant-loop-x : goal.invariant-loop-x
 invariant-loop-x g l = record {
   nodes : AreNodes l.net.nodes l.work;
-  all : (i : ℕ) → i < l.x-index → CanTurn l.net.nodes l.dest (moment_of l.net.links l.counts) (slice_index l.from i) → IsQueued l.work (slice_index l.from i);
+  all : (i : ℕ) → i < l.x-index → CanTurn l.net.nodes l.dest (moment_of l.net.links l.counts) (slice_index l.from i)
+      → IsQueued l.work (slice_index l.from i);
 }

@@ -11,6 +11,7 @@ turn_with_long_list-requires-else-end-len-clause-from c =
     let work : List ℕ = turned.new.work in
     let rest : List ℕ = drop turned.result work in
     let within : turned.result ≤ length work = omega (arith, c.len.ensures.value) in
-    let whole : take (length work - turned.result) rest ≡ rest = take_all (length work - turned.result) rest (omega (arith, length-drop turned.result work)) in
+    let whole : take (length work - turned.result) rest ≡ rest =
+    take_all (length work - turned.result) rest (omega (arith, length-drop turned.result work)) in
     rw c.nodes.ensures (subst (HoldsAllThatCanTurn net.nodes c.args.dest net.links turned.new.turns) (sym whole)
     (held_among net c.args.dest turned.new.turns work turned.result within turned.ensures.work))

@@ -10,7 +10,8 @@ pub returns-then-degree-eq0-clause-refused : goal.returns-then-degree-eq0-clause
 returns-then-degree-eq0-clause-refused c =
     let net = c.net-net.result.now in
     let none : c.degree.result ≡ 0 = grind (arith, nat_tests) in
-    let alone = row_alone net.nodes net.links c.args.x c.nodes.ensures.faultless.is_net (omega (arith, none, c.degree.ensures)) in (
+    let alone =
+    row_alone net.nodes net.links c.args.x c.nodes.ensures.faultless.is_net (omega (arith, none, c.degree.ensures)) in (
       (
         omega (arith, c.if-x-nodes.false, c.nodes.ensures.value, c.net-net.ensures.nodes),
         subst (λ (ls : List (ℕ × ℕ)). IsAlone ls c.args.x) c.net-net.ensures.links alone,

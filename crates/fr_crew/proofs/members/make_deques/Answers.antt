@@ -15,5 +15,6 @@ loop-worker-preserved g c =
       rest = λ round each. (subst (Each (IsNew round)) next (was.rest round each)).1;
       own = λ round each.
           let here = subst (Each (IsNew round)) next (was.rest round each) in
-          rw c.push_reserved-in-loop-worker.ensures.items (each_snoc (IsOwnMember {J = g.row.J.Denot} round) _ _ (was.own round each) here.0);
+          rw c.push_reserved-in-loop-worker.ensures.items
+          (each_snoc (IsOwnMember {J = g.row.J.Denot} round) _ _ (was.own round each) here.0);
     }

@@ -11,6 +11,7 @@ invariant-loop-worker g l = record {
   stealers : vec_len l.stealers ≡ vec_len l.members;
   room : vec_len l.fn.workers ≤ vec_capacity l.members;
   handles : vec_len l.fn.workers ≤ vec_capacity l.stealers;
-  rest : (round : OpenRound) → Each (IsNew round) l.fn.workers.items → Each (IsNew round) (into_iter_items l.worker-iterator);
+  rest : (round : OpenRound) → Each (IsNew round) l.fn.workers.items
+      → Each (IsNew round) (into_iter_items l.worker-iterator);
   own : (round : OpenRound) → Each (IsNew round) l.fn.workers.items → Each (IsOwnMember round) l.members.items;
 }

@@ -11,7 +11,8 @@ run_crew-requires-clause-own g c κs within = rw c.in-Ok.ensures.workers (new_wo
 
 pub run_crew-requires-clause-some : goal.run_crew-requires-clause-some
 run_crew-requires-clause-some g c κs within =
-    let some : 0 < length c.in-Ok.workers.items = some_worker c.in-Ok.round _ _ c.in-Ok.ensures.openable.some c.in-Ok.ensures.workers in
+    let some : 0 < length c.in-Ok.workers.items =
+    some_worker c.in-Ok.round _ _ c.in-Ok.ensures.openable.some c.in-Ok.ensures.workers in
     search rules
 
 -- as many workers come back as there were

@@ -26,4 +26,5 @@ finish_and_turn_links-settled-requires-clause-turned g c =
 pub returns-clause-budget : goal.returns-clause-budget
 returns-clause-budget g c =
     let most = within_budget _ _ _ _ _ _ _ c.in_ok-net.ensures.turned in
-    rw (c.finish_and_turn_links-settled.ensures.by_workers, c.sum_of_turns-by_workers.ensures, c.deref.ensures.value) most
+    rw (c.finish_and_turn_links-settled.ensures.by_workers, c.sum_of_turns-by_workers.ensures, c.deref.ensures.value)
+    most

@@ -15,7 +15,8 @@ loop-member-preserved g c =
       rest = here.1;
       own = rw c.push_reserved.ensures.items
           (each_snoc (IsOwnThread (shift round c.args.job.now.budget c.args.gate.now)) _ _ was.own (record {
-            worker = subst (λ p. IsNew round p.worker.value) (sym promised) (subst (IsNew round) (sym c.of.ensures) here.0);
+            worker =
+                subst (λ p. IsNew round p.worker.value) (sym promised) (subst (IsNew round) (sym c.of.ensures) here.0);
             budget = ap (λ p. p.budget) promised;
             gate = ap (λ p. p.gate.value) promised ∙ c.of-in-loop-member.ensures;
           }));

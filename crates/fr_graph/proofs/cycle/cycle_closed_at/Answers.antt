@@ -1,4 +1,5 @@
-use Rattle.std.proofs.Common.{List, [], ap, arith, drop, get_or, length, length-drop, sym, take, ℕ, ◌++◌, ◌-◌, ◌<◌, ◌∙◌, ◌∷◌, ◌≡◌}
+use Rattle.std.proofs.Common.{List, [], ap, arith, drop, get_or, length, length-drop, sym, take, ℕ, ◌++◌, ◌-◌, ◌<◌, ◌∙◌}
+use Rattle.std.proofs.Common.{◌∷◌, ◌≡◌}
 use Rattle.std.proofs.lemmas.List.{drop-map, map_more, take_all}
 use Rattle.fr_graph.specs.CycleSearch.{nodes_of}
 use Rattle.fr_graph.specs.declared.cycle.Step.{Step}
@@ -30,5 +31,9 @@ returns c =
     let rest = drop at path in
     let whole : c.loop-step.walk.items ≡ drop at (nodes_of path) = c.loop-step.invariant
     ∙ ap nodes_of (take_all c.loop-step.step-index rest (omega (arith, c.loop-step-test.false, length-drop at path)))
-    ∙ sym (drop-map (λ (s : Step). s.node) at path) in
-    (at, c.place_on_path-at.ensures.inside, c.place_on_path-at.ensures.is, c.in_ok-push-2.ensures.items ∙ ap (λ ns. ns ++ c.args.node ∷ []) whole)
+    ∙ sym (drop-map (λ (s : Step). s.node) at path) in (
+      at,
+      c.place_on_path-at.ensures.inside,
+      c.place_on_path-at.ensures.is,
+      c.in_ok-push-2.ensures.items ∙ ap (λ ns. ns ++ c.args.node ∷ []) whole,
+    )

@@ -11,7 +11,8 @@ loop-at-preserved c =
     let w = c.loop-at.invariant in
     let none : Step = record { node = 0; next = 0 } in
     let inside : w.0 < length path = omega (arith, w.2, length-map path (λ (s : Step). s.node)) in
-    let there : (get_or path w.0 none).node ≡ c.args.node = sym (get_or-map (λ (s : Step). s.node) path w.0 none c.args.node inside) ∙ w.3 in
+    let there : (get_or path w.0 none).node ≡ c.args.node =
+    sym (get_or-map (λ (s : Step). s.node) path w.0 none c.args.node inside) ∙ w.3 in
     elim (cases_eq w.0 at) [
       | inl e ↦ absurd (c.loop-at-test.true (rw e at there))
       | inr ne ↦ (w.0, omega (arith, w.1, ne), w.2, w.3)

@@ -9,7 +9,8 @@ use Rattle.fr_graph.proofs.edits.insert_link_in_rows.Goals as goal
 use Rattle.fr_graph.proofs.edits.insert_link_in_rows.Goals.{After-insert_entry}
 
 -- the row of the head is unchanged while that of the tail is written
-beside : (c : After-insert_entry) → row_of c.insert_entry.new.rows c.args.head ≡ row c.requires.shown.0.nodes c.requires.shown.0.links c.args.head
+beside : (c : After-insert_entry)
+    → row_of c.insert_entry.new.rows c.args.head ≡ row c.requires.shown.0.nodes c.requires.shown.0.links c.args.head
 beside c =
     let net = c.requires.shown.0 in
     let shown = c.requires.shown.1 in
@@ -18,10 +19,12 @@ beside c =
     shown.nodes.head shown.nodes.apart c.insert_entry.ensures.2
 
 pub insert_entry-requires-clause-row : goal.insert_entry-requires-clause-row
-insert_entry-requires-clause-row c = let shown = c.requires.shown.1 in omega (arith, shown.nodes.tail, shown.rows.one_each)
+insert_entry-requires-clause-row c =
+    let shown = c.requires.shown.1 in omega (arith, shown.nodes.tail, shown.rows.one_each)
 
 pub insert_entry-requires-clause-few : goal.insert_entry-requires-clause-few
-insert_entry-requires-clause-few c = let shown = c.requires.shown.1 in omega (arith, shown.nodes.head, shown.rows.one_each, c.requires.few)
+insert_entry-requires-clause-few c =
+    let shown = c.requires.shown.1 in omega (arith, shown.nodes.head, shown.rows.one_each, c.requires.few)
 
 pub insert_entry-requires-clause-rising : goal.insert_entry-requires-clause-rising
 insert_entry-requires-clause-rising c =
@@ -33,14 +36,17 @@ insert_entry-requires-2-clause-row c =
     let net = c.requires.shown.0 in
     let shown = c.requires.shown.1 in
     let long = length_beside net.nodes net.links c.args.rows.now c.insert_entry.new.rows c.args.tail
-    (insert (row_of c.args.rows.now c.args.tail) c.insert_entry.ensures.0 (c.args.head, Outward)) shown.rows c.insert_entry.ensures.2 in
+    (insert (row_of c.args.rows.now c.args.tail) c.insert_entry.ensures.0 (c.args.head, Outward)) shown.rows
+    c.insert_entry.ensures.2 in
     omega (arith, shown.nodes.head, long)
 
 pub insert_entry-requires-2-clause-few : goal.insert_entry-requires-2-clause-few
-insert_entry-requires-2-clause-few c = let shown = c.requires.shown.1 in omega (arith, shown.nodes.tail, shown.rows.one_each, c.requires.few)
+insert_entry-requires-2-clause-few c =
+    let shown = c.requires.shown.1 in omega (arith, shown.nodes.tail, shown.rows.one_each, c.requires.few)
 
 pub insert_entry-requires-2-clause-rising : goal.insert_entry-requires-2-clause-rising
-insert_entry-requires-2-clause-rising c = rw (beside (goal.at.insert_entry-requires-2-clause-rising c).After-insert_entry)
+insert_entry-requires-2-clause-rising c =
+    rw (beside (goal.at.insert_entry-requires-2-clause-rising c).After-insert_entry)
     (neighbours_rise c.requires.shown.0.nodes c.requires.shown.0.links c.args.head)
 
 pub insert_entry-requires-2-clause-room : goal.insert_entry-requires-2-clause-room
@@ -56,7 +62,9 @@ pub returns-clause-rows : goal.returns-clause-rows
 returns-clause-rows c = λ net shown.
     let first = c.insert_entry.ensures in
     let second = c.insert_entry-2.ensures in
-    rows_added net c.args.tail c.args.head first.0 second.0 c.args.rows.now c.insert_entry.new.rows c.insert_entry-2.new.rows shown first.1 first.2 second.1 second.2
+    rows_added net c.args.tail c.args.head first.0 second.0 c.args.rows.now c.insert_entry.new.rows
+    c.insert_entry-2.new.rows shown first.1 first.2 second.1 second.2
 
 pub returns-clause-rooms : goal.returns-clause-rooms
-returns-clause-rooms c = ap (λ (t : Table). t.rooms) c.insert_entry-2.ensures.2 ∙ ap (λ (t : Table). t.rooms) c.insert_entry.ensures.2
+returns-clause-rooms c =
+    ap (λ (t : Table). t.rooms) c.insert_entry-2.ensures.2 ∙ ap (λ (t : Table). t.rooms) c.insert_entry.ensures.2

@@ -8,6 +8,8 @@ loop-x-preserved c =
     let i = c.loop-x.x-index in
     let before = c.loop-x.invariant in
     record {
-      items = c.push_reserved.ensures.items ∙ ap (λ (xs : List ℕ). xs ++ get_or nodes i 0 ∷ []) before.items ∙ sym (take_more nodes i 0 c.loop-x-test.true);
+      items =
+          c.push_reserved.ensures.items ∙ ap (λ (xs : List ℕ). xs ++ get_or nodes i 0 ∷ []) before.items
+          ∙ sym (take_more nodes i 0 c.loop-x-test.true);
       same_room = c.push_reserved.ensures.capacity ∙ before.same_room;
     }

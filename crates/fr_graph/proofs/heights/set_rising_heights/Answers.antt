@@ -18,4 +18,5 @@ loop-x-preserved c =
     }
 
 pub returns-clause-stacked : goal.returns-clause-stacked
-returns-clause-stacked c = rw (take_all c.loop-x.x-index c.args.nodes.now c.loop-x-test.false) at c.loop-x.invariant.stacked
+returns-clause-stacked c =
+    rw (take_all c.loop-x.x-index c.args.nodes.now c.loop-x-test.false) at c.loop-x.invariant.stacked

@@ -6,7 +6,8 @@ use Rattle.fr_graph.proofs.network.rows_from_half_links.Goals as goal
 use Rattle.fr_graph.proofs.network.rows_from_half_links.Goals.{In_ok-row_entries_of}
 
 -- the links are in the rows between the starts
-shows : (c : In_ok-row_entries_of) (n : ℕ) (links : List (ℕ × ℕ)) → AreHalvesOf n links c.args.halves.now c.args.starts.items
+shows : (c : In_ok-row_entries_of) (n : ℕ) (links : List (ℕ × ℕ))
+    → AreHalvesOf n links c.args.halves.now c.args.starts.items
     → (x : ℕ) → x < n → ShowsRow n links c.args.starts.items c.in_ok-row_entries_of.field-0.items x
 shows c n links of = rw c.in_ok-row_entries_of.ensures (rows_shown n links c.args.halves.now c.args.starts.items of)
 
@@ -18,11 +19,18 @@ packed-requires c =
     record {
       some = omega (arith, starts.one_each);
       rise = λ x less. (shows at c.requires.0 c.requires.1 of x (omega (arith, less, starts.one_each))).low;
-      inside = λ x. omega (arith, starts.inside x, ap length c.in_ok-row_entries_of.ensures, length-map c.args.halves.now entry_of);
+      inside =
+          λ x. omega (
+            arith,
+            starts.inside x,
+            ap length c.in_ok-row_entries_of.ensures,
+            length-map c.args.halves.now entry_of,
+          );
     }
 
 -- two clauses together describe the table
-told : {X E : Type 0} {P Q R : X → Type 0} (made : Result X E) → IfOk made P → IfOk made Q → ((x : X) → P x → Q x → R x) → IfOk made R
+told : {X E : Type 0} {P Q R : X → Type 0} (made : Result X E) → IfOk made P → IfOk made Q
+    → ((x : X) → P x → Q x → R x) → IfOk made R
 told (Ok x) p q both = both x p q
 told (Err e) p q both = tt
 

@@ -34,5 +34,9 @@ returns c =
     let es = c.args.row.now in
     let k = c.place_in_row-place.result in
     let at = stands (goal.at.returns c).After-place_in_row-place in
-    let here : get_or es k (0, Outward) ≡ (c.args.w, at.0) = get_or_default es k (0, Outward) (c.args.w, at.0) at.1 ∙ at.2 in
-    entry_reversed es c.args.w k at.0 (c.args.w, at.0) _ (rises_from es c.requires.rising) at.1 at.2 (rw (c.opposite.ensures, here) refl)
+    let here : get_or es k (0, Outward) ≡ (c.args.w, at.0) =
+    get_or_default es k (0, Outward) (c.args.w, at.0) at.1 ∙ at.2 in
+    entry_reversed es c.args.w k at.0 (c.args.w, at.0) _ (rises_from es c.requires.rising) at.1 at.2 (rw (
+      c.opposite.ensures,
+      here,
+    ) refl)

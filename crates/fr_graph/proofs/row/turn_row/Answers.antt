@@ -1,4 +1,5 @@
-use Rattle.std.proofs.Common.{List, ap, arith, drop, drop-cons, get_or, length, map, slice_set, subst, suc, take, ◌++◌, ◌<◌, ◌∙◌, ◌∷◌, ◌≡◌, ℕ}
+use Rattle.std.proofs.Common.{List, ap, arith, drop, drop-cons, get_or, length, map, slice_set, subst, suc, take, ◌++◌}
+use Rattle.std.proofs.Common.{◌<◌, ◌∙◌, ◌∷◌, ◌≡◌, ℕ}
 use Rattle.std.proofs.Math.Seq.{get_or-append_seam}
 use Rattle.std.proofs.lemmas.List.{get_or_default, length-map, length-take-le}
 use Rattle.std.proofs.lemmas.List.Edits.{map_over_more}
@@ -24,7 +25,8 @@ ahead : (f : ℕ × First → ℕ × First) (row : List (ℕ × First)) (i : ℕ
 ahead f row i d inside =
     let front : length (map f (take i row)) ≡ i = length-map (take i row) f ∙ length-take-le i row (omega arith) in
     let seam = get_or-append_seam (map f (take i row)) (get_or row i d) (drop (suc i) row) d in
-    rw (drop-cons row i d inside) (subst (λ (k : ℕ). get_or (map f (take i row) ++ get_or row i d ∷ drop (suc i) row) k d ≡ get_or row i d) front seam)
+    rw (drop-cons row i d inside) (subst (λ (k : ℕ). get_or (map f (take i row) ++ get_or row i d
+    ∷ drop (suc i) row) k d ≡ get_or row i d) front seam)
 
 pub entry_after_turns-requires-clause-neighbour : goal.entry_after_turns-requires-clause-neighbour
 entry_after_turns-requires-clause-neighbour c =

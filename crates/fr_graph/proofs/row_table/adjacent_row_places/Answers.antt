@@ -9,4 +9,5 @@ loop-x-preserved c =
     let starts = c.args.starts.now in
     let x = c.loop-x.x in
     let end : c.unwrap_or-end.result ≡ get_or starts (x + 1) 0 = grind (arith, common_steps) in
-    c.in_ok-push.ensures.items ∙ rw (c.loop-x.invariant, end) (sym (map-range_with_len_more (place_between starts) 0 x x (omega arith)))
+    c.in_ok-push.ensures.items
+    ∙ rw (c.loop-x.invariant, end) (sym (map-range_with_len_more (place_between starts) 0 x x (omega arith)))

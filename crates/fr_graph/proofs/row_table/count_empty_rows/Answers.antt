@@ -15,7 +15,14 @@ counts c = c.from-empty.ensures ∙ bit_is (is_none c c.loop-x.x)
 pub overflow_add-empty : goal.overflow_add-empty
 overflow_add-empty c =
     let b = (goal.at.overflow_add-empty c).After-from-empty in
-    omega (arith, counts b, weigh-le (is_none b c.loop-x.x), c.loop-x.invariant, count-range-le (is_none b) 0 c.loop-x.x, c.loop-x-test.true)
+    omega (
+      arith,
+      counts b,
+      weigh-le (is_none b c.loop-x.x),
+      c.loop-x.invariant,
+      count-range-le (is_none b) 0 c.loop-x.x,
+      c.loop-x-test.true,
+    )
 
 pub loop-x-preserved : goal.loop-x-preserved
 loop-x-preserved c =

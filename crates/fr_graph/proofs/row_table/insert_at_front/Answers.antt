@@ -11,6 +11,10 @@ loop-here-preserved c =
     let inside : i < length old = c.loop-here-test.true in
     let next : i + 1 ≡ suc i = omega arith in
     record {
-      written = rw (c.loop-here.invariant.written, c.loop-here.invariant.carried) (shifted_more old (e ∷ old) i e inside (omega arith));
-      carried = rw (c.loop-here.invariant.written, next) (shifted_rest old (e ∷ old) i i _ (omega arith) (omega arith) ∙ get_or_default old i _ e inside);
+      written =
+          rw (c.loop-here.invariant.written, c.loop-here.invariant.carried) (shifted_more old (e
+          ∷ old) i e inside (omega arith));
+      carried =
+          rw (c.loop-here.invariant.written, next) (shifted_rest old (e ∷ old) i i _ (omega arith) (omega arith)
+          ∙ get_or_default old i _ e inside);
     }

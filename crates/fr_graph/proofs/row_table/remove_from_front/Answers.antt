@@ -1,4 +1,5 @@
-use Rattle.std.proofs.Common.{ap, arith, drop, get_or, length, length-drop, set, sym, take, ℕ, ◌++◌, ◌+◌, ◌-◌, ◌<◌, ◌∙◌, ◌≡◌}
+use Rattle.std.proofs.Common.{ap, arith, drop, get_or, length, length-drop, set, sym, take, ℕ, ◌++◌, ◌+◌, ◌-◌, ◌<◌, ◌∙◌}
+use Rattle.std.proofs.Common.{◌≡◌}
 use Rattle.std.proofs.lemmas.List.{get_or-drop}
 use Rattle.fr_graph.specs.declared.first.First.{First}
 use Rattle.fr_graph.specs.declared.first.First.TheVariants.{Outward}
@@ -21,5 +22,10 @@ loop-place-preserved c =
     ∙ ap (λ k. get_or old k d) (sym there) ∙ sym (get_or-drop 1 old i d) in
     record {
       some = omega arith;
-      written = rw (c.loop-place.invariant.written, next) (ap (set now i) read ∙ shifted_more old (drop 1 old) i d (omega (arith, low, inside)) rest);
+      written =
+          rw (c.loop-place.invariant.written, next) (ap (set now i) read ∙ shifted_more old (drop 1 old) i d (omega (
+            arith,
+            low,
+            inside,
+          )) rest);
     }

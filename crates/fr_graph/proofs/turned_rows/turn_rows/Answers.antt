@@ -8,7 +8,9 @@ use Rattle.fr_graph.proofs.turned_rows.turn_rows.Goals as goal
 use Rattle.fr_graph.proofs.turned_rows.turn_rows.Goals.{After-counts}
 
 -- the next node of the list was not handled before
-unseen : (c : After-counts) → stands_before c.nodes-x-items.result.now c.loop-x.x-index (get_or c.nodes-x-items.result.now c.loop-x.x-index 0) ≡ false
+unseen : (c : After-counts)
+    → stands_before c.nodes-x-items.result.now c.loop-x.x-index (get_or c.nodes-x-items.result.now c.loop-x.x-index 0)
+    ≡ false
 unseen c =
     let nodes = c.nodes-x-items.result.now in
     let i = c.loop-x.x-index in
@@ -19,19 +21,26 @@ loop-x-init c = λ net part. none_seen net c.args.turns.now c.args.rows.now part
 
 pub turn_node-requires-clause-node : goal.turn_node-requires-clause-node
 turn_node-requires-clause-node c =
-    rw c.counts.ensures (turned_below c.args.turns.now c.nodes-x-items.result.now c.nodes-x-items.ensures c.loop-x.x-index 0 c.loop-x-test.true)
+    rw c.counts.ensures (turned_below c.args.turns.now c.nodes-x-items.result.now c.nodes-x-items.ensures
+    c.loop-x.x-index 0 c.loop-x-test.true)
 
 pub turn_node-requires-clause-turned : goal.turn_node-requires-clause-turned
 turn_node-requires-clause-turned c =
     let nodes = c.nodes-x-items.result.now in
     let i = c.loop-x.x-index in
-    rw c.counts.ensures ((c.nodes-x-items.ensures.each (get_or nodes i 0)).0 (Contains-get_or nodes i 0 c.loop-x-test.true))
+    rw c.counts.ensures ((c.nodes-x-items.ensures.each (get_or nodes i 0)).0
+    (Contains-get_or nodes i 0 c.loop-x-test.true))
 
 pub turn_node-requires-clause-rows : goal.turn_node-requires-clause-rows
 turn_node-requires-clause-rows c =
     let net = c.requires.rows.0 in
     let seen = stands_before c.nodes-x-items.result.now c.loop-x.x-index in
-    rw c.counts.ensures (net, seen, unseen (goal.at.turn_node-requires-clause-rows c).After-counts, c.loop-x.invariant net c.requires.rows.1)
+    rw c.counts.ensures (
+      net,
+      seen,
+      unseen (goal.at.turn_node-requires-clause-rows c).After-counts,
+      c.loop-x.invariant net c.requires.rows.1,
+    )
 
 pub loop-x-preserved : goal.loop-x-preserved
 loop-x-preserved c = λ net part.
@@ -50,5 +59,6 @@ returns c = λ net part.
     all_seen net c.args.turns.now (stands_before nodes i) c.loop-x.rows
     (λ y turned.
     let at = (c.nodes-x-items.ensures.each y).1 turned in
-    stands_somewhere nodes i at.0 y (omega (arith, at.1, c.loop-x-test.false)) (get_or_default nodes at.0 0 y at.1 ∙ at.2))
+    stands_somewhere nodes i at.0 y (omega (arith, at.1, c.loop-x-test.false)) (get_or_default nodes at.0 0 y at.1
+    ∙ at.2))
     (c.loop-x.invariant net part)

@@ -16,8 +16,11 @@ loop-x-preserved c =
           rw w.nodes-is (record {
             same_room = w.push_reserved.ensures.capacity ∙ before.same_room;
             few = omega (arith, ap length items, length_push c.loop-x.nodes.items x, before.few);
-            once = rw items (once_more c.loop-x.nodes.items x before.once (λ h. omega (arith, ((before.listed x).0 h).0)));
-            listed = subst (AreListed counts (x + 1)) (sym items) (one_listed counts x c.loop-x.nodes.items w.if-counts-x-gt0.true before.listed);
+            once =
+                rw items (once_more c.loop-x.nodes.items x before.once (λ h. omega (arith, ((before.listed x).0 h).0)));
+            listed =
+                subst (AreListed counts (x
+                + 1)) (sym items) (one_listed counts x c.loop-x.nodes.items w.if-counts-x-gt0.true before.listed);
           })
       | else-counts-x-gt0 w ↦ rw w.nodes-is (record {
         same_room = before.same_room;
@@ -30,5 +33,7 @@ loop-x-preserved c =
 pub returns-clause-turned : goal.returns-clause-turned
 returns-clause-turned c = record {
   once = c.loop-x.invariant.once;
-  each = all_listed c.args.counts.now c.loop-x.x c.loop-x.nodes.items (omega (arith, c.loop-x-test.false)) c.loop-x.invariant.listed;
+  each =
+      all_listed c.args.counts.now c.loop-x.x c.loop-x.nodes.items (omega (arith, c.loop-x-test.false))
+      c.loop-x.invariant.listed;
 }

@@ -1,4 +1,5 @@
-use Rattle.std.proofs.Common.{arith, get_or, get_or-set_other, get_or-set_same, inl, inr, length, length-set, refl, sym, ℕ, ◌<◌, ◌∙◌}
+use Rattle.std.proofs.Common.{arith, get_or, get_or-set_other, get_or-set_same, inl, inr, length, length-set, refl, sym}
+use Rattle.std.proofs.Common.{ℕ, ◌<◌, ◌∙◌}
 use Rattle.std.proofs.lemmas.Bool.{cases_eq}
 use Rattle.fr_graph.proofs.turns.set_counts.Goals as goal
 
@@ -18,7 +19,8 @@ loop-x-preserved c =
       these = λ j lt. elim (cases_eq (get_or nodes j 0) x) [
         | inl same ↦ rw same (get_or-set_same counts x c.args.count 0 inside)
         | inr apart ↦
-            let early : j < i = elim (cases_eq j i) [ inl last ↦ absurd (apart (rw last refl)) | inr other ↦ omega (arith, lt, other) ] in
+            let early : j < i =
+            elim (cases_eq j i) [ inl last ↦ absurd (apart (rw last refl)) | inr other ↦ omega (arith, lt, other) ] in
             get_or-set_other counts x (get_or nodes j 0) c.args.count 0 apart ∙ before.these j early
       ];
       others = λ z out. get_or-set_other counts x z c.args.count 0 (λ same. out i (omega arith) (sym same))

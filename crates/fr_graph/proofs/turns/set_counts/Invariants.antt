@@ -6,5 +6,6 @@ abbrev pub invariant-loop-x : goal.invariant-loop-x
 invariant-loop-x l = record {
   one_each : length l.counts ≡ length l.fn.counts;
   these : (j : ℕ) → j < l.x-index → get_or l.counts (get_or l.nodes j 0) 0 ≡ l.count;
-  others : (z : ℕ) → ((j : ℕ) → j < l.x-index → ¬ (get_or l.nodes j 0 ≡ z)) → get_or l.counts z 0 ≡ get_or l.fn.counts z 0;
+  others : (z : ℕ) → ((j : ℕ) → j < l.x-index → ¬ (get_or l.nodes j 0 ≡ z))
+      → get_or l.counts z 0 ≡ get_or l.fn.counts z 0;
 }

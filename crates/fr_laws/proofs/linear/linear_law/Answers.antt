@@ -1,4 +1,5 @@
-use Rattle.fr_laws.proofs.InOrder.{held_after_a_turn, knowledge_is_kept, later_is_behind, later_is_fresh, none_holds_the_destination}
+use Rattle.fr_laws.proofs.InOrder.{held_after_a_turn, knowledge_is_kept, later_is_behind, later_is_fresh}
+use Rattle.fr_laws.proofs.InOrder.{none_holds_the_destination}
 use Rattle.fr_laws.proofs.InTime.{calls_are_linearizable}
 use Rattle.fr_laws.proofs.linear.linear_law.Goals as goal
 

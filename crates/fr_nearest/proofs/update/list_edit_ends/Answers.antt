@@ -13,7 +13,8 @@ returns-then-list_if_affected-clause-listed c = λ t.
     let table = c.args.distances.now in
     rw (c.in-Cut.is, c.in-Lost.is) (ends_seen Lost (Touches Lost (Cut u v)) u v
     (slice_index table v) no_distance (slice_index table u) no_distance (λ x w ends. ends) (λ a. a) (λ a. a)
-    (c.list_if_affected.ensures.listed c.if-list_if_affected.true) (c.list_if_affected-then-list_if_affected.ensures.listed t))
+    (c.list_if_affected.ensures.listed c.if-list_if_affected.true)
+    (c.list_if_affected-then-list_if_affected.ensures.listed t))
 
 pub returns-then-list_if_affected-2-clause-listed : goal.returns-then-list_if_affected-2-clause-listed
 returns-then-list_if_affected-2-clause-listed c = λ t.

@@ -7,7 +7,8 @@ use Rattle.fr_nearest.proofs.Entries.{entry_inside}
 use Rattle.fr_nearest.proofs.Listing.{row_all, row_first, row_listed, row_none}
 use Rattle.fr_nearest.proofs.update.list_turned_node.Goals as goal
 use Rattle.fr_nearest.proofs.update.list_turned_node.Goals.{then-eq+then-is_affected_by, else-eq}
-use Rattle.fr_nearest.proofs.update.list_turned_node.Goals.{else-eq-via-then-eq+else-is_affected_by, else-eq-via-else-eq}
+use Rattle.fr_nearest.proofs.update.list_turned_node.Goals.{else-eq-via-then-eq+else-is_affected_by}
+use Rattle.fr_nearest.proofs.update.list_turned_node.Goals.{else-eq-via-else-eq}
 
 pub bounds-distances-w : goal.bounds-distances-w
 bounds-distances-w c = entry_inside c.args.net.now c.args.x c.row-row.result.now c.loop-w.w-index c.args.distances.now
@@ -39,7 +40,8 @@ loop-w-preserved c =
       | else-eq w ↦ rw w.list-is record {
         row = row_none c.loop-w-test.true (elim w.else-eq.branch [
           | else-eq-via-then-eq+else-is_affected_by v ↦ λ _. v.is_affected_by.ensures (λ e. search rules)
-          | else-eq-via-else-eq v ↦ λ seen. let other : ¬ (entry.1 ≡ c.direction_for_turned-seen.result) = search rules in
+          | else-eq-via-else-eq v ↦ λ seen. let other : ¬ (entry.1 ≡ c.direction_for_turned-seen.result) =
+              search rules in
               absurd (other (seen ∙ sym c.direction_for_turned-seen.ensures))
         ]) inv.row;
         room = inv.room;

@@ -12,7 +12,8 @@ loop-read-preserved c =
     sym (get_or_read list.items c.loop-read.read c.index.result.now left c.index.ensures 0) in
     let u = c.raise_distance.ensures.raised c.if-not-raise_distance.false in
     record {
-      raising = raising_less c.loop-read.read c.index.result.now inv.raising left at c.raise_distance.ensures.one_each u;
+      raising =
+          raising_less c.loop-read.read c.index.result.now inv.raising left at c.raise_distance.ensures.one_each u;
       room = c.raise_distance.ensures.room ∙ inv.room;
     }
 

@@ -14,7 +14,8 @@ loop-at-preserved c =
     let u = c.update_distance.ensures.updated c.if-not-update_distance.false in
     record {
       pending = pending_less c.loop-at.at c.index.result.now inv.pending left at c.update_distance.ensures.one_each u;
-      others = λ before keeps. keeps_others before c.loop-at.distances list.items c.update_distance.new.distances u.added
+      others =
+          λ before keeps. keeps_others before c.loop-at.distances list.items c.update_distance.new.distances u.added
           c.loop-at.at c.index.result.now (inv.others before keeps) left at u.all u.others;
       room = c.update_distance.ensures.room ∙ inv.room;
     }

@@ -21,7 +21,8 @@ loop-w-preserved c =
     omega (arith, inv.few, inside, ap length c.row-row.ensures, c.requires.room, inv.same) in
     record {
       ranked = ranked_more net.nodes net.links c.args.x c.row-row.result.now place c.row-row.ensures inside
-          c.points_away-is_out.result c.loop-w.ranks c.loop-w.count c.points_away-is_out.ensures room put.written put.way put.other inv.ranked;
+          c.points_away-is_out.result c.loop-w.ranks c.loop-w.count c.points_away-is_out.ensures room put.written
+          put.way put.other inv.ranked;
       few = omega (arith, inv.few, put.few);
       same = ap length put.written ∙ length-set _ _ _ ∙ inv.same;
     }

@@ -25,7 +25,8 @@ loop-w-preserved c =
     omega (arith, inv.few, inside, ap length c.row-row.ensures, c.requires.room, inv.same) in
     record {
       ranked = ranked_more net.nodes net.links c.args.x c.row-row.result.now place c.row-row.ensures inside
-          c.pointed_away-is_out.result c.loop-w.ranks c.loop-w.count c.pointed_away-is_out.ensures room put.written put.way put.other inv.ranked;
+          c.pointed_away-is_out.result c.loop-w.ranks c.loop-w.count c.pointed_away-is_out.ensures room put.written
+          put.way put.other inv.ranked;
       few = omega (arith, inv.few, put.few);
       same = ap length put.written ∙ length-set _ _ _ ∙ inv.same;
     }
@@ -35,7 +36,8 @@ returns-clause-ranked c =
     let net = c.args.net.now in
     let entries = row net.nodes net.links c.args.x in
     let place = c.loop-w.w-index in
-    let ranked : AreRankedTo (WasOut c.args.counts.now c.args.x) c.args.distances.now entries place (take c.loop-w.count c.loop-w.ranks) =
+    let ranked : AreRankedTo (WasOut c.args.counts.now c.args.x) c.args.distances.now entries place
+    (take c.loop-w.count c.loop-w.ranks) =
     rw c.row-row.ensures at c.loop-w.invariant.ranked in
     let end : length entries ≤ place = omega (arith, c.loop-w-test.false, ap length c.row-row.ensures) in
     λ links had.

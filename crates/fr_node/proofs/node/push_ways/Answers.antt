@@ -18,12 +18,14 @@ loop-link-preserved c =
         few = omega (arith, length_pushed _ _ _ items, before.few);
         listed = pushed _ _ _ _ items before.listed
             ∙ ap (λ (v : Way). so_far ++ v ∷ []) w.way.ensures
-            ∙ sym (listed_more (is_way own) way_of links _ _ c.loop-link-test.true (sym c.is_way.ensures ∙ w.if-is_way.true));
+            ∙ sym (listed_more (is_way own) way_of links _ _ c.loop-link-test.true (sym c.is_way.ensures
+            ∙ w.if-is_way.true));
       })
       | else-is_way w ↦ rw w.ways-is (record {
         room = before.room;
         few = omega (arith, before.few);
-        listed = before.listed ∙ sym (listed_same (is_way own) way_of links _ _ c.loop-link-test.true (sym c.is_way.ensures
+        listed =
+            before.listed ∙ sym (listed_same (is_way own) way_of links _ _ c.loop-link-test.true (sym c.is_way.ensures
             ∙ w.if-is_way.false));
       })
     ]

@@ -14,7 +14,11 @@ returns-then-x-nodes-clause-same c =
     let out : k.nodes ≤ x = search rules in
     let table = last_is_table k.nodes k.known c.history_law.ensures in
     let same = slice_get_past (last_table k) x (omega (arith, out, table.one_each))
-    ∙ sym (slice_get_past (padded k.nodes c.args.hops.now) x (omega (arith, out, padded_length k.nodes c.args.hops.now c.requires))) in
+    ∙ sym (slice_get_past (padded k.nodes c.args.hops.now) x (omega (
+      arith,
+      out,
+      padded_length k.nodes c.args.hops.now c.requires,
+    ))) in
     (λ _. same, λ _. search rules)
 
 pub returns-clause-same : goal.returns-clause-same
@@ -25,7 +29,8 @@ returns-clause-same c =
     let low : x < k.nodes = search rules in
     let inside : x < length (padded k.nodes hops) = omega (arith, low, padded_length k.nodes hops c.requires) in
     let is : slice_get (padded k.nodes hops) x ≡ Some c.hop_in.result =
-    slice_get-get_or (padded k.nodes hops) x Here inside ∙ ap Some (padded_hop k.nodes hops x inside ∙ sym c.hop_in.ensures) in
+    slice_get-get_or (padded k.nodes hops) x Here inside
+    ∙ ap Some (padded_hop k.nodes hops x inside ∙ sym c.hop_in.ensures) in
     let test : IsTrue c.eq.result ↔ (c.hop.result ≡ c.hop_in.result) = search rules in (
       λ t. c.hop.ensures.hop ∙ (ap Some (test.0 t) ∙ sym is),
       λ same. test.1 (same_Some c.hop.result c.hop_in.result (sym c.hop.ensures.hop ∙ (same ∙ is))),

@@ -21,7 +21,8 @@ push_rerouted_hops-requires-clause-can c =
 
 pub returns : goal.returns
 returns c = elim c.match-router.branch [
-  | in-Some+in_ok-rerouted w ↦ subst (HasHopsOf c.args.session.now) (sym w.publisher-is) w.push_rerouted_hops.ensures.has
+  | in-Some+in_ok-rerouted w ↦ subst (HasHopsOf c.args.session.now) (sym w.publisher-is)
+      w.push_rerouted_hops.ensures.has
   | in_default w ↦ subst (HasHopsOf c.args.session.now) (sym w.publisher-is)
       (subst (λ (s : Option State). HasHopsOf s c.in_ok-publisher.publisher) w.in_default.ensures
       (opened_blank c.in_ok-publisher.publisher c.in_ok-publisher.ensures.nodes c.in_ok-publisher.ensures.none_yet))

@@ -26,7 +26,8 @@ returns-then-has_hop c =
     let found : Contains nodes x = search rules in
     subst (Publishes k s nodes) (sym c.has_hop.ensures.kept)
     (has_already k s nodes c.requires.can.largest
-    (one_is_there k s nodes c.requires.settled hops c.hops_in-hops.ensures c.requires.can x found (c.has_hop.ensures.same.0 c.if-has_hop.true)))
+    (one_is_there k s nodes c.requires.settled hops c.hops_in-hops.ensures c.requires.can x found
+    (c.has_hop.ensures.same.0 c.if-has_hop.true)))
 
 pub push_all-requires-clause-new : goal.push_all-requires-clause-new
 push_all-requires-clause-new c =
@@ -44,7 +45,8 @@ push_all-requires-clause-order c =
     let not_true : ¬ IsTrue c.has_hop.result = search rules in
     subst (λ (q : Knowledge). IsPushOrder (last_table q) (padded q.nodes hops) nodes) (sym c.has_hop.ensures.kept)
     (subst (λ (n : ℕ). IsPushOrder (last_table k) (padded n hops) nodes) (sym c.requires.can.largest)
-    (leads_here k c.args.session.now nodes c.requires.settled hops c.hops_in-hops.ensures c.requires.can x (λ has. not_true (c.has_hop.ensures.same.1 has))))
+    (leads_here k c.args.session.now nodes c.requires.settled hops c.hops_in-hops.ensures c.requires.can x
+    (λ has. not_true (c.has_hop.ensures.same.1 has))))
 
 pub returns : goal.returns
 returns c =
@@ -53,7 +55,8 @@ returns c =
     let nodes : List ℕ = c.args.rerouted.now in
     let hops = c.hops_in-hops.result.now in
     let kept : c.has_hop.new.publisher ≡ k = c.has_hop.ensures.kept in
-    let n : c.has_hop.new.publisher.nodes ≡ most_nodes = ap (λ (q : Knowledge). q.nodes) kept ∙ c.requires.can.largest in
+    let n : c.has_hop.new.publisher.nodes ≡ most_nodes =
+    ap (λ (q : Knowledge). q.nodes) kept ∙ c.requires.can.largest in
     let not_true : ¬ IsTrue c.has_hop.result = search rules in
     let order = leads_here k s nodes c.requires.settled hops c.hops_in-hops.ensures c.requires.can c.in-Some.first.now
     (λ has. not_true (c.has_hop.ensures.same.1 has)) in

@@ -17,7 +17,8 @@ set_listed_ways-requires-clause-long c = c.requires.altered.had.one_each
 pub set_listed_ways-requires-clause-nodes : goal.set_listed_ways-requires-clause-nodes
 set_listed_ways-requires-clause-nodes c =
     let p : WayPushes = pushes_in c.args.reroutes.now in
-    rw c.deref.ensures.value (all_low c.args.wanted.now c.args.router.now p c.requires.altered c.list_nodes.new.list.items
+    rw c.deref.ensures.value
+    (all_low c.args.wanted.now c.args.router.now p c.requires.altered c.list_nodes.new.list.items
     (rw (c.shrink_of.ensures.nodes, c.grow_of.ensures.nodes) at c.list_nodes.ensures.these))
 
 pub returns-clause-first : goal.returns-clause-first
@@ -38,4 +39,5 @@ returns-clause-listed c =
     altered_listed c.args.wanted.now c.args.router.now p c.requires.altered c.list_nodes.new.list.items
     (rw (c.shrink_of.ensures.nodes, c.grow_of.ensures.nodes) at c.list_nodes.ensures.these) c.set_listed_ways.new.wanted
     c.set_listed_ways.ensures.same.1 (rw c.deref.ensures.value at c.set_listed_ways.ensures.listed)
-    (rw c.deref.ensures.value at c.set_listed_ways.ensures.others) c.list_nodes.ensures.by_number c.router_law.ensures.few
+    (rw c.deref.ensures.value at c.set_listed_ways.ensures.others) c.list_nodes.ensures.by_number
+    c.router_law.ensures.few

@@ -21,4 +21,5 @@ pub returns-in-None-clause-ways : goal.returns-in-None-clause-ways
 returns-in-None-clause-ways c =
     let wanted = c.clear_ways_from-in-None.new.wanted in
     subst (λ (s : Option State). AreFirstWays s wanted) (sym c.in-None.ensures.value)
-    (all_blank wanted c.clear_ways_from-in-None.ensures.long (λ x. c.clear_ways_from-in-None.ensures.none x (omega arith)))
+    (all_blank wanted c.clear_ways_from-in-None.ensures.long
+    (λ x. c.clear_ways_from-in-None.ensures.none x (omega arith)))

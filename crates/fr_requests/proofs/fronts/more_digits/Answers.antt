@@ -15,5 +15,6 @@ more-preserved c =
       omega (arith, c.more.invariant),
       small,
       c.more.invariant.2 ∙ ap (λ bytes. decimal n ++ bytes)
-          (front_and_rest (digit ∷ []) rest c.in-48-to-57.len_at_least (refl, tt)) ∙ one_digit_more n digit m _ is c.more.invariant.0 low high (omega arith),
+          (front_and_rest (digit ∷ []) rest c.in-48-to-57.len_at_least (refl, tt))
+          ∙ one_digit_more n digit m _ is c.more.invariant.0 low high (omega arith),
     )

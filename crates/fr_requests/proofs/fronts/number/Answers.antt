@@ -1,4 +1,5 @@
-use Rattle.std.proofs.Common.{List, Option, None, Some, IfSome, Bor, [], ap, arith, decimal, drop, get_or, length, refl, sym, take, ℕ, ◌+◌, ◌++◌, ◌-◌}
+use Rattle.std.proofs.Common.{List, Option, None, Some, IfSome, Bor, [], ap, arith, decimal, drop, get_or, length, refl}
+use Rattle.std.proofs.Common.{sym, take, ℕ, ◌+◌, ◌++◌, ◌-◌}
 use Rattle.std.proofs.Common.{◌∙◌, ◌∷◌, ◌≡◌, ◌≤◌}
 use Rattle.std.proofs.lemmas.Fmt.{decimal_digit}
 use Rattle.fr_requests.proofs.FoundBytes.{front_and_rest}
@@ -22,7 +23,10 @@ returns-in-49-to-57 c =
     let glyph : digit ≡ 48 + start = omega (arith, c.from.ensures) in
     let said : text ≡ decimal start ++ behind =
     front_and_rest (digit ∷ []) text c.in-49-to-57.len_at_least (refl, tt)
-    ∙ ap (λ d. d ∷ behind) glyph ∙ ap (λ digits. digits ++ behind) (sym (decimal_digit start (omega (arith, c.from.ensures)))) in
+    ∙ ap (λ d. d ∷ behind) glyph ∙ ap (λ digits. digits ++ behind) (sym (decimal_digit start (omega (
+      arith,
+      c.from.ensures,
+    )))) in
     go behind (decimal start) said c.more_digits.result c.more_digits.ensures
   where
     go : {text : List ℕ} (behind digits : List ℕ) → text ≡ digits ++ behind → (found : Option (ℕ × Bor (List ℕ)))

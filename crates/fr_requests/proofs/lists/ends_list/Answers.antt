@@ -5,4 +5,5 @@ use Rattle.fr_requests.proofs.FrontTexts.{begins_more}
 use Rattle.fr_requests.proofs.lists.ends_list.Goals as goal
 
 pub returns-in-Some : goal.returns-in-Some
-returns-in-Some c over = begins_more _ _ _ (token end_array ∷ []) (token end_array ∷ []) c.in-Some.ensures.read (c.ends_line.ensures over)
+returns-in-Some c over =
+    begins_more _ _ _ (token end_array ∷ []) (token end_array ∷ []) c.in-Some.ensures.read (c.ends_line.ensures over)

@@ -26,7 +26,8 @@ returns-in-None-clause-ok g c =
     let x = c.in-Some.item in
     let all : c.push.new.self.items ≡ before ++ x ∷ [] = c.in_ok-push.ensures.items in
     let listed : c.ends_list.result ≡ true
-    → Begins c.args.text.now (list_lexemes of_one c.push.new.self.items ++ token end_array ∷ []) [] × Each g.T.Item.IsSmall c.push.new.self.items =
+    → Begins c.args.text.now (list_lexemes of_one c.push.new.self.items ++ token end_array ∷ []) []
+    × Each g.T.Item.IsSmall c.push.new.self.items =
     λ over. rw all (
       list_closes of_one _ _ _ before x c.items.invariant.0 c.in-Some.ensures.read (c.ends_list.ensures over),
       Each-snoc g.T.Item.IsSmall before x c.items.invariant.1 c.in-Some.ensures.small,

@@ -8,7 +8,8 @@ use Rattle.fr_requests.proofs.no_requests.are_numbers.Goals as goal
 
 pub numbers-smaller : goal.numbers-smaller
 numbers-smaller c =
-    let less : length (lex between c.in-Some.behind.now) < length (lex between c.numbers.rest.now) = omega (arith, ap length c.in-Some.ensures.0) in
+    let less : length (lex between c.in-Some.behind.now) < length (lex between c.numbers.rest.now) =
+    omega (arith, ap length c.in-Some.ensures.0) in
     less
 
 pub numbers-preserved : goal.numbers-preserved
@@ -19,7 +20,8 @@ numbers-preserved c =
       before ++ n ∷ [],
       Each-snoc IsSmall before n c.numbers.invariant.1 small,
       rw (← one_more_before_comma number_lexemes before n)
-          (begins_more _ _ _ (each_before_comma number_lexemes before) (number_lexeme n ∷ comma ∷ []) c.numbers.invariant.2 c.in-Some.ensures),
+          (begins_more _ _ _ (each_before_comma number_lexemes before) (number_lexeme n ∷ comma
+          ∷ []) c.numbers.invariant.2 c.in-Some.ensures),
     )
 
 pub returns-then-ends_line : goal.returns-then-ends_line
@@ -30,9 +32,12 @@ returns-in-Some-number_before c over =
     let before = c.numbers.invariant.0 in
     let last = c.in-Some-number_before._last in
     let small : last < 2 ^ 32 = grind arith in
-    let end = begins_more _ _ _ (number_lexeme last ∷ token end_array ∷ []) [] c.in-Some-number_before.ensures (c.is_only_space.ensures.read over) in (
+    let end =
+    begins_more _ _ _ (number_lexeme last ∷ token end_array
+    ∷ []) [] c.in-Some-number_before.ensures (c.is_only_space.ensures.read over) in (
       before ++ last ∷ [],
       Each-snoc IsSmall before last c.numbers.invariant.1 small,
       rw (← last_before_bracket number_lexemes before last)
-          (begins_more _ _ _ (each_before_comma number_lexemes before) (number_lexeme last ∷ token end_array ∷ []) c.numbers.invariant.2 end),
+          (begins_more _ _ _ (each_before_comma number_lexemes before) (number_lexeme last ∷ token end_array
+          ∷ []) c.numbers.invariant.2 end),
     )

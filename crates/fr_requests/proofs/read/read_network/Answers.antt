@@ -1,4 +1,5 @@
-use Rattle.std.proofs.Common.{List, Some, [], ap, arith, get_or, length, map, ok_or, option_and_then, option_map, sym, ℕ, ◌<◌, ◌∙◌, ◌∷◌, ◌≡◌, ◌≤◌}
+use Rattle.std.proofs.Common.{List, Some, [], ap, arith, get_or, length, map, ok_or, option_and_then, option_map, sym}
+use Rattle.std.proofs.Common.{ℕ, ◌<◌, ◌∙◌, ◌∷◌, ◌≡◌, ◌≤◌}
 use Rattle.serde_json.specs.View.{view}
 use Rattle.serde_json.specs.declared.value.Value.{Value}
 use Rattle.fr_requests.specs.Requests.{links_in, network_request, new_network, number_in}
@@ -17,8 +18,10 @@ network_of : (n d ls : Value) (nodes dest : ℕ) (links : List (ℕ × ℕ)) →
     → number_in (view d) ≡ Some dest → links_in (view ls) ≡ Some links
     → network_request (view n ∷ view d ∷ view ls ∷ []) ≡ Some (new_network nodes dest links)
 network_of n d ls nodes dest links first second third =
-    ap (option_and_then (λ x. option_and_then (λ y. option_map (new_network x y) (links_in (view ls))) (number_in (view d)))) first
-    ∙ ap (option_and_then (λ y. option_map (new_network nodes y) (links_in (view ls)))) second ∙ ap (option_map (new_network nodes dest)) third
+    ap (option_and_then (λ x. option_and_then (λ y. option_map (new_network x y) (links_in (view ls)))
+    (number_in (view d)))) first
+    ∙ ap (option_and_then (λ y. option_map (new_network nodes y) (links_in (view ls)))) second
+    ∙ ap (option_map (new_network nodes dest)) third
 
 pub returns : goal.returns
 returns c =
@@ -26,7 +29,9 @@ returns c =
     let d = c.dest-item.result in
     let ls = c.links-item.result in
     let found = c.in-Some-Some in
-    let whole = three_items c.args.rest.now n d ls c.in-len3.len_at_least c.in-len3.len_below c.nodes-item.is c.dest-item.is c.links-item.is in
+    let whole =
+    three_items c.args.rest.now n d ls c.in-len3.len_at_least c.in-len3.len_below c.nodes-item.is c.dest-item.is
+    c.links-item.is in
     let is = network_of n d ls found.nodes found.dest c.in_ok-links.links.items (sym c.number.ensures ∙ found.is-0)
     (sym c.number-2.ensures ∙ found.is-1) c.in_ok-links.ensures.ok in
     (ap (λ items. ok_or (network_request (map view items)) NotRequest) whole ∙ ap (λ o. ok_or o NotRequest) is, tt)

@@ -47,11 +47,13 @@ returns-in-links c = rw c.in-links.is (told _ _ c.read_question.ensures.ok c.rea
 
 pub returns-in-counts : goal.returns-in-counts
 unfolding request_of_word
-returns-in-counts c = rw c.in-counts.is (told _ _ c.read_question-in-counts.ensures.ok c.read_question-in-counts.ensures.refused)
+returns-in-counts c =
+    rw c.in-counts.is (told _ _ c.read_question-in-counts.ensures.ok c.read_question-in-counts.ensures.refused)
 
 pub returns-in-hops : goal.returns-in-hops
 unfolding request_of_word
-returns-in-hops c = rw c.in-hops.is (told _ _ c.read_question-in-hops.ensures.ok c.read_question-in-hops.ensures.refused)
+returns-in-hops c =
+    rw c.in-hops.is (told _ _ c.read_question-in-hops.ensures.ok c.read_question-in-hops.ensures.refused)
 
 pub returns-in-ways : goal.returns-in-ways
 unfolding request_of_word
@@ -59,7 +61,8 @@ returns-in-ways c = rw c.in-ways.is (told _ _ c.read_ways.ensures.ok c.read_ways
 
 pub returns-in-nearest : goal.returns-in-nearest
 unfolding request_of_word
-returns-in-nearest c = rw c.in-nearest.is (told _ _ c.read_node_question.ensures.ok c.read_node_question.ensures.refused)
+returns-in-nearest c =
+    rw c.in-nearest.is (told _ _ c.read_node_question.ensures.ok c.read_node_question.ensures.refused)
 
 pub returns-in-pushes : goal.returns-in-pushes
 unfolding request_of_word

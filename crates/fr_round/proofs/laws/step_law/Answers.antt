@@ -1,4 +1,5 @@
-use Rattle.fr_round.proofs.SameSteps.{exchange_same, look_begins_same, look_ends_same, neighbour_load_same, own_load_same}
+use Rattle.fr_round.proofs.SameSteps.{exchange_same, look_begins_same, look_ends_same, neighbour_load_same}
+use Rattle.fr_round.proofs.SameSteps.{own_load_same}
 use Rattle.fr_round.proofs.laws.step_law.Goals as goal
 
 pub returns-clause-own : goal.returns-clause-own

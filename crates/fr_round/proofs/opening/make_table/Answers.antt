@@ -14,7 +14,8 @@ of_words-requires c =
     let g = c.args.round_setup.now in
     subst (λ (ws : List ℕ). KeepsRule {S = Unit {0}} (setup_of g) (opening ws [] (opening_view (setup_of g))))
     (sym (c.as_slice.ensures.value
-    ∙ (c.in_ok-words.ensures ∙ ap (λ (n : ℕ). replicate n 0) c.nodes-nodes.ensures.value))) (first_keeps (setup_of g) [] c.requires.net).0
+    ∙ (c.in_ok-words.ensures
+    ∙ ap (λ (n : ℕ). replicate n 0) c.nodes-nodes.ensures.value))) (first_keeps (setup_of g) [] c.requires.net).0
 
 pub loop-number-init : goal.loop-number-init
 loop-number-init c =
@@ -35,14 +36,18 @@ pub split_seat-seat-requires : goal.split_seat-seat-requires
 split_seat-seat-requires c =
     let d = c.loop-number.invariant.0 in
     let v = c.loop-number.opening.me.0 in
-    let few : 0 < c.in_ok-table.table.shared.table_id.words = let w = d.table.words in let r = c.requires.dest in omega arith in
+    let few : 0 < c.in_ok-table.table.shared.table_id.words = let w = d.table.words in let r = c.requires.dest in
+    omega arith in
     let more : v.next < c.in_ok-table.table.shared.key.workers = let e : v.next ≡ c.loop-number.number =
-    ap (λ (u : View). u.next) d.view in let k : c.in_ok-table.table.shared.key.workers ≡ c.args.round_setup.now.workers =
+    ap (λ (u : View). u.next) d.view in let k : c.in_ok-table.table.shared.key.workers
+    ≡ c.args.round_setup.now.workers =
     ap (λ (z : RoundSetup). z.workers) d.table.key in let t = c.loop-number-test.true in omega arith in (
       d.seat_table,
       few,
       kept_split (setup_of c.in_ok-table.table.shared.key) c.loop-number.opening.id v _ _
-          (λ list. splits (setup_of c.in_ok-table.table.shared.key) list c.loop-number.opening.id v (ap (λ (u : View). u.opens) d.view) (ap (λ (u : View). u.works) d.view) (ap (λ (u : View). u.closes) d.view) more),
+          (λ list. splits (setup_of c.in_ok-table.table.shared.key) list c.loop-number.opening.id v
+          (ap (λ (u : View). u.opens) d.view) (ap (λ (u : View). u.works) d.view) (ap (λ (u : View). u.closes) d.view)
+          more),
     )
 
 pub returns-clause-table : goal.returns-clause-table
@@ -50,6 +55,8 @@ returns-clause-table c = c.loop-number.invariant.0.table
 
 pub returns-clause-workers : goal.returns-clause-workers
 returns-clause-workers c =
-    let end : c.loop-number.number ≡ c.args.round_setup.now.workers = let a = c.loop-number-test.false in let b = c.loop-number.auto.number-end in omega arith in
+    let end : c.loop-number.number ≡ c.args.round_setup.now.workers = let a = c.loop-number-test.false in
+    let b = c.loop-number.auto.number-end in omega arith in
     let t = c.in_ok-table.table.shared in
-    subst (λ (k : ℕ). c.loop-number.workers.items ≡ new_workers t.table_id (setup_of c.args.round_setup.now) k) end c.loop-number.invariant.1
+    subst (λ (k : ℕ). c.loop-number.workers.items
+    ≡ new_workers t.table_id (setup_of c.args.round_setup.now) k) end c.loop-number.invariant.1

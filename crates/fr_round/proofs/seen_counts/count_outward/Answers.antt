@@ -9,4 +9,11 @@ overflow_add-outward c =
     let net = c.args.net.now in
     let same : length c.row-first-items.result.now ≡ length (row net.nodes net.links c.args.x) =
     ap (λ (l : List (ℕ × First)). length l) c.row-first-items.ensures in
-    omega (arith, length-row-le net.nodes net.links c.args.x, same, c.loop-first.invariant.few, c.loop-first-test.true, c.network_law.ensures.limits.nodes_few)
+    omega (
+      arith,
+      length-row-le net.nodes net.links c.args.x,
+      same,
+      c.loop-first.invariant.few,
+      c.loop-first-test.true,
+      c.network_law.ensures.limits.nodes_few,
+    )

@@ -4,7 +4,8 @@ use Rattle.fr_graph.specs.Rows.{row}
 use Rattle.fr_graph.specs.declared.first.First.{First}
 use Rattle.fr_graph.specs.declared.first.First.TheVariants.{Outward}
 use Rattle.fr_round.specs.Missing.{misses}
-use Rattle.fr_round.proofs.MissingNumbers.{IsLoweredTo, all_counted, all_lowered, newly_meets_bound, counted_on, lowered_no, lowered_yes, one_at_most}
+use Rattle.fr_round.proofs.MissingNumbers.{IsLoweredTo, all_counted, all_lowered, newly_meets_bound, counted_on}
+use Rattle.fr_round.proofs.MissingNumbers.{lowered_no, lowered_yes, one_at_most}
 use Rattle.fr_round.proofs.MissingNumbers.{other_node, room_to_lower}
 use Rattle.fr_round.proofs.seen_counts.update_row_for_count.Goals as goal
 use Rattle.fr_round.proofs.seen_counts.update_row_for_count.Goals.{then-newly_meets_bound, else-newly_meets_bound}
@@ -29,8 +30,10 @@ overflow_sub-missing c =
     let counts = c.args.counts.now in
     let had : ℕ = slice_index counts c.args.y in
     let e = get_or c.row-neighbour-items.result.now c.loop-neighbour.neighbour-index (0, Outward) in
-    let begins : newly_meets_bound counts had c.args.count e ≡ true = sym c.newly_meets_bound.ensures ∙ c.if-newly_meets_bound.true in
-    room_to_lower net.nodes net.links c.row-neighbour-items.result.now counts c.loop-neighbour.missing c.args.y c.args.count
+    let begins : newly_meets_bound counts had c.args.count e ≡ true =
+    sym c.newly_meets_bound.ensures ∙ c.if-newly_meets_bound.true in
+    room_to_lower net.nodes net.links c.row-neighbour-items.result.now counts c.loop-neighbour.missing c.args.y
+    c.args.count
     c.loop-neighbour.neighbour-index c.network_law.ensures.is_net c.row-neighbour-items.ensures c.requires.node
     c.requires.one_each.0 c.requires.up c.loop-neighbour.invariant.lowered c.loop-neighbour-test.true begins
 
@@ -62,13 +65,16 @@ loop-neighbour-preserved c =
           let room = room_to_lower net.nodes net.links list counts c.loop-neighbour.missing y count j is_net
           c.row-neighbour-items.ensures c.requires.node c.requires.one_each.0 c.requires.up
           c.loop-neighbour.invariant.lowered c.loop-neighbour-test.true begins in record {
-            lowered = subst (λ (m : List ℕ). IsLoweredTo net.nodes net.links list counts m y count (j + 1)) (sym w.missing-is)
+            lowered =
+                subst (λ (m : List ℕ). IsLoweredTo net.nodes net.links list counts m y count (j + 1)) (sym w.missing-is)
                 (lowered_yes net.nodes net.links list counts c.loop-neighbour.missing y count j is_net
-                c.row-neighbour-items.ensures c.loop-neighbour.invariant.lowered c.loop-neighbour-test.true begins room);
+                c.row-neighbour-items.ensures c.loop-neighbour.invariant.lowered c.loop-neighbour-test.true begins
+                room);
             counted = passed;
           }
       | else-newly_meets_bound w ↦ record {
-        lowered = subst (λ (m : List ℕ). IsLoweredTo net.nodes net.links list counts m y count (j + 1)) (sym w.missing-is)
+        lowered =
+            subst (λ (m : List ℕ). IsLoweredTo net.nodes net.links list counts m y count (j + 1)) (sym w.missing-is)
             (lowered_no net.nodes net.links list counts c.loop-neighbour.missing y count j
             c.loop-neighbour.invariant.lowered c.loop-neighbour-test.true (tested ∙ w.if-newly_meets_bound.false));
         counted = passed;

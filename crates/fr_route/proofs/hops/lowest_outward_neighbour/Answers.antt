@@ -9,5 +9,6 @@ returns-then-eq c =
     (search rules) c.loop-w.invariant
 
 pub returns : goal.returns
-returns c = none_out c.args.net.now.nodes c.args.net.now.links c.args.x c.network_law.ensures.is_net c.row-row.result.now
+returns c =
+    none_out c.args.net.now.nodes c.args.net.now.links c.args.x c.network_law.ensures.is_net c.row-row.result.now
     c.row-row.ensures c.loop-w.w-index c.loop-w-test.false c.loop-w.invariant

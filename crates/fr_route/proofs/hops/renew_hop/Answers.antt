@@ -14,7 +14,9 @@ pub returns-then-is_same_hop : goal.returns-then-is_same_hop
 returns-then-is_same_hop c =
     let s : State = state_after c.args.round.now in
     record {
-      renewed = renewed_right s c.args.hops.now c.args.x c.hop_of-hop.result Here c.hop_of-hop.ensures (c.is_same_hop.ensures.0 c.if-is_same_hop.true);
+      renewed =
+          renewed_right s c.args.hops.now c.args.x c.hop_of-hop.result Here c.hop_of-hop.ensures
+          (c.is_same_hop.ensures.0 c.if-is_same_hop.true);
       noted = notes_none s c.args.hops.now c.args.told.now;
     }
 

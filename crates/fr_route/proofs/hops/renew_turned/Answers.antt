@@ -21,7 +21,8 @@ renew_node_and_senders-requires-clause-node c =
     omega (
       arith,
       c.requires.round.round.counts.one_each,
-      turned_below c.args.round.now.turns.now c.nodes-x-items.result.now c.nodes-x-items.ensures c.loop-x.x-index 0 c.loop-x-test.true,
+      turned_below c.args.round.now.turns.now c.nodes-x-items.result.now c.nodes-x-items.ensures c.loop-x.x-index 0
+          c.loop-x-test.true,
     )
 
 pub loop-x-preserved : goal.loop-x-preserved
@@ -33,7 +34,8 @@ loop-x-preserved c =
     let near = c.renew_node_and_senders.ensures in
     record {
       renewed = renewed_then s c.args.hops.now c.loop-x.hops c.renew_node_and_senders.new.hops (λ y hop. (j : ℕ) → j < k
-          → ¬ SendsTo links (get_or nodes j 0) y hop) (λ y hop. ¬ SendsTo links (get_or nodes k 0) y hop) (λ y hop. (j : ℕ)
+          → ¬ SendsTo links (get_or nodes j 0) y hop) (λ y hop. ¬ SendsTo links (get_or nodes k 0) y hop)
+          (λ y hop. (j : ℕ)
           → j < k + 1 → ¬ SendsTo links (get_or nodes j 0) y hop)
           c.loop-x.invariant.renewed near.renewed
           (λ y hop before apart j low. ⊎_elim
@@ -49,7 +51,8 @@ returns-clause-renewed c =
     let s : State = state_after c.args.round.now in
     let links = c.args.round.now.net.now.links in
     let nodes : List ℕ = c.nodes-x-items.result.now in
-    renewed_as s c.args.hops.now c.loop-x.hops (λ y hop. (j : ℕ) → j < c.loop-x.x-index → ¬ SendsTo links (get_or nodes j 0) y hop) _ c.loop-x.invariant.renewed
+    renewed_as s c.args.hops.now c.loop-x.hops (λ y hop. (j : ℕ) → j < c.loop-x.x-index
+    → ¬ SendsTo links (get_or nodes j 0) y hop) _ c.loop-x.invariant.renewed
     (λ y hop earlier (z, (some, sends)).
     let at = (c.nodes-x-items.ensures.each z).1 some in
     let is : get_or nodes at.0 0 ≡ z = get_or_default nodes at.0 0 z at.1 ∙ at.2 in

@@ -4,4 +4,5 @@ use Rattle.fr_route.specs.Separated.{separated}
 use Rattle.fr_route.proofs.json.links_object.Given as goal
 
 abbrev pub invariant-loop-link : goal.invariant-loop-link
-invariant-loop-link l = string_bytes l.line ++ (separated link_json l.first l.link-iterator ++ codes "]}") ≡ links_json l.fn.links
+invariant-loop-link l =
+    string_bytes l.line ++ (separated link_json l.first l.link-iterator ++ codes "]}") ≡ links_json l.fn.links

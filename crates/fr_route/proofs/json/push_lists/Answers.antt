@@ -1,4 +1,5 @@
-use Rattle.std.proofs.Common.{List, ap, arith, drop, false, length, map, slice_index, string_bytes, sym, ℕ, ◌+◌, ◌++◌, ◌<◌, ◌∙◌, ◌≡◌}
+use Rattle.std.proofs.Common.{List, ap, arith, drop, false, length, map, slice_index, string_bytes, sym, ℕ, ◌+◌, ◌++◌}
+use Rattle.std.proofs.Common.{◌<◌, ◌∙◌, ◌≡◌}
 use Rattle.std.proofs.lemmas.Result.{err_from_is_err_and}
 use Rattle.fr_ways.specs.Ways.{ways}
 use Rattle.fr_route.specs.Json.{list_json}
@@ -42,8 +43,10 @@ loop-at-preserved c =
           let list = ways (map (λ (p : ℕ × List ℕ). p.1) these) at in
           let rest = separated list_json false (drop (at + 1) these) in
           glued_rest line (string_bytes c.push_list.new.line) first (list_json (node, list)) rest _
-          (c.in_ok-push_list.ensures.text ∙ ap (λ (l : List ℕ). line ++ (first ++ list_json (node, l))) (c.row.ensures these are))
-          (ap (λ (xs : List (ℕ × List ℕ)). line ++ separated list_json c.loop-at.first xs) (sym (next_push these lists are at low))
+          (c.in_ok-push_list.ensures.text
+          ∙ ap (λ (l : List ℕ). line ++ (first ++ list_json (node, l))) (c.row.ensures these are))
+          (ap (λ (xs : List (ℕ × List ℕ)). line
+          ++ separated list_json c.loop-at.first xs) (sym (next_push these lists are at low))
           ∙ c.loop-at.invariant.text these are);
       written = λ these are.
           let row : length c.row.result.now ≡ length (ways (map (λ (p : ℕ × List ℕ). p.1) these) at) =

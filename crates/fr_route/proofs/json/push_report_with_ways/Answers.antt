@@ -21,7 +21,8 @@ pub returns-clause-room : goal.returns-clause-room
 returns-clause-room c = λ shrink grow are.
     let sizes = lists_size shrink + lists_size grow in
     let front = c.in_ok-push_report_front.ensures.room in
-    let long : string_len c.push_str.new.self ≡ string_len c.push_report_front.new.line + 12 = c.in_ok-push_str.ensures.len in
+    let long : string_len c.push_str.new.self ≡ string_len c.push_report_front.new.line + 12 =
+    c.in_ok-push_str.ensures.len in
     fits_after c.args.line.now c.push_str.new.self c.push_phases.new.line c.push_phases.result (12 + sizes)
     (100 + 24 * length c.args.changed.now + sizes) (c.push_phases.ensures.room shrink grow are)
     (omega (arith, front.capacity, c.in_ok-push_str.ensures.capacity)) (omega (arith, front.length, long))

@@ -8,5 +8,6 @@ loop-x-preserved c =
     let links = c.args.net.now.links in
     let d = c.args.distances.now.dest in
     rw c.in_ok-push_row.ensures.added
-    (ways_pushed (AreWays links d) c.loop-x.table c.deref.result.now c.loop-x.x c.loop-x.invariant.0 c.loop-x.invariant.1
+    (ways_pushed (AreWays links d) c.loop-x.table c.deref.result.now c.loop-x.x c.loop-x.invariant.0
+    c.loop-x.invariant.1
     (subst (AreWays links d c.loop-x.x) (sym c.deref.ensures.value) c.in_ok-ways.ensures.ways))

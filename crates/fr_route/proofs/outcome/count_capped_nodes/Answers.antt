@@ -7,4 +7,9 @@ pub returns-then-turned-cap : goal.returns-then-turned-cap
 returns-then-turned-cap c =
     let counts = c.args.counts.now in
     sym (none_pass (λ (count : ℕ). count == c.args.nodes) counts
-    (λ j d l is. omega (arith, get_or-le-sum_by (λ (count : ℕ). count) counts j d l, eqb-true _ _ is, c.requires.turned)))
+    (λ j d l is. omega (
+      arith,
+      get_or-le-sum_by (λ (count : ℕ). count) counts j d l,
+      eqb-true _ _ is,
+      c.requires.turned,
+    )))

@@ -49,7 +49,8 @@ returns c =
     let turns : c.total-turned.result ≡ sum c.args.turns.now = omega (arith, c.total-turned.ensures, fits) in
     record {
       turns = turns;
-      cut_off = rw (c.count_isolated_nodes.ensures, c.count_capped_nodes.ensures, c.nodes.ensures.value, c.counts.ensures)
+      cut_off =
+          rw (c.count_isolated_nodes.ensures, c.count_capped_nodes.ensures, c.nodes.ensures.value, c.counts.ensures)
           (cut_by_rows net c.args.dest c.args.turns.now known.is_net c.requires);
       most = round_within (settled_state net c.args.dest c.args.turns.now) c.total-turned.result turns;
     }

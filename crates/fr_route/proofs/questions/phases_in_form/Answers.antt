@@ -15,7 +15,8 @@ known_phases-requires-clause-range c =
     ways_in_range s net s.nodes c.in_ok-wanted.wanted (omega arith) c.in_ok-wanted.ensures
 
 pub phases_line-requires : goal.phases_line-requires
-phases_line-requires c = phases_listed c.args.table.now c.in_ok-wanted.wanted c.in_ok-phases.phases c.in_ok-phases.ensures
+phases_line-requires c =
+    phases_listed c.args.table.now c.in_ok-wanted.wanted c.in_ok-phases.phases c.in_ok-phases.ensures
     (omega (arith, c.net.ensures.nodes, c.network_law.ensures.limits, c.in_ok-wanted.ensures.one_each))
 
 pub phases_object-requires : goal.phases_object-requires
@@ -40,6 +41,7 @@ returns c =
     let new = c.in_ok-wanted.wanted in
     let lists = c.from_plan.ensures old new c.in_ok-phases.ensures in
     IfOk-weaker c.phases_object.result _ _
-    (λ _ is. json_phases c.args.draft.now.form c.in_default.not-Text c.args.router.now old (string_bytes c.phases_object.new.line)
+    (λ _ is. json_phases c.args.draft.now.form c.in_default.not-Text c.args.router.now old
+    (string_bytes c.phases_object.new.line)
     (new, c.in_ok-wanted.ensures, is))
     (c.phases_object.ensures (shrinks old new) (growths old new) lists)

@@ -1,4 +1,5 @@
-use Rattle.std.proofs.Common.{List, [], ap, arith, codes, decimal, inl, length, refl, rules, string_bytes, subst, sym, ℕ, ◌+◌, ◌++◌, ◌∙◌, ◌∷◌, ◌≡◌, ◌≤◌}
+use Rattle.std.proofs.Common.{List, [], ap, arith, codes, decimal, inl, length, refl, rules, string_bytes, subst, sym}
+use Rattle.std.proofs.Common.{ℕ, ◌+◌, ◌++◌, ◌∙◌, ◌∷◌, ◌≡◌, ◌≤◌}
 use Rattle.std.proofs.lemmas.List.{length_push}
 use Rattle.fr_graph.specs.Links.{IsNet}
 use Rattle.fr_route.specs.Texts.{walk_text}
@@ -14,12 +15,16 @@ is_net c =
 
 -- one more node of the route
 longer : (c : In-To) → HasWalked c.args.router.now c.args.x c.in-To.next (c.hops.invariant.nodes ++ c.in-To.next ∷ [])
-longer c = walks_on c.args.router.now c.args.x c.hops.at c.in-To.next c.hops.invariant.nodes c.hops.invariant.walked c.in-To.ensures
+longer c =
+    walks_on c.args.router.now c.args.x c.hops.at c.in-To.next c.hops.invariant.nodes c.hops.invariant.walked
+    c.in-To.ensures
 
 short : (c : In-To) → length c.hops.invariant.nodes + 1 ≤ c.args.router.now.nodes
 short c =
     let nodes = c.hops.invariant.nodes in
-    let few = walk_short c.args.router.now c.args.x c.in-To.next (nodes ++ c.in-To.next ∷ []) (is_net (goal.at.In-To c).After-network_law)
+    let few =
+    walk_short c.args.router.now c.args.x c.in-To.next (nodes ++ c.in-To.next
+    ∷ []) (is_net (goal.at.In-To c).After-network_law)
     c.state_law.ensures.dest (longer c) in
     omega (arith, few, length_push nodes c.in-To.next)
 
@@ -32,17 +37,25 @@ hops-init c =
       many = refl;
       text = c.in_ok-push_number.ensures.text
           ∙ (ap (λ (n : ℕ). string_bytes c.begin.new.line ++ (codes " " ++ decimal n)) c.from.ensures
-          ∙ (ap (λ (l : List ℕ). l ++ (codes " " ++ decimal c.args.x)) c.in_ok-begin.ensures ∙ sym (walk_more [] c.args.x)));
+          ∙ (ap (λ (l : List ℕ). l ++ (codes " " ++ decimal c.args.x)) c.in_ok-begin.ensures
+          ∙ sym (walk_more [] c.args.x)));
     }
 
 pub next_hop-requires-in-hops : goal.next_hop-requires-in-hops
 next_hop-requires-in-hops c =
-    walk_in_range c.args.router.now c.args.x c.hops.at c.hops.invariant.nodes (is_net (goal.at.next_hop-requires-in-hops c).After-network_law)
+    walk_in_range c.args.router.now c.args.x c.hops.at c.hops.invariant.nodes
+    (is_net (goal.at.next_hop-requires-in-hops c).After-network_law)
     c.state_law.ensures.dest c.hops.invariant.walked
 
 pub overflow_add-count : goal.overflow_add-count
 overflow_add-count c =
-    omega (arith, short (goal.at.overflow_add-count c).In-To, c.hops.invariant.many, c.net-net.ensures.nodes, c.network_law.ensures.limits.nodes_few)
+    omega (
+      arith,
+      short (goal.at.overflow_add-count c).In-To,
+      c.hops.invariant.many,
+      c.net-net.ensures.nodes,
+      c.network_law.ensures.limits.nodes_few,
+    )
 
 pub hops-smaller : goal.hops-smaller
 hops-smaller c = omega (arith, short (goal.at.hops-smaller c).In-To, c.hops.invariant.many)
@@ -63,6 +76,7 @@ hops-preserved c =
 pub returns : goal.returns
 returns c =
     let w = c.hops.invariant in
-    let ends = walk_ends c.args.router.now c.args.x c.hops.at w.nodes w.walked c.next_hop-in-hops.result c.next_hop-in-hops.ensures
+    let ends =
+    walk_ends c.args.router.now c.args.x c.hops.at w.nodes w.walked c.next_hop-in-hops.result c.next_hop-in-hops.ensures
     (λ next. c.in_default.not-To next) in
     inl (ends.0, ends.1, w.text ∙ ap walk_text ends.2)

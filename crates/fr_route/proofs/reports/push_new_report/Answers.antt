@@ -19,10 +19,12 @@ returns c = λ empty replaced.
     let grow = growths lead.before lead.after in
     let noted : Noted = record { shrink = shrink; emptied = []; grow = grow; nodes = 0; ways = 0 } in
     let report = c.report-report.result in
-    let text = report_json report.turned report.cut (changes_of c.hops.result.now c.args.replaced.now) (more_json shrink grow) in
+    let text =
+    report_json report.turned report.cut (changes_of c.hops.result.now c.args.replaced.now) (more_json shrink grow) in
     on_ok_weaker c.push_report_with_ways.result
     (λ (e : string_bytes c.push_report_with_ways.new.line ≡ string_bytes c.args.line.now ++ text).
-    report_is JsonWithWays (AreReplaced old new) old new c.state_law.ensures report c.report-report.ensures c.hops.result.now
+    report_is JsonWithWays (AreReplaced old new) old new c.state_law.ensures report c.report-report.ensures
+    c.hops.result.now
     c.hops.ensures c.args.replaced.now (λ other. replaced) noted
     (λ same. record {
       before = lead.before;

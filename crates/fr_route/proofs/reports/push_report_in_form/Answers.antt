@@ -13,5 +13,7 @@ returns-in-JsonWithWays-clause-room c =
     let ways = c.way_changes.result.now in
     rw c.in-JsonWithWays.is (subst (λ (w : Noted). Fits line new result
     (100 + 24 * length told + (lists_size w.shrink + lists_size w.grow))) c.way_changes.ensures
-    (subst (λ (xs : List ℕ). Fits line new result (100 + 24 * length xs + (lists_size ways.shrink + lists_size ways.grow)))
-    c.nodes-in-JsonWithWays.ensures (c.push_report_with_ways.ensures.room ways.shrink ways.grow c.from_changes-phases.ensures)))
+    (subst (λ (xs : List ℕ). Fits line new result (100 + 24 * length xs
+    + (lists_size ways.shrink + lists_size ways.grow)))
+    c.nodes-in-JsonWithWays.ensures
+    (c.push_report_with_ways.ensures.room ways.shrink ways.grow c.from_changes-phases.ensures)))

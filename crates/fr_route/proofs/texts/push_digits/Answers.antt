@@ -9,7 +9,8 @@ returns-then-number-lt10-clause-text c =
     let n : ℕ = c.args.number in
     let low : n < 10 = c.if-number-lt10.true in
     let glyph : c.from.result ≡ 48 + n = grind arith in
-    let one = c.push.ensures.ascii (omega (arith, low, glyph)) ∙ ap (λ digit. digit ∷ []) glyph ∙ sym (decimal_digit n low) in
+    let one =
+    c.push.ensures.ascii (omega (arith, low, glyph)) ∙ ap (λ digit. digit ∷ []) glyph ∙ sym (decimal_digit n low) in
     go (string_bytes c.args.line.now) n c.push.result one c.push.ensures.bytes
   where
     go : {E : Type 0} {said now : List ℕ} (line : List ℕ) (number : ℕ) (r : Result (Unit {0}) E) → said ≡ decimal number

@@ -2,7 +2,8 @@ use Rattle.std.proofs.Common.{List, subst, [], ap, arith, get_or, length, ℕ, �
 use Rattle.std.proofs.lemmas.List.{length_push}
 use Rattle.fr_tables.specs.Rounds.{seen}
 use Rattle.fr_tables.specs.declared.loops.Mark.TheVariants.{Unmet}
-use Rattle.fr_tables.proofs.Rounds.{met_before, pushed_short, traced_back, traced_end, traced_met, tracing_none, tracing_push}
+use Rattle.fr_tables.proofs.Rounds.{met_before, pushed_short, traced_back, traced_end, traced_met, tracing_none}
+use Rattle.fr_tables.proofs.Rounds.{tracing_push}
 use Rattle.fr_tables.proofs.Walks.{sends_none, sends_read}
 use Rattle.fr_tables.proofs.loops.list_walk.Goals as goal
 
@@ -19,7 +20,8 @@ returns-in-OnWalk-clause-traced c =
     let k : ℕ = c.index_of.result in
     let found : (k < length walk) × (get_or walk k 0 ≡ at) =
     subst (λ (ws : List ℕ). (k < length ws) × (get_or ws k 0 ≡ at)) c.deref.ensures.value c.index_of.ensures in
-    traced_back c.args.table.now c.args.marks.now c.loop-marks.marks walk c.args.x at c.loop-marks.invariant.tracing c.requires.decided k found.0 found.1
+    traced_back c.args.table.now c.args.marks.now c.loop-marks.marks walk c.args.x at c.loop-marks.invariant.tracing
+    c.requires.decided k found.0 found.1
 
 pub returns-in-OnLoop-clause-traced : goal.returns-in-OnLoop-clause-traced
 returns-in-OnLoop-clause-traced c =
@@ -27,7 +29,8 @@ returns-in-OnLoop-clause-traced c =
     let walk = c.loop-marks.walk.items in
     let at : ℕ = c.loop-marks.at in
     let tracing = c.loop-marks.invariant.tracing in
-    let met : ¬ (seen before at ≡ Unmet) = met_before c.args.table.now before c.loop-marks.marks walk tracing.held at c.in-OnLoop.is in
+    let met : ¬ (seen before at ≡ Unmet) =
+    met_before c.args.table.now before c.loop-marks.marks walk tracing.held at c.in-OnLoop.is in
     let long : c.len.result ≡ length walk = omega (arith, c.len.ensures) in
     rw long (traced_met c.args.table.now before c.loop-marks.marks walk c.args.x at tracing c.requires.decided met)
 
@@ -62,7 +65,9 @@ loop-marks-preserved c =
     let before = c.loop-marks.invariant in
     rw c.push_reserved.ensures.items (record {
       room = omega (arith, before.room, c.push_reserved.ensures.capacity);
-      tracing = tracing_push table c.args.marks.now c.loop-marks.marks c.loop-marks.walk.items c.args.x at before.tracing c.requires.decided next
+      tracing =
+          tracing_push table c.args.marks.now c.loop-marks.marks c.loop-marks.walk.items c.args.x at before.tracing
+          c.requires.decided next
           c.in-Unmet.is (sends_read table at next c.in-To.is);
     })
 
@@ -73,9 +78,12 @@ returns-in-Here c =
     let at : ℕ = c.loop-marks.at in
     let before = c.loop-marks.invariant in
     let items : c.push_reserved.new.self.items ≡ walk ++ at ∷ [] = c.push_reserved.ensures.items in
-    let long : c.len-in-Here.result ≡ length (walk ++ at ∷ []) = omega (arith, c.len-in-Here.ensures, ap length items) in
+    let long : c.len-in-Here.result ≡ length (walk ++ at ∷ []) =
+    omega (arith, c.len-in-Here.ensures, ap length items) in
     record {
-      traced = rw (long, items) (traced_end table c.args.marks.now c.loop-marks.marks walk c.args.x at before.tracing c.requires.decided
+      traced =
+          rw (long, items) (traced_end table c.args.marks.now c.loop-marks.marks walk c.args.x at before.tracing
+          c.requires.decided
           c.in-Unmet.is (sends_none table at c.in-Here.is));
       room = omega (arith, before.room, c.push_reserved.ensures.capacity);
     }

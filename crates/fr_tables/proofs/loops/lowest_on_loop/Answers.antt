@@ -23,10 +23,12 @@ loop-x-preserved c =
       decided = after.decided;
       room = after.room;
       none = λ y low on. elim (cases_eq y x) [
-        | inl e ↦ off_loop table c.mark_walk.new.marks x after.decided after.met c.in_default.not-OnLoop (subst (IsOnLoop table) e on)
+        | inl e ↦ off_loop table c.mark_walk.new.marks x after.decided after.met c.in_default.not-OnLoop
+            (subst (IsOnLoop table) e on)
         | inr apart ↦ c.loop-x.invariant.none y (omega (arith, low, apart)) on
       ];
     }
 
 pub returns-clause-lowest : goal.returns-clause-lowest
-returns-clause-lowest c = free_from_none c.args.table.now (λ x low. c.loop-x.invariant.none x (omega (arith, low, c.loop-x-test.false)))
+returns-clause-lowest c =
+    free_from_none c.args.table.now (λ x low. c.loop-x.invariant.none x (omega (arith, low, c.loop-x-test.false)))

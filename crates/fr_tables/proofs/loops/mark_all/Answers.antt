@@ -10,4 +10,5 @@ loop-x-preserved c =
     let x : ℕ = get_or nodes i 0 in
     let before = c.loop-x.invariant in
     let low : x < length c.loop-x.marks = omega (arith, c.requires i 0 c.loop-x-test.true, before.one_each) in
-    rw (take_more nodes i 0 c.loop-x-test.true) (marked_more c.args.mark (take i nodes) c.args.marks.now c.loop-x.marks x low before)
+    rw (take_more nodes i 0 c.loop-x-test.true)
+    (marked_more c.args.mark (take i nodes) c.args.marks.now c.loop-x.marks x low before)

@@ -9,7 +9,8 @@ returns c =
     let n : ℕ = length c.args.differ.now in
     let differ = c.loop-x.differ in
     let none = drop_all c.loop-x.x-index c.args.changed.now (omega (arith, c.loop-x-test.false)) in
-    ext_get_or false differ (replicate n false) (omega (arith, c.loop-x.invariant.one_each, length-replicate n false)) (λ x low.
+    ext_get_or false differ (replicate n false) (omega (arith, c.loop-x.invariant.one_each, length-replicate n false))
+    (λ x low.
     ⊎_elim
     (λ t. absurd (Contains-none x (subst (λ (xs : List ℕ). Contains xs x) none (c.loop-x.invariant.left x t))))
     (λ f. f ∙ sym (get_or-replicate n x false false (omega (arith, low, c.loop-x.invariant.one_each))))

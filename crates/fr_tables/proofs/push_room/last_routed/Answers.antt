@@ -12,7 +12,8 @@ loop-x-preserved c =
     let i : ℕ = c.loop-x.x-index in
     let x : ℕ = get_or changed i 0 in
     let next : ℕ = c.if-wave-last.last in
-    let is : c.routed_wave-wave.result ≡ routed_wave (mark_of marks x) = c.routed_wave-wave.ensures ∙ ap routed_wave c.mark_at.ensures in
+    let is : c.routed_wave-wave.result ≡ routed_wave (mark_of marks x) =
+    c.routed_wave-wave.ensures ∙ ap routed_wave c.mark_at.ensures in
     rw (take_more changed i 0 c.loop-x-test.true) (elim c.if-wave-last.branch [
       | then-wave-last w ↦ last_raised marks (take i changed) x c.loop-x.last next c.loop-x.invariant
           (omega (arith, is, w.if-wave-last.true)) (omega (arith, is, w.last-is))

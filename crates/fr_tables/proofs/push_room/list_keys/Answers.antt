@@ -1,4 +1,5 @@
-use Rattle.std.proofs.Common.{Some, ap, ◌≤◌, List, arith, get_or, length, length-set, refl, set, subst, sym, take, ℕ, ◌+◌, ◌<◌, ◌∙◌, ◌≡◌, Contains}
+use Rattle.std.proofs.Common.{Some, ap, ◌≤◌, List, arith, get_or, length, length-set, refl, set, subst, sym, take, ℕ}
+use Rattle.std.proofs.Common.{◌+◌, ◌<◌, ◌∙◌, ◌≡◌, Contains}
 use Rattle.std.proofs.lemmas.List.{take_more}
 use Rattle.fr_tables.specs.Inside.{AreListed, key_of}
 use Rattle.fr_tables.proofs.Listing.{fresh, listed_few, listed_more}
@@ -51,6 +52,10 @@ loop-x-preserved c =
       one_each = length-set keys x k ∙ before.one_each;
       listed = subst (λ (xs : List ℕ). AreListed c.args.marks.now c.args.last xs (set keys x k)
           (set places (k + 1) (get_or places (k + 1) 0 + 1))) (sym (take_more changed i 0 c.loop-x-test.true))
-          (listed_more c.args.marks.now c.args.last (take i changed) keys places x k before.listed low out (omega (arith, up.some, is))
+          (listed_more c.args.marks.now c.args.last (take i changed) keys places x k before.listed low out (omega (
+            arith,
+            up.some,
+            is,
+          ))
           (omega (arith, up.low, is, before.one_each)) up.group up.marked is);
     }

@@ -1,6 +1,7 @@
 use Rattle.std.specs.declared.alloc.Global.{Global}
 use Rattle.std.specs.declared.vec.Vec.{Vec}
-use Rattle.std.proofs.Common.{Option, vec_capacity, ◌⊎◌, All, Contains, List, Some, [], ap, arith, inl, inr, length, subst, ℕ, ⊎_elim, ◌++◌, ◌<◌, ◌∷◌, ◌≡◌, ◌≤◌}
+use Rattle.std.proofs.Common.{Option, vec_capacity, ◌⊎◌, All, Contains, List, Some, [], ap, arith, inl, inr, length}
+use Rattle.std.proofs.Common.{subst, ℕ, ⊎_elim, ◌++◌, ◌<◌, ◌∷◌, ◌≡◌, ◌≤◌}
 use Rattle.std.proofs.lemmas.List.{length_push, same_from_push}
 use Rattle.std.proofs.lemmas.List.Elements.{All-push, Contains-append_left, Contains-push}
 use Rattle.fr_tables.specs.Inside.{IsEnd, IsFollowed, IsTrail, IsWalking, mark_of}
@@ -12,9 +13,12 @@ use Rattle.fr_tables.proofs.Walks.{end_cut_off, end_here, sends_read}
 use Rattle.fr_tables.proofs.waves.follow_to_known_group.Goals as goal
 
 pushed_met : (walk : List ℕ) (at x : ℕ) → Contains walk x ⊎ (at ≡ x) → Contains (walk ++ at ∷ []) x
-pushed_met walk at x met = ⊎_elim (Contains-append_left walk (at ∷ []) x) (λ e. subst (Contains (walk ++ at ∷ [])) e (Contains-push walk at)) met
+pushed_met walk at x met =
+    ⊎_elim (Contains-append_left walk (at
+    ∷ []) x) (λ e. subst (Contains (walk ++ at ∷ [])) e (Contains-push walk at)) met
 
-walking_of : {new : List Hop} {first walk : Vec ℕ Global} (at : ℕ) → IsWalking new first → length new ≤ vec_capacity walk
+walking_of : {new : List Hop} {first walk : Vec ℕ Global} (at : ℕ) → IsWalking new first
+    → length new ≤ vec_capacity walk
     → IsTrail new (walk.items ++ at ∷ []) → All (λ (x : ℕ). x < length new) walk.items → IsWalking new walk
 walking_of {new = new} {walk = walk} at first room trail inside = record {
   range = first.range;
@@ -32,8 +36,17 @@ returns-in-Some c =
     let before = c.loop-at.invariant in
     record {
       walking = walking_of {walk = c.loop-at.walk} at c.requires.walking before.room before.trail before.inside;
-      met = ⊎_elim (λ was. inl was) (λ e. inr (group, subst (λ (z : ℕ). mark_of c.args.marks.now z ≡ Some group) e c.in-Some.is)) before.met;
-      is_stop = λ rest y e. inl (at, trail_last (SendsOn new) rest y at (subst (λ (ws : List ℕ). IsTrail new (ws ++ at ∷ [])) e before.trail), c.in-Some.is);
+      met =
+          ⊎_elim (λ was. inl was) (λ e. inr (
+            group,
+            subst (λ (z : ℕ). mark_of c.args.marks.now z ≡ Some group) e c.in-Some.is,
+          )) before.met;
+      is_stop =
+          λ rest y e. inl (
+            at,
+            trail_last (SendsOn new) rest y at (subst (λ (ws : List ℕ). IsTrail new (ws ++ at ∷ [])) e before.trail),
+            c.in-Some.is,
+          );
     }
 
 pub push_reserved-requires : goal.push_reserved-requires
@@ -78,8 +91,10 @@ loop-at-preserved c =
 
 module _ {new : List Hop} {marks : List (Option Group)} {before after : Vec ℕ Global} {x at : ℕ} {g : Group} where
   -- the walk ends at its last node
-  ended : IsWalking new before → IsTrail new (before.items ++ at ∷ []) → at < length new → length new ≤ vec_capacity after
-      → after.items ≡ before.items ++ at ∷ [] → Contains before.items x ⊎ (at ≡ x) → IsEnd new at g → IsFollowed new marks after x g
+  ended : IsWalking new before → IsTrail new (before.items ++ at ∷ []) → at < length new
+      → length new ≤ vec_capacity after
+      → after.items ≡ before.items ++ at ∷ [] → Contains before.items x ⊎ (at ≡ x) → IsEnd new at g
+      → IsFollowed new marks after x g
   ended walking trail low room items met end = record {
     walking = record {
       range = walking.range;
@@ -100,7 +115,8 @@ returns-in-Here c =
     let at : ℕ = c.loop-at.at in
     let before = c.loop-at.invariant in
     let end = end_here new at before.low c.in-Here.is in
-    ended (walking_of {walk = c.loop-at.walk} at c.requires.walking before.room before.trail before.inside) before.trail before.low
+    ended (walking_of {walk = c.loop-at.walk} at c.requires.walking before.room before.trail before.inside)
+    before.trail before.low
     (omega (arith, before.room, c.push_reserved.ensures.capacity)) c.push_reserved.ensures.items before.met
     (record { last = end.last; route = rw c.group_past_end.ensures.0 end.route; none = c.group_past_end.ensures.1 })
 
@@ -110,6 +126,11 @@ returns-in-CutOff c =
     let at : ℕ = c.loop-at.at in
     let before = c.loop-at.invariant in
     let end = end_cut_off new at before.low c.in-CutOff.is in
-    ended (walking_of {walk = c.loop-at.walk} at c.requires.walking before.room before.trail before.inside) before.trail before.low
+    ended (walking_of {walk = c.loop-at.walk} at c.requires.walking before.room before.trail before.inside)
+    before.trail before.low
     (omega (arith, before.room, c.push_reserved.ensures.capacity)) c.push_reserved.ensures.items before.met
-    (record { last = end.last; route = rw c.group_past_end-in-CutOff.ensures.0 end.route; none = c.group_past_end-in-CutOff.ensures.1 })
+    (record {
+      last = end.last;
+      route = rw c.group_past_end-in-CutOff.ensures.0 end.route;
+      none = c.group_past_end-in-CutOff.ensures.1;
+    })

@@ -19,5 +19,6 @@ returns c =
       sound = after.sound;
       empty = after.empty;
       kept = λ y was. group_from_met marks walk y after.empty (after.met y (inr was));
-      met = group_from_met marks walk c.args.x after.empty (after.met c.args.x c.follow_to_known_group-group.ensures.met);
+      met =
+          group_from_met marks walk c.args.x after.empty (after.met c.args.x c.follow_to_known_group-group.ensures.met);
     }

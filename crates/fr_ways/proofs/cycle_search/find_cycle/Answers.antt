@@ -4,7 +4,8 @@ use Rattle.fr_ways.proofs.Searching.{back_cycle}
 use Rattle.fr_ways.proofs.cycle_search.find_cycle.Goals as goal
 
 pub search_from_each_node-requires-clause-rest : goal.search_from_each_node-requires-clause-rest
-search_from_each_node-requires-clause-rest c = c.in_ok-search.ensures c.args.table.now (sym c.len.ensures) c.requires.range
+search_from_each_node-requires-clause-rest c =
+    c.in_ok-search.ensures c.args.table.now (sym c.len.ensures) c.requires.range
 
 pub returns-in-Some : goal.returns-in-Some
 returns-in-Some c =

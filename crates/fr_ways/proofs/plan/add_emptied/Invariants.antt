@@ -1,4 +1,4 @@
-use Rattle.std.proofs.Common.{List, map, take, [], ℕ, ◌++◌, ◌≡◌}
+use Rattle.std.proofs.Common.{map, take, [], ℕ, ◌++◌, ◌≡◌}
 use Rattle.fr_ways.proofs.plan.add_emptied.Given as goal
 
 abbrev pub invariant-loop-x : goal.invariant-loop-x

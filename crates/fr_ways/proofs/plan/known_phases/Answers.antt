@@ -1,4 +1,4 @@
-use Rattle.std.proofs.Common.{arith, length, refl, ℕ, ◌≡◌}
+use Rattle.std.proofs.Common.{arith, length, refl, ◌≡◌}
 use Rattle.fr_ways.proofs.Planning.{phases_from}
 use Rattle.fr_ways.proofs.plan.known_phases.Goals as goal
 

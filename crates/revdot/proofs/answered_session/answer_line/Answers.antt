@@ -7,5 +7,6 @@ returns-then-is_comment c = comment_of c.args.line.now c.args.session.now c.args
 
 pub returns-in-Ok : goal.returns-in-Ok
 returns-in-Ok c =
-    answer_of c.args.line.now c.args.session.now c.answer_line_alone.new.self c.in-Ok._answer (search rules) c.in-Ok.ensures.blank
+    answer_of c.args.line.now c.args.session.now c.answer_line_alone.new.self c.in-Ok._answer (search rules)
+    c.in-Ok.ensures.blank
     c.in-Ok.ensures.text

@@ -15,4 +15,5 @@ pub returns : goal.returns
 returns c =
     let n = c.args.net.now.nodes in
     let net : IsNet n c.args.net.now.links = c.nodes.ensures.faultless.is_net in
-    c.has_link_to.ensures ∙ (ap (list_any (leads_to c.args.v)) c.row.ensures ∙ row_any n c.args.net.now.links c.args.u c.args.v net)
+    c.has_link_to.ensures
+    ∙ (ap (list_any (leads_to c.args.v)) c.row.ensures ∙ row_any n c.args.net.now.links c.args.u c.args.v net)

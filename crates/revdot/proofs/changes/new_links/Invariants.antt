@@ -3,4 +3,5 @@ use Rattle.revdot.specs.Changes.{new_links}
 use Rattle.revdot.proofs.changes.new_links.Given as goal
 
 abbrev pub invariant-loop-tail : goal.invariant-loop-tail
-invariant-loop-tail l = l.links.items ++ new_links l.before.links l.tail-iterator ≡ new_links l.before.links l.after.links
+invariant-loop-tail l =
+    l.links.items ++ new_links l.before.links l.tail-iterator ≡ new_links l.before.links l.after.links

@@ -9,7 +9,8 @@ use Rattle.revdot.proofs.changes.push_all_new_ways.Goals as goal
 range_more : (n : ℕ) → range_with_len 0 (n + 1) ≡ range_with_len 0 n ++ n ∷ []
 range_more n =
     sym (map-id (range_with_len 0 (n + 1)))
-    ∙ (map-range_with_len_more (λ (x : ℕ). x) 0 n n (omega arith) ∙ ap (λ (xs : List ℕ). xs ++ n ∷ []) (map-id (range_with_len 0 n)))
+    ∙ (map-range_with_len_more (λ (x : ℕ). x) 0 n n (omega arith)
+    ∙ ap (λ (xs : List ℕ). xs ++ n ∷ []) (map-id (range_with_len 0 n)))
 
 pub loop-x-preserved : goal.loop-x-preserved
 loop-x-preserved c =

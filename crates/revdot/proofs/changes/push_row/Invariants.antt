@@ -5,4 +5,5 @@ use Rattle.revdot.proofs.changes.push_row.Given as goal
 
 abbrev pub invariant-loop-way : goal.invariant-loop-way
 invariant-loop-way l =
-    string_bytes l.story ++ flat_map colon_number (drop l.way-index l.row) ≡ string_bytes l.fn.story ++ flat_map colon_number l.row
+    string_bytes l.story ++ flat_map colon_number (drop l.way-index l.row) ≡ string_bytes l.fn.story
+    ++ flat_map colon_number l.row

@@ -19,7 +19,8 @@ returns c =
     let last = string_bytes c.push_pushes.new.story in
     on_ok_weaker c.push_pushes.result
     (λ (pushes : last ≡ left ++ pushes_line hops c.args.rerouted.now).
-    round_told c.args.before.now.net c.args.before.now.ways s c.args.session.now turns.0 result.0 c.args.rerouted.now hops
+    round_told c.args.before.now.net c.args.before.now.ways s c.args.session.now turns.0 result.0 c.args.rerouted.now
+    hops
     (string_bytes c.args.story.now) (string_bytes c.push_net.new.story) (string_bytes c.push_turns.new.story) left last
     c.in-Some.ensures small turns.1 result.1 c.hops.ensures net turns.2 result.2 pushes)
     c.push_pushes.ensures

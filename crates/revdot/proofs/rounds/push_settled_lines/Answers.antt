@@ -17,6 +17,7 @@ returns c =
     let last = string_bytes c.push_answer_to-4.new.story in
     on_ok_weaker c.push_answer_to-4.result
     (λ (ways : (out : List ℕ) × IsAnswerLine s Ways out × (last ≡ more ++ out)).
-    settled_told s links.0 counts.0 hops.0 ways.0 (string_bytes c.args.story.now) one two more last links.1 counts.1 hops.1 ways.1
+    settled_told s links.0 counts.0 hops.0 ways.0 (string_bytes c.args.story.now) one two more last links.1 counts.1
+    hops.1 ways.1
     links.2 counts.2 hops.2 ways.2)
     c.push_answer_to-4.ensures

@@ -4,7 +4,8 @@ use Rattle.revdot.proofs.Turning.{none_turned, one_more_turned}
 use Rattle.revdot.proofs.rounds.turns_of.Goals as goal
 
 pub loop-turn-init : goal.loop-turn-init
-loop-turn-init c = rw c.new-turns.ensures.items (none_turned c.args.router.now c.args.replay c.requires.replay c.requires.first)
+loop-turn-init c =
+    rw c.new-turns.ensures.items (none_turned c.args.router.now c.args.replay c.requires.replay c.requires.first)
 
 pub loop-turn-preserved : goal.loop-turn-preserved
 loop-turn-preserved c =

@@ -6,4 +6,5 @@ use Rattle.revdot.proofs.settled.settled_nodes.Goals as goal
 pub loop-x-preserved : goal.loop-x-preserved
 loop-x-preserved c =
     rw (c.in_ok-push.ensures.items, c.style_by_hop.ensures, c.loop-x.invariant)
-    (sym (map-range_with_len_more (settled_node c.counts-counts.result.now c.args.hops.now) 0 c.loop-x.x c.loop-x.x (omega arith)))
+    (sym (map-range_with_len_more (settled_node c.counts-counts.result.now c.args.hops.now) 0 c.loop-x.x c.loop-x.x
+    (omega arith)))

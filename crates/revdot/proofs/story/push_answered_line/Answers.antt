@@ -1,4 +1,5 @@
-use Rattle.std.proofs.Common.{◌≡◌, ◌∙◌, ◌++◌, List, Ok, [], append-nil, codes, eqb, false, refl, rules, string_bytes, subst, sym, true, ℕ}
+use Rattle.std.proofs.Common.{◌≡◌, ◌∙◌, ◌++◌, List, Ok, [], append-nil, codes, eqb, false, refl, rules, string_bytes}
+use Rattle.std.proofs.Common.{subst, sym, true, ℕ}
 use Rattle.std.proofs.lemmas.Result.{on_ok_weaker}
 use Rattle.std.specs.List.{starts_with}
 use Rattle.fr_requests.specs.Requests.{plain, reading}
@@ -18,9 +19,11 @@ returns-then-starts_with c =
     rw c.new-rerouted.ensures.items at c.in-Ok.ensures.told in
     let starts : starts_with eqb (string_bytes c.in-Ok.answer) (codes "refused") ≡ true = search rules in
     on_ok_weaker c.push_refusal.result
-    (λ (refusal : (text : List ℕ) × IsJsonLineAnswer EndsHere c.args.line.number next (reading c.args.line.bytes.now) text last
+    (λ (refusal : (text : List ℕ)
+    × IsJsonLineAnswer EndsHere c.args.line.number next (reading c.args.line.bytes.now) text last
     × (new ≡ two ++ refusal_line text)).
-    refused_told _ next last c.args.line.number _ _ _ refusal.0 (string_bytes c.args.story.now) _ two new c.in-Ok.ensures.text tells
+    refused_told _ next last c.args.line.number _ _ _ refusal.0 (string_bytes c.args.story.now) _ two new
+    c.in-Ok.ensures.text tells
     starts (rw c.requires at refusal.1) c.in_ok-writeln.ensures.bytes c.in_ok-push_asked.ensures refusal.2)
     c.push_refusal.ensures
 
@@ -40,9 +43,11 @@ returns-then-makes_round c =
     on_ok_weaker c.push_round.result
     (λ (round : (told : List ℕ) × IsRoundStory true before.net before.ways next
     c.deref-then-makes_round.result.now told × (new ≡ two ++ told)).
-    answered_told s next c.args.line.number request _ rerouted round.0 (string_bytes c.args.story.now) _ two new c.in-Ok.ensures.text tells
+    answered_told s next c.args.line.number request _ rerouted round.0 (string_bytes c.args.story.now) _ two new
+    c.in-Ok.ensures.text tells
     (round_follows s next c.args.line.number request _ rerouted round.0 before.ways c.in-Ok.ensures.text starts
-    c.in_ok-before.ensures.ways (rw (← makes, ← c.in_ok-before.ensures.net, ← c.deref-then-makes_round.ensures.value) round.1))
+    c.in_ok-before.ensures.ways
+    (rw (← makes, ← c.in_ok-before.ensures.net, ← c.deref-then-makes_round.ensures.value) round.1))
     c.in_ok-writeln.ensures.bytes c.in_ok-push_asked.ensures round.2)
     c.push_round.ensures
 
@@ -58,7 +63,10 @@ returns c =
     search (rules, c.if-starts_with.ensures, c.deref.ensures) in
     let none : makes_round request ≡ false = search rules in
     let before = c.in_ok-before.before in
-    let nothing : IsRoundStory (makes_round request) (net_before s request) before.ways next rerouted [] = rw none refl in
-    answered_told s next c.args.line.number request _ rerouted [] (string_bytes c.args.story.now) _ two two c.in-Ok.ensures.text tells
-    (round_follows s next c.args.line.number request _ rerouted [] before.ways c.in-Ok.ensures.text starts c.in_ok-before.ensures.ways nothing)
+    let nothing : IsRoundStory (makes_round request) (net_before s request) before.ways next rerouted [] =
+    rw none refl in
+    answered_told s next c.args.line.number request _ rerouted [] (string_bytes c.args.story.now) _ two two
+    c.in-Ok.ensures.text tells
+    (round_follows s next c.args.line.number request _ rerouted [] before.ways c.in-Ok.ensures.text starts
+    c.in_ok-before.ensures.ways nothing)
     c.in_ok-writeln.ensures.bytes c.in_ok-push_asked.ensures (sym (append-nil two))

@@ -12,6 +12,7 @@ returns c =
     let last = string_bytes c.push_mark.new.story in
     on_ok_weaker c.push_mark.result
     (λ (mark : (out : List ℕ) × IsMark c.args.number next out × (last ≡ one ++ out)).
-    step_told c.args.session.now next c.args.number c.args.line.now block.0 mark.0 (string_bytes c.args.story.now) one last
+    step_told c.args.session.now next c.args.number c.args.line.now block.0 mark.0 (string_bytes c.args.story.now) one
+    last
     block.1 mark.1 block.2 mark.2)
     c.push_mark.ensures

@@ -4,4 +4,5 @@ use Rattle.revdot.proofs.Telling.{HasTold}
 use Rattle.revdot.proofs.story.push_story.Given as goal
 
 abbrev pub invariant-loop-line : goal.invariant-loop-line
-invariant-loop-line l = HasTold l.input (lines_left l.line-iterator) l.session l.number (string_bytes l.fn.story) (string_bytes l.story)
+invariant-loop-line l =
+    HasTold l.input (lines_left l.line-iterator) l.session l.number (string_bytes l.fn.story) (string_bytes l.story)

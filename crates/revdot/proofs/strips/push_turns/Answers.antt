@@ -6,15 +6,19 @@ use Rattle.revdot.proofs.Turning.{all_turned, at_start, one_turn_more}
 use Rattle.revdot.proofs.strips.push_turns.Goals as goal
 
 pub loop-turn-init : goal.loop-turn-init
-loop-turn-init c = at_start c.args.direction c.args.router.now c.in_ok-replay.replay (string_bytes c.args.text.now) c.in_ok-replay.ensures.replay c.in_ok-replay.ensures.first
+loop-turn-init c =
+    at_start c.args.direction c.args.router.now c.in_ok-replay.replay (string_bytes c.args.text.now)
+    c.in_ok-replay.ensures.replay c.in_ok-replay.ensures.first
 
 pub loop-turn-preserved : goal.loop-turn-preserved
 loop-turn-preserved c =
     let s = c.args.router.now in
     let before = c.loop-turn.replay in
     let next : IsNext s.nodes s.dest (moment_of before) c.in-Some.node = rw c.in-Some.is at c.in_ok-node.ensures.next in
-    one_turn_more s c.loop-turn.turn before c.turn.new.self c.in-Some.node next c.turn.ensures.turned c.turn.ensures.replay
-    c.args.direction (string_bytes c.args.text.now) (string_bytes c.loop-turn.text) (string_bytes c.push_turn.new.text) c.loop-turn.invariant c.in_ok-push_turn.ensures
+    one_turn_more s c.loop-turn.turn before c.turn.new.self c.in-Some.node next c.turn.ensures.turned
+    c.turn.ensures.replay
+    c.args.direction (string_bytes c.args.text.now) (string_bytes c.loop-turn.text) (string_bytes c.push_turn.new.text)
+    c.loop-turn.invariant c.in_ok-push_turn.ensures
 
 pub returns-in_default : goal.returns-in_default
 returns-in_default c =

@@ -23,4 +23,5 @@ returns c =
       | inl none ↦ no_first first second none.1.0
       | inr none ↦ no_second first second none.1.0
     ] in
-    sym (append-nil drawn) ∙ (ap (λ (ps : List ((ℕ × ℕ) × (ℕ × ℕ))). drawn ++ map f ps) (sym left) ∙ c.loop-stands.invariant)
+    sym (append-nil drawn)
+    ∙ (ap (λ (ps : List ((ℕ × ℕ) × (ℕ × ℕ))). drawn ++ map f ps) (sym left) ∙ c.loop-stands.invariant)

@@ -6,7 +6,8 @@ use Rattle.revdot.specs.Strips.{moment}
 use Rattle.revdot.proofs.Sinks.{mark_at, sink, tail_is_none, no_head_is_none}
 use Rattle.revdot.proofs.turns.next_to_turn.Goals as goal
 use Rattle.revdot.proofs.turns.next_to_turn.Goals.{else-x-dest-via-then-x-dest+then-index+then-not-index+else-counts-place}
-use Rattle.revdot.proofs.turns.next_to_turn.Goals.{else-x-dest-via-then-x-dest+then-index+else-not-index, else-x-dest-via-then-x-dest+else-index}
+use Rattle.revdot.proofs.turns.next_to_turn.Goals.{else-x-dest-via-then-x-dest+then-index+else-not-index}
+use Rattle.revdot.proofs.turns.next_to_turn.Goals.{else-x-dest-via-then-x-dest+else-index}
 use Rattle.revdot.proofs.turns.next_to_turn.Goals.{else-x-dest-via-else-x-dest}
 
 pub returns-then-counts-place-clause-next : goal.returns-then-counts-place-clause-next
@@ -16,8 +17,11 @@ returns-then-counts-place-clause-next c =
     let tails = c.in_ok-tails.field-0.tails.items in
     let heads = c.in_ok-tails.field-0.heads.items in
     let ends : HaveEnds n tails heads c.args.links.now = c.in_ok-tails.ensures in
-    let head = mark_at heads x n c.index.result.now true ends.heads_long c.loop-x-test.true c.index.ensures c.if-index.true in
-    let no_tail = mark_at tails x n c.index-then-index.result.now false ends.tails_long c.loop-x-test.true c.index-then-index.ensures c.if-not-index.true in
+    let head =
+    mark_at heads x n c.index.result.now true ends.heads_long c.loop-x-test.true c.index.ensures c.if-index.true in
+    let no_tail =
+    mark_at tails x n c.index-then-index.result.now false ends.tails_long c.loop-x-test.true c.index-then-index.ensures
+    c.if-not-index.true in
     record {
       can = record {
         not_destination = c.if-x-dest.true;
@@ -50,7 +54,8 @@ loop-x-preserved c = λ x below can.
                 w.index-then-index.ensures w.if-not-index.false) here.sink)
             | else-x-dest-via-then-x-dest+else-index w ↦ absurd
                 (no_head_is_none n y tails heads c.args.links.now ends c.loop-x-test.true
-                (mark_at heads y n w.index.result.now false ends.heads_long c.loop-x-test.true w.index.ensures w.if-index.false) here.sink)
+                (mark_at heads y n w.index.result.now false ends.heads_long c.loop-x-test.true w.index.ensures
+                w.if-index.false) here.sink)
             | else-x-dest-via-else-x-dest w ↦ absurd (here.not_destination w.if-x-dest.false)
           ]
     ]

@@ -12,4 +12,5 @@ loop-link-preserved c =
     let inside : i < length c.args.links.now = c.loop-link-test.true in
     let here : i < length now = omega (arith, inside, c.loop-link.auto.links) in
     ap (slice_set now i) c.link_after_turn.ensures
-    ∙ map_over_more (turned_link c.args.x) c.args.links.now now i (get_or now i d) inside c.loop-link.invariant (get_or_default now i d (get_or now i d) here)
+    ∙ map_over_more (turned_link c.args.x) c.args.links.now now i (get_or now i d) inside c.loop-link.invariant
+    (get_or_default now i d (get_or now i d) here)

@@ -12,7 +12,8 @@ returns-in-Ok-phases-clause-phases c =
       table = c.in-Some-table.table;
       is = record {
         laid_out = laid;
-        one_each = omega (arith, c.if-asked-nodes.false, c.nodes.ensures.value, c.net.ensures.nodes, laid.begins.one_more);
+        one_each =
+            omega (arith, c.if-asked-nodes.false, c.nodes.ensures.value, c.net.ensures.nodes, laid.begins.one_more);
       };
       leads = c.in-Ok-phases.ensures.phases;
     } in

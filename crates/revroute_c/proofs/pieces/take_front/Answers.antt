@@ -16,10 +16,13 @@ wanted_at_end s begun piece line room size count ends = ⊎_elim
 pub returns-then-status-gt-BLANK : goal.returns-then-status-gt-BLANK
 returns-then-status-gt-BLANK c =
     let held : c.keep_unfinished_line-held.result ≡ BEGUN = search rules in
-    let ends : EndsLine c.args.engine.now.begun c.args.piece.now c.keep_unfinished_line-held.new.begun.items (c.front_size-end.result + 1) = record {
+    let ends : EndsLine c.args.engine.now.begun c.args.piece.now c.keep_unfinished_line-held.new.begun.items
+    (c.front_size-end.result + 1) = record {
       end = c.front_size-end.result;
       at = grind (arith, common_steps);
-      line_is = c.keep_unfinished_line-held.ensures.held held ∙ ap (λ (e : Held). e.begun ++ take c.front_size-end.result c.args.piece.now) c.engine.view_is;
+      line_is =
+          c.keep_unfinished_line-held.ensures.held held
+          ∙ ap (λ (e : Held). e.begun ++ take c.front_size-end.result c.args.piece.now) c.engine.view_is;
       short = c.keep_unfinished_line-held.ensures.within held;
       count_is = refl;
     } in

@@ -4,4 +4,5 @@ use Rattle.revroute_c.specs.Questions.{number_of}
 use Rattle.revroute_c.proofs.questions.fill_hops.Given as goal
 
 abbrev pub invariant-loop-at : goal.invariant-loop-at
-invariant-loop-at l = (length l.place ≡ length l.hops) × ((y : ℕ) → y < l.at → get_or l.place y 0 ≡ number_of (get_or l.hops y Here))
+invariant-loop-at l =
+    (length l.place ≡ length l.hops) × ((y : ℕ) → y < l.at → get_or l.place y 0 ≡ number_of (get_or l.hops y Here))

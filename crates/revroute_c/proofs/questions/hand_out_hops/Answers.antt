@@ -19,7 +19,8 @@ pub returns-clause-gives : goal.returns-clause-gives
 returns-clause-gives c =
     let hops = c.hops-hops.result.now in
     let are = hop_numbers c.args.router.now hops c.hops-hops.ensures in
-    let written = numbers_written hops c.args.place.now c.fill_hops.new.place c.fill_hops.ensures c.if-hops-place.false in
+    let written =
+    numbers_written hops c.args.place.now c.fill_hops.new.place c.fill_hops.ensures c.if-hops-place.false in
     record {
       written = λ _. (map number_of hops, are.one_each, written, sym (length-map hops number_of));
       too_short = search rules;

@@ -21,7 +21,8 @@ known_after b before after x (Err refusal) learns refused =
 pub returns : goal.returns
 returns c =
     let l = c.look.ensures in
-    let more = known_after c.args.round.now.setup c.learn.new.worker c.look.new.worker c.args.x c.look.result l.learns l.refused in
+    let more =
+    known_after c.args.round.now.setup c.learn.new.worker c.look.new.worker c.args.x c.look.result l.learns l.refused in
     let learned = c.learn.ensures.learns in
     let past = ap (λ p. p.known) c.past-past.ensures.past in (
       learned.0 ++ more.0,

@@ -9,5 +9,7 @@ returns-then-are_nodes c = λ all.
     let known = c.network_law.ensures.is_net in
     record {
       nodes = c.are_nodes.ensures c.if-are_nodes.true;
-      all = λ x can. c.miss_none.ensures all x (can_turn_below net.nodes c.args.dest net.links known (moment_of net.links c.args.counts.now) refl x can) can;
+      all =
+          λ x can. c.miss_none.ensures all x
+          (can_turn_below net.nodes c.args.dest net.links known (moment_of net.links c.args.counts.now) refl x can) can;
     }

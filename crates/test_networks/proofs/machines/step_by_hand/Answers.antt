@@ -16,8 +16,10 @@ loop-worker-preserved c =
     let items : Vec Entry Global → List Entry = λ v. v.items in
     let same : before ++ option_to_list c.step.result ≡ c.match-step.entries.items =
     elim c.match-step.branch [
-      | in-Some+in_ok-push w ↦ ap (λ (o : Option Entry). before ++ option_to_list o) w.in-Some.is ∙ sym (ap items w.entries-is ∙ w.in_ok-push.ensures.items)
-      | in_default w ↦ ap (λ (o : Option Entry). before ++ option_to_list o) w.in_default.is ∙ (append-nil before ∙ sym (ap items w.entries-is))
+      | in-Some+in_ok-push w ↦ ap (λ (o : Option Entry). before ++ option_to_list o) w.in-Some.is
+          ∙ sym (ap items w.entries-is ∙ w.in_ok-push.ensures.items)
+      | in_default w ↦ ap (λ (o : Option Entry). before ++ option_to_list o) w.in_default.is
+          ∙ (append-nil before ∙ sym (ap items w.entries-is))
     ] in (
       ap (λ (m : MachineView). m.nodes) next ∙ held.0,
       ap (λ (m : MachineView). m.dest) next ∙ held.1,

@@ -16,7 +16,8 @@ hold_one_more : (n : ℕ) (links : List (ℕ × ℕ)) (x : ℕ) (found after : L
 hold_one_more n links x found after hold below is = rw is (
   All-push (λ (y : ℕ). y < n) found x hold.0 below,
   λ y less sink. ⊎_elim (λ l. Contains-append_left found (x ∷ []) y (hold.1 y l sink))
-      (λ h. subst (Contains (found ++ x ∷ [])) (the_same y less h) (Contains-append_right found (x ∷ []) x (Contains-head x [])))
+      (λ h. subst (Contains (found ++ x ∷ [])) (the_same y less h) (Contains-append_right found (x
+      ∷ []) x (Contains-head x [])))
       (cases_lt y x),
 )
   where
@@ -27,7 +28,8 @@ hold_no_more : (n : ℕ) (links : List (ℕ × ℕ)) (x : ℕ) (found after : Li
     → ¬ IsSink links x → after ≡ found → HoldBelow n links (x + 1) after
 hold_no_more n links x found after hold no_sink is = rw is (
   hold.0,
-  λ y less sink. ⊎_elim (λ l. hold.1 y l sink) (λ h. absurd (no_sink (subst (IsSink links) (the_same y less h) sink))) (cases_lt y x),
+  λ y less sink. ⊎_elim (λ l. hold.1 y l sink) (λ h. absurd (no_sink (subst (IsSink links) (the_same y less h) sink)))
+      (cases_lt y x),
 )
   where
     the_same : (y : ℕ) → y < x + 1 → x ≤ y → y ≡ x
@@ -36,14 +38,17 @@ hold_no_more n links x found after hold no_sink is = rw is (
 pub loop-x-preserved : goal.loop-x-preserved
 loop-x-preserved c =
     let below : c.loop-x.x < c.args.net.now.nodes = omega (arith, c.loop-x-test.true, c.nodes-x-end.ensures.value) in
-    let held : HoldBelow c.args.net.now.nodes c.args.net.now.links c.loop-x.x c.loop-x.sinks.items = (c.loop-x.invariant.nodes, c.loop-x.invariant.found) in
+    let held : HoldBelow c.args.net.now.nodes c.args.net.now.links c.loop-x.x c.loop-x.sinks.items =
+    (c.loop-x.invariant.nodes, c.loop-x.invariant.found) in
     let holds : HoldBelow c.args.net.now.nodes c.args.net.now.links (c.loop-x.x + 1) c.if-is_first_sink.sinks.items =
     elim c.if-is_first_sink.branch [
       | then-is_first_sink+in_ok-push w ↦
-          hold_one_more c.args.net.now.nodes c.args.net.now.links c.loop-x.x c.loop-x.sinks.items c.if-is_first_sink.sinks.items
+          hold_one_more c.args.net.now.nodes c.args.net.now.links c.loop-x.x c.loop-x.sinks.items
+          c.if-is_first_sink.sinks.items
           held below (cc (w.sinks-is, w.in_ok-push.ensures.items))
       | else-is_first_sink w ↦
-          hold_no_more c.args.net.now.nodes c.args.net.now.links c.loop-x.x c.loop-x.sinks.items c.if-is_first_sink.sinks.items held
+          hold_no_more c.args.net.now.nodes c.args.net.now.links c.loop-x.x c.loop-x.sinks.items
+          c.if-is_first_sink.sinks.items held
           (λ sink. false≢true (subst IsTrue w.if-is_first_sink.false (c.is_first_sink.ensures.1 sink))) (cc w.sinks-is)
     ] in
     record { nodes = holds.0; found = holds.1 }

@@ -14,10 +14,12 @@ pub returns-in-Some-clause-own : goal.returns-in-Some-clause-own
 returns-in-Some-clause-own c =
     each_in (IsOwn c.args.round.now) c.pop.new.self.items c.in-Some.worker []
     (subst (Each (IsOwn c.args.round.now))
-    (c.pop.ensures.items ∙ ap (λ (popped : Option Knowledge). c.pop.new.self.items ++ option_to_list popped) c.in-Some.is) c.requires)
+    (c.pop.ensures.items
+    ∙ ap (λ (popped : Option Knowledge). c.pop.new.self.items ++ option_to_list popped) c.in-Some.is) c.requires)
 
 pub returns-in-Some-clause-others : goal.returns-in-Some-clause-others
 returns-in-Some-clause-others c =
     each_front (IsOwn c.args.round.now) c.pop.new.self.items c.in-Some.worker
     (subst (Each (IsOwn c.args.round.now))
-    (c.pop.ensures.items ∙ ap (λ (popped : Option Knowledge). c.pop.new.self.items ++ option_to_list popped) c.in-Some.is) c.requires)
+    (c.pop.ensures.items
+    ∙ ap (λ (popped : Option Knowledge). c.pop.new.self.items ++ option_to_list popped) c.in-Some.is) c.requires)

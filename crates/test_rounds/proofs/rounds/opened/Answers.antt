@@ -19,4 +19,8 @@ returns-in-Ok-clause-fresh c = c.in-Ok.ensures.not_begun.knows
 
 pub returns-in-Ok-clause-all : goal.returns-in-Ok-clause-all
 returns-in-Ok-clause-all c =
-    omega (arith, as_many_as_asked c.in-Ok.opened.0 c.args.count c.in-Ok.opened.1.items c.in-Ok.ensures.workers, c.in-Ok.opened.1.ok.0)
+    omega (
+      arith,
+      as_many_as_asked c.in-Ok.opened.0 c.args.count c.in-Ok.opened.1.items c.in-Ok.ensures.workers,
+      c.in-Ok.opened.1.ok.0,
+    )

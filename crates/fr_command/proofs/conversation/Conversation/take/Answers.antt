@@ -39,7 +39,8 @@ blank_goes_on begun piece end found is missed all short blank = ⊎_elim
     (cases_lt end (length piece))
 
 -- a line that could not be kept was not taken
-not_held : (point : Point) (begun piece : List ℕ) (end : ℕ) (found : Bool) (fault : RunFault) → end ≡ position_or_len ends_line piece
+not_held : (point : Point) (begun piece : List ℕ) (end : ℕ) (found : Bool) (fault : RunFault)
+    → end ≡ position_or_len ends_line piece
     → found ≡ false
     → ((end < length piece) × (is_blank (begun ++ take end piece) ≡ true)
     × (length (begun ++ take end piece) ≤ most_bytes) → found ≡ true)
@@ -102,7 +103,8 @@ returns-in_err-keep_unfinished_line-clause-fault g c =
     let old : Talk = c.args.self.now in
     let piece : List ℕ = c.args.piece.now in
     let fault = c.in_err-keep_unfinished_line.field-0.0 in
-    handed_on c.from_residual.result fault (IsTakeFault (point_of old) (carried old piece) piece) c.from_residual.ensures.1
+    handed_on c.from_residual.result fault (IsTakeFault (point_of old) (carried old piece) piece)
+    c.from_residual.ensures.1
     (not_held (point_of old) old.begun piece c.front_size-end.result c.ends_blank.result fault c.front_size-end.ensures
     c.if-ends_blank.false c.ends_blank.ensures.1 c.in_err-keep_unfinished_line.ensures.fault)
 

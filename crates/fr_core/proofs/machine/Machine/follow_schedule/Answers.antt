@@ -21,6 +21,8 @@ loop-worker-preserved c =
       | in_default w ↦ ap (λ (v : Vec Entry Global). v.items) w.entries-is ∙ sym (append-nil old)
           ∙ ap (λ (o : Option Entry). old ++ option_to_list o) (sym w.in_default.is)
     ] in
-    let way = on_the_way c.args.self.now l.self old (option_to_list c.step.result) ks l.worker-index c.loop-worker-test.true l.invariant c.step.ensures.entry in
+    let way =
+    on_the_way c.args.self.now l.self old (option_to_list c.step.result) ks l.worker-index c.loop-worker-test.true
+    l.invariant c.step.ensures.entry in
     rw longer (subst (λ (m : MachineView). IsOnTheWay c.args.self.now m (old ++ option_to_list c.step.result)
     (drop (l.worker-index + 1) ks) ks) (sym c.step.ensures.next) way)

@@ -10,4 +10,5 @@ returns-clause-come c =
     let targets = lists_of c.args.targets.items in
     subst (λ (m : MachineView). HasCome m targets []) (sym c.in_ok-start.ensures)
     (come_start net.nodes c.args.dest net.links targets c.nodes.ensures.faultless.is_net
-    (omega (arith, c.if-dest-nodes.false, c.nodes.ensures.value)) (rw (← c.deref.ensures.value) c.in_default.ensures.none))
+    (omega (arith, c.if-dest-nodes.false, c.nodes.ensures.value))
+    (rw (← c.deref.ensures.value) c.in_default.ensures.none))

@@ -14,7 +14,8 @@ loop-list-preserved c =
     one_more c.loop-list.workers.items c.push.new.self.items c.new.result (map fresh (lists_of rest))
     (map fresh (lists_of (into_iter_items c.loop-list.list-iterator))) (map fresh (lists_of c.args.targets.items))
     c.in_ok-push.ensures.items
-    (ap (λ (vs : List (Vec Target Global)). map fresh (lists_of vs)) steps.0 ∙ ap (λ (w : WorkerState). w ∷ map fresh (lists_of rest)) (sym c.new.ensures))
+    (ap (λ (vs : List (Vec Target Global)). map fresh (lists_of vs)) steps.0
+    ∙ ap (λ (w : WorkerState). w ∷ map fresh (lists_of rest)) (sym c.new.ensures))
     c.loop-list.invariant
 
 pub invariant_of-result : goal.invariant_of-result
@@ -24,7 +25,8 @@ invariant_of-result c =
     nil_from_length (into_iter_items c.loop-list.list-iterator) (let l = steps.0 in search rules) in
     let done : c.loop-list.workers.items ≡ map fresh (lists_of c.args.targets.items) =
     sym (append-nil c.loop-list.workers.items)
-    ∙ (ap (λ (vs : List (Vec Target Global)). c.loop-list.workers.items ++ map fresh (lists_of vs)) (sym gone) ∙ c.loop-list.invariant) in
+    ∙ (ap (λ (vs : List (Vec Target Global)). c.loop-list.workers.items ++ map fresh (lists_of vs)) (sym gone)
+    ∙ c.loop-list.invariant) in
     let zeros : c.in_ok-counts.counts.items ≡ replicate net.nodes 0 = search rules in
     begun_sound net.nodes c.args.dest net.links (lists_of c.args.targets.items)
     c.in_ok-counts.counts.items c.loop-list.workers.items c.nodes.ensures.faultless.is_net c.requires zeros done

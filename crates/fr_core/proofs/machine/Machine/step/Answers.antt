@@ -13,14 +13,18 @@ use Rattle.fr_core.proofs.machine.Machine.step.Goals.{After-step}
 stays_sound : (c : After-step)
     → let s = c.self.inside in IsSoundMachine
     (view_of s.net.now.nodes s.dest s.net.now.links
-    (take s.counts.len (c.step.new.counts ++ drop (length c.step.new.counts) s.counts.items)) (slice_set s.workers.items c.args.worker c.step.new.self))
+    (take s.counts.len (c.step.new.counts
+    ++ drop (length c.step.new.counts) s.counts.items)) (slice_set s.workers.items c.args.worker c.step.new.self))
 stays_sound c =
     let s = c.self.inside in
-    let inside : c.args.worker < length s.workers.items = subst (λ (m : MachineView). c.args.worker < length m.state.workers) (sym c.self.view_is) c.requires in
+    let inside : c.args.worker < length s.workers.items =
+    subst (λ (m : MachineView). c.args.worker < length m.state.workers) (sym c.self.view_is) c.requires in
     let long = ap (length {A = ℕ}) c.deref_mut.ensures.value in
-    keeps_sound s.net.now.nodes s.dest s.net.now.links s.counts.items s.workers.items c.self.invariant c.args.worker inside
+    keeps_sound s.net.now.nodes s.dest s.net.now.links s.counts.items s.workers.items c.self.invariant c.args.worker
+    inside
     c.index_mut.result.now c.index_mut.ensures.value c.step.new.self c.step.result _ c.step.new.counts
-    (c.step.ensures ∙ ap (λ (counts : List ℕ). outcome s.net.now.nodes s.net.now.links counts c.index_mut.result.now.left
+    (c.step.ensures
+    ∙ ap (λ (counts : List ℕ). outcome s.net.now.nodes s.net.now.links counts c.index_mut.result.now.left
     c.index_mut.result.now.phase) c.deref_mut.ensures.value)
     (written s.counts.items c.step.new.counts s.counts.len (omega (arith, long)) (omega (arith, long)))
 

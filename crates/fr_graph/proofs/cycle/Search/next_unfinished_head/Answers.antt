@@ -17,22 +17,34 @@ full : (c : After-index-top) → c.len-last.result - 1 + 1 ≡ length c.args.sel
 full c = omega (arith, c.len-last.ensures, c.requires.full, c.args.self.now.path.ok.0)
 
 was : (c : After-index-top) → HasRead c.args.rows.now (IsDone c.args.self.now.marks.items) c.index-top.result.now
-was c = rw (← c.index-top.ensures) at (c.requires.search.read (c.len-last.result - 1) c.index-top.result.now (omega (arith, full c)))
+was c =
+    rw (← c.index-top.ensures) at (c.requires.search.read (c.len-last.result - 1) c.index-top.result.now (omega (
+      arith,
+      full c,
+    )))
 
-node_is : (c : After-index-top) → get_or (nodes_of c.args.self.now.path.items) (c.len-last.result - 1) 0 ≡ c.index-top.result.now.node
-node_is c = top_is c.args.self.now.path.items (c.len-last.result - 1) c.index-top.result.now (full c) c.index-top.ensures
+node_is : (c : After-index-top)
+    → get_or (nodes_of c.args.self.now.path.items) (c.len-last.result - 1) 0 ≡ c.index-top.result.now.node
+node_is c =
+    top_is c.args.self.now.path.items (c.len-last.result - 1) c.index-top.result.now (full c) c.index-top.ensures
 
 below : (c : After-index-top) → c.index-top.result.now.node < length c.args.rows.now.rows
 below c =
     let s = c.requires.search in
-    let on : get_or (nodes_of c.args.self.now.path.items) (c.len-last.result - 1) 0 < length c.args.self.now.marks.items =
-    s.steps.path_below (c.len-last.result - 1) (omega (arith, full c, length-map c.args.self.now.path.items (λ (s : Step). s.node))) in
+    let on : get_or (nodes_of c.args.self.now.path.items) (c.len-last.result - 1) 0
+    < length c.args.self.now.marks.items =
+    s.steps.path_below (c.len-last.result - 1) (omega (
+      arith,
+      full c,
+      length-map c.args.self.now.path.items (λ (s : Step). s.node),
+    )) in
     omega (arith, on, node_is c, s.one_each)
 
 pub row-row-requires : goal.row-row-requires
 row-row-requires c = below (goal.at.row-row-requires c).After-index-top
 
-passed : (c : After-index_mut) (k : ℕ) (d : ℕ × First) → c.index-top.result.now.next ≤ k → k < c.first_unfinished_place-place.result
+passed : (c : After-index_mut) (k : ℕ) (d : ℕ × First) → c.index-top.result.now.next ≤ k
+    → k < c.first_unfinished_place-place.result
     → LeadsOnlyTo (IsDone c.args.self.now.marks.items) (get_or (row_of c.args.rows.now c.index-top.result.now.node) k d)
 passed c = rw (c.row-row.ensures, c.deref.ensures.value) at c.first_unfinished_place-place.ensures.passed
 
@@ -40,7 +52,11 @@ passed c = rw (c.row-row.ensures, c.deref.ensures.value) at c.first_unfinished_p
 abbrev after : (c : After-index_mut) → Search
 after c = record {
   marks = c.args.self.now.marks;
-  path = with_item c.args.self.now.path (c.len-last.result - 1) (record { node = c.index-top.result.now.node; next = c.first_unfinished_place-place.result });
+  path =
+      with_item c.args.self.now.path (c.len-last.result - 1) (record {
+        node = c.index-top.result.now.node;
+        next = c.first_unfinished_place-place.result;
+      });
   order = c.args.self.now.order;
 }
 
@@ -76,7 +92,8 @@ returns-in_err-head c =
       same = same at.After-index_mut;
       next = tt;
       done = rw (← c.len-last.ensures, node_is at.After-index-top)
-          (read_through c.args.rows.now (IsDone c.args.self.now.marks.items) c.index-top.result.now c.first_unfinished_place-place.result
+          (read_through c.args.rows.now (IsDone c.args.self.now.marks.items) c.index-top.result.now
+          c.first_unfinished_place-place.result
           (was at.After-index-top) (passed at.After-index_mut) end.3);
     }
 
@@ -91,11 +108,20 @@ returns c =
     let inside : place < length (row_of table x) = seen.3.0 in
     let read : get_or (row_of table x) place e ≡ e = sym seen.1 in
     let stops : LeadsToOther c.args.self.now.marks.items e =
-    rw (c.row-row.ensures, read, c.deref.ensures.value) at (c.first_unfinished_place-place.ensures.stops e (rw c.row-row.ensures inside)) in
-    let listed : Contains (row_of table x) (e.0, Outward) =
-    (place, inside, sym (get_or_read (row_of table x) place e inside seen.1 (e.0, Outward)) ∙ entry_is e Outward stops.0) in
+    rw (c.row-row.ensures, read, c.deref.ensures.value) at
+    (c.first_unfinished_place-place.ensures.stops e (rw c.row-row.ensures inside)) in
+    let listed : Contains (row_of table x) (e.0, Outward) = (
+      place,
+      inside,
+      sym (get_or_read (row_of table x) place e inside seen.1 (e.0, Outward)) ∙ entry_is e Outward stops.0,
+    ) in
     let is_last : (k : ℕ) → k + 1 ≡ length (nodes_of c.args.self.now.path.items) → k ≡ c.len-last.result - 1 =
-    λ k last. omega (arith, last, full at.After-index-top, length-map c.args.self.now.path.items (λ (s : Step). s.node)) in
+    λ k last. omega (
+      arith,
+      last,
+      full at.After-index-top,
+      length-map c.args.self.now.path.items (λ (s : Step). s.node),
+    ) in
     let there : (d : ℕ × First) → (get_or (row_of table x) place d).0 ≡ e.0 =
     λ d. ap (λ (f : ℕ × First). f.0) (get_or_default (row_of table x) place d e inside ∙ read) in
     record {
@@ -103,11 +129,23 @@ returns c =
       same = same at.After-index_mut;
       next = record {
         leads = record {
-          points = λ k last. rw (is_last k last, node_is at.After-index-top) (shown_of_row (length table.rows) table x e.0 (below at.After-index-top) listed);
+          points =
+              λ k last. rw (is_last k last, node_is at.After-index-top)
+              (shown_of_row (length table.rows) table x e.0 (below at.After-index-top) listed);
           lowest = λ k w last points less.
-              read_up_to table (IsDone c.args.self.now.marks.items) c.index-top.result.now place e.0 c.requires.search.rising
-              (was at.After-index-top) (passed at.After-index_mut) inside there w (rw (is_last k last, node_is at.After-index-top) at points) less;
-          begins = λ w none. absurd (omega (arith, none, full at.After-index-top, length-map c.args.self.now.path.items (λ (s : Step). s.node)));
+              read_up_to table (IsDone c.args.self.now.marks.items) c.index-top.result.now place e.0
+              c.requires.search.rising
+              (was at.After-index-top) (passed at.After-index_mut) inside there w (rw (
+                is_last k last,
+                node_is at.After-index-top,
+              ) at points) less;
+          begins =
+              λ w none. absurd (omega (
+                arith,
+                none,
+                full at.After-index-top,
+                length-map c.args.self.now.path.items (λ (s : Step). s.node),
+              ));
         };
         below = rw read at (c.requires.search.below x place e inside);
         other = stops.1;

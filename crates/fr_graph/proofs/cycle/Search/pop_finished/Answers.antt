@@ -13,7 +13,8 @@ returns c =
     let shorter = length-take-le (path.len - 1) path.items (omega (arith, path.ok.0)) in
     record {
       search = λ rows s leads. search_leaves rows c.args.self.now _ c.args.top (path.len - 1) s
-          (omega (arith, c.requires.full, path.ok.0)) c.requires.top c.requires.below leads refl c.pop-last.ensures.rest c.in_ok-push.ensures.items;
+          (omega (arith, c.requires.full, path.ok.0)) c.requires.top c.requires.below leads refl
+          c.pop-last.ensures.rest c.in_ok-push.ensures.items;
       kept = kept_set marks c.args.top Done (λ is. cc is) c.requires.below;
       fewer = rw c.pop-last.ensures.rest (omega (arith, fewer, shorter, c.requires.full, path.ok.0));
     }

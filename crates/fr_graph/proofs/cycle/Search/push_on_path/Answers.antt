@@ -13,7 +13,9 @@ returns c =
     let fewer = fewer_fresh marks node c.requires.below c.requires.fresh in
     let new : Step = record { node = node; next = 0 } in
     record {
-      search = λ rows s leads. search_opens rows c.args.self.now _ node s c.requires.below c.requires.fresh leads refl c.in_ok-push.ensures.items refl;
+      search =
+          λ rows s leads. search_opens rows c.args.self.now _ node s c.requires.below c.requires.fresh leads refl
+          c.in_ok-push.ensures.items refl;
       met = λ is. cc (get_or-set_same marks node Open Fresh c.requires.below, is);
       kept = kept_set marks node Open (λ is. cc is) c.requires.below;
       fewer = rw c.in_ok-push.ensures.items (omega (arith, fewer, length_push c.args.self.now.path.items new));

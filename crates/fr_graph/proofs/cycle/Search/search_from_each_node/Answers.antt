@@ -20,7 +20,11 @@ search_from_root-requires-clause-root c = omega (arith, c.loop-root.invariant.ke
 pub returns-in-Some-clause-on : goal.returns-in-Some-clause-on
 returns-in-Some-clause-on c =
     let on = c.in_ok-node.ensures.on in
-    record { search = on.search; kept = kept_through c.loop-root.invariant.kept on.kept; back = rw c.in-Some.is at on.back }
+    record {
+      search = on.search;
+      kept = kept_through c.loop-root.invariant.kept on.kept;
+      back = rw c.in-Some.is at on.back;
+    }
 
 pub loop-root-preserved : goal.loop-root-preserved
 loop-root-preserved c =
@@ -29,13 +33,16 @@ loop-root-preserved c =
     record {
       rest = record { search = visit.on.search; empty = rw c.in_default.is at visit.empty };
       kept = kept_through before.kept visit.on.kept;
-      met = below_more (λ x. mark_of c.search_from_root.new.self.marks.items x ≢ Fresh) c.loop-root.root (λ x l. visit.on.kept.seen x (before.met x l)) visit.met;
+      met =
+          below_more (λ x. mark_of c.search_from_root.new.self.marks.items x ≢ Fresh) c.loop-root.root
+          (λ x l. visit.on.kept.seen x (before.met x l)) visit.met;
     }
 
 pub returns : goal.returns
 returns c =
     let inv = c.loop-root.invariant in
-    let ends = search_ends c.args.nodes c.args.rows.now c.loop-root.self inv.rest (inv.kept.one_each ∙ c.requires.one_each)
+    let ends =
+    search_ends c.args.nodes c.args.rows.now c.loop-root.self inv.rest (inv.kept.one_each ∙ c.requires.one_each)
     (λ x l. inv.met x (omega (arith, c.loop-root-test.false, l))) in
     record {
       on = record { search = inv.rest.search; kept = inv.kept; back = tt };

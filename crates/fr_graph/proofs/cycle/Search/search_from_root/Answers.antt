@@ -18,7 +18,8 @@ returns-then-has_visited c = record {
 
 pub search_until_empty-requires : goal.search_until_empty-requires
 search_until_empty-requires c =
-    let none : length (nodes_of c.args.self.now.path.items) ≡ 0 = ap (λ (path : List Step). length (nodes_of path)) c.requires.rest.empty in
+    let none : length (nodes_of c.args.self.now.path.items) ≡ 0 =
+    ap (λ (path : List Step). length (nodes_of path)) c.requires.rest.empty in
     c.in_ok-push_on_path.ensures.search c.args.rows.now c.requires.rest.search (record {
       points = λ k full. absurd (omega (arith, full, none));
       lowest = λ k w full. absurd (omega (arith, full, none));
@@ -30,7 +31,10 @@ returns c =
     let opened = c.in_ok-push_on_path.ensures in
     record {
       on = IfOk-weaker c.search_until_empty.result _ _
-          (λ back on. record { search = on.search; kept = kept_through opened.kept on.kept; back = on.back }) c.search_until_empty.ensures.on;
+          (λ back on. record { search = on.search; kept = kept_through opened.kept on.kept; back = on.back })
+          c.search_until_empty.ensures.on;
       empty = c.search_until_empty.ensures.empty;
-      met = IfOk-weaker c.search_until_empty.result _ _ (λ back on. on.kept.seen c.args.root opened.met) c.search_until_empty.ensures.on;
+      met =
+          IfOk-weaker c.search_until_empty.result _ _ (λ back on. on.kept.seen c.args.root opened.met)
+          c.search_until_empty.ensures.on;
     }

@@ -18,9 +18,16 @@ returns-clause-ok c =
       graph = c.remove_link.ensures.graph;
       made = (
         joins_ends c.args.u c.args.v link links ends stands,
-        subst (λ (ls : List (ℕ × ℕ)). IsNetworkOf g.nodes ls after) (without_ends c.args.u c.args.v link links ends) c.remove_link.ensures.taken,
+        subst (λ (ls : List (ℕ
+            × ℕ)). IsNetworkOf g.nodes ls after) (without_ends c.args.u c.args.v link links ends)
+            c.remove_link.ensures.taken,
       );
-      by = record { faultless = c.requires.graph.faultless; sorted = c.requires.graph.sorted; step = (stands, c.remove_link.ensures.taken) };
+      by =
+          record {
+            faultless = c.requires.graph.faultless;
+            sorted = c.requires.graph.sorted;
+            step = (stands, c.remove_link.ensures.taken);
+          };
       rooms = kept;
       back = still_room g c.remove_link.new.self (shown g) kept (own_room g c.requires.graph c.room_law.ensures);
     }

@@ -16,15 +16,18 @@ use Rattle.fr_graph.proofs.graph.Graph.edit_all.Goals.{In-Err}
 still : (c : In-Err) → CanUndo (shown c.args.self.now) c.loop-at.done.items c.edit.new.self
 still c =
     let same = c.in-Err.ensures.unchanged in
-    still_done c.loop-at.self c.edit.new.self (shown c.args.self.now) c.loop-at.done.items (shown c.edit.new.self) same.rooms
-    (subst (λ (m : Network). AreDone c.loop-at.self (shown c.args.self.now) c.loop-at.done.items m) (sym same.same) c.loop-at.invariant.undo)
+    still_done c.loop-at.self c.edit.new.self (shown c.args.self.now) c.loop-at.done.items (shown c.edit.new.self)
+    same.rooms
+    (subst (λ (m : Network). AreDone c.loop-at.self (shown c.args.self.now) c.loop-at.done.items m) (sym same.same)
+    c.loop-at.invariant.undo)
 
 pub returns-in_err-trim-clause-graph : goal.returns-in_err-trim-clause-graph
 returns-in_err-trim-clause-graph c = graph_of_rows c.args.self.now c.trim.new.self c.trim.ensures.rows c.requires.graph
 
 pub loop-at-init : goal.loop-at-init
 loop-at-init c =
-    let same = ap (with_links c.args.self.now.nodes) (shown_of_rows c.args.self.now c.trim.new.self c.trim.ensures.rows) in
+    let same =
+    ap (with_links c.args.self.now.nodes) (shown_of_rows c.args.self.now c.trim.new.self c.trim.ensures.rows) in
     record {
       graph = graph_of_rows c.args.self.now c.trim.new.self c.trim.ensures.rows c.requires.graph;
       made = same;
@@ -37,7 +40,8 @@ pub edit-requires : goal.edit-requires
 edit-requires c = c.loop-at.invariant.graph
 
 pub push_reserved-requires : goal.push_reserved-requires
-push_reserved-requires c = omega (arith, c.loop-at.invariant.one_each, c.loop-at.invariant.all_room, c.loop-at-test.true)
+push_reserved-requires c =
+    omega (arith, c.loop-at.invariant.one_each, c.loop-at.invariant.all_room, c.loop-at-test.true)
 
 pub undo_all-requires-clause-graph : goal.undo_all-requires-clause-graph
 undo_all-requires-clause-graph c = c.in-Err.ensures.unchanged.graph
@@ -64,12 +68,14 @@ returns-in-Err-clause-refused c =
       };
       names = λ before made d.
           subst (λ (m : Network). NamesOfEdit m (get_or c.args.edits.now c.loop-at.at d) c.in-Err.fault)
-          (all_made_one (shown c.args.self.now) (take c.loop-at.at c.args.edits.now) mid before c.loop-at.invariant.made made)
+          (all_made_one (shown c.args.self.now) (take c.loop-at.at c.args.edits.now) mid before
+          c.loop-at.invariant.made made)
           (subst (λ (e : Edit). NamesOfEdit mid e c.in-Err.fault) (same d) c.in-Err.ensures.names);
     }
 
 pub returns-in-Err-clause-unchanged : goal.returns-in-Err-clause-unchanged
-returns-in-Err-clause-unchanged c = c.undo_all.ensures.undone (shown c.args.self.now) (still (goal.at.returns-in-Err-clause-unchanged c).In-Err)
+returns-in-Err-clause-unchanged c =
+    c.undo_all.ensures.undone (shown c.args.self.now) (still (goal.at.returns-in-Err-clause-unchanged c).In-Err)
 
 pub loop-at-preserved : goal.loop-at-preserved
 loop-at-preserved c =
@@ -83,7 +89,9 @@ loop-at-preserved c =
     let kept = still_done c.loop-at.self c.edit.new.self first c.loop-at.done.items mid edited.rooms inv.undo in
     record {
       graph = edited.graph;
-      made = rw more (made_next first c.args.edits.now at mid after _ (omega (arith, c.loop-at-test.true)) inv.made edited.made);
+      made =
+          rw more (made_next first c.args.edits.now at mid after _ (omega (arith, c.loop-at-test.true)) inv.made
+          edited.made);
       undo = subst (λ (ds : List Effect). AreDone c.edit.new.self first ds after) (sym c.push_reserved.ensures.items)
           (more_done c.edit.new.self first c.loop-at.done.items mid c.in-Ok.step after kept edited.back edited.by);
       one_each = omega (arith, c.push_reserved.ensures.len, inv.one_each);

@@ -11,10 +11,13 @@ use Rattle.fr_graph.proofs.graph.Graph.join.Goals.{After-make_room, else-branch,
 
 -- the graph has the network that was tested
 same : (c : After-make_room) → IsSame c.args.self.now c.make_room.new.self
-same c = same_through c.args.self.now c.has_path_back.new.self c.make_room.new.self c.in_ok-has_path_back.ensures.same c.make_room.ensures.same
+same c =
+    same_through c.args.self.now c.has_path_back.new.self c.make_room.new.self c.in_ok-has_path_back.ensures.same
+    c.make_room.ensures.same
 
 -- the ends of the link, whichever way it points
-ends : (c : After-make_room) → AreUnjoined c.args.self.now.nodes (shown c.args.self.now).links c.if-branch.tail.0 c.if-branch.tail.1
+ends : (c : After-make_room)
+    → AreUnjoined c.args.self.now.nodes (shown c.args.self.now).links c.if-branch.tail.0 c.if-branch.tail.1
 ends c =
     let nodes = c.in_ok-test_join.ensures.nodes in
     elim c.if-branch.branch [
@@ -47,7 +50,8 @@ insert_link-requires-clause-link c =
       few = tested.few;
       unjoined = ends at;
       acyclic = elim c.if-branch.branch [
-        | then-branch w ↦ rw w.tail-is (one_way_free links u v acyclic tested.nodes.apart (path_closes links u v (leads.0 w.if-branch.true)))
+        | then-branch w ↦ rw w.tail-is
+            (one_way_free links u v acyclic tested.nodes.apart (path_closes links u v (leads.0 w.if-branch.true)))
         | else-branch w ↦ rw w.tail-is (no_path_free links u v acyclic (λ path. cc (leads.1 path, w.if-branch.false)))
       ];
     }
@@ -64,13 +68,17 @@ pub returns-clause-ok : goal.returns-clause-ok
 returns-clause-ok c =
     let links = (shown c.args.self.now).links in
     let put : IsPut c.args.self.now c.insert_link.new.self c.if-branch.tail.0 c.if-branch.tail.1 =
-    put_with_room c.args.self.now c.make_room.new.self c.insert_link.new.self c.if-branch.tail.0 c.if-branch.tail.1 c.requires
+    put_with_room c.args.self.now c.make_room.new.self c.insert_link.new.self c.if-branch.tail.0 c.if-branch.tail.1
+    c.requires
     (same (goal.at.returns-clause-ok c).After-make_room) c.room_law.ensures
     (ends (goal.at.returns-clause-ok c).After-make_room) c.insert_link.ensures.rooms c.insert_link.ensures.put in
     record {
       graph = c.insert_link.ensures.graph;
       made = elim c.if-branch.branch [
-        | then-branch w ↦ inr (path_closes links c.args.u c.args.v (c.in_ok-has_path_back.ensures.leads.0 w.if-branch.true), rw w.tail-is at put.made)
+        | then-branch w ↦ inr (
+          path_closes links c.args.u c.args.v (c.in_ok-has_path_back.ensures.leads.0 w.if-branch.true),
+          rw w.tail-is at put.made,
+        )
         | else-branch w ↦ inl (rw w.tail-is at put.made)
       ];
       by = put.by;

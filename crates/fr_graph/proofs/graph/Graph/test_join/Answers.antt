@@ -14,10 +14,15 @@ use Rattle.fr_graph.proofs.graph.Graph.test_join.Goals as goal
 use Rattle.fr_graph.proofs.graph.Graph.test_join.Goals.{Else-self-ge-MAX_LINKS, In_default}
 
 -- with the link between the two nodes the links are within the limit, and all join nodes
-limits : (c : Else-self-ge-MAX_LINKS) → IsWithinLimits c.args.self.now.nodes (added (shown c.args.self.now).links c.args.u c.args.v)
+limits : (c : Else-self-ge-MAX_LINKS)
+    → IsWithinLimits c.args.self.now.nodes (added (shown c.args.self.now).links c.args.u c.args.v)
 limits c =
     let g = shown c.args.self.now in
-    within_limits g.nodes g.links c.args.u c.args.v c.requires.faultless.limits (omega (arith, c.requires.counted, c.if-self-ge-MAX_LINKS.false))
+    within_limits g.nodes g.links c.args.u c.args.v c.requires.faultless.limits (omega (
+      arith,
+      c.requires.counted,
+      c.if-self-ge-MAX_LINKS.false,
+    ))
 
 range : (c : In_default) → IsInRange c.args.self.now.nodes (added (shown c.args.self.now).links c.args.u c.args.v)
 range c =
@@ -27,17 +32,24 @@ range c =
 
 pub returns-then-self-ge-MAX_LINKS-clause-refused : goal.returns-then-self-ge-MAX_LINKS-clause-refused
 returns-then-self-ge-MAX_LINKS-clause-refused c =
-    inr (omega (arith, length_push (shown c.args.self.now).links (c.args.u, c.args.v), c.requires.counted, c.if-self-ge-MAX_LINKS.true))
+    inr (omega (
+      arith,
+      length_push (shown c.args.self.now).links (c.args.u, c.args.v),
+      c.requires.counted,
+      c.if-self-ge-MAX_LINKS.true,
+    ))
 
 pub returns-in-Some-clause-refused : goal.returns-in-Some-clause-refused
 returns-in-Some-clause-refused c =
     let g = shown c.args.self.now in (
       limits (goal.at.returns-in-Some-clause-refused c).Else-self-ge-MAX_LINKS,
-      out_of_range_added g.nodes g.links c.args.u c.args.v c.in-Some.x (rw c.in-Some.is at c.first_outside.ensures.found),
+      out_of_range_added g.nodes g.links c.args.u c.args.v c.in-Some.x
+          (rw c.in-Some.is at c.first_outside.ensures.found),
     )
 
 -- the first end of one link that is not a node
-end_named : (net : Network) (u v x : ℕ) → 0 < net.nodes → NamesFirst net.nodes ((u, v) ∷ []) (Range x) → NamesOfLink net u v (Range x)
+end_named : (net : Network) (u v x : ℕ) → 0 < net.nodes → NamesFirst net.nodes ((u, v) ∷ []) (Range x)
+    → NamesOfLink net u v (Range x)
 end_named net u v x some (inl none) = absurd (omega (arith, none.0))
 end_named net u v x some (inr found) = elim (cases_lt u net.nodes) [
   | inr past ↦ let is = rw (le-leb net.nodes u past) at found.1 in inl (past, cc)
@@ -49,12 +61,16 @@ end_named net u v x some (inr found) = elim (cases_lt u net.nodes) [
 
 pub returns-in-Some-clause-names : goal.returns-in-Some-clause-names
 returns-in-Some-clause-names c =
-    end_named (shown c.args.self.now) c.args.u c.args.v c.in-Some.x c.requires.faultless.some (rw c.in-Some.is at c.first_outside.ensures.names)
+    end_named (shown c.args.self.now) c.args.u c.args.v c.in-Some.x c.requires.faultless.some
+    (rw c.in-Some.is at c.first_outside.ensures.names)
 
 pub returns-then-u-v-clause-refused : goal.returns-then-u-v-clause-refused
 returns-then-u-v-clause-refused c =
-    let at = goal.at.returns-then-u-v-clause-refused c in
-    (limits at.Else-self-ge-MAX_LINKS, range at.In_default, rw c.if-u-v.true (Contains-push (shown c.args.self.now).links _))
+    let at = goal.at.returns-then-u-v-clause-refused c in (
+      limits at.Else-self-ge-MAX_LINKS,
+      range at.In_default,
+      rw c.if-u-v.true (Contains-push (shown c.args.self.now).links _),
+    )
 
 pub link_between-requires : goal.link_between-requires
 link_between-requires c = c.requires

@@ -11,13 +11,15 @@ taken : (c : In-Removed) (net : Network) → IsDone net c.args.done (shown c.arg
     → IsDone net (Removed c.in-Removed.tail c.in-Removed.head) (shown c.args.self.now)
 taken c net done = subst (λ (d : Effect). IsDone net d (shown c.args.self.now)) c.in-Removed.is done
 
-put : (c : In-Added) (net : Network) → IsDone net c.args.done (shown c.args.self.now) → IsDone net (Added c.in-Added.tail c.in-Added.head) (shown c.args.self.now)
+put : (c : In-Added) (net : Network) → IsDone net c.args.done (shown c.args.self.now)
+    → IsDone net (Added c.in-Added.tail c.in-Added.head) (shown c.args.self.now)
 put c net done = subst (λ (d : Effect). IsDone net d (shown c.args.self.now)) c.in-Added.is done
 
 pub insert_link-requires-clause-link : goal.insert_link-requires-clause-link
 insert_link-requires-clause-link c =
     let net = c.requires.done.0 in
-    taken_can_be_put net c.in-Removed.tail c.in-Removed.head (shown c.args.self.now) (taken (goal.at.insert_link-requires-clause-link c).In-Removed net c.requires.done.1)
+    taken_can_be_put net c.in-Removed.tail c.in-Removed.head (shown c.args.self.now)
+    (taken (goal.at.insert_link-requires-clause-link c).In-Removed net c.requires.done.1)
 
 pub insert_link-requires-clause-room : goal.insert_link-requires-clause-room
 insert_link-requires-clause-room c =
@@ -28,7 +30,8 @@ insert_link-requires-clause-room c =
 pub remove_link-requires-clause-stands : goal.remove_link-requires-clause-stands
 remove_link-requires-clause-stands c =
     let net = c.requires.done.0 in
-    put_stands net c.in-Added.tail c.in-Added.head (shown c.args.self.now) (put (goal.at.remove_link-requires-clause-stands c).In-Added net c.requires.done.1)
+    put_stands net c.in-Added.tail c.in-Added.head (shown c.args.self.now)
+    (put (goal.at.remove_link-requires-clause-stands c).In-Added net c.requires.done.1)
 
 pub returns-in-Removed-clause-undone : goal.returns-in-Removed-clause-undone
 returns-in-Removed-clause-undone c = λ net done.

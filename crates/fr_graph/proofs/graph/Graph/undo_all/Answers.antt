@@ -12,7 +12,8 @@ last : (c : In-Some) (first : Network) → CanUndo first c.args.done.now.items c
     × (HasRoomFor c.loop-last.self mid × IsDone mid c.in-Some.last (shown c.loop-last.self)))
 last c first can =
     last_done c.loop-last.self first c.pop.new.self.items c.in-Some.last (shown c.loop-last.self)
-    (subst (λ (ds : List Effect). AreDone c.loop-last.self first ds (shown c.loop-last.self)) c.in-Some.ensures.items (c.loop-last.invariant.undo first can))
+    (subst (λ (ds : List Effect). AreDone c.loop-last.self first ds (shown c.loop-last.self)) c.in-Some.ensures.items
+    (c.loop-last.invariant.undo first can))
 
 pub undo-requires-clause-done : goal.undo-requires-clause-done
 undo-requires-clause-done c =

@@ -13,10 +13,18 @@ set_rising_heights-requires-clause-nodes c k d lt = omega (
 )
 
 pub set_rising_heights-requires-clause-room : goal.set_rising_heights-requires-clause-room
-set_rising_heights-requires-clause-room c = omega (arith, c.requires.1.few, c.self.invariant.few, ap (λ (levels : Levels). length levels.heights) c.self.view_is)
+set_rising_heights-requires-clause-room c =
+    omega (
+      arith,
+      c.requires.1.few,
+      c.self.invariant.few,
+      ap (λ (levels : Levels). length levels.heights) c.self.view_is,
+    )
 
 pub returns-clause-fit : goal.returns-clause-fit
 returns-clause-fit c links below order known =
-    rw (with_items_is c.self.inside.of c.set_rising_heights.new.of (c.set_rising_heights.ensures.one_each ∙ c.deref_mut.ensures.len))
-    (order_falls links (length c.args.self.now.heights) c.args.order.now 4294967296 c.deref_mut.result.now c.set_rising_heights.new.of
+    rw (with_items_is c.self.inside.of c.set_rising_heights.new.of (c.set_rising_heights.ensures.one_each
+    ∙ c.deref_mut.ensures.len))
+    (order_falls links (length c.args.self.now.heights) c.args.order.now 4294967296 c.deref_mut.result.now
+    c.set_rising_heights.new.of
     below order (omega arith) c.set_rising_heights.ensures.stacked)

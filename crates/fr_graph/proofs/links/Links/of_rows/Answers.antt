@@ -6,8 +6,10 @@ use Rattle.fr_graph.specs.RowLists.{out_links}
 use Rattle.fr_graph.specs.Tables.{Table, row_of}
 use Rattle.fr_graph.proofs.links.Links.of_rows.Goals as goal
 
-all_links : (table : Table) → rows_from (length table.rows - 0) 0 (λ x. out_links x (row_of table x)) ≡ links_in (length table.rows) table
-all_links table = rows_go_on (length table.rows - 0) 0 (length table.rows) (λ x. out_links x (row_of table x)) (omega arith)
+all_links : (table : Table)
+    → rows_from (length table.rows - 0) 0 (λ x. out_links x (row_of table x)) ≡ links_in (length table.rows) table
+all_links table =
+    rows_go_on (length table.rows - 0) 0 (length table.rows) (λ x. out_links x (row_of table x)) (omega arith)
 
 pub invariant_of-result : goal.invariant_of-result
 invariant_of-result c = record {

@@ -9,7 +9,8 @@ abbrev pub invariant-loop-head : goal.invariant-loop-head
 invariant-loop-head l =
     (l.next ≡ 0 → l.row ≡ []) ×
     (l.next ≤ length l.rows.rows) ×
-    (out_links (l.next - 1) l.row ++ rows_from (length l.rows.rows - l.next) l.next (λ x. out_links x (row_of l.rows x)) ≡ l.fn.self)
+    (out_links (l.next - 1) l.row
+    ++ rows_from (length l.rows.rows - l.next) l.next (λ x. out_links x (row_of l.rows x)) ≡ l.fn.self)
 
 abbrev pub decreases-loop-head : goal.decreases-loop-head
 decreases-loop-head l = length l.rows.rows - l.next

@@ -10,9 +10,16 @@ use Rattle.fr_graph.proofs.network.Net.isolated_count.Goals as goal
 pub overflow_cast-result : goal.overflow_cast-result
 overflow_cast-result c =
     let g = c.self.inside.graph in
-    omega (arith, c.empty_rows.ensures, count_by-le-length has_none g.rows.rows, c.self.invariant.rows.one_each, c.self.invariant.faultless.limits.nodes_few)
+    omega (
+      arith,
+      c.empty_rows.ensures,
+      count_by-le-length has_none g.rows.rows,
+      c.self.invariant.rows.one_each,
+      c.self.invariant.faultless.limits.nodes_few,
+    )
 
 pub returns : goal.returns
 returns c =
     let g = c.self.inside.graph in
-    c.empty_rows.ensures ∙ alone_counted g.nodes (shown g).links g.rows c.self.invariant.rows ∙ ap (λ (m : Network). alone_count m.nodes m.links) c.self.view_is
+    c.empty_rows.ensures ∙ alone_counted g.nodes (shown g).links g.rows c.self.invariant.rows
+    ∙ ap (λ (m : Network). alone_count m.nodes m.links) c.self.view_is

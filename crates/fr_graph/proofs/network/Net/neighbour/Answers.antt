@@ -12,11 +12,13 @@ returns-clause-value c =
     let read : c.row.result.now ≡ row c.args.self.now.nodes c.args.self.now.links c.args.x = c.row.ensures
     ∙ ap (λ (n : Network). row n.nodes n.links c.args.x) c.self.view_is in
     let inside : c.args.j < length c.row.result.now = omega (arith, c.requires.place, ap length read) in
-    ap (λ entries. slice_get entries c.args.j) (sym read) ∙ slice_get-get_or c.row.result.now c.args.j (0, Outward) inside
+    ap (λ entries. slice_get entries c.args.j) (sym read)
+    ∙ slice_get-get_or c.row.result.now c.args.j (0, Outward) inside
 
 pub returns-clause-at : goal.returns-clause-at
 returns-clause-at c d =
     let read : c.row.result.now ≡ row c.args.self.now.nodes c.args.self.now.links c.args.x = c.row.ensures
     ∙ ap (λ (n : Network). row n.nodes n.links c.args.x) c.self.view_is in
     let inside : c.args.j < length c.row.result.now = omega (arith, c.requires.place, ap length read) in
-    ap (λ entries. get_or entries c.args.j d) (sym read) ∙ get_or_default c.row.result.now c.args.j d (0, Outward) inside
+    ap (λ entries. get_or entries c.args.j d) (sym read)
+    ∙ get_or_default c.row.result.now c.args.j d (0, Outward) inside

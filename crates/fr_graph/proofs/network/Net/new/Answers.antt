@@ -28,17 +28,24 @@ pub returns-in-Some-clause-refused : goal.returns-in-Some-clause-refused
 returns-in-Some-clause-refused c _ =
     let ends = c.in_ok-test_links.ensures in
     let halves = c.in_ok-halves.halves.items in
-    let found : 2 ≤ count_by (is_at c.in-Some.u c.in-Some.v) halves = rw c.deref.ensures.value at c.in-Some.ensures.found in
-    (ends.limits, ends.range, ends.clear, twice_stands c.args.links.now halves c.in-Some.u c.in-Some.v c.in_ok-halves.ensures.same ends.clear found)
+    let found : 2 ≤ count_by (is_at c.in-Some.u c.in-Some.v) halves =
+    rw c.deref.ensures.value at c.in-Some.ensures.found in (
+      ends.limits,
+      ends.range,
+      ends.clear,
+      twice_stands c.args.links.now halves c.in-Some.u c.in-Some.v c.in_ok-halves.ensures.same ends.clear found,
+    )
 
 pub returns-in-Some-clause-names : goal.returns-in-Some-clause-names
 returns-in-Some-clause-names c =
     let halves = c.in_ok-halves.halves.items in
     let found = rw c.deref.ensures.value at c.in-Some.ensures in
-    lowest_twice c.args.links.now halves c.in-Some.u c.in-Some.v c.in_ok-halves.ensures.same c.in_ok-test_links.ensures.clear found.found found.lowest
+    lowest_twice c.args.links.now halves c.in-Some.u c.in-Some.v c.in_ok-halves.ensures.same
+    c.in_ok-test_links.ensures.clear found.found found.lowest
 
 -- the half-links are those of the links
-halves_are : (c : After-deref-2) → AreHalvesOf c.args.nodes c.args.links.now c.in_ok-halves.halves.items c.in_ok-halves.starts.items
+halves_are : (c : After-deref-2)
+    → AreHalvesOf c.args.nodes c.args.links.now c.in_ok-halves.halves.items c.in_ok-halves.starts.items
 halves_are c =
     let ends = c.in_ok-test_links.ensures in
     record {
@@ -50,10 +57,16 @@ halves_are c =
     }
 
 pub rows_from_half_links-requires : goal.rows_from_half_links-requires
-rows_from_half_links-requires c = (c.args.nodes, c.args.links.now, rw c.deref-2.ensures.value (halves_are (goal.at.rows_from_half_links-requires c).After-deref-2))
+rows_from_half_links-requires c = (
+  c.args.nodes,
+  c.args.links.now,
+  rw c.deref-2.ensures.value (halves_are (goal.at.rows_from_half_links-requires c).After-deref-2),
+)
 
 rows_are : (c : In_ok-rows) → AreRows c.args.nodes c.args.links.now c.in_ok-rows.rows
-rows_are c = c.in_ok-rows.ensures c.args.nodes c.args.links.now (rw c.deref-2.ensures.value (halves_are (goal.at.In_ok-rows c).After-deref-2))
+rows_are c =
+    c.in_ok-rows.ensures c.args.nodes c.args.links.now
+    (rw c.deref-2.ensures.value (halves_are (goal.at.In_ok-rows c).After-deref-2))
 
 same : (c : In_ok-rows) → HaveSameLinks c.args.links.now (net_in c.in_ok-rows.rows).links
 same c = same_shown c.args.nodes c.args.links.now c.in_ok-rows.rows c.in_ok-test_links.ensures.range.below (rows_are c)
@@ -69,7 +82,9 @@ pub find_cycle-requires-clause-rising : goal.find_cycle-requires-clause-rising
 find_cycle-requires-clause-rising c = rows_rise c.args.nodes c.args.links.now c.in_ok-rows.rows
     (rows_are (goal.at.find_cycle-requires-clause-rising c).In_ok-rows)
 
-walk_found : (c : In-Walk) → IsCycle (net_in c.in_ok-rows.rows).links c.in-Walk.walk.items × IsLowestCycle (net_in c.in_ok-rows.rows).links c.in-Walk.walk.items
+walk_found : (c : In-Walk)
+    → IsCycle (net_in c.in_ok-rows.rows).links c.in-Walk.walk.items
+    × IsLowestCycle (net_in c.in_ok-rows.rows).links c.in-Walk.walk.items
 walk_found c = rw c.in-Walk.is at c.in_ok-walk.ensures
 
 pub returns-in-Walk-clause-names : goal.returns-in-Walk-clause-names
@@ -89,11 +104,14 @@ returns-in-Walk-clause-refused c _ =
       ends.range,
       ends.clear,
       single_from_rising listed halves c.in_ok-halves.ensures.same ends.clear rising,
-      cycle_stands (net_in c.in_ok-rows.rows).links listed c.in-Walk.walk.items (λ u v. (same b.In_ok-rows u v).1) found,
+      cycle_stands (net_in c.in_ok-rows.rows).links listed c.in-Walk.walk.items (λ u v. (same b.In_ok-rows u v).1)
+          found,
     )
 
 -- the links contain no cycle, and the order lists the head of each link before its tail
-found : (c : In-Order) → IsAcyclic (net_in c.in_ok-rows.rows).links × HasHeadsFirst c.args.nodes (net_in c.in_ok-rows.rows).links c.in-Order.order.items
+found : (c : In-Order)
+    → IsAcyclic (net_in c.in_ok-rows.rows).links
+    × HasHeadsFirst c.args.nodes (net_in c.in_ok-rows.rows).links c.in-Order.order.items
 found c = rw c.in-Order.is at c.in_ok-walk.ensures
 
 faultless : (c : In-Order) → IsFaultless c.args.nodes c.args.links.now
@@ -101,15 +119,19 @@ faultless c =
     let b = goal.at.In-Order c in
     let listed = c.args.links.now in
     let ends = c.in_ok-test_links.ensures in
-    let acyclic = acyclic_fewer (net_in c.in_ok-rows.rows).links listed (λ u v. (same b.In_ok-rows u v).0) (found c).0 in
+    let acyclic =
+    acyclic_fewer (net_in c.in_ok-rows.rows).links listed (λ u v. (same b.In_ok-rows u v).0) (found c).0 in
     faultless_listed c.args.nodes listed c.in_ok-halves.halves.items ends.limits ends.range ends.clear
     c.in_ok-halves.ensures.same (halves_are b.After-deref-2).rising acyclic
 
 pub graph_with_order-requires-clause-links : goal.graph_with_order-requires-clause-links
-graph_with_order-requires-clause-links c = let b = goal.at.graph_with_order-requires-clause-links c in (c.args.links.now, faultless b.In-Order, rows_are b.In_ok-rows, refl)
+graph_with_order-requires-clause-links c =
+    let b = goal.at.graph_with_order-requires-clause-links c in
+    (c.args.links.now, faultless b.In-Order, rows_are b.In_ok-rows, refl)
 
 pub graph_with_order-requires-clause-order : goal.graph_with_order-requires-clause-order
-graph_with_order-requires-clause-order c = rw c.deref-in-Order.ensures.value (found (goal.at.graph_with_order-requires-clause-order c).In-Order).1
+graph_with_order-requires-clause-order c =
+    rw c.deref-in-Order.ensures.value (found (goal.at.graph_with_order-requires-clause-order c).In-Order).1
 
 pub returns-clause-ok : goal.returns-clause-ok
 returns-clause-ok c = let b = goal.at.returns-clause-ok c in

@@ -26,10 +26,12 @@ before c =
     rows_begin c.args.self.now c.args.turns.now c.self.inside.graph.rows (clear c).is_net c.requires.one_each
     (subst (λ (m : Network). AreRows m.nodes m.links c.self.inside.graph.rows) c.self.view_is c.self.invariant.rows)
 
-after : (c : After-turn_rows) → AreRows c.args.self.now.nodes (links_at c.args.self.now.links c.args.turns.now) c.turn_rows.new.rows
+after : (c : After-turn_rows)
+    → AreRows c.args.self.now.nodes (links_at c.args.self.now.links c.args.turns.now) c.turn_rows.new.rows
 after c =
     let at = (goal.at.After-turn_rows c).After-self in
-    rows_end c.args.self.now c.args.turns.now c.turn_rows.new.rows c.requires.kept (c.turn_rows.ensures c.args.self.now (before at))
+    rows_end c.args.self.now c.args.turns.now c.turn_rows.new.rows c.requires.kept
+    (c.turn_rows.ensures c.args.self.now (before at))
 
 pub turn_rows-requires : goal.turn_rows-requires
 turn_rows-requires c = record { rows = (c.args.self.now, before (goal.at.turn_rows-requires c).After-self) }
@@ -39,8 +41,10 @@ invariant_of-self c =
     let at = goal.at.invariant_of-self c in
     let links = c.args.self.now.links in
     let count : c.self.inside.graph.link_count ≡ length (links_at links c.args.turns.now) =
-    c.self.invariant.counted ∙ ap (λ (m : Network). length m.links) c.self.view_is ∙ sym (length-links_at links c.args.turns.now c.requires.kept) in
-    let fit : Fit links c.self.inside.graph.heights = subst (λ (m : Network). Fit m.links c.self.inside.graph.heights) c.self.view_is c.self.invariant.fit in
+    c.self.invariant.counted ∙ ap (λ (m : Network). length m.links) c.self.view_is
+    ∙ sym (length-links_at links c.args.turns.now c.requires.kept) in
+    let fit : Fit links c.self.inside.graph.heights =
+    subst (λ (m : Network). Fit m.links c.self.inside.graph.heights) c.self.view_is c.self.invariant.fit in
     graph_with_order _ (links_at links c.args.turns.now) (rw (nodes_are at.After-self) (turned at.After-self)) count
     (rw (nodes_are at.After-self) (after at.After-turn_rows))
     (c.raise_turned_nodes.ensures.one_each ∙ c.self.invariant.height_each) (c.raise_turned_nodes.ensures.fit links fit)
@@ -48,5 +52,6 @@ invariant_of-self c =
 pub returns : goal.returns
 returns c =
     let at = goal.at.returns c in
-    rw (nodes_are at.After-self) (network_of_rows c.args.self.now.nodes (links_at c.args.self.now.links c.args.turns.now)
+    rw (nodes_are at.After-self)
+    (network_of_rows c.args.self.now.nodes (links_at c.args.self.now.links c.args.turns.now)
     c.turn_rows.new.rows (turned at.After-self) (after at.After-turn_rows))

@@ -7,4 +7,11 @@ pub overflow_sub-result : goal.overflow_sub-result
 overflow_sub-result c = omega (arith, c.len.ensures, c.self.invariant.some, c.self.inside.places.ok.0)
 
 pub returns : goal.returns
-returns c = omega (arith, c.len.ensures, length_rows c.self.inside, ap (λ (t : Table). length t.rows) c.self.view_is, c.self.inside.places.ok.0)
+returns c =
+    omega (
+      arith,
+      c.len.ensures,
+      length_rows c.self.inside,
+      ap (λ (t : Table). length t.rows) c.self.view_is,
+      c.self.inside.places.ok.0,
+    )

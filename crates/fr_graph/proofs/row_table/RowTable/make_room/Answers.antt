@@ -16,5 +16,6 @@ pub returns-else-index-clause-room : goal.returns-else-index-clause-room
 returns-else-index-clause-room c =
     let row = place (goal.at.returns-else-index-clause-room c).After-self in
     let end = end_read c.self.inside c.args.x c.index.result.now (omega (arith, row.next)) c.index.ensures in
-    let next = start_read c.self.inside (c.args.x + 1) c.index-2.result.now (omega (arith, row.next)) c.index-2.ensures in
+    let next =
+    start_read c.self.inside (c.args.x + 1) c.index-2.result.now (omega (arith, row.next)) c.index-2.ensures in
     omega (arith, end, next, row.low, row.high, row.long, row.room, c.if-index.false)

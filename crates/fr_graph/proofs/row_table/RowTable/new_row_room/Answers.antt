@@ -8,10 +8,18 @@ place : (c : After-self) → IsRowAt c.self.inside c.args.self.now c.args.x
 place c = row_at c.self.inside c.args.self.now c.args.x c.self.invariant c.self.view_is c.requires
 
 next_is : (c : After-index-2) → c.index.result.now.start ≡ start_of c.self.inside (c.args.x + 1)
-next_is c = start_read c.self.inside (c.args.x + 1) c.index.result.now (omega (arith, (place (goal.at.After-index-2 c).After-self).next)) c.index.ensures
+next_is c =
+    start_read c.self.inside (c.args.x + 1) c.index.result.now (omega (
+      arith,
+      (place (goal.at.After-index-2 c).After-self).next,
+    )) c.index.ensures
 
 start_is : (c : After-index-2) → c.index-2.result.now.start ≡ start_of c.self.inside c.args.x
-start_is c = start_read c.self.inside c.args.x c.index-2.result.now (omega (arith, (place (goal.at.After-index-2 c).After-self).next)) c.index-2.ensures
+start_is c =
+    start_read c.self.inside c.args.x c.index-2.result.now (omega (
+      arith,
+      (place (goal.at.After-index-2 c).After-self).next,
+    )) c.index-2.ensures
 
 pub overflow_add-x : goal.overflow_add-x
 overflow_add-x c = omega (

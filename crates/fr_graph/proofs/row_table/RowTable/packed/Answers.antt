@@ -15,12 +15,20 @@ places c = c.in_ok-places.ensures ∙ ap places_of c.deref.ensures.value
 pub invariant_of-result : goal.invariant_of-result
 invariant_of-result c =
     let b = (goal.at.invariant_of-result c).After-count_empty_rows-empty in
-    packed_table (made b) c.args.starts.items c.requires (places b) (rw c.deref-2.ensures.value at c.count_empty_rows-empty.ensures)
+    packed_table (made b) c.args.starts.items c.requires (places b)
+    (rw c.deref-2.ensures.value at c.count_empty_rows-empty.ensures)
 
 pub returns-clause-one_each : goal.returns-clause-one_each
 returns-clause-one_each c =
     let b = (goal.at.returns-clause-one_each c).After-count_empty_rows-empty in
-    omega (arith, length_rows (made b), packed_one_each (made b) c.args.starts.items c.requires (places b), c.requires.some)
+    omega (
+      arith,
+      length_rows (made b),
+      packed_one_each (made b) c.args.starts.items c.requires (places b),
+      c.requires.some,
+    )
 
 pub returns-clause-rows : goal.returns-clause-rows
-returns-clause-rows c = let b = (goal.at.returns-clause-rows c).After-count_empty_rows-empty in packed_row (made b) c.args.starts.items c.requires (places b)
+returns-clause-rows c =
+    let b = (goal.at.returns-clause-rows c).After-count_empty_rows-empty in
+    packed_row (made b) c.args.starts.items c.requires (places b)

@@ -1,9 +1,11 @@
-use Rattle.std.proofs.Common.{ap, arith, drop, eqb, length, refl, remove, rules, slice_range, sym, take, ◌+◌, ◌-◌, ◌<◌, ◌∙◌, ◌≡◌, ◌≤◌}
+use Rattle.std.proofs.Common.{ap, arith, drop, eqb, length, refl, remove, rules, slice_range, sym, take, ◌+◌, ◌-◌, ◌<◌}
+use Rattle.std.proofs.Common.{◌∙◌, ◌≡◌, ◌≤◌}
 use Rattle.std.proofs.lemmas.List.Edits.{length-between}
 use Rattle.std.specs.Vec.{with_item, with_items}
 use borrow.Rule.Slice.PartMut.{put_mid}
 use Rattle.fr_graph.proofs.Counting.{weigh}
-use Rattle.fr_graph.proofs.RowTables.{IsPart, IsRowAt, ShowsRowWritten, bit_is, entry_removed, none_few, part_at, part_put, row_at, weigh-le}
+use Rattle.fr_graph.proofs.RowTables.{IsPart, IsRowAt, ShowsRowWritten, bit_is, entry_removed, none_few, part_at}
+use Rattle.fr_graph.proofs.RowTables.{part_put, row_at, weigh-le}
 use Rattle.fr_graph.specs.Tables.{row_of, start_of}
 use Rattle.fr_graph.specs.declared.row_table.RowTable.TheInside.{Inside}
 use Rattle.fr_graph.proofs.row_table.RowTable.remove.Goals as goal
@@ -12,7 +14,9 @@ use Rattle.fr_graph.proofs.row_table.RowTable.remove.Goals.{After-deref_mut, Aft
 at : (c : After-self) → IsRowAt c.self.inside c.args.self.now c.args.x
 at c = row_at c.self.inside c.args.self.now c.args.x c.self.invariant c.self.view_is c.requires.row
 
-row : (c : After-index) → IsPart c.self.inside c.args.self.now c.args.x c.index.result.now.start c.index.result.now.end c.self.inside.entries.items
+row : (c : After-index)
+    → IsPart c.self.inside c.args.self.now c.args.x c.index.result.now.start c.index.result.now.end
+    c.self.inside.entries.items
 row c = part_at c.self.inside c.args.self.now c.args.x c.index.result.now c.self.inside.entries.items c.self.invariant
     c.self.view_is c.requires.row c.index.ensures refl
 
@@ -25,15 +29,30 @@ index-requires c = omega (arith, (at (goal.at.index-requires c).After-self).next
 pub overflow_add-start : goal.overflow_add-start
 overflow_add-start c =
     let b = (goal.at.overflow_add-start c).After-index in
-    omega (arith, low b, (row b).high, c.self.inside.entries.ok.0, c.self.inside.entries.ok.1, c.self.inside.entries.small)
+    omega (
+      arith,
+      low b,
+      (row b).high,
+      c.self.inside.entries.ok.0,
+      c.self.inside.entries.ok.1,
+      c.self.inside.entries.small,
+    )
 
 pub offset_bounds-deref_mut-start : goal.offset_bounds-deref_mut-start
 offset_bounds-deref_mut-start c =
     let b = (goal.at.offset_bounds-deref_mut-start c).After-index in
-    omega (arith, low b, (row b).high, c.self.inside.entries.ok.0, c.self.inside.entries.ok.1, c.self.inside.entries.small)
+    omega (
+      arith,
+      low b,
+      (row b).high,
+      c.self.inside.entries.ok.0,
+      c.self.inside.entries.ok.1,
+      c.self.inside.entries.small,
+    )
 
 pub slice_bounds-remove_from_front-count : goal.slice_bounds-remove_from_front-count
-slice_bounds-remove_from_front-count c = let l = low (goal.at.slice_bounds-remove_from_front-count c).After-index in omega (arith, l)
+slice_bounds-remove_from_front-count c =
+    let l = low (goal.at.slice_bounds-remove_from_front-count c).After-index in omega (arith, l)
 
 pub slice_bounds-remove_from_front-start : goal.slice_bounds-remove_from_front-start
 slice_bounds-remove_from_front-start c =
@@ -44,7 +63,8 @@ slice_bounds-remove_from_front-start c =
 pub slice_bounds-remove_from_front-end : goal.slice_bounds-remove_from_front-end
 slice_bounds-remove_from_front-end c =
     let h = (row (goal.at.slice_bounds-remove_from_front-end c).After-index).high in
-    let inside : c.index.result.now.end ≤ length c.deref_mut.result.now = omega (arith, h, ap length c.deref_mut.ensures.value) in
+    let inside : c.index.result.now.end ≤ length c.deref_mut.result.now =
+    omega (arith, h, ap length c.deref_mut.ensures.value) in
     search (rules, inside)
 
 -- the length of the part that moves
@@ -69,7 +89,9 @@ index_mut-requires c = omega (arith, (at (goal.at.index_mut-requires c).After-se
 
 -- whether the row is empty now
 is_none : (c : After-from) → c.from.result ≡ weigh (eqb (start_of c.self.inside c.args.x) (c.index.result.now.end - 1))
-is_none c = rw (c.from.ensures, (row (goal.at.After-from c).After-index).start) (bit_is (eqb (start_of c.self.inside c.args.x) (c.index.result.now.end - 1)))
+is_none c =
+    rw (c.from.ensures, (row (goal.at.After-from c).After-index).start)
+    (bit_is (eqb (start_of c.self.inside c.args.x) (c.index.result.now.end - 1)))
 
 pub overflow_add-self : goal.overflow_add-self
 overflow_add-self c =
@@ -87,14 +109,20 @@ overflow_add-self c =
 -- the fields afterwards
 abbrev after : (c : After-from) → Inside
 after c = record {
-  places = with_item c.self.inside.places c.args.x (record { start = c.index.result.now.start; end = c.index.result.now.end - 1 });
+  places =
+      with_item c.self.inside.places c.args.x (record {
+        start = c.index.result.now.start;
+        end = c.index.result.now.end - 1;
+      });
   entries = with_items c.self.inside.entries
       (put_mid (c.index.result.now.start + c.args.place)
-      (c.index.result.now.end - (c.index.result.now.start + c.args.place)) c.deref_mut.result.now c.remove_from_front.new.entries);
+      (c.index.result.now.end - (c.index.result.now.start
+      + c.args.place)) c.deref_mut.result.now c.remove_from_front.new.entries);
   empty = c.self.inside.empty + c.from.result;
 }
 
-shows : (c : After-from) → ShowsRowWritten (after c) c.args.self.now c.args.x (remove (row_of c.args.self.now c.args.x) c.args.place)
+shows : (c : After-from)
+    → ShowsRowWritten (after c) c.args.self.now c.args.x (remove (row_of c.args.self.now c.args.x) c.args.place)
 shows c =
     let b = goal.at.After-from c in
     let t = c.self.inside in
@@ -106,7 +134,8 @@ shows c =
     let l = low b.After-index in
     let last : end ≡ end - 1 + 1 = omega (arith, l) in
     let size = c.remove_from_front.ensures.one_each ∙ part b.After-deref_mut in
-    entry_removed t (after c) c.args.self.now x p (end - 1) new c.self.invariant c.self.view_is c.requires.row c.requires.place
+    entry_removed t (after c) c.args.self.now x p (end - 1) new c.self.invariant c.self.view_is c.requires.row
+    c.requires.place
     (omega (arith, l, r.end))
     (omega (arith, size, l, r.start))
     (ap (λ k. take (k - (start_of t x + p) - 1) new) (sym last)

@@ -9,14 +9,19 @@ use borrow.Rule.Slice.PartMut.{put_mid}
 use Rattle.fr_graph.proofs.row_table.RowTable.reverse_entry.Goals as goal
 use Rattle.fr_graph.proofs.row_table.RowTable.reverse_entry.Goals.{After-deref_mut, After-reverse_entry}
 
-part : (c : After-deref_mut) → IsPart c.self.inside c.args.self.now c.args.x c.index-place.result.now.start c.index-place.result.now.end c.deref_mut.result.now
+part : (c : After-deref_mut)
+    → IsPart c.self.inside c.args.self.now c.args.x c.index-place.result.now.start c.index-place.result.now.end
+    c.deref_mut.result.now
 part c =
     part_at c.self.inside c.args.self.now c.args.x c.index-place.result.now c.deref_mut.result.now c.self.invariant
     c.self.view_is c.requires.row c.index-place.ensures c.deref_mut.ensures.value
 
 pub index-place-requires : goal.index-place-requires
-index-place-requires c = omega
-    (arith, (row_at c.self.inside c.args.self.now c.args.x c.self.invariant c.self.view_is c.requires.row).next, c.self.inside.places.ok.0)
+index-place-requires c = omega (
+  arith,
+  (row_at c.self.inside c.args.self.now c.args.x c.self.invariant c.self.view_is c.requires.row).next,
+  c.self.inside.places.ok.0,
+)
 
 pub offset_bounds-deref_mut-place : goal.offset_bounds-deref_mut-place
 offset_bounds-deref_mut-place c =
@@ -27,26 +32,34 @@ pub slice_bounds-reverse_entry-count : goal.slice_bounds-reverse_entry-count
 slice_bounds-reverse_entry-count c = (part (goal.at.slice_bounds-reverse_entry-count c).After-deref_mut).low
 
 pub slice_bounds-reverse_entry-start : goal.slice_bounds-reverse_entry-start
-slice_bounds-reverse_entry-start c = search (rules, (part (goal.at.slice_bounds-reverse_entry-start c).After-deref_mut).low)
+slice_bounds-reverse_entry-start c =
+    search (rules, (part (goal.at.slice_bounds-reverse_entry-start c).After-deref_mut).low)
 
 pub slice_bounds-reverse_entry-end : goal.slice_bounds-reverse_entry-end
-slice_bounds-reverse_entry-end c = search (rules, (part (goal.at.slice_bounds-reverse_entry-end c).After-deref_mut).high)
+slice_bounds-reverse_entry-end c =
+    search (rules, (part (goal.at.slice_bounds-reverse_entry-end c).After-deref_mut).high)
 
 pub reverse_entry-requires-clause-rising : goal.reverse_entry-requires-clause-rising
-reverse_entry-requires-clause-rising c = rw (part (goal.at.reverse_entry-requires-clause-rising c).After-deref_mut).is_row c.requires.rising
+reverse_entry-requires-clause-rising c =
+    rw (part (goal.at.reverse_entry-requires-clause-rising c).After-deref_mut).is_row c.requires.rising
 
 pub reverse_entry-requires-clause-stands : goal.reverse_entry-requires-clause-stands
-reverse_entry-requires-clause-stands c = rw (part (goal.at.reverse_entry-requires-clause-stands c).After-deref_mut).is_row c.requires.stands
+reverse_entry-requires-clause-stands c =
+    rw (part (goal.at.reverse_entry-requires-clause-stands c).After-deref_mut).is_row c.requires.stands
 
-written : (c : After-reverse_entry) → c.reverse_entry.new.row ≡ map (reversed_at c.args.w) (row_of c.args.self.now c.args.x)
-written c = c.reverse_entry.ensures ∙ ap (map (reversed_at c.args.w)) (part (goal.at.After-reverse_entry c).After-deref_mut).is_row
+written : (c : After-reverse_entry)
+    → c.reverse_entry.new.row ≡ map (reversed_at c.args.w) (row_of c.args.self.now c.args.x)
+written c =
+    c.reverse_entry.ensures
+    ∙ ap (map (reversed_at c.args.w)) (part (goal.at.After-reverse_entry c).After-deref_mut).is_row
 
 -- the fields afterwards
 abbrev after : (c : After-reverse_entry) → Inside
 after c = record {
   places = c.self.inside.places;
   entries = with_items c.self.inside.entries
-      (put_mid c.index-place.result.now.start (c.index-place.result.now.end - c.index-place.result.now.start) c.deref_mut.result.now c.reverse_entry.new.row);
+      (put_mid c.index-place.result.now.start (c.index-place.result.now.end - c.index-place.result.now.start)
+      c.deref_mut.result.now c.reverse_entry.new.row);
   empty = c.self.inside.empty;
 }
 
@@ -62,4 +75,6 @@ pub invariant_of-self : goal.invariant_of-self
 invariant_of-self c = (shows (goal.at.invariant_of-self c).After-reverse_entry).is
 
 pub returns : goal.returns
-returns c = let b = (goal.at.returns c).After-reverse_entry in (shows b).shown ∙ ap (with_row c.args.self.now c.args.x) (written b)
+returns c =
+    let b = (goal.at.returns c).After-reverse_entry in
+    (shows b).shown ∙ ap (with_row c.args.self.now c.args.x) (written b)

@@ -10,5 +10,6 @@ returns c = λ x. elim (cases_lt x (length c.args.self.now.rows)) [
   | inl inside ↦
       let at = row_at c.self.inside c.args.self.now x c.self.invariant c.self.view_is inside in
       omega (arith, at.long, at.room, at.low, at.high)
-  | inr past ↦ let none : row_of c.args.self.now x ≡ [] = get_or_past c.args.self.now.rows x [] past in omega (arith, ap length none)
+  | inr past ↦ let none : row_of c.args.self.now x ≡ [] =
+      get_or_past c.args.self.now.rows x [] past in omega (arith, ap length none)
 ]

@@ -1,4 +1,5 @@
-use Rattle.std.proofs.Common.{List, [], ap, arith, count_by, length, refl, replicate, sym, take, ℕ, ◌+◌, ◌++◌, ◌-◌, ◌∙◌, ◌∷◌, ◌≡◌}
+use Rattle.std.proofs.Common.{List, [], ap, arith, count_by, length, refl, replicate, sym, take, ℕ, ◌+◌, ◌++◌, ◌-◌, ◌∙◌}
+use Rattle.std.proofs.Common.{◌∷◌, ◌≡◌}
 use Rattle.std.proofs.lemmas.List.{length-replicate}
 use Rattle.fr_graph.proofs.Counting.{weigh}
 use Rattle.fr_graph.proofs.LaidOut.{IsBehind, rooms_behind, rows_behind, start_behind, table_behind}
@@ -14,7 +15,11 @@ last_is c = omega (arith, c.len-last.ensures, c.self.inside.places.ok.0)
 
 start_is : (c : After-from-empty) → c.index.result.now.start ≡ start_behind c.self.inside
 start_is c =
-    start_read c.self.inside (c.len-last.result - 1) c.index.result.now (omega (arith, last_is c, c.self.invariant.some)) c.index.ensures
+    start_read c.self.inside (c.len-last.result - 1) c.index.result.now (omega (
+      arith,
+      last_is c,
+      c.self.invariant.some,
+    )) c.index.ensures
     ∙ ap (start_at c.self.inside.places.items) (last_is c)
 
 next_is : (c : After-from-empty) → c.in_ok-next.next ≡ start_behind c.self.inside + c.args.room
@@ -25,7 +30,8 @@ filler c = replicate (c.in_ok-next.next - (c.index.result.now.start + length c.a
 
 -- whether the row is empty
 is_none : (c : After-from-empty) → c.from-empty.result ≡ weigh (has_none c.args.row.now)
-is_none c = c.from-empty.ensures ∙ bit_is c.is_empty.result ∙ ap weigh (c.is_empty.ensures ∙ sym (none_is c.args.row.now))
+is_none c =
+    c.from-empty.ensures ∙ bit_is c.is_empty.result ∙ ap weigh (c.is_empty.ensures ∙ sym (none_is c.args.row.now))
 
 behind : (c : After-from-empty)
     → IsBehind c.self.inside (record {
@@ -44,8 +50,12 @@ behind c = record {
     c.requires,
   );
   places = c.in_ok-push.ensures.items ∙ rw (last_is c, start_is c, next_is c) refl;
-  entries = c.in_ok-write_row_behind.ensures ∙ ap (λ s. take s c.self.inside.entries.items ++ (c.args.row.now ++ filler c)) (start_is c);
-  empty = let one : count_by has_none (c.args.row.now ∷ []) ≡ weigh (has_none c.args.row.now) = omega arith in omega (arith, is_none c, one);
+  entries =
+      c.in_ok-write_row_behind.ensures
+      ∙ ap (λ s. take s c.self.inside.entries.items ++ (c.args.row.now ++ filler c)) (start_is c);
+  empty =
+      let one : count_by has_none (c.args.row.now ∷ []) ≡ weigh (has_none c.args.row.now) = omega arith in
+      omega (arith, is_none c, one);
 }
 
 pub overflow_add-empty : goal.overflow_add-empty
@@ -63,7 +73,8 @@ overflow_add-empty c =
 
 pub invariant_of-result : goal.invariant_of-result
 invariant_of-result c = table_behind c.self.inside _ c.args.row.now
-    (filler (goal.at.invariant_of-result c).After-from-empty) c.args.room c.self.invariant (behind (goal.at.invariant_of-result c).After-from-empty)
+    (filler (goal.at.invariant_of-result c).After-from-empty) c.args.room c.self.invariant
+    (behind (goal.at.invariant_of-result c).After-from-empty)
 
 pub returns-clause-rows : goal.returns-clause-rows
 returns-clause-rows c =

@@ -8,12 +8,14 @@ inside : (c : After-index-count) → c.args.x < length c.self.inside.counts.item
 inside c = rw c.self.view_is c.requires.node
 
 count_is : (c : After-index-count) → get_or c.self.inside.counts.items c.args.x 0 ≡ c.index-count.result.now
-count_is c = get_or_default c.self.inside.counts.items c.args.x 0 c.index-count.result.now (inside c) ∙ sym c.index-count.ensures
+count_is c =
+    get_or_default c.self.inside.counts.items c.args.x 0 c.index-count.result.now (inside c) ∙ sym c.index-count.ensures
 
 pub push_reserved-requires : goal.push_reserved-requires
 push_reserved-requires c =
     let at = (goal.at.push_reserved-requires c).After-index-count in
-    let left = place_left c.self.inside.counts.items c.self.inside.nodes.items c.args.x c.self.invariant.turned (inside at)
+    let left =
+    place_left c.self.inside.counts.items c.self.inside.nodes.items c.args.x c.self.invariant.turned (inside at)
     (count_is at ∙ c.if-count-eq0.true) in
     omega (arith, left, c.self.invariant.room, c.self.inside.nodes.ok.0)
 
@@ -28,7 +30,8 @@ invariant_of-self c =
       | then-count-eq0 w ↦ rw w.self-inside-is (record {
         few = omega (arith, long, c.self.invariant.few);
         turned = rw w.push_reserved.ensures.items
-            (first_turn counts c.self.inside.nodes.items x more c.self.invariant.turned (inside at) (count_is at ∙ w.if-count-eq0.true) (omega arith));
+            (first_turn counts c.self.inside.nodes.items x more c.self.invariant.turned (inside at) (count_is at
+            ∙ w.if-count-eq0.true) (omega arith));
         room = omega (arith, long, c.self.invariant.room, w.push_reserved.ensures.capacity);
       })
       | else-count-eq0 w ↦ rw w.self-inside-is (record {

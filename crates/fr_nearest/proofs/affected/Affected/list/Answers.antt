@@ -13,10 +13,15 @@ mark_changed-requires-clause-below c =
     let changed = c.changed.result.now in
     let are : AreChanged c.args.distances.now.before c.args.distances.now.table changed =
     rw c.changed.ensures.value c.changed.ensures.changed in
-    λ k d inside. omega (arith, ((are.just (get_or changed k d)).0 (Contains-get_or changed k d inside)).0, c.requires.one_each)
+    λ k d inside. omega (
+      arith,
+      ((are.just (get_or changed k d)).0 (Contains-get_or changed k d inside)).0,
+      c.requires.one_each,
+    )
 
 pub invariant_of-self : goal.invariant_of-self
-invariant_of-self c = marks_sorted c.mark_changed.ensures.are refl c.sort_unstable.ensures.permutation c.sort_unstable.ensures.capacity
+invariant_of-self c =
+    marks_sorted c.mark_changed.ensures.are refl c.sort_unstable.ensures.permutation c.sort_unstable.ensures.capacity
 
 pub returns-clause-affected : goal.returns-clause-affected
 returns-clause-affected c =

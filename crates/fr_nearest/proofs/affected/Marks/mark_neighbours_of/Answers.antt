@@ -35,13 +35,15 @@ loop-y-preserved c =
     elim c.if-eq.branch [
       | then-eq w ↦
           let back : entry.1 ≡ Inward = search rules in
-          rw w.self-is (marked_more (IsReorderedAt c.args.net.now.links m.before m.table c.args.w) IsInward entries place
+          rw w.self-is (marked_more (IsReorderedAt c.args.net.now.links m.before m.table c.args.w) IsInward entries
+          place
           (0, Outward) c.loop-y-test.true inv
           (marked_as (IsReorderedAt c.args.net.now.links m.before m.table c.args.w entry) (IsInward entry)
           (λ y is. is.1) (λ y is. (back, is)) w.mark_reordered.ensures))
       | else-eq w ↦
           let out : ¬ (entry.1 ≡ Inward) = search rules in
-          rw w.self-is (marked_more (IsReorderedAt c.args.net.now.links m.before m.table c.args.w) IsInward entries place
+          rw w.self-is (marked_more (IsReorderedAt c.args.net.now.links m.before m.table c.args.w) IsInward entries
+          place
           (0, Outward) c.loop-y-test.true inv
           (marked_none (IsReorderedAt c.args.net.now.links m.before m.table c.args.w entry) (IsInward entry) inv.are
           (λ y is. absurd (out is.0))))

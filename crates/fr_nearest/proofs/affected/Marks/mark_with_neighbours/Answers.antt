@@ -4,7 +4,8 @@ use Rattle.fr_graph.specs.Rows.{row}
 use Rattle.fr_graph.specs.declared.first.First.TheVariants.{Outward}
 use Rattle.fr_nearest.specs.Affected.{HasOne, IsNextTo}
 use Rattle.fr_nearest.specs.Marks.{HasMarked, IsNeighbour}
-use Rattle.fr_nearest.proofs.Marking.{marked_all, marked_as, marked_first, marked_more, marked_then, next_from_row, next_in_row}
+use Rattle.fr_nearest.proofs.Marking.{marked_all, marked_as, marked_first, marked_more, marked_then, next_from_row}
+use Rattle.fr_nearest.proofs.Marking.{next_in_row}
 use Rattle.fr_nearest.proofs.affected.Marks.mark_with_neighbours.Goals as goal
 
 pub mark-requires-in-loop-w-clause-node : goal.mark-requires-in-loop-w-clause-node
@@ -34,5 +35,6 @@ returns c =
     let neighbours : HasMarked (HasOne IsNeighbour entries) (HasOne IsNeighbour entries) c.mark.new.self c.loop-w.self =
     rw c.row-row.ensures at (marked_all IsNeighbour IsNeighbour c.row-row.result.now c.loop-w.w-index
     (omega (arith, c.loop-w-test.false)) c.loop-w.invariant) in
-    marked_as (IsNextTo net.links x) (IsNextTo net.links x) (next_in_row net.nodes net.links x c.network_law.ensures.is_net)
+    marked_as (IsNextTo net.links x) (IsNextTo net.links x)
+    (next_in_row net.nodes net.links x c.network_law.ensures.is_net)
     (next_from_row net.nodes net.links x) (marked_then c.mark.ensures neighbours)

@@ -7,5 +7,6 @@ invariant-loop-x l = record {
   before : l.self.before ≡ l.fn.self.before;
   noted : AreNoted l.distances l.self;
   few : length l.self.nodes.items ≤ l.x;
-  has : (y : ℕ) → y < l.x → slice_index l.distances y ≢ slice_index l.self.before.items y → Contains l.self.nodes.items y;
+  has : (y : ℕ) → y < l.x → slice_index l.distances y ≢ slice_index l.self.before.items y
+      → Contains l.self.nodes.items y;
 }

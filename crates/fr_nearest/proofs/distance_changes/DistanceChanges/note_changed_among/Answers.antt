@@ -17,6 +17,7 @@ loop-x-preserved c =
 pub returns-clause-noted : goal.returns-clause-noted
 returns-clause-noted c =
     let inv = c.loop-x.invariant in
-    let has : HasNoted c.args.distances.now c.loop-x.self c.args.nodes.now = subst (λ (xs : List ℕ). HasNoted c.args.distances.now c.loop-x.self xs)
+    let has : HasNoted c.args.distances.now c.loop-x.self c.args.nodes.now =
+    subst (λ (xs : List ℕ). HasNoted c.args.distances.now c.loop-x.self xs)
     (take_all c.loop-x.x-index c.args.nodes.now (omega (arith, c.loop-x-test.false))) inv.has in
     all_noted c.args.nodes.now c.requires.noted.1 inv.before c.requires.noted.3 inv.noted has

@@ -11,9 +11,12 @@ returns-then-not-index c =
     let was = c.args.self.now in
     let noted = c.requires.noted in
     let number : c.index.result.now ≡ slice_index was.before.items x =
-    get_or_read was.before.items x c.index.result.now (omega (arith, c.requires.node, noted.before)) c.index.ensures 0 in
+    get_or_read was.before.items x c.index.result.now (omega (arith, c.requires.node, noted.before)) c.index.ensures 0
+    in
     let mark : c.index-then-distances-x.result.now ≡ get_or was.noted.items x false =
-    get_or_read was.noted.items x c.index-then-distances-x.result.now (omega (arith, c.requires.node, noted.noted)) c.index-then-distances-x.ensures false in
-    let other : slice_index c.args.distances.now x ≢ slice_index was.before.items x = λ e. c.if-distances-x.true (e ∙ sym number) in
+    get_or_read was.noted.items x c.index-then-distances-x.result.now (omega (arith, c.requires.node, noted.noted))
+    c.index-then-distances-x.ensures false in
+    let other : slice_index c.args.distances.now x ≢ slice_index was.before.items x =
+    λ e. c.if-distances-x.true (e ∙ sym number) in
     let fresh : ¬ IsNoted was x = λ is. false≢true (sym c.if-not-index.true ∙ (mark ∙ is)) in
     notes_it noted c.requires.node other fresh refl refl c.push_reserved.ensures.items c.push_reserved.ensures.capacity

@@ -14,10 +14,21 @@ copy_and_unmark-requires-clause-nodes c =
 
 pub returns : goal.returns
 returns c =
-    let t : IsTakenOver c.args.distances.now c.args.self.now.nodes.items c.args.self.now.before.items c.args.self.now.noted.items c.copy_and_unmark.new.before c.copy_and_unmark.new.noted
+    let t : IsTakenOver c.args.distances.now c.args.self.now.nodes.items c.args.self.now.before.items
+    c.args.self.now.noted.items c.copy_and_unmark.new.before c.copy_and_unmark.new.noted
     = rw (c.deref.ensures.value, c.deref_mut.ensures.value, c.deref_mut-2.ensures.value) at c.copy_and_unmark.ensures in
     let n = c.requires.noted in
     forgotten c.requires t
-    (with_items_is c.args.self.now.before c.copy_and_unmark.new.before (omega (arith, t.before_each, n.before, c.args.self.now.before.ok.0)))
-    (with_items_is c.args.self.now.noted c.copy_and_unmark.new.noted (omega (arith, t.noted_each, n.noted, c.args.self.now.noted.ok.0)))
+    (with_items_is c.args.self.now.before c.copy_and_unmark.new.before (omega (
+      arith,
+      t.before_each,
+      n.before,
+      c.args.self.now.before.ok.0,
+    )))
+    (with_items_is c.args.self.now.noted c.copy_and_unmark.new.noted (omega (
+      arith,
+      t.noted_each,
+      n.noted,
+      c.args.self.now.noted.ok.0,
+    )))
     c.clear.ensures.items c.clear.ensures.capacity

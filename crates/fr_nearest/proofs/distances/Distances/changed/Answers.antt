@@ -4,4 +4,5 @@ use Rattle.fr_nearest.proofs.Noting.{changed_of}
 use Rattle.fr_nearest.proofs.distances.Distances.changed.Goals as goal
 
 pub returns-clause-changed : goal.returns-clause-changed
-returns-clause-changed c = subst (λ (m : Measured). AreChanged m.before m.table m.changed) c.self.view_is (changed_of c.self.invariant.changes)
+returns-clause-changed c =
+    subst (λ (m : Measured). AreChanged m.before m.table m.changed) c.self.view_is (changed_of c.self.invariant.changes)

@@ -8,5 +8,6 @@ returns c =
     let was = ap (λ (m : Measured). m.table) c.self.view_is in
     let are = c.measure_all.ensures.distances in
     renewed c.args.net.now c.args.dest c.args.self.now c.self.inside.of was
-    (omega (arith, are.one_each, c.requires.one_each, ap length was)) are c.deref-2.ensures.value c.note_all_changed.ensures.noted
+    (omega (arith, are.one_each, c.requires.one_each, ap length was)) are c.deref-2.ensures.value
+    c.note_all_changed.ensures.noted
     (rw c.note_all_changed.ensures.before (rw c.deref.ensures.value at c.reset.ensures).before)

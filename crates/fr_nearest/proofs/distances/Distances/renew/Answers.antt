@@ -11,7 +11,9 @@ use Rattle.fr_nearest.proofs.distances.Distances.renew.Goals as goal
 use Rattle.fr_nearest.proofs.distances.Distances.renew.Goals.{After-reset, After-deref-then-update}
 
 old : (c : After-reset) → IsOutOfDate c.args.net.now c.args.touched.now c.self.inside.dest c.self.inside.of.items
-old c = subst (λ (m : Measured). IsOutOfDate c.args.net.now c.args.touched.now m.dest m.table) (sym c.self.view_is) c.requires.old
+old c =
+    subst (λ (m : Measured). IsOutOfDate c.args.net.now c.args.touched.now m.dest m.table) (sym c.self.view_is)
+    c.requires.old
 
 one_each : (c : After-reset) → length c.self.inside.of.items ≡ c.args.net.now.nodes
 one_each c = (old c).were.one_each
@@ -32,7 +34,8 @@ update-requires-clause-old c =
     (sym c.deref_mut.ensures.value) (old at)
 
 -- the table after an update
-table_is : (c : After-deref-then-update) → (with_items c.self.inside.of c.update.new.distances).items ≡ c.update.new.distances
+table_is : (c : After-deref-then-update)
+    → (with_items c.self.inside.of c.update.new.distances).items ≡ c.update.new.distances
 table_is c = with_items_is c.self.inside.of c.update.new.distances
     (omega (arith, c.update.ensures.one_each, ap length c.deref_mut.ensures.value, c.self.inside.of.ok.0))
 
@@ -45,22 +48,26 @@ note_changed_among-requires-clause-noted c =
     let then = (goal.at.note_changed_among-requires-clause-noted c).After-deref-then-update in
     let was = c.self.inside.of.items in
     let now = c.update.new.distances in
-    let others : KeepsOthers was now c.update.new.list.items = subst (λ (xs : List ℕ). KeepsOthers xs now c.update.new.list.items) c.deref_mut.ensures.value
+    let others : KeepsOthers was now c.update.new.list.items =
+    subst (λ (xs : List ℕ). KeepsOthers xs now c.update.new.list.items) c.deref_mut.ensures.value
     (c.update.ensures.updated c.if-update.true).others in
     let read : KeepsOthers was c.deref-then-update.result.now c.update.new.list.items =
     subst (λ (xs : List ℕ). KeepsOthers was xs c.update.new.list.items) (sym (read_is then)) others in (
       was,
       forgotten at,
       omega (arith, ap length (read_is then), c.update.ensures.one_each, ap length c.deref_mut.ensures.value),
-      subst (λ (xs : List ℕ). KeepsOthers was c.deref-then-update.result.now xs) (sym c.deref-then-update-2.ensures.value) read,
+      subst (λ (xs : List ℕ). KeepsOthers was c.deref-then-update.result.now xs)
+          (sym c.deref-then-update-2.ensures.value) read,
     )
 
 pub returns-then-update : goal.returns-then-update
 returns-then-update c =
     let at = (goal.at.returns-then-update c).After-reset in
     renewed c.args.net.now c.args.dest c.args.self.now c.self.inside.of (was at)
-    (c.update.ensures.one_each ∙ ap length c.deref_mut.ensures.value) (c.update.ensures.updated c.if-update.true).distances
-    c.deref-then-update.ensures.value c.note_changed_among.ensures.noted (rw c.note_changed_among.ensures.before (forgotten at).before)
+    (c.update.ensures.one_each
+    ∙ ap length c.deref_mut.ensures.value) (c.update.ensures.updated c.if-update.true).distances
+    c.deref-then-update.ensures.value c.note_changed_among.ensures.noted
+    (rw c.note_changed_among.ensures.before (forgotten at).before)
 
 pub returns-else-update : goal.returns-else-update
 returns-else-update c =
@@ -68,5 +75,14 @@ returns-else-update c =
     let are = c.measure_all.ensures.distances in
     let updated = with_items c.self.inside.of c.update.new.distances in
     renewed c.args.net.now c.args.dest c.args.self.now updated (was at)
-    (omega (arith, are.one_each, c.update.ensures.one_each, ap length c.deref_mut.ensures.value, one_each at, updated.ok.0, c.self.inside.of.ok.0))
-    are c.deref-else-update.ensures.value c.note_all_changed.ensures.noted (rw c.note_all_changed.ensures.before (forgotten at).before)
+    (omega (
+      arith,
+      are.one_each,
+      c.update.ensures.one_each,
+      ap length c.deref_mut.ensures.value,
+      one_each at,
+      updated.ok.0,
+      c.self.inside.of.ok.0,
+    ))
+    are c.deref-else-update.ensures.value c.note_all_changed.ensures.noted
+    (rw c.note_all_changed.ensures.before (forgotten at).before)

@@ -26,6 +26,7 @@ returns-clause-ways c =
     let items : (with_items sorted numbers).items ≡ map number_of sorted.items =
     with_items_is sorted numbers (omega (arith, ap length is, length-map sorted.items number_of, sorted.ok.0)) ∙ is in
     subst (λ (xs : List ℕ). AreWays net.links m.dest c.args.x xs) (sym items)
-    (ways_of_ranks (inside_net net.nodes net.links c.args.x c.network_law.ensures.is_net) c.requires.measured c.network_law.ensures.limits.nodes_few ranked
+    (ways_of_ranks (inside_net net.nodes net.links c.args.x c.network_law.ensures.is_net) c.requires.measured
+    c.network_law.ensures.limits.nodes_few ranked
     c.sort_unstable.ensures.permutation
     (IsNonDecreasingBy-from_sort (λ (r : ℕ). r) sorted.items c.sort_unstable.ensures.sorted))

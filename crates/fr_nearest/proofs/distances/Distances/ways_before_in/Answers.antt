@@ -16,4 +16,5 @@ returns-clause-ways c =
     λ links d are had.
     let ranked : AreRanked links c.args.self.now.before c.args.x (take count c.rank_ways_before-count.new.ranks) =
     rw (sym c.numbers_before.ensures) (c.rank_ways_before-count.ensures.ranked links had) in
-    ways_sorted (had_below c.args.net.now.nodes c.args.net.now.links c.args.counts.now links c.args.x law.is_net had) are law.limits.nodes_few ranked c.sort_ways.ensures
+    ways_sorted (had_below c.args.net.now.nodes c.args.net.now.links c.args.counts.now links c.args.x law.is_net had)
+    are law.limits.nodes_few ranked c.sort_ways.ensures

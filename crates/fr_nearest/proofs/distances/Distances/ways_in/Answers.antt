@@ -16,4 +16,5 @@ returns-clause-ways c =
     let count = c.rank_ways-count.result in
     let ranked : AreRanked net.links c.args.self.now.table c.args.x (take count c.rank_ways-count.new.ranks) =
     rw (sym c.numbers.ensures) c.rank_ways-count.ensures.ranked in
-    ways_sorted (inside_net net.nodes net.links c.args.x law.is_net) c.requires.measured law.limits.nodes_few ranked c.sort_ways.ensures
+    ways_sorted (inside_net net.nodes net.links c.args.x law.is_net) c.requires.measured law.limits.nodes_few ranked
+    c.sort_ways.ensures

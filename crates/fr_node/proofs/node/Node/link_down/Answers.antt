@@ -1,7 +1,7 @@
 use Rattle.std.proofs.Common.{false, subst, sym}
 use Rattle.fr_node.specs.declared.node.Node.{Node}
-use Rattle.fr_node.specs.Links.{SetsUp}
-use Rattle.fr_node.proofs.Stepping.{InTurn, after_setting}
+use Rattle.fr_node.specs.Links.{SetsUp, with_carrier}
+use Rattle.fr_node.proofs.Stepping.{InTurn, after_changing, carrier_same}
 use Rattle.fr_node.proofs.node.Node.link_down.Goals as goal
 
 pub returns : goal.returns
@@ -13,7 +13,9 @@ returns c =
       announces = c.finish_event.ensures.own;
       acts = c.finish_event.ensures.policy;
     } in record {
-      set = subst (λ (n : Node). SetsUp c.args.neighbour false old.links.items n.links.items) (sym c.finish_event.ensures.same)
+      set =
+          subst (λ (n : Node). SetsUp c.args.neighbour false old.links.items n.links.items)
+          (sym c.finish_event.ensures.same)
           c.set_link_up.ensures.set;
-      after = after_setting c.args.neighbour false _ _ _ turn c.set_link_up.ensures.set;
+      after = after_changing (with_carrier false) (carrier_same false) c.args.neighbour _ _ _ turn c.set_link_up.ensures.set;
     }

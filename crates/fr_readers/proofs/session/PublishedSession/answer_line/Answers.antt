@@ -13,7 +13,9 @@ pub publish_rerouted_hops-requires-clause-can : goal.publish_rerouted_hops-requi
 publish_rerouted_hops-requires-clause-can c =
     let p = c.self.inside in
     let a = c.answer_line_telling_alone-answer in
-    let by = answer_leads p.session a.new.self c.session_law.ensures c.session_law-2.ensures c.args.line.now a.result p.rerouted.items
+    let by =
+    answer_leads p.session a.new.self c.session_law.ensures c.session_law-2.ensures c.args.line.now a.result
+    p.rerouted.items
     a.new.rerouted.items a.ensures.blank a.ensures.unchanged a.ensures.told in
     subst (λ (nodes : List ℕ). IfSome p.publisher (λ k. CanPublish k a.new.self nodes)) (sym c.deref.ensures.value)
     (IfSome_then p.publisher c.self.invariant.hops
@@ -35,9 +37,12 @@ returns c =
     let t = c.publish_rerouted_hops.new.publisher in
     let w = c.publish_ways.new.tables in
     let ps : WayPushes = pushes_in p.reroutes in
-    let table = subst (λ (nodes : List ℕ). PublishesIn p.publisher a.new.self nodes t) c.deref.ensures.value c.publish_rerouted_hops.ensures in
+    let table =
+    subst (λ (nodes : List ℕ). PublishesIn p.publisher a.new.self nodes t) c.deref.ensures.value
+    c.publish_rerouted_hops.ensures in
     rw c.publish_ways.ensures.same (subst (λ (old : Published). AnswersLine old c.args.line.now a.result
     (published a.new.self a.new.rerouted.items t w ps)) c.self.view_is
-    (line_answered p.session a.new.self p.rerouted.items a.new.rerouted.items p.publisher t p.ways w ps c.self.invariant.hops table
+    (line_answered p.session a.new.self p.rerouted.items a.new.rerouted.items p.publisher t p.ways w ps
+    c.self.invariant.hops table
     c.self.invariant.ways c.publish_ways.ensures.published c.args.line.now a.result
     a.ensures.blank a.ensures.text a.ensures.told a.ensures.unchanged a.ensures.short a.ensures.no_start))

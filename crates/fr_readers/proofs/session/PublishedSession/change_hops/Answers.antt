@@ -19,7 +19,8 @@ publish_rerouted_hops-requires-clause-can c =
     let is = c.in_ok-router.ensures.value in
     let settled = subst IsSettledSession is c.session_law.ensures in
     let by = change_leads r a.new.self settled c.args.change a.result p.rerouted.items a.new.rerouted.items
-    (router_changed a.ensures.changed a.ensures.report a.ensures.fault a.ensures.unchanged a.ensures.no_start) a.ensures.told in
+    (router_changed a.ensures.changed a.ensures.report a.ensures.fault a.ensures.unchanged a.ensures.no_start)
+    a.ensures.told in
     let has = subst (λ (s : Option State). IfSome p.publisher (HasHopsOf s)) is c.self.invariant.hops in
     subst (λ (nodes : List ℕ). IfSome p.publisher (λ k. CanPublish k (Some a.new.self) nodes))
     (sym c.deref.ensures.value)
@@ -39,7 +40,8 @@ returns-clause-changes c =
     let w = p.ways in
     let none : p.ways ≡ None = ap (λ (q : Published). q.ways) c.self.view_is ∙ c.requires in
     let stays : PublishesWaysIn w (Some a.new.self) w =
-    ways_stay w (Some a.new.self) (subst (λ (v : Option WayKnowledge). IfSome v (HasWaysOf (Some a.new.self))) (sym none) tt) in
+    ways_stay w (Some a.new.self)
+    (subst (λ (v : Option WayKnowledge). IfSome v (HasWaysOf (Some a.new.self))) (sym none) tt) in
     let had = subst (λ (s : Option State). IfSome p.ways (HasWaysOf s)) is c.self.invariant.ways in
     let ps : WayPushes = pushes_in p.reroutes in
     let new : Published = published (Some a.new.self) a.new.rerouted.items t w ps in

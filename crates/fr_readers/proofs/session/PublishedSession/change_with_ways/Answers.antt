@@ -27,7 +27,8 @@ returns-clause-pushes c =
     let a = c.change_ways-answer in
     let session : Published → Option State = λ p. p.session in
     let after : WayPushes = pushes_in a.new.reroutes in
-    subst (λ (s : Option State). IfSome a.result (λ made. IfOk made (λ _. LeadsBetween c.args.self.now.session s after)))
+    subst (λ (s : Option State). IfSome a.result
+    (λ made. IfOk made (λ _. LeadsBetween c.args.self.now.session s after)))
     (sym (ap session c.self-2.view_is))
     (subst (λ (s : Option State). IfSome a.result (λ made. IfOk made (λ _. LeadsBetween s a.new.self.session after)))
     (ap session c.self.view_is) a.ensures.noted.made)

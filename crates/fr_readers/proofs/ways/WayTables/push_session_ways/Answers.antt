@@ -14,7 +14,8 @@ set_session_ways-requires-clause-long c =
 
 pub push_all-requires : goal.push_all-requires
 push_all-requires c =
-    rw c.self.invariant.table (first_table c.args.session.now c.requires c.set_session_ways.new.wanted c.set_session_ways.ensures.ways)
+    rw c.self.invariant.table
+    (first_table c.args.session.now c.requires c.set_session_ways.new.wanted c.set_session_ways.ensures.ways)
 
 pub returns-clause-published : goal.returns-clause-published
 returns-clause-published c =

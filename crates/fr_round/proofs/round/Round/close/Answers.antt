@@ -40,10 +40,12 @@ returns-clause-history c =
     let came = c.load_new_seat-seat.ensures.2 in
     let counts : (Rattle.std.specs.Vec.with_items w.counts c.read_counts.new.counts).items ≡ slots_items z.words =
     with_items_is w.counts c.read_counts.new.counts (search rules) ∙ c.read_counts.ensures in
-    let final : Final (Seen (KeepsRule {S = Unit {0}} (setup_of w.words.round_setup)) p.id p.me.0) (slots_items z.words) (slots_items z.slots) =
+    let final : Final (Seen (KeepsRule {S = Unit {0}} (setup_of w.words.round_setup)) p.id p.me.0)
+    (slots_items z.words) (slots_items z.slots) =
     subst (λ (g : RoundSetup). Final (Seen (KeepsRule {S = Unit {0}} (setup_of g)) p.id p.me.0) (slots_items z.words)
     (slots_items z.slots)) i.key c.close_with-closed.ensures.values.2 in
-    let all = closes (open_round_of w) ks (slots_items z.words) (slots_items z.slots) p.id p.me.0 t.new.turned.items final
+    let all =
+    closes (open_round_of w) ks (slots_items z.words) (slots_items z.slots) p.id p.me.0 t.new.turned.items final
     (ap (λ (u : View). u.closes) e ∙ ap (λ (u : View). u.closes) came)
     (ap (λ (u : View). u.taken) e ∙ ap (λ (u : View). u.taken ++ map number_and_known ks) came) (t.ensures.turned
     ∙ (λ j. i.none_turned j ++ map number_and_turns ks)) in

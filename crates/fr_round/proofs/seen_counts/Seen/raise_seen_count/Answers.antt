@@ -12,9 +12,15 @@ returns-clause-counted c =
     let lowered : List ℕ = c.update_row_for_count-missing.new.missing in
     let m : ℕ = c.update_row_for_count-missing.result in
     let long : length lowered ≡ length was.missing.items = search rules in
-    let written : (Rattle.std.specs.Vec.with_items was.missing lowered).items ≡ lowered = with_items_is was.missing lowered (search rules) in
-    let others : (z : ℕ) → z < net.nodes → z ≢ y → slice_index lowered z ≡ missing_of net.nodes net.links (slice_set was.counts.items y c.args.count) z =
+    let written : (Rattle.std.specs.Vec.with_items was.missing lowered).items ≡ lowered =
+    with_items_is was.missing lowered (search rules) in
+    let others : (z : ℕ) → z < net.nodes → z ≢ y
+    → slice_index lowered z ≡ missing_of net.nodes net.links (slice_set was.counts.items y c.args.count) z =
     subst (λ (l : List ℕ). (z : ℕ) → z < net.nodes → z ≢ y
-    → slice_index lowered z ≡ missing_of net.nodes net.links (slice_set l y c.args.count) z) c.deref.ensures.value c.update_row_for_count-missing.ensures.others in
-    raised net.nodes net.links was _ y c.args.count m lowered c.requires.node c.requires.counted long others refl (ap (λ (l : List ℕ). slice_set l y m) written)
-    (c.update_row_for_count-missing.ensures.own ∙ ap (λ (l : List ℕ). missing_of net.nodes net.links (slice_set l y c.args.count) y) c.deref.ensures.value)
+    → slice_index lowered z
+    ≡ missing_of net.nodes net.links (slice_set l y c.args.count) z) c.deref.ensures.value
+    c.update_row_for_count-missing.ensures.others in
+    raised net.nodes net.links was _ y c.args.count m lowered c.requires.node c.requires.counted long others refl
+    (ap (λ (l : List ℕ). slice_set l y m) written)
+    (c.update_row_for_count-missing.ensures.own
+    ∙ ap (λ (l : List ℕ). missing_of net.nodes net.links (slice_set l y c.args.count) y) c.deref.ensures.value)

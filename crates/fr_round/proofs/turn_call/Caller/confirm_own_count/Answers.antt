@@ -14,5 +14,6 @@ load-found-requires c =
       allowed _ _ _ _ _ (λ n. n)
           (look_ended (step c.args.words.now.table.shared.table_id.slots c.args.x 0 0 none) c.args.self.now.seat.me)
           (ends_look_at (setup_of c.args.words.now.table.shared.key) (setup_of c.args.words.now.round_setup)
-          c.args.words.now.table.shared.table_id.slots c.args.self.now.seat.id c.args.self.now.seat.me c.args.x c.args.c q.call q.node q.met),
+          c.args.words.now.table.shared.table_id.slots c.args.self.now.seat.id c.args.self.now.seat.me c.args.x
+          c.args.c q.call q.node q.met),
     )

@@ -17,7 +17,9 @@ loop-entry-preserved c =
     let w' = c.meets_bound.new.self.seat.me.0 in
     let tested = c.meets_bound.ensures in
     let step = c.if-not-meets_bound.ensures.step in
-    let other = other_node net.nodes net.links c.args.x list j c.network_law.ensures.is_net c.row-entry-items.ensures c.loop-entry-test.true in
+    let other =
+    other_node net.nodes net.links c.args.x list j c.network_law.ensures.is_net c.row-entry-items.ensures
+    c.loop-entry-test.true in
     let same = tested.stays.seat in
     let enough = subst (λ (l : List (ℕ × First)). bound_of (neighbour_at l j).1 c.args.c ≤ slice_index w'.seen
     (neighbour_at l j).0) c.row-entry-items.ensures step.0 in
@@ -26,7 +28,9 @@ loop-entry-preserved c =
         seat = (same.0 ∙ i.stays.seat.0, same.1 ∙ i.stays.seat.1, same.2 ∙ i.stays.seat.2);
         seen = tested.stays.seen;
       };
-      call = looks_on (setup_of c.args.words.now.round_setup) c.args.self.now.seat.me.0 c.loop-entry.self.seat.me.0 w' c.args.x
+      call =
+          looks_on (setup_of c.args.words.now.round_setup) c.args.self.now.seat.me.0 c.loop-entry.self.seat.me.0 w'
+          c.args.x
           c.args.c j (neighbour_at list j).0 i.call step.1 tested.up other.1 enough;
     }
 
@@ -40,5 +44,6 @@ returns-clause-passed c =
       stays = i.stays;
       looking = i.call.looking;
       met = all_meet_bounds (setup_of c.args.words.now.round_setup) c.args.x c.args.c c.loop-entry.entry-index
-          c.loop-entry.self.seat.me.0.seen c.network_law.ensures.is_net (omega (arith, whole, c.loop-entry-test.false)) i.call.enough;
+          c.loop-entry.self.seat.me.0.seen c.network_law.ensures.is_net (omega (arith, whole, c.loop-entry-test.false))
+          i.call.enough;
     }

@@ -50,4 +50,5 @@ returns c =
     let same = e.2.0 ∙ ap (λ (u : View). record u { known = p.me.0.known }) came in
     let caught = subst (λ (u : View). CatchesUp u p.me.0.known) came e.2.1 in
     subst (λ (k : Knowledge). LearnsPast k c.args.past (knowledge_of (taught w p))) c.self.view_is
-    (learns_past w c.args.past p c.self.invariant (e.0 ∙ j.0) (e.2.2 ∙ ap (λ m. m.1) j.2 ∙ c.self.invariant.no_slot) same caught)
+    (learns_past w c.args.past p c.self.invariant (e.0 ∙ j.0) (e.2.2 ∙ ap (λ m. m.1) j.2
+    ∙ c.self.invariant.no_slot) same caught)

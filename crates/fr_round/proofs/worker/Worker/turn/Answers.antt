@@ -18,5 +18,6 @@ returns-clause-learns c =
     let r = c.turn_at-reply in
     let setup = ap (λ (k : Knowledge). k.setup) c.self.view_is ∙ c.requires.own.setup in
     let turned = w.turned + c.turns_of_reply.result in
-    subst (λ (k : Knowledge). LearnsReply k c.args.x r.result (knowledge_of (with_caller w r.new.self turned))) c.self.view_is
+    subst (λ (k : Knowledge). LearnsReply k c.args.x r.result (knowledge_of (with_caller w r.new.self turned)))
+    c.self.view_is
     (learns_after c.args.words.now w r.new.self c.args.x r.result c.self.invariant setup r.ensures.made turned)

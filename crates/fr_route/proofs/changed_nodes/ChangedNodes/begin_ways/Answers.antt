@@ -13,7 +13,8 @@ note_ways_before-requires-clause-measured c =
     c.requires.measured (
       w.notes.value,
       ap notes_told w.is
-          ∙ ap (λ (it : Option (Box WayNotes Global)). option_map (λ (boxed : Box WayNotes Global). boxed.value) it) w.field-1-is,
+          ∙ ap (λ (it : Option (Box WayNotes Global)). option_map (λ (boxed : Box WayNotes Global). boxed.value) it)
+          w.field-1-is,
     )
 
 pub returns-in-InList-default-Some-clause-list : goal.returns-in-InList-default-Some-clause-list

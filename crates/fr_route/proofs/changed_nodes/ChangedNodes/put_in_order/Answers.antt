@@ -10,6 +10,8 @@ returns-in-InList-clause-order c = λ old same listing noted.
     let hops = c.args.hops.now in
     let list = c.in-InList.list in
     let is : IsPushOrder old hops c.order.new.changed = c.order.ensures.order old same
-    (subst (λ (nodes : List ℕ). (x : ℕ) → Contains nodes x ↔ DifferAt old hops x) (sym c.deref_mut.ensures.value) others.just) in
-    let as_many : length c.order.new.changed ≡ vec_len list = omega (arith, order_length old hops list.items c.order.new.changed others is, list.ok.0) in
+    (subst (λ (nodes : List ℕ). (x : ℕ) → Contains nodes x
+    ↔ DifferAt old hops x) (sym c.deref_mut.ensures.value) others.just) in
+    let as_many : length c.order.new.changed ≡ vec_len list =
+    omega (arith, order_length old hops list.items c.order.new.changed others is, list.ok.0) in
     subst (IsPushOrder old hops) (sym (with_items_is list c.order.new.changed as_many)) is

@@ -8,7 +8,10 @@ pub returns-clause-report : goal.returns-clause-report
 returns-clause-report g c = rw c.without_edit_place.ensures (placeless_ok _ c.change.result c.change.ensures.report)
 
 pub returns-clause-unchanged : goal.returns-clause-unchanged
-returns-clause-unchanged g c = rw c.without_edit_place.ensures (placeless_on _ c.change.result c.change.ensures.unchanged)
+returns-clause-unchanged g c =
+    rw c.without_edit_place.ensures (placeless_on _ c.change.result c.change.ensures.unchanged)
 
 pub returns-clause-fault : goal.returns-clause-fault
-returns-clause-fault g c = rw c.without_edit_place.ensures (placeless_fault c.args.self.now c.args.change c.change.result c.change.ensures.fault)
+returns-clause-fault g c =
+    rw c.without_edit_place.ensures
+    (placeless_fault c.args.self.now c.args.change c.change.result c.change.ensures.fault)

@@ -11,4 +11,6 @@ pub returns-clause-unchanged : goal.returns-clause-unchanged
 returns-clause-unchanged c = rw c.without_edit_place.ensures (placeless_on _ c.change.result c.change.ensures.unchanged)
 
 pub returns-clause-fault : goal.returns-clause-fault
-returns-clause-fault c = rw c.without_edit_place.ensures (placeless_fault c.args.self.now c.args.change c.change.result c.change.ensures.fault)
+returns-clause-fault c =
+    rw c.without_edit_place.ensures
+    (placeless_fault c.args.self.now c.args.change c.change.result c.change.ensures.fault)

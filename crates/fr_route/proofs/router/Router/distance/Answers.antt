@@ -14,7 +14,9 @@ returns-clause-distance c =
     let table = c.keep_from_now.new.self.table in
     let has : HasDistances s table = record {
       dest = c.keep_from_now.ensures.dest;
-      table = subst (λ (d : ℕ). AreDistances s.nodes s.links d table.table) c.keep_from_now.ensures.dest c.keep_from_now.ensures.measured;
+      table =
+          subst (λ (d : ℕ). AreDistances s.nodes s.links d table.table) c.keep_from_now.ensures.dest
+          c.keep_from_now.ensures.measured;
     } in
     subst (λ (now : State). HasDistance now x c.distance.result) c.self.view_is
     (distance_is s c.self.invariant.round table has x below c.distance.result c.distance.ensures)

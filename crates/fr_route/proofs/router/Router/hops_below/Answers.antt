@@ -17,5 +17,6 @@ returns c =
     let enough : s.nodes ≤ n = subst (λ (now : State). now.nodes ≤ n) (sym c.self.view_is) c.requires in
     let made = resized_table s c.self.invariant.round table n hops enough in
     subst (λ (now : State). IfOk c.resized_hops.result (λ r. IsSettledTable now n r.items)) c.self.view_is
-    (IfOk-weaker c.resized_hops.result (λ r. r.items ≡ take n table ++ replicate (n - length table) CutOff) (λ r. IsSettledTable s n r.items)
+    (IfOk-weaker c.resized_hops.result (λ r. r.items ≡ take n table
+    ++ replicate (n - length table) CutOff) (λ r. IsSettledTable s n r.items)
     (λ r is. subst (IsSettledTable s n) (sym is) made) c.resized_hops.ensures)

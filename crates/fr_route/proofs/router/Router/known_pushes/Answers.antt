@@ -19,7 +19,8 @@ tables_are c =
     let same : length c.args.table.now ≡ length c.deref.result.now =
     omega (arith, c.requires.nodes, (hops_are c).one_each, inside) in
     record {
-      one_length = record { same = same; few = omega (arith, (hops_are c).one_each, c.network_law.ensures.limits.nodes_few) };
+      one_length =
+          record { same = same; few = omega (arith, (hops_are c).one_each, c.network_law.ensures.limits.nodes_few) };
       old_range = c.requires.range;
       new_range = settled_in_range (state_of c.self.inside) c.deref.result.now c.self.invariant.round (hops_are c);
     }
@@ -48,5 +49,6 @@ returns c =
       };
     } in
     subst (λ (now : State). ArePushes now table order) c.self.view_is found in
-    IfOk-weaker c.known_push_order.result (λ order. IsPushOrder table hops order.items) (λ order. ArePushes c.args.self.now table order.items)
+    IfOk-weaker c.known_push_order.result (λ order. IsPushOrder table hops order.items)
+    (λ order. ArePushes c.args.self.now table order.items)
     (λ order is. pushes order.items is) c.known_push_order.ensures

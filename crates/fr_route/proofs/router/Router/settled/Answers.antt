@@ -8,7 +8,8 @@ use Rattle.fr_route.proofs.router.Router.settled.Goals as goal
 pub turn-requires-clause-kept : goal.turn-requires-clause-kept
 turn-requires-clause-kept c =
     let net = c.args.net in
-    (settled_lawful net.nodes c.args.dest net.links c.network_law.ensures.is_net c.requires.destination c.args.turns c.requires.settled).kept
+    (settled_lawful net.nodes c.args.dest net.links c.network_law.ensures.is_net c.requires.destination c.args.turns
+    c.requires.settled).kept
 
 pub forwarding_state-requires : goal.forwarding_state-requires
 forwarding_state-requires c =

@@ -27,5 +27,6 @@ returns-clause-range c =
 
 pub returns-clause-ways : goal.returns-clause-ways
 returns-clause-ways c =
-    let all : length c.rows.table ≡ c.args.count = omega (arith, c.rows.invariant.few, c.rows-test.false, c.len.ensures) in
+    let all : length c.rows.table ≡ c.args.count =
+    omega (arith, c.rows.invariant.few, c.rows-test.false, c.len.ensures) in
     subst (λ (n : ℕ). AreWaysBelow c.args.self.now n c.rows.table) all c.rows.invariant.are

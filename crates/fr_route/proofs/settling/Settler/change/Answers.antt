@@ -13,7 +13,8 @@ returns-in-Cut g c =
     let v = c.in-Cut.v in
     let by = cut_by s u v in
     rw c.in-Cut.is
-    (edit_as _ (edit.Cut u v) s.dest (change_of s (Cut u v)) s c.args.told.now c.edit_one.result c.edit_one.new.router c.edit_one.new.told
+    (edit_as _ (edit.Cut u v) s.dest (change_of s (Cut u v)) s c.args.told.now c.edit_one.result c.edit_one.new.router
+    c.edit_one.new.told
     by.done by.undone refl c.edit_one.ensures)
 
 pub returns-in-Add : goal.returns-in-Add
@@ -23,7 +24,8 @@ returns-in-Add g c =
     let v = c.in-Add.v in
     let by = add_by s u v in
     rw c.in-Add.is
-    (edit_as _ (edit.Add u v) s.dest (change_of s (Add u v)) s c.args.told.now c.edit_one-in-Add.result c.edit_one-in-Add.new.router
+    (edit_as _ (edit.Add u v) s.dest (change_of s (Add u v)) s c.args.told.now c.edit_one-in-Add.result
+    c.edit_one-in-Add.new.router
     c.edit_one-in-Add.new.told by.done by.undone refl c.edit_one-in-Add.ensures)
 
 pub returns-in-Join : goal.returns-in-Join
@@ -33,11 +35,13 @@ returns-in-Join g c =
     let v = c.in-Join.v in
     let by = join_by s u v in
     rw c.in-Join.is
-    (edit_as _ (edit.Join u v) s.dest (change_of s (Join u v)) s c.args.told.now c.edit_one-in-Join.result c.edit_one-in-Join.new.router
+    (edit_as _ (edit.Join u v) s.dest (change_of s (Join u v)) s c.args.told.now c.edit_one-in-Join.result
+    c.edit_one-in-Join.new.router
     c.edit_one-in-Join.new.told by.done by.undone refl c.edit_one-in-Join.ensures)
 
 pub returns-in-Batch : goal.returns-in-Batch
 returns-in-Batch g c =
     rw c.in-Batch.is
-    (batch_as _ c.in-Batch.edits c.deref.result.now c.dest-dest.result c.args.router.now c.args.told.now c.edit.result c.edit.new.router
+    (batch_as _ c.in-Batch.edits c.deref.result.now c.dest-dest.result c.args.router.now c.args.told.now c.edit.result
+    c.edit.new.router
     c.edit.new.told c.deref.ensures.value c.dest-dest.ensures.value c.edit.ensures)

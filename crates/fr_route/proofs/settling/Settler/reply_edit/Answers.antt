@@ -4,33 +4,45 @@ use Rattle.fr_route.specs.Outcomes.{IsEdited}
 use Rattle.fr_route.specs.Replies.{answer_form, request_of_edit}
 use Rattle.fr_route.specs.States.{State}
 use Rattle.fr_route.specs.declared.fault.RouteFault.TheVariants.{Start}
-use Rattle.fr_route.proofs.Replying.{edit_accepted, edit_is_refused, edit_may_start, edit_refusal, edit_tells, edit_text, edit_wants, faulty, none_yet, refuses_again, revised}
+use Rattle.fr_route.proofs.Replying.{edit_accepted, edit_is_refused, edit_may_start, edit_refusal, edit_tells}
+use Rattle.fr_route.proofs.Replying.{edit_text, edit_wants, faulty, none_yet, refuses_again, revised}
 use Rattle.fr_route.proofs.settling.Settler.reply_edit.Goals as goal
 use Rattle.fr_route.proofs.settling.Settler.reply_edit.Goals.{in-Ok, in-Err}
 
 pub returns-in_default : goal.returns-in_default
 returns-in_default g c =
-    none_yet _ (answer_form c.args.draft.now) c.args.session.now (request_of_edit c.args.edit) c.args.told.now c.refuse.result c.refuse.new.draft c.session.inside.router
-    (sym c.session.view_is ∙ c.in_default.is) c.in_default.is (edit_wants c.args.edit) c.refuse.ensures.refuses c.refuse.ensures.memory
+    none_yet _ (answer_form c.args.draft.now) c.args.session.now (request_of_edit c.args.edit) c.args.told.now
+    c.refuse.result c.refuse.new.draft c.session.inside.router
+    (sym c.session.view_is
+    ∙ c.in_default.is) c.in_default.is (edit_wants c.args.edit) c.refuse.ensures.refuses c.refuse.ensures.memory
 
 pub returns : goal.returns
 returns g c =
     let s : State = c.in-Some.router in
     let here : c.args.session.now ≡ Some s = sym c.session.view_is ∙ c.in-Some.is in
     elim c.match-edit_and_report.branch [
-      | in-Ok w ↦ rw (here, w.result-is, w.draft-is) (revised _ (answer_form c.args.draft.now) s (request_of_edit c.args.edit) _ c.args.told.now c.edit_and_report.new.draft c.edit_and_report.new.router c.edit_and_report.new.told
+      | in-Ok w ↦ rw (here, w.result-is, w.draft-is)
+          (revised _ (answer_form c.args.draft.now) s (request_of_edit c.args.edit) _ c.args.told.now
+          c.edit_and_report.new.draft c.edit_and_report.new.router c.edit_and_report.new.told
           w.in-Ok.ensures.revised
-          (λ made. edit_accepted s c.args.edit c.edit_and_report.new.router (subst (λ (d : ℕ). IsEdited s (c.args.edit ∷ []) d c.edit_and_report.new.router) c.dest-dest.ensures.value made))
+          (λ made. edit_accepted s c.args.edit c.edit_and_report.new.router (subst (λ (d : ℕ). IsEdited s (c.args.edit
+          ∷ []) d c.edit_and_report.new.router) c.dest-dest.ensures.value made))
           (λ bytes is. edit_text c.args.draft.now.form s c.args.edit c.edit_and_report.new.router bytes is)
           (λ after is. edit_tells s c.args.edit c.edit_and_report.new.router _ after is))
-      | in-Err w ↦ rw (here, w.result-is, w.draft-is) (faulty _ (answer_form c.args.draft.now) (Some s) (Ok (request_of_edit c.args.edit)) c.args.told.now w.in-Err.undone.fault w.ends_of_edit_at.result None w.refuse_for.result w.refuse_for.new.draft
+      | in-Err w ↦ rw (here, w.result-is, w.draft-is)
+          (faulty _ (answer_form c.args.draft.now) (Some s) (Ok (request_of_edit c.args.edit)) c.args.told.now
+          w.in-Err.undone.fault w.ends_of_edit_at.result None w.refuse_for.result w.refuse_for.new.draft
           (Some c.edit_and_report.new.router) c.edit_and_report.new.told
           (λ refusal is. edit_is_refused s c.args.edit refusal
-          (edit_refusal s c.args.edit c.dest-dest.result w.in-Err.undone.at w.in-Err.undone.fault w.in-Err.ensures.revised.fault w.ends_of_edit_at.result w.ends_of_edit_at.ensures refusal is))
+          (edit_refusal s c.args.edit c.dest-dest.result w.in-Err.undone.at w.in-Err.undone.fault
+          w.in-Err.ensures.revised.fault w.ends_of_edit_at.result w.ends_of_edit_at.ensures refusal is))
           (λ e. edit_may_start s c.args.edit w.in-Err.undone.at
           (subst (λ (d : ℕ). IsPlacedFault s (c.args.edit ∷ []) d w.in-Err.undone.at Start) c.dest-dest.ensures.value
-          (subst (IsPlacedFault s (c.args.edit ∷ []) c.dest-dest.result w.in-Err.undone.at) e w.in-Err.ensures.revised.fault)))
-          w.in-Err.ensures.revised.no_start (ap (λ (z : State). Some z) w.in-Err.ensures.revised.unchanged.0) w.in-Err.ensures.revised.unchanged.1
-          (refuses_again (answer_form c.edit_and_report.new.draft) (answer_form c.args.draft.now) w.in-Err.undone.fault w.ends_of_edit_at.result None w.refuse_for.result w.refuse_for.new.draft
+          (subst (IsPlacedFault s (c.args.edit
+          ∷ []) c.dest-dest.result w.in-Err.undone.at) e w.in-Err.ensures.revised.fault)))
+          w.in-Err.ensures.revised.no_start (ap (λ (z : State). Some z) w.in-Err.ensures.revised.unchanged.0)
+          w.in-Err.ensures.revised.unchanged.1
+          (refuses_again (answer_form c.edit_and_report.new.draft) (answer_form c.args.draft.now) w.in-Err.undone.fault
+          w.ends_of_edit_at.result None w.refuse_for.result w.refuse_for.new.draft
           w.in-Err.ensures.same w.refuse_for.ensures.refuses) w.refuse_for.ensures.start)
     ]

@@ -10,7 +10,8 @@ returns-in-Err g c =
     let d = c.args.parts.dest in
     let links = c.args.parts.links.now in
     let why = c.in-Err.ensures.refused in
-    faulty _ (answer_form c.args.draft.now) c.args.session.now _ c.args.told.now c.in-Err.fault (d ∷ []) None c.refuse_for.result c.refuse_for.new.draft
+    faulty _ (answer_form c.args.draft.now) c.args.session.now _ c.args.told.now c.in-Err.fault (d
+    ∷ []) None c.refuse_for.result c.refuse_for.new.draft
     c.args.session.now c.args.told.now (new_refusal n d links c.in-Err.fault why)
     (λ e. subst (IsNewFault n d links) e why)
     c.in-Err.ensures.no_start refl refl c.refuse_for.ensures.refuses c.refuse_for.ensures.start

@@ -20,7 +20,13 @@ returns-then-not-any_can_turn-clause-answer g c =
     λ x can.
     let (k, low, at) = (zeros_hold net d c.args.from.now from.1).all x can in
     false≢true (sym c.if-not-any_can_turn.true
-    ∙ c.any_can_turn.ensures.1 (k, x, low, at, subst (λ (table : List ℕ). CanTurn n d (moment_of net.links table) x) (sym counts) can)) in
+    ∙ c.any_can_turn.ensures.1 (
+      k,
+      x,
+      low,
+      at,
+      subst (λ (table : List ℕ). CanTurn n d (moment_of net.links table) x) (sym counts) can,
+    )) in
     let is_net = c.network_law.ensures.is_net in
     record {
       settled = rw c.requires.none (counted n d net.links is_net from.0 zeros

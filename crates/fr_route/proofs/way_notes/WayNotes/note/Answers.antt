@@ -43,7 +43,8 @@ note_node-requires c =
     let both = both_exist s next c.args.edits.now c.args.distances.now c.args.self.now leads in
     let low : c.loop-read.read < length c.loop-read.self.affected.nodes =
     rw c.nodes-in-loop-read.ensures at c.loop-read-test.true in
-    let is : IsNext s next c.args.edits.now c.args.distances.now both.0 both.2.0 (slice_index c.loop-read.self.affected.nodes c.loop-read.read) c.loop-read.self =
+    let is : IsNext s next c.args.edits.now c.args.distances.now both.0 both.2.0
+    (slice_index c.loop-read.self.affected.nodes c.loop-read.read) c.loop-read.self =
     noting_next both.1 both.2.1 (c.loop-read.invariant s both.0 both.2.0 leads both.1 both.2.1) low in
     rw (c.counts.ensures, c.nodes-in-loop-read-2.ensures) (s, c.args.edits.now, both.0, both.2.0, is)
 
@@ -53,10 +54,12 @@ loop-read-preserved c = λ s before after leads were are.
     let nodes = c.loop-read.self.affected.nodes in
     let low : c.loop-read.read < length nodes = rw c.nodes-in-loop-read.ensures at c.loop-read-test.true in
     let noting = c.loop-read.invariant s before after leads were are in
-    let is : IsNext s next c.args.edits.now c.args.distances.now before after (slice_index nodes c.loop-read.read) c.loop-read.self =
+    let is : IsNext s next c.args.edits.now c.args.distances.now before after (slice_index nodes c.loop-read.read)
+    c.loop-read.self =
     noting_next were are noting low in
     let noted : IsNotedTo before after (slice_index nodes c.loop-read.read + 1) c.note_node.new.self.changes =
-    (rw (c.counts.ensures, c.nodes-in-loop-read-2.ensures) at c.note_node.ensures.noted) s c.args.edits.now before after is in
+    (rw (c.counts.ensures, c.nodes-in-loop-read-2.ensures) at c.note_node.ensures.noted) s c.args.edits.now before
+    after is in
     noting_more were are noting low c.note_node.ensures.same c.note_node.ensures.affected noted
 
 pub returns : goal.returns

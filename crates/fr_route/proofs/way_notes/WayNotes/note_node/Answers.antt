@@ -32,7 +32,8 @@ end_noted c s edits before after is ways =
     (rw c.deref-2.ensures.value at c.binary_search.ensures.position) is.leads.begun.ends.sorted) in
     rw c.row.ensures
     (may_note_end s (state_with c.args.net.now c.args.distances.now.dest c.args.counts.now) edits c.args.distances.now
-    before after c.args.x c.args.self.now is c.in-Ok.place (take c.ways_in-count.result c.deref.result.now) at.0 at.1 ways)
+    before after c.args.x c.args.self.now is c.in-Ok.place (take c.ways_in-count.result c.deref.result.now) at.0 at.1
+    ways)
 
 -- any other node
 other_noted : (c : After-deref-in-Err) → (s : State) (edits : List Edit) (before after : List (List ℕ))

@@ -18,7 +18,8 @@ grow_listed-requires-clause-listed c =
 
 pub grow_listed-requires-clause-part : goal.grow_listed-requires-clause-part
 grow_listed-requires-clause-part c =
-    is_part (last_table c.args.self.now) (last_table c.shrink_listed.new.self) c.args.new.now c.shrink_listed.ensures.ways
+    is_part (last_table c.args.self.now) (last_table c.shrink_listed.new.self) c.args.new.now
+    c.shrink_listed.ensures.ways
     (last_table c.shrink_listed-2.new.self) c.shrink_listed-2.ensures.ways
 
 pub returns-clause-history : goal.returns-clause-history

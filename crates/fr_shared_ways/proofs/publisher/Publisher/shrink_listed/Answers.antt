@@ -35,7 +35,8 @@ pub returns-clause-history : goal.returns-clause-history
 returns-clause-history c =
     let k = c.args.self.now in
     (all_seen c.loop-x.invariant c.requires.listed.by_number
-    (drops_quiet c.args.nodes.now (last_table k) c.args.new.now c.requires.listed c.args.emptied) c.loop-x-test.false).history
+    (drops_quiet c.args.nodes.now (last_table k) c.args.new.now c.requires.listed c.args.emptied)
+    c.loop-x-test.false).history
 
 pub returns-clause-ways : goal.returns-clause-ways
 returns-clause-ways c =

@@ -14,15 +14,26 @@ mark_groups-requires-clause-sound c =
 
 pub order_by_marks-requires-clause-none : goal.order_by_marks-requires-clause-none
 order_by_marks-requires-clause-none c = λ last.
-    listed_none c.deref-2.result.now last c.deref_mut-3.result.now c.deref_mut-4.result.now (search rules) (search rules)
+    listed_none c.deref-2.result.now last c.deref_mut-3.result.now c.deref_mut-4.result.now (search rules)
+    (search rules)
 
 pub order_by_marks-requires-clause-groups : goal.order_by_marks-requires-clause-groups
 order_by_marks-requires-clause-groups c = λ last is k d low.
     let new = c.args.new.now in
     let changed = c.args.changed.now in
     let sound = c.mark_groups.ensures.sound in
-    let differ_is = c.deref.ensures.value ∙ take_at c.mark_changed.new.differ _ _ (omega (arith, c.mark_changed.ensures.one_each, c.deref_mut.ensures.len)) in
-    let marks_are = c.deref-2.ensures.value ∙ take_at c.mark_groups.new.marks _ _ (omega (arith, c.mark_groups.auto.marks, c.deref_mut-2.ensures.len)) in
+    let differ_is =
+    c.deref.ensures.value ∙ take_at c.mark_changed.new.differ _ _ (omega (
+      arith,
+      c.mark_changed.ensures.one_each,
+      c.deref_mut.ensures.len,
+    )) in
+    let marks_are =
+    c.deref-2.ensures.value ∙ take_at c.mark_groups.new.marks _ _ (omega (
+      arith,
+      c.mark_groups.auto.marks,
+      c.deref_mut-2.ensures.len,
+    )) in
     let marked : AreMarked c.deref.result.now new changed =
     record { table = sound.table; noted = rw differ_is c.mark_changed.ensures.noted; change = c.requires.change } in
     let long : length c.deref_mut-3.result.now ≡ length new = search rules in
@@ -37,8 +48,18 @@ returns-clause-order c =
     let sound = c.mark_groups.ensures.sound in
     let keys = c.order_by_marks.new.keys in
     let (last, counts, is_last, listed, is) = c.order_by_marks.ensures.order in
-    let differ_is = c.deref.ensures.value ∙ take_at c.mark_changed.new.differ _ _ (omega (arith, c.mark_changed.ensures.one_each, c.deref_mut.ensures.len)) in
-    let marks_are = c.deref-2.ensures.value ∙ take_at c.mark_groups.new.marks _ _ (omega (arith, c.mark_groups.auto.marks, c.deref_mut-2.ensures.len)) in
+    let differ_is =
+    c.deref.ensures.value ∙ take_at c.mark_changed.new.differ _ _ (omega (
+      arith,
+      c.mark_changed.ensures.one_each,
+      c.deref_mut.ensures.len,
+    )) in
+    let marks_are =
+    c.deref-2.ensures.value ∙ take_at c.mark_groups.new.marks _ _ (omega (
+      arith,
+      c.mark_groups.auto.marks,
+      c.deref_mut-2.ensures.len,
+    )) in
     let marked : AreMarked c.deref.result.now new changed =
     record { table = sound.table; noted = rw differ_is c.mark_changed.ensures.noted; change = c.requires.change } in
     let long : length c.deref_mut-3.result.now ≡ length new = search rules in

@@ -28,7 +28,8 @@ passed : (c : After-first_unfinished_place-place) (k : ℕ) → get_or c.args.se
     → IsDone c.args.self.now.marks.items (get_or (ways c.args.table.now c.args.x) k 0)
 passed c = rw (c.row-ways.ensures, c.deref.ensures.value, from c) at c.first_unfinished_place-place.ensures.passed
 
-few : (c : After-first_unfinished_place-place) → c.first_unfinished_place-place.result ≤ length (ways c.args.table.now c.args.x)
+few : (c : After-first_unfinished_place-place)
+    → c.first_unfinished_place-place.result ≤ length (ways c.args.table.now c.args.x)
 few c = rw c.row-ways.ensures at c.first_unfinished_place-place.ensures.high
 
 pub returns-then-place-ways : goal.returns-then-place-ways

@@ -1,4 +1,4 @@
-use Rattle.std.proofs.Common.{[], ap, arith, get_or, length, take, ℕ, ◌+◌, ◌-◌, ◌<◌, ◌∙◌, ◌∷◌, ◌++◌, ◌≡◌, ◌≢◌}
+use Rattle.std.proofs.Common.{[], ap, arith, length, take, ℕ, ◌+◌, ◌-◌, ◌<◌, ◌∙◌, ◌∷◌, ◌++◌, ◌≡◌, ◌≢◌}
 use Rattle.std.proofs.lemmas.List.{length_push}
 use Rattle.fr_tables.specs.Walks.{IsTrail}
 use Rattle.fr_ways.specs.Searches.{IsSearch, mark_of}

@@ -47,7 +47,8 @@ returns-then-not-loses_way-clause-plan c =
     let e = c.in_ok-add_growing.ensures in
     let none : loses c.args.old.now c.args.new.now c.args.x ≡ false =
     sym (test (goal.at.returns-then-not-loses_way-clause-plan c).After-loses_way) ∙ c.if-not-loses_way.true in
-    plan_other c.args.old.now c.args.new.now c.args.x c.args.self.now c.add_growing.new.self c.requires.plan none e.shrink
+    plan_other c.args.old.now c.args.new.now c.args.x c.args.self.now c.add_growing.new.self c.requires.plan none
+    e.shrink
     e.emptied
     (rw (c.row-was.ensures, c.row-now.ensures) at e.grow)
 

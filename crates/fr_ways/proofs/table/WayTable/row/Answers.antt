@@ -1,5 +1,5 @@
-use Rattle.std.proofs.Common.{List, ap, arith, drop, get_or, length, rules, take, ℕ, ◌+◌, ◌-◌, ◌<◌, ◌∙◌, ◌≡◌, ◌≤◌}
-use Rattle.std.proofs.lemmas.List.{get_or_past, get_or_read}
+use Rattle.std.proofs.Common.{List, ap, arith, drop, get_or, length, rules, take, ℕ, ◌+◌, ◌-◌, ◌<◌, ◌≡◌, ◌≤◌}
+use Rattle.std.proofs.lemmas.List.{get_or_read}
 use Rattle.fr_ways.specs.Ways.{ways}
 use Rattle.fr_ways.proofs.Rows.{length_rows, row_at}
 use Rattle.fr_ways.proofs.table.WayTable.row.Goals as goal

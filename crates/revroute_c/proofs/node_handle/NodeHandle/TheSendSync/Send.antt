@@ -7,4 +7,6 @@ use Rattle.revroute_c.specs.Machines.{no_machine}
 use Rattle.revroute_c.specs.contracts.node_handle.NodeHandle.{the_row, the_type}
 
 pub send : IsSend the_row
-send = owning_send the_type (search sendable, tt) (λ d. owned_keyless S no_machine machine.the_send d.at d.machine) (λ k x w. tt)
+send =
+    owning_send the_type (search sendable, tt) (λ d. owned_keyless S no_machine machine.the_send d.at d.machine)
+    (λ k x w. tt)

@@ -50,40 +50,50 @@ into_box_parts_spec 𝓤 𝓛 𝓜 𝓡 wired =
       Goes-dropped 𝓛 0 (plain (λ _. H')) yes (λ κs x f. refl),
       (Goes-dropped 𝓛 0 (plain (λ _. Z)) yes (λ κs x f. refl), tt),
     ) #self fn (code.unfolded 𝓤 H 𝓜 𝓡 wired) (λ z are.
-    let κs = z.0.0 in let d = z.0.3.0 in let a = z.0.3.1.0 in let Post : Val → SProp 𝓤 = (walk_of 𝓛 ended hs c).post z in
+    let κs = z.0.0 in let d = z.0.3.0 in let a = z.0.3.1.0 in
+    let Post : Val → SProp 𝓤 = (walk_of 𝓛 ended hs c).post z in
     let Run : List Val → SProp 𝓤 = λ ws. WpFn 𝓤 H 𝓣.C 𝓣.Λ fn ws Post in
     let Out : RattleType = type_at ended.signature.result κs in
     qed 𝓛 ((‵ ftrue ⊛ ‵ (owns (types_at ended.signature.params κs) z.0.3 z.0.4)) ∷ raw ((c κs z.0.3).requires z.1) ∷ [])
     ∵ split ! $ move ! (1 ∷ []) $ fsplit ! $
-    handle_out ! d z.0.4.0 (λ ws. move ! (1 ∷ []) $ fsplit ! $ handle_tells (al S Z LZ ghosts) ! a z.0.4.1.0 (λ h eh gh. move ! (2 ∷ []) $
+    handle_out ! d z.0.4.0 (λ ws. move ! (1
+    ∷ []) $ fsplit ! $ handle_tells (al S Z LZ ghosts) ! a z.0.4.1.0 (λ h eh gh. move ! (2 ∷ []) $
     -- [what the handle owns; the allocator; no more parameters; no tokens; the `requires`]
     either_owned S no_machine ! d.at (kept_by d)
     (λ is none. let w : Val = word null_ptr in
     suffices ! (Run (w ∷ h ∷ [])) (subst (λ (us : List Val). ent 𝓤 (Run (w ∷ h ∷ [])) (Run us))
     (sym (λ i. (ws ∙ ap (λ (p : Ptr). word p ∷ []) is) i ++ (eh i ++ []))) (id⊢ 𝓤 (Run (w ∷ h ∷ [])))) $
-    enter ! 𝓣.C 𝓣.Λ fn (w ∷ h ∷ []) Post $ alloc_all ! (λ l. pass_all ! refl ((tt, (record { fits = lit< tt }, tt)), (gh, tt)) $ let Ev = env fn.locals l in
+    enter ! 𝓣.C 𝓣.Λ fn (w ∷ h ∷ []) Post $ alloc_all ! (λ l. pass_all ! refl (
+      (tt, (record { fits = lit< tt }, tt)),
+      (gh, tt),
+    ) $ let Ev = env fn.locals l in
     sets ! (of_opd ! (get_in ! (fld ! refl (stop !)) (sub ! 0 refl (whole !)))) refl (tt, record { fits = lit< tt }) $
     sets ! (bin ! (get ! refl) (lit ! tt) tt) refl (tt, tt) $ first ! $ branches ! (get ! refl)
     (λ _. sets_last ! (agg ! (and_then ! (lit ! tt) (no_more !))) refl (tt, (record { fits = lit< tt }, tt))
     $ exec ! 𝓣.C 𝓣.Λ Ev (after 3 fn.body) (at_ret Ev Post) $
     sets ! (of_opd ! (get ! refl)) refl (tt, (record { fits = lit< tt }, tt)) $
     use0 𝓛 (‵ (Out.own_val None (live 0 vnil ∷ []))) (none_of 𝓛 Lr) $
-    use0 𝓛 (raw (fact 𝓤 (kept_by d ≡ no_machine))) (fact_i 𝓤 (kept_by d ≡ no_machine) (emp 𝓤) none) $ nothing ! $ nothing ! $ fjoin ! $ nothing ! $ fjoin ! $
+    use0 𝓛 (raw (fact 𝓤 (kept_by d ≡ no_machine))) (fact_i 𝓤 (kept_by d
+    ≡ no_machine) (emp 𝓤) none) $ nothing ! $ nothing ! $ fjoin ! $ nothing ! $ fjoin ! $
     returns ! (look_at ! 0 refl) $ free_all ! refl $ keep ! (5 ∷ 0 ∷ 2 ∷ 1 ∷ []) $ by !
     (leaves 𝓛 ended hs c z (live 0 vnil) None (tt, (tt, tt)) (tt, (tt, tt)))) (λ wrong. absurd wrong)))
     (λ b o a' is t. let w : Val = word (block_ptr b o) in let made : Val = both (vptr b o) h in
     let typed = loose_good S Z LZ ghosts b o h gh in let v₁ : Val = live 1 (vcons made vnil) in
-    let r : Lr.Denot = record { at = block_ptr b o; alloc = a; value = (kept_by d) } in let good : Good (layout Out) v₁ =
+    let r : Lr.Denot = record { at = block_ptr b o; alloc = a; value = (kept_by d) } in
+    let good : Good (layout Out) v₁ =
     (and_tt _ typed.0, (record { fits = lit< tt }, (typed.1, tt))) in
     suffices ! (Run (w ∷ h ∷ [])) (subst (λ (us : List Val). ent 𝓤 (Run (w ∷ h ∷ [])) (Run us))
     (sym (λ i. (ws ∙ ap (λ (p : Ptr). word p ∷ []) is) i ++ (eh i ++ []))) (id⊢ 𝓤 (Run (w ∷ h ∷ [])))) $
-    enter ! 𝓣.C 𝓣.Λ fn (w ∷ h ∷ []) Post $ alloc_all ! (λ l. pass_all ! refl ((tt, (tt, tt)), (gh, tt)) $ let Ev = env fn.locals l in
+    enter ! 𝓣.C 𝓣.Λ fn (w ∷ h
+    ∷ []) Post $ alloc_all ! (λ l. pass_all ! refl ((tt, (tt, tt)), (gh, tt)) $ let Ev = env fn.locals l in
     sets ! (of_opd ! (get_in ! (fld ! refl (stop !)) (sub ! 0 refl (whole !)))) refl (tt, tt) $
-    sets ! (bin ! (get ! refl) (lit ! tt) (tests_null (block_ptr b o) t)) refl (tt, tt) $ first ! $ branches ! (get ! refl) (λ wrong. absurd wrong) (λ _.
+    sets ! (bin ! (get ! refl) (lit ! tt) (tests_null (block_ptr b o) t)) refl (tt, tt) $ first ! $ branches !
+    (get ! refl) (λ wrong. absurd wrong) (λ _.
     sets ! (agg ! (and_then ! (get ! refl) (and_then ! (get ! refl) (no_more !)))) refl typed $ sets_last !
     (agg ! (and_then ! (lit ! tt) (and_then ! (get ! refl) (no_more !)))) refl good $
     exec ! 𝓣.C 𝓣.Λ Ev (after 3 fn.body) (at_ret Ev Post) $ sets ! (of_opd ! (get ! refl)) refl good $
     loose_in S Z LZ ghosts ! b o h a (kept_by d) $ use1 𝓛 (‵ (Out.own_val (Some r) (v₁ ∷ []))) (Some-of 𝓛 Lr r made) $
     use0 𝓛 (raw (fact 𝓤 ((kept_by d) ≡ (kept_by d)))) (fact_i 𝓤 ((kept_by d) ≡ (kept_by d)) (emp 𝓤) refl)
     $ nothing ! $ nothing ! $ fjoin ! $ nothing ! $ fjoin ! $
-    returns ! (look_at ! 0 refl) $ free_all ! refl $ keep ! (4 ∷ 0 ∷ 2 ∷ 1 ∷ []) $ by ! (leaves 𝓛 ended hs c z v₁ (Some r) (tt, (tt, tt)) (tt, (tt, tt)))))))))
+    returns ! (look_at ! 0 refl) $ free_all ! refl $ keep ! (4 ∷ 0 ∷ 2 ∷ 1
+    ∷ []) $ by ! (leaves 𝓛 ended hs c z v₁ (Some r) (tt, (tt, tt)) (tt, (tt, tt)))))))))

@@ -19,4 +19,10 @@ pub returns : goal.returns
 returns c =
     subst (λ k. InNode (HearsMessage c.args.message.now c.match-hear.result) ⊥ k
     (the_view record { node = c.hear.new.self; ways = c.self.inside.ways; gates = c.self.inside.gates })) c.self.view_is
-    record { heard = search rules; after = search rules; ignored = c.hear.ensures.ignored; later = search rules; statuses = search rules }
+    record {
+      heard = search rules;
+      after = search rules;
+      ignored = c.hear.ensures.ignored;
+      later = search rules;
+      statuses = search rules;
+    }

@@ -7,4 +7,10 @@ use Rattle.revroute_c.proofs.push_orders.Tables.first_invalid_hop.Goals as goal
 pub returns : goal.returns
 returns c =
     let old = c.args.self.now.old.now in let new = c.args.self.now.new.now in
-    rw (find-append (is_outside (nodes_of old new)) old new, c.or.ensures, c.first_outside.ensures, c.first_outside-2.ensures, c.nodes-nodes.ensures) refl
+    rw (
+      find-append (is_outside (nodes_of old new)) old new,
+      c.or.ensures,
+      c.first_outside.ensures,
+      c.first_outside-2.ensures,
+      c.nodes-nodes.ensures,
+    ) refl

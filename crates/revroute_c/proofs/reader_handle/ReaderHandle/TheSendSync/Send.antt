@@ -7,4 +7,6 @@ use Rattle.revroute_c.specs.Readers.{no_reader}
 use Rattle.revroute_c.specs.contracts.reader_handle.ReaderHandle.{the_row, the_type}
 
 pub send : IsSend the_row
-send = owning_send the_type (search sendable, tt) (λ d. owned_keyless S no_reader reader.the_send d.at d.reading) (λ k x w. tt)
+send =
+    owning_send the_type (search sendable, tt) (λ d. owned_keyless S no_reader reader.the_send d.at d.reading)
+    (λ k x w. tt)

@@ -10,5 +10,9 @@ returns-in-Ok-clause-accepted c =
     let net : Network = c.in_ok-net.net in
     let made = c.in_ok-net.ensures.ok in
     let opened = c.in-Ok.ensures.opened in
-    let below : asked.dest < asked.nodes = subst (λ (n : ℕ). asked.dest < n) (ap (λ (m : Network). m.nodes) made.is) opened.0 in
-    (made.faultless, below, round_listed asked.nodes asked.dest (map link_of asked.links.now) net c.in-Ok.router made opened.1)
+    let below : asked.dest < asked.nodes =
+    subst (λ (n : ℕ). asked.dest < n) (ap (λ (m : Network). m.nodes) made.is) opened.0 in (
+      made.faultless,
+      below,
+      round_listed asked.nodes asked.dest (map link_of asked.links.now) net c.in-Ok.router made opened.1,
+    )

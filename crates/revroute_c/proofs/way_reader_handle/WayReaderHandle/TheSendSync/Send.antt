@@ -7,4 +7,6 @@ use Rattle.revroute_c.specs.WayReaders.{no_way_reader}
 use Rattle.revroute_c.specs.contracts.way_reader_handle.WayReaderHandle.{the_row, the_type}
 
 pub send : IsSend the_row
-send = owning_send the_type (search sendable, tt) (λ d. owned_keyless S no_way_reader reader.the_send d.at d.reading) (λ k x w. tt)
+send =
+    owning_send the_type (search sendable, tt) (λ d. owned_keyless S no_way_reader reader.the_send d.at d.reading)
+    (λ k x w. tt)
