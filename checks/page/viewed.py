@@ -416,16 +416,6 @@ def light(colour):
     return sum(weight * (it / 12.92 if it <= 0.04045 else ((it + 0.055) / 1.055) ** 2.4) for weight, it in zip((0.2126, 0.7152, 0.0722), parts))
 
 
-def check_sides(told, chrome):
-    """The page fits the screen, and the drawing fits its pane and fills at least half of it. Returns the sides of the pane."""
-    (left, top, right, bottom), (west, north, east, south), fits = chrome.value(SIDES)
-    same(f'{told}: the page fits', fits, True)
-    same(f'{told}: the drawing fits', west >= left and north >= top and east <= right and south <= bottom, True)
-    part = (east - west) * (south - north) / (right - left) / (bottom - top)
-    same(f'{told}: the drawing fills half of its pane', part >= 0.5 or f'{part:.2f}', True)
-    return left, top, right, bottom
-
-
 def steady(chrome, what):
     """The value of an expression, once two drawings of the page in a row give the same one. On a busy machine a page is not always laid out
     at once."""
@@ -437,6 +427,16 @@ def steady(chrome, what):
             break
         last = now
     return now
+
+
+def check_sides(told, chrome):
+    """The page fits the screen, and the drawing fits its pane and fills at least half of it. Returns the sides of the pane."""
+    (left, top, right, bottom), (west, north, east, south), fits = steady(chrome, SIDES)
+    same(f'{told}: the page fits', fits, True)
+    same(f'{told}: the drawing fits', west >= left and north >= top and east <= right and south <= bottom, True)
+    part = (east - west) * (south - north) / (right - left) / (bottom - top)
+    same(f'{told}: the drawing fills half of its pane', part >= 0.5 or f'{part:.2f}', True)
+    return left, top, right, bottom
 
 
 def check_texts(told, chrome):
