@@ -6,17 +6,24 @@ use crate::writing::{LONGEST, all_done, both};
 use std::collections::{BTreeMap, BTreeSet};
 use std::time::Duration;
 
-/// A device that this process does not use any more, or an earlier one had.
+/// What is removed later: of a device that this process does not use any more, or of an earlier process.
 pub struct Former {
     pub until: Duration,
-    pub table: u32,
+    /// The table of gates of the device. If this process uses it again before, nothing is removed.
+    pub gates: Option<u32>,
     pub lines: Vec<Write>,
 }
 
-/// Removes all that an earlier process left: first the gates, then the ways, and then the rest. What comes in by a device
-/// that it had is dropped until the router at the other end has noticed that this one was started again. Only after that
-/// the rules of the device go.
-pub fn clear(kernel: &mut impl Kernel, now: Duration) -> Result<Vec<Former>, Refusal> {
+/// Removes what an earlier process left: first the gates, then the ways, and then the rest. Two things stay for some time.
+/// What comes in by a device that it had is dropped until the router at the other end has noticed that this one was started
+/// again. Only after that the rules of the device go. And the routes that drop stay for `forget`, or for `HOLD` if that is
+/// longer. So a default route takes no packets to prefixes that this process will know again soon: if the routers at both
+/// ends of a link start at once, neither knows them, and the default routes of the two may lead to each other.
+pub fn clear(
+    kernel: &mut impl Kernel,
+    forget: Duration,
+    now: Duration,
+) -> Result<Vec<Former>, Refusal> {
     let left = kernel.left_behind()?;
     let tables: BTreeSet<u32> = left.iter().filter_map(gates_of_rule).collect();
     let (mut holds, mut rest) = (Vec::new(), Vec::new());
@@ -31,16 +38,23 @@ pub fn clear(kernel: &mut impl Kernel, now: Duration) -> Result<Vec<Former>, Ref
             former.insert(table, releases.collect());
         }
     }
+    let is_last = |line: &Write| matches!(line, Write::RemoveLast { .. });
+    let (lasts, left) = left.into_iter().partition(is_last);
     let [closes, ways, senders, rest] = sorted(left, rest, &mut former);
     for lines in [holds, closes, ways, senders, rest] {
         all_done(kernel.write(&lines))?;
     }
-    let all = former.into_iter().map(|(table, lines)| Former {
+    let lasts = Former {
+        until: now + forget.max(HOLD),
+        gates: None,
+        lines: lasts,
+    };
+    let devices = former.into_iter().map(|(table, lines)| Former {
         until: now + HOLD,
-        table,
+        gates: Some(table),
         lines,
     });
-    Ok(all.collect())
+    Ok(devices.chain([lasts]).collect())
 }
 
 /// What removes gates, ways, the map of senders, and the rest. What removes the tables of devices comes later, so it joins those
@@ -112,22 +126,33 @@ impl<K: Kernel> Machine<K> {
         self.write(&holds);
         self.former.push(Former {
             until: now + HOLD,
-            table,
+            gates: Some(table),
             lines,
         });
     }
 
-    /// Removes the rules and tables of devices that are not used any more.
+    /// Removes what is due: the rules and tables of devices that are not used any more, and the routes that drop of an
+    /// earlier process, except those that this one has by now.
     pub fn forget_former(&mut self, now: Duration) {
         let (over, rest) = std::mem::take(&mut self.former)
             .into_iter()
             .partition(|it: &Former| it.until <= now);
         self.former = rest;
         for mut it in over as Vec<Former> {
+            it.lines.retain(|line| !self.has_last(line));
             if self.write(&it.lines).iter().any(Result::is_err) {
                 it.until = now + LONGEST;
                 self.former.push(it);
             }
         }
+    }
+
+    /// Whether a line would remove the route that drops of a destination.
+    fn has_last(&self, line: &Write) -> bool {
+        let Write::RemoveLast { table, prefix } = line else {
+            return false;
+        };
+        let known = self.destinations.get(prefix);
+        known.is_some_and(|it| self.table_of_last(it.is_own) == *table)
     }
 }

@@ -41,7 +41,7 @@ impl<K: Kernel> Machine<K> {
             };
             it.next_hello = if it.is_ready { now } else { now + LONGEST };
         }
-        self.former.retain(|it| it.table != table);
+        self.former.retain(|it| it.gates != Some(table));
     }
 
     /// The lines that make a table of gates in which all is closed.

@@ -161,7 +161,7 @@ impl<K: Kernel> Machine<K> {
         mut kernel: K,
         now: Duration,
     ) -> Result<Machine<K>, Refusal> {
-        let former = former::clear(&mut kernel, now)?;
+        let former = former::clear(&mut kernel, settings.forget, now)?;
         let mut machine = Machine {
             start: Start {
                 session,

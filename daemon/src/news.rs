@@ -40,6 +40,8 @@ enum List {
 pub struct News {
     number: u64,
     queue: BTreeSet<Prefix>,
+    /// Those that are to be said once the kernel has their tables.
+    waiting: BTreeSet<Prefix>,
     flights: BTreeMap<u64, Flight>,
     patience: Duration,
     unlisted: BTreeSet<Prefix>,
@@ -60,6 +62,7 @@ impl News {
         News {
             number: 0,
             queue: unlisted.clone(),
+            waiting: BTreeSet::new(),
             flights: BTreeMap::new(),
             patience: SHORTEST,
             list: if unlisted.is_empty() {
@@ -85,6 +88,17 @@ impl News {
         self.queue.insert(prefix);
     }
 
+    /// A prefix was to be said, but its table is not written. What was said of it before may be lost, so it is to be said also
+    /// if its node has no news by then.
+    pub fn wait(&mut self, prefix: Prefix) {
+        self.waiting.insert(prefix);
+    }
+
+    /// The table of a prefix is written. Returns whether it has waited for that.
+    pub fn has_waited(&mut self, prefix: &Prefix) -> bool {
+        self.waiting.remove(prefix)
+    }
+
     /// Whether the neighbour has not acknowledged yet that it knows of a prefix.
     pub fn is_unlisted(&self, prefix: &Prefix) -> bool {
         self.unlisted.contains(prefix)
@@ -93,6 +107,7 @@ impl News {
     /// A prefix is not known any more, so it is not in the list.
     pub fn forget(&mut self, prefix: &Prefix) {
         self.queue.remove(prefix);
+        self.waiting.remove(prefix);
         self.unlisted.remove(prefix);
         if self.list == List::Sending && self.unlisted.is_empty() {
             self.list = List::Arrived;

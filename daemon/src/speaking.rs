@@ -165,8 +165,11 @@ impl<K: Kernel> Machine<K> {
                 continue;
             }
             let message = it.message_to(number);
-            if message.is_none() && !neighbour.news.is_unlisted(&prefix) {
-                continue;
+            if message.is_none() {
+                neighbour.news.wait(prefix);
+                if !neighbour.news.is_unlisted(&prefix) {
+                    continue;
+                }
             }
             self.counts.messages_said += u64::from(message.is_some());
             let is_alive = it.node.distance().is_some();

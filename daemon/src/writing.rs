@@ -152,21 +152,28 @@ impl<K: Kernel> Machine<K> {
 
     /// Adds the lines that have the kernel drop what has no way to a prefix, or comes in by a closed gate of some tables.
     fn add_drops(&self, prefix: Prefix, gates: &[u32], batch: &mut Batch<Prefix>) {
-        let table = self.settings.table;
         let is_own = self.destinations.get(&prefix).is_some_and(|it| it.is_own);
-        let prefix_table = if is_own { MAIN } else { table };
-        let line = Write::AddLast {
-            table: prefix_table,
-            prefix,
-        };
-        batch.push(prefix, line);
-        if prefix_table != table {
-            // There it would come before the network of an interface, if a rule looks up in that table first.
-            batch.push(prefix, Write::RemoveLast { table, prefix });
+        let table = self.table_of_last(is_own);
+        batch.push(prefix, Write::AddLast { table, prefix });
+        // In the table of the ways it would come before the network of an interface, if a rule looks up in that table first.
+        let other = self.table_of_last(!is_own);
+        if other != table {
+            batch.push(
+                prefix,
+                Write::RemoveLast {
+                    table: other,
+                    prefix,
+                },
+            );
         }
         for table in gates.iter().copied() {
             batch.push(prefix, Write::Shut { table, prefix });
         }
+    }
+
+    /// The table with the route that drops of a prefix. One that is announced here has it in the main table.
+    pub fn table_of_last(&self, is_own: bool) -> u32 {
+        if is_own { MAIN } else { self.settings.table }
     }
 
     /// Writes a batch, and counts its lines.
@@ -300,10 +307,11 @@ impl<K: Kernel> Machine<K> {
         }
         it.is_written = true;
         for link in it.links.iter().filter(|it| it.is_up) {
-            if it.node.has_news(link.neighbour) == Ok(true) {
-                if let Some(neighbour) = self.neighbours.get_mut(&link.neighbour) {
-                    neighbour.news.want(prefix);
-                }
+            let Some(neighbour) = self.neighbours.get_mut(&link.neighbour) else {
+                continue;
+            };
+            if neighbour.news.has_waited(&prefix) || it.node.has_news(link.neighbour) == Ok(true) {
+                neighbour.news.want(prefix);
             }
         }
         if it.node.distance().is_some() {

@@ -59,6 +59,8 @@ pub struct Lab {
     pub costs: BTreeMap<(u32, u32), u32>,
     /// The routers that run with the number of another one.
     pub doubles: BTreeMap<u32, u32>,
+    /// Whether a storm starts routers with the number of another one.
+    pub has_doubles: bool,
     pub neglects: fn(&mut Settings),
 }
 
@@ -126,6 +128,7 @@ impl Lab {
             forget: seconds(30),
             costs: BTreeMap::new(),
             doubles: BTreeMap::new(),
+            has_doubles: false,
             neglects: |_| (),
         }
     }
