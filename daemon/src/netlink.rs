@@ -265,6 +265,9 @@ fn route_left(body: &[u8], is_ipv6: bool) -> Option<Write> {
     match (kind, metric) {
         (libc::RTN_THROW, OPEN) => Some(Write::Close { table, prefix }),
         (libc::RTN_UNREACHABLE, HELD) => Some(Write::Release { table, is_ipv6 }),
+        (libc::RTN_UNREACHABLE, LAST) if table >= GATES => {
+            Some(Write::RemoveShut { table, prefix })
+        }
         (libc::RTN_UNREACHABLE, LAST) => Some(Write::RemoveLast { table, prefix }),
         (libc::RTN_UNICAST, it) => Some(Write::RemoveWay {
             table,
@@ -303,4 +306,47 @@ fn rule_left(body: &[u8], is_ipv6: bool) -> Option<Write> {
 
 fn hop_left(body: &[u8]) -> Option<u32> {
     (*body.get(2)? == PROTOCOL).then(|| Attributes(body.get(8..)?).word(NHA_ID))?
+}
+
+#[cfg(test)]
+mod tests {
+    use super::*;
+
+    /// What a daemon writes for a prefix is found later, by another one, as the line that removes it.
+    #[test]
+    fn what_was_written_is_found_as_what_removes_it() {
+        for text in ["10.1.2.0/24", "fd00::/64", "0.0.0.0/0"] {
+            let prefix: Prefix = text.parse().expect("a prefix");
+            let (table, place, hop, replaces) = (254, 2, 7, true);
+            let way = Write::AddWay {
+                table,
+                prefix,
+                place,
+                hop,
+                replaces,
+            };
+            let removes = Write::RemoveWay {
+                table,
+                prefix,
+                place,
+            };
+            let last = Write::AddLast { table, prefix };
+            expect_found(last, Write::RemoveLast { table, prefix });
+            expect_found(way, removes);
+            let (table, is_ipv6) = (GATES + 3, prefix.is_ipv6());
+            let shut = Write::Shut { table, prefix };
+            expect_found(shut, Write::RemoveShut { table, prefix });
+            let open = Write::Open { table, prefix };
+            expect_found(open, Write::Close { table, prefix });
+            let hold = Write::Hold { table, is_ipv6 };
+            expect_found(hold, Write::Release { table, is_ipv6 });
+        }
+    }
+
+    fn expect_found(made: Write, removes: Write) {
+        let data = requests::message(&made, 1).expect("a line for a route");
+        let is_ipv6 = |body: &[u8]| i32::from(body[0]) == libc::AF_INET6;
+        let found = Parts(&data).find_map(|(_, _, it)| route_left(it, is_ipv6(it)));
+        assert_eq!(found, Some(removes));
+    }
 }

@@ -17,9 +17,9 @@ class Expected:
         live = {*event.live}
         links = [it for it in event.links if live.issuperset(it)]
         far = {name: steps(links, name) for name in event.live}
-        self.of = {}
+        self.of, self.names, self.targets = {}, names, {}
         for family in (4, 6):
-            some = [it for it in targets if (":" in it.address) == (family == 6)]
+            some = self.targets[family] = [it for it in targets if (":" in it.address) == (family == 6)]
             self.of[family] = [
                 (row * len(some) + column, min(far[name][it] for it in target.routers if it in far[name]))
                 for row, name in enumerate(names)
@@ -30,6 +30,12 @@ class Expected:
 
     def missing(self, it):
         return [place for place, _ in self.of[it.family] if not it.steps[place]]
+
+    def told(self, it):
+        """The pairs that are missing in a round, as a text."""
+        some = self.targets[it.family]
+        pairs = [(self.names[place // len(some)], some[place % len(some)].address) for place in self.missing(it)]
+        return f"{len(pairs)} pairs of IPv{it.family}" + "".join(f", as {name} to {address}" for name, address in pairs[:1])
 
 
 class Part:
