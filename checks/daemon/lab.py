@@ -180,9 +180,11 @@ def reloaded():
     """A prefix is announced by HUP, and withdrawn again. A wrong file changes nothing."""
     file, pid, more = STATE / "1.toml", int((STATE / "1.pid").read_text()), "10.9.0.0/16"
     text = file.read_text()
-    file.write_text(text.replace('"10.0.1.0/24"', f'"10.0.1.0/24", "{more}"'))
+    file.write_text(text.replace('"10.0.1.0/24"', f'"10.0.1.0/24", "{more}"').replace('"to*"', '"to*", "eth9"'))
     os.kill(pid, signal.SIGHUP)
     expect(soon(lambda: routes(3).get(more, {}).get("distance") == 1), f"router 3 does not know {more}")
+    expect("interface eth9: there is none" in done("ask", 1, "status"), "status does not name an interface that is not there")
+    expect("there is no interface eth9 yet" in events(1), "events do not name an interface that is not there")
     file.write_text("router = 1\nhelo = 2\n")
     os.kill(pid, signal.SIGHUP)
     expect(soon(lambda: "not reloaded: " in events(1)), "a wrong file is not refused")
@@ -208,6 +210,10 @@ def wrong_words():
         asked = ["ip", "netns", "exec", "router1", program, *map(str, words)]
         ran = subprocess.run(asked, stdout=subprocess.PIPE, stderr=subprocess.STDOUT, text=True, timeout=SECONDS)
         expect(ran.returncode == 2 and part in ran.stdout, f"{words}: status {ran.returncode}: {ran.stdout}")
+    # the socket of router 2 is in the file system of all of them
+    elsewhere = [program, "run", "--config", str(STATE / "2.toml")]
+    ran = subprocess.run(elsewhere, stdout=subprocess.PIPE, stderr=subprocess.STDOUT, text=True, timeout=SECONDS)
+    expect(ran.returncode == 2 and "another process answers there already" in ran.stdout, f"the socket of another process: {ran.stdout}")
     expect(call("ask", 1, "metrics")[1].count("revrouted_neighbours_up 2") == 1, call("ask", 1, "metrics"))
     expect("NEIGHBOUR" in done("ask", 1, "status") and "PREFIX" in done("ask", 1, "routes"), "no table of neighbours or routes")
 

@@ -108,20 +108,30 @@ pub struct Fault {
 /// Reads a configuration, and what the machine has to know of it.
 pub fn read(text: &str) -> Result<(Config, Settings), Fault> {
     let config: Config = toml::from_str(text).map_err(|it| Fault {
-        line: named_line(text, &it).or(line_of(&it)),
+        line: line_of(text, &it),
         why: why_of(&it),
     })?;
     let settings = config.settings().map_err(|(key, why)| Fault {
-        line: line_with(text, key),
+        // A `dead` that is not there has a usual value, which `hello` does not fit.
+        line: line_with(text, key).or_else(|| line_with(text, "hello")),
         why,
     })?;
     Ok((config, settings))
 }
 
-/// The line of a key that is not known, or is there twice. The crate has the place of its table instead.
-fn named_line(text: &str, error: &toml::de::Error) -> Option<usize> {
+/// The line of a fault. Where the crate names the place of a table instead, that of a key that is not known or is there twice,
+/// or of a prefix. A key that is missing has no line.
+fn line_of(text: &str, error: &toml::de::Error) -> Option<usize> {
     let said = error.to_string();
     let after = |part: &str| Some(said.split_once(part)?.1.split_once('`')?.0.to_string());
+    if said.starts_with("missing field") {
+        return None;
+    }
+    if let Some(prefix) = said.strip_prefix('`').and_then(|it| it.split_once('`')) {
+        let quoted = ['"', '\''].map(|quote| format!("{quote}{}{quote}", prefix.0));
+        let has_it = |line: &str| quoted.iter().any(|it| line.contains(it));
+        return text.lines().position(has_it).map(|it| it + 1);
+    }
     if let Some(key) = after("duplicate field `").or_else(|| after("duplicate key: `")) {
         return text
             .lines()
@@ -130,17 +140,14 @@ fn named_line(text: &str, error: &toml::de::Error) -> Option<usize> {
             .rposition(|it| sets(it, &key))
             .map(|it| it + 1);
     }
-    line_with(text, &after("unknown field `")?)
+    let unknown = after("unknown field `").and_then(|it| line_with(text, &it));
+    unknown.or(error.line_col().map(|(line, _)| line + 1))
 }
 
 /// Whether a line sets a key, or begins its table.
 fn sets(line: &str, key: &str) -> bool {
     let rest = line.trim_start().trim_start_matches('[').strip_prefix(key);
     rest.is_some_and(|it| it.trim_start().starts_with(['=', ']', '.']))
-}
-
-fn line_of(error: &toml::de::Error) -> Option<usize> {
-    error.line_col().map(|(line, _)| line + 1)
 }
 
 /// The text of an error without its place, which is printed before it.
@@ -156,6 +163,17 @@ fn line_with(text: &str, key: &str) -> Option<usize> {
 }
 
 impl Config {
+    /// The interfaces of the configuration that none of these devices fits.
+    pub fn without_device<'a>(&self, names: impl Iterator<Item = &'a str> + Clone) -> Vec<String> {
+        let fits = |pattern: &str| {
+            names
+                .clone()
+                .any(|it| matches(pattern.as_bytes(), it.as_bytes()))
+        };
+        let some = self.interfaces.iter().filter(|it| !fits(it));
+        some.cloned().collect()
+    }
+
     /// Whether a device is one of those over which there may be neighbours.
     pub fn has_device(&self, name: &str) -> bool {
         name != "lo"
@@ -200,7 +218,10 @@ impl Config {
         if !(self.hello * 2.0..=most).contains(&self.dead) {
             return Err((
                 "dead",
-                format!("`dead` is at least twice `hello`, and at most {most} seconds"),
+                format!(
+                    "`dead` is at least twice `hello`, and at most {most} seconds: here it is {}, and `hello` {}",
+                    self.dead, self.hello
+                ),
             ));
         }
         if !(1.0..=86_400.0).contains(&self.forget) {
@@ -211,10 +232,7 @@ impl Config {
 
     fn look_at_routes(&self) -> Result<(), WrongKey> {
         if self.ceiling == 0 {
-            return Err((
-                "ceiling",
-                "`ceiling` is above the costs of all routes".into(),
-            ));
+            return Err(("ceiling", "`ceiling` is at least 1".into()));
         }
         if self.table == 0 || self.table == 255 || self.table >= crate::machine::GATES {
             return Err((
@@ -229,8 +247,13 @@ impl Config {
         if different.len() < self.announce.len() {
             return Err(("announce", "a prefix is announced twice".into()));
         }
-        if self.interface.values().any(|it| it.cost == 0) {
-            return Err(("interface", "a cost is at least 1".into()));
+        let is_wrong = |it: &InterfaceConfig| !(1..self.ceiling.max(2)).contains(&it.cost);
+        if let Some((name, it)) = self.interface.iter().find(|it| is_wrong(it.1)) {
+            let (cost, ceiling) = (it.cost, self.ceiling);
+            let why = format!(
+                "the cost of {name} is {cost}, and has to be at least 1 and below `ceiling`, which is {ceiling}"
+            );
+            return Err(("interface", why));
         }
         Ok(())
     }
@@ -238,11 +261,11 @@ impl Config {
     fn keys(&self) -> Result<Vec<Key>, String> {
         let (mut keys, mut numbers) = (Vec::new(), BTreeSet::new());
         for it in &self.key {
-            if it.number == 0 || !numbers.insert(it.number) {
-                return Err(format!(
-                    "keys have different numbers from 1 to 255, and there is another {}",
-                    it.number
-                ));
+            if it.number == 0 {
+                return Err("the number of a key is from 1 to 255, and here it is 0".into());
+            }
+            if !numbers.insert(it.number) {
+                return Err(format!("there are two keys with the number {}", it.number));
             }
             let secret = match (&it.secret, &it.file) {
                 (Some(text), None) => text.clone().into_bytes(),
@@ -356,7 +379,7 @@ mod tests {
             ("dead = 1.5", "`dead` is at least twice"),
             ("dead = 31.0", "at most 30"),
             ("forget = 0.5", "`forget` is from 1"),
-            ("ceiling = 0", "above the costs of all routes"),
+            ("ceiling = 0", "`ceiling` is at least 1"),
             ("table = 255", "not a table for ways"),
             ("helo = 1.0", "unknown field `helo`"),
             ("hello = \"1\"", "expected"),
@@ -375,7 +398,15 @@ mod tests {
                 "[[key]]\nnumber = 1\nfile = \"/nonexistent\"",
                 "/nonexistent: No such file",
             ),
+            (
+                "[[key]]\nnumber = 1\nsecret = \"0123456789abcdef\"\n[[key]]\nnumber = 1\nsecret = \"0123456789abcdef\"",
+                "two keys with the number 1",
+            ),
             ("[interface.eth0]\ncost = 0", "at least 1"),
+            (
+                "[interface.eth0]\ncost = 64",
+                "below `ceiling`, which is 64",
+            ),
         ] {
             let (at, why) = fault(line);
             assert!(why.contains(part), "{line}: {why}");
@@ -387,12 +418,15 @@ mod tests {
     fn a_wrong_prefix_is_at_its_line() {
         let it = read("router = 1\ninterfaces = [\"e\"]\nannounce = [\n  \"10.0.0.0/8\",\n  \"10.0.0.1/8\",\n]\n").err();
         let it = it.unwrap_or_else(|| panic!("taken"));
-        assert!(it.why.contains("10.0.0.1/8") && it.line.is_some(), "{it:?}");
+        assert!(
+            it.why.contains("10.0.0.1/8") && it.line == Some(5),
+            "{it:?}"
+        );
         assert!(read("router = 4294967296\ninterfaces = [\"e\"]\n").is_err());
         assert!(
             read("interfaces = [\"e\"]\n")
                 .err()
-                .is_some_and(|it| it.why.contains("router"))
+                .is_some_and(|it| it.why.contains("router") && it.line.is_none())
         );
         assert!(
             read("router = 1\ninterfaces = []\n")

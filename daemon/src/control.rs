@@ -46,7 +46,11 @@ impl Control {
         if let Some(folder) = path.parent().filter(|it| !it.exists()) {
             fs::create_dir(folder)?;
         }
-        // The lock says that no other process runs here, so the file is of one that has ended.
+        // No other process runs in this network, as the lock says. But one of another network may answer here.
+        if std::os::unix::net::UnixStream::connect(path).is_ok() {
+            let why = "another process answers there already";
+            return Err(io::Error::new(io::ErrorKind::AddrInUse, why));
+        }
         match fs::remove_file(path) {
             Err(error) if error.kind() != io::ErrorKind::NotFound => return Err(error),
             _ => (),

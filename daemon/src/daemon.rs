@@ -8,6 +8,7 @@ use crate::interfaces::{Port, Waiting};
 use crate::kernel::{Kernel, Write};
 use crate::machine::{HOPS, Machine, Settings};
 use crate::netlink::{DeviceNews, DeviceReader, Netlink};
+use crate::view::Status;
 use mio::unix::SourceFd;
 use mio::{Events, Interest, Poll, Token};
 use signal_hook::consts::{SIGHUP, SIGINT, SIGTERM};
@@ -88,7 +89,7 @@ fn kernel() -> Result<Netlink, String> {
     // This nexthop object is never there. So the kernel only says whether this process might delete it.
     match kernel.write(&[Write::RemoveHop { hop: HOPS }]).first() {
         Some(Err(it)) if it.0 == libc::EPERM => {
-            Err("it may not change routes: it needs CAP_NET_ADMIN".into())
+            Err("this process may not change routes: it needs CAP_NET_ADMIN".into())
         }
         Some(Err(it)) if it.0 == libc::EOPNOTSUPP => {
             Err("this kernel has no nexthop objects: it needs Linux 5.3".into())
@@ -177,6 +178,7 @@ impl Daemon {
         };
         daemon.look_at_system();
         daemon.list_devices();
+        daemon.look_at_interfaces();
         Ok(daemon)
     }
 
@@ -200,6 +202,20 @@ impl Daemon {
             if setting(name) == Some(0) {
                 self.machine.journal.add(text.into());
             }
+        }
+    }
+
+    /// The interfaces of the configuration that are not there.
+    fn missing_interfaces(&self) -> Vec<String> {
+        let names = self.devices.values().map(|it| it.name.as_str());
+        self.config.without_device(names)
+    }
+
+    fn look_at_interfaces(&mut self) {
+        for it in self.missing_interfaces() {
+            self.machine
+                .journal
+                .add(format!("there is no interface {it} yet"));
         }
     }
 
@@ -424,10 +440,15 @@ impl Daemon {
     }
 
     fn serve(&mut self, token: usize) {
+        let missing = self.missing_interfaces();
         let (machine, now) = (&self.machine, self.begun.elapsed());
+        let status = || Status {
+            missing: missing.clone(),
+            ..machine.status(now)
+        };
         // The answers are text and numbers, which can be written.
         self.control.serve(token, |line| match line {
-            "status" => serde_json::to_vec(&machine.status(now)).unwrap_or_default(),
+            "status" => serde_json::to_vec(&status()).unwrap_or_default(),
             "routes" => serde_json::to_vec(&machine.routes(now)).unwrap_or_default(),
             "neighbours" => serde_json::to_vec(&machine.neighbour_views(now)).unwrap_or_default(),
             "metrics" => machine.metrics(now).into_bytes(),
@@ -443,11 +464,15 @@ impl Daemon {
             Err(why) => return self.machine.journal.add(format!("not reloaded: {why}")),
         };
         let now = &self.machine.settings;
-        let stays = settings.router == now.router && settings.table == now.table;
-        if !stays || config.state != self.config.state || config.control != self.config.control {
-            let why =
-                "not reloaded: `router`, `table`, `state` and `control` change only by a new start";
-            return self.machine.journal.add(why.into());
+        let changed = [
+            ("router", settings.router != now.router),
+            ("table", settings.table != now.table),
+            ("state", config.state != self.config.state),
+            ("control", config.control != self.config.control),
+        ];
+        if let Some((key, _)) = changed.iter().find(|it| it.1) {
+            let why = format!("not reloaded: `{key}` changes only by a new start");
+            return self.machine.journal.add(why);
         }
         self.config = config;
         self.machine.configure(settings, self.begun.elapsed());
@@ -458,14 +483,15 @@ impl Daemon {
         for it in all {
             self.use_device(&it);
         }
+        self.look_at_interfaces();
     }
 
     /// A neighbour knows a later start of this router. Empties the tables, and starts again with a greater number.
     fn start_again(&mut self, later: u32) {
         let (now, router) = (self.now(), self.machine.settings.router);
         let why = format!(
-            "a neighbour knows start {later} of router {router}, and this is {}. Either the boot number has gone back, or another \
-             router has this number. Trying again in {} s",
+            "a neighbour knows a process with the number {router} and the boot number {later}, which this one, with {}, has not \
+             surpassed. Either the boot number has gone back, or another router has this number. Trying again in {} s",
             self.machine.start.session,
             self.pause.as_secs()
         );

@@ -143,6 +143,11 @@ impl<K: Kernel> Machine<K> {
             if self.write(&it.lines).iter().any(Result::is_err) {
                 it.until = now + LONGEST;
                 self.former.push(it);
+            } else if it.gates.is_none() && !it.lines.is_empty() {
+                let count = it.lines.len();
+                self.journal.add(format!(
+                    "{count} prefixes that only the process before knew are dropped no more"
+                ));
             }
         }
     }

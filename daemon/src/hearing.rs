@@ -37,6 +37,9 @@ impl<K: Kernel> Machine<K> {
             return false;
         }
         let Some((head, body)) = datagram::read(data, &self.settings.keys) else {
+            if let Some(it) = self.devices.get_mut(&device) {
+                it.not_understood += 1;
+            }
             return false;
         };
         if head.from == self.settings.router {
@@ -229,7 +232,7 @@ impl<K: Kernel> Machine<K> {
                 )
             } else {
                 format!(
-                    "router {number} is refused on {name}, where router {other} is. `lan = true` in [interface.{name}] lets in several"
+                    "router {number} is refused on {name}, where router {other} was heard: without `lan = true`, an interface has one neighbour"
                 )
             };
             self.journal.add_rarely(text, now);
@@ -261,7 +264,7 @@ impl<K: Kernel> Machine<K> {
         let why = if hears_me {
             ""
         } else {
-            "it does not hear this router"
+            "it does not hear this router, as when it ends"
         };
         self.judge_link(head.from, device, why, now);
     }

@@ -73,6 +73,8 @@ pub struct Device {
     /// The number of the last hello. The upper half is a random number of the device.
     pub hello: u64,
     pub next_hello: Duration,
+    /// How many datagrams had another key or none, or were of another version.
+    pub not_understood: u64,
     /// Routers that were heard, but are not those that are known by their numbers. The next hello tells them whom
     /// this router knows instead, so that they start again.
     pub outdated: BTreeSet<u32>,
@@ -281,6 +283,7 @@ impl<K: Kernel> Machine<K> {
             hold: Hold::Unknown,
             hello: drawn(router, &RandomState::new()) << 32,
             next_hello: now,
+            not_understood: 0,
             outdated: BTreeSet::new(),
         });
         if it.mac != mac {

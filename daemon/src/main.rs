@@ -120,8 +120,13 @@ fn run(config: &Path) -> ExitCode {
 }
 
 fn asked(control: &Path, line: &str) -> Result<Vec<u8>, String> {
-    control::ask(control, line)
-        .map_err(|it| format!("{}: {it}. Does the daemon run?", control.display()))
+    control::ask(control, line).map_err(|it| {
+        let hint = match it.kind() {
+            io::ErrorKind::PermissionDenied => "Only its user and its group may ask the daemon",
+            _ => "Does the daemon run?",
+        };
+        format!("{}: {it}. {hint}", control.display())
+    })
 }
 
 fn print(text: &[u8]) -> Result<(), String> {

@@ -9,12 +9,18 @@ use serde::{Deserialize, Serialize};
 use std::fmt::Write as _;
 use std::time::Duration;
 
+/// The height of a router without a route.
+const TOP: u64 = u32::MAX as u64;
+
 #[derive(Serialize, Deserialize)]
 pub struct Status {
     pub router: u32,
     pub session: u32,
     pub seconds: f64,
     pub interfaces: Vec<Interface>,
+    /// Interfaces that the configuration names and the system does not have.
+    #[serde(default)]
+    pub missing: Vec<String>,
     pub neighbours: Vec<NeighbourView>,
     pub prefixes: usize,
     /// Prefixes with a way, or announced here.
@@ -34,6 +40,9 @@ pub struct Interface {
     pub held: bool,
     /// It may have several neighbours, each with gates of its own.
     pub lan: bool,
+    /// How many datagrams had another key or none, or were of another version.
+    #[serde(default)]
+    pub not_understood: u64,
 }
 
 #[derive(Serialize, Deserialize)]
@@ -89,6 +98,7 @@ impl<K: Kernel> Machine<K> {
             session: self.start.session,
             seconds: now.as_secs_f64(),
             interfaces: self.interface_views(),
+            missing: Vec::new(),
             neighbours: self.neighbour_views(now),
             prefixes: self.destinations.len(),
             reached,
@@ -109,6 +119,7 @@ impl<K: Kernel> Machine<K> {
             gates: it.is_ready,
             held: it.hold != Hold::Open && !it.is_lan,
             lan: it.is_lan,
+            not_understood: it.not_understood,
         };
         self.devices.values().map(view).collect()
     }
@@ -206,13 +217,18 @@ impl<K: Kernel> Machine<K> {
                 );
             }
         }
-        text + &round_trip_metrics(&it.neighbours)
+        text + &neighbour_metrics(&it.neighbours)
     }
 }
 
-/// The round trips as metrics with a label for each neighbour.
-fn round_trip_metrics(all: &[NeighbourView]) -> String {
-    let mut text = String::from("# TYPE revrouted_round_trip_seconds gauge\n");
+/// The metrics with a label for each neighbour: whether it is up, and the round trip.
+fn neighbour_metrics(all: &[NeighbourView]) -> String {
+    let mut text = String::from("# TYPE revrouted_neighbour_up gauge\n");
+    for it in all {
+        let (router, up) = (it.router, u8::from(it.up));
+        text += &format!("revrouted_neighbour_up{{neighbour=\"{router}\"}} {up}\n");
+    }
+    text += "# TYPE revrouted_round_trip_seconds gauge\n";
     for it in all {
         if let Some(seconds) = it.round_trip_seconds {
             text += &format!(
@@ -292,7 +308,15 @@ pub fn status_text(it: &Status) -> String {
             _ if it.lan => "used for several neighbours",
             _ => "used",
         };
-        text += &format!("interface {}: {state}\n", it.name);
+        text += &format!("interface {}: {state}", it.name);
+        if it.not_understood > 0 {
+            let count = it.not_understood;
+            text += &format!("; {count} datagrams had another key or none, or another version");
+        }
+        text.push('\n');
+    }
+    for it in &it.missing {
+        text += &format!("interface {it}: there is none\n");
     }
     for it in &it.refused {
         text += &format!("the kernel refuses a write for {it}\n");
@@ -338,6 +362,13 @@ pub fn neighbours_text(all: &[NeighbourView]) -> String {
     columns(&rows)
 }
 
+fn height_text(height: u64) -> String {
+    match height {
+        TOP => "top".into(),
+        it => it.to_string(),
+    }
+}
+
 pub fn routes_text(all: &[Route]) -> String {
     let mut rows = vec![row(&[
         "PREFIX", "DISTANCE", "HEIGHT", "WAYS", "LETS IN", "WRITTEN", "FOR",
@@ -355,7 +386,7 @@ pub fn routes_text(all: &[Route]) -> String {
         rows.push(row(&[
             &it.prefix,
             &distance,
-            &it.height.to_string(),
+            &height_text(it.height),
             &ways,
             &it.gates.join(","),
             yes(it.written),

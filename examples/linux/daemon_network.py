@@ -23,6 +23,8 @@ SIXES = {
 }
 # Enough for the number of the last start, but not for another file beside it.
 STATE_SIZE = "8k"
+# Of so many loops the tables are kept, as they are once each loop is seen.
+MOST_LOOPS_KEPT = 10
 TICKS = 1e9
 
 # A prefix that routers announce, and an address in it that they have.
@@ -189,6 +191,15 @@ class Network:
     def log(self, name):
         return FOLDER / f"{name}.log"
 
+    def keep_tables(self, what, address, *names):
+        """Writes what the kernels of some routers have for packets to an address now, into a file beside what the daemons say."""
+        family = "-6" if ":" in address else "-4"
+        with open(self.log(what), "w") as log:
+            for name in names:
+                for words in (("route", "show", "to", "match", address, "table", "all"), ("rule",), ("nexthop",)):
+                    print(f"--- {name}: ip {family} {' '.join(words)}, for packets to {address}", file=log, flush=True)
+                    subprocess.run(["ip", "-n", name, family, *words], stdout=log, stderr=log)
+
     def last_line(self, name):
         return (self.log(name).read_text(errors="replace").splitlines() or [""])[-1]
 
@@ -240,7 +251,7 @@ class Watch:
     """The program of watch.c over a network: rounds of probes and loops, as they come."""
 
     def __init__(self, network, probe_ms, read_ms):
-        self.rounds, self.loops, self.reads, self.targets = [], [], None, network.announced
+        self.network, self.rounds, self.loops, self.reads, self.targets = network, [], [], None, network.announced
         lab = FOLDER / "lab"
         routers = [f"router {name} {' '.join(addresses_of(at))}" for at, name in enumerate(network.names)]
         targets = [f"target {it.address} {' '.join(str(network.names.index(name)) for name in it.routers)}" for it in network.announced]
@@ -259,6 +270,8 @@ class Watch:
             if kind == "round":
                 self.rounds.append(Round(float(words[0]), int(words[1]), bytes.fromhex(words[2])))
             elif kind == "loop":
+                if len(self.loops) < MOST_LOOPS_KEPT:
+                    self.network.keep_tables(f"loop-{len(self.loops) + 1}", *words[1:])
                 self.loops.append((float(words[0]), words[1], words[2:]))
             elif kind == "reads":
                 self.reads = Reads(*map(int, words[:3]), float(words[3]))
