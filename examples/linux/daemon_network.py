@@ -194,11 +194,12 @@ class Network:
     def keep_tables(self, what, address, *names):
         """Writes what the kernels of some routers have for packets to an address now, into a file beside what the daemons say."""
         family = "-6" if ":" in address else "-4"
+        asked = ((family, "route", "show", "to", "match", address, "table", "all"), (family, "rule"), ("nexthop",))
         with open(self.log(what), "w") as log:
             for name in names:
-                for words in (("route", "show", "to", "match", address, "table", "all"), ("rule",), ("nexthop",)):
-                    print(f"--- {name}: ip {family} {' '.join(words)}, for packets to {address}", file=log, flush=True)
-                    subprocess.run(["ip", "-n", name, family, *words], stdout=log, stderr=log)
+                for words in asked:
+                    print(f"--- {name}, for packets to {address}: ip {' '.join(words)}", file=log, flush=True)
+                    subprocess.run(["ip", "-n", name, *words], stdout=log, stderr=log)
 
     def last_line(self, name):
         return (self.log(name).read_text(errors="replace").splitlines() or [""])[-1]
