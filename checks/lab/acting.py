@@ -784,7 +784,7 @@ def check_screens(page):
             page.chrome.screen(width, height, dark)
             viewed.check_sides(told, page.chrome)
             viewed.check_texts(told, page.chrome)
-            same(f"{told}: what is cut off", viewed.steady(page.chrome, CUT), [])
+            viewed.check_nothing(f"{told}: what is cut off", page.chrome, CUT)
     for dark in (False, True):
         page.chrome.screen(1280, 720, dark)
         page.chrome.value("document.getElementById('fold').open = true")

@@ -71,10 +71,13 @@ SIDES = '''(() => {
     page.scrollWidth <= innerWidth && page.scrollHeight <= innerHeight];
 })()'''
 
-# Waits until the page is drawn, and how often at most.
-MOST_DRAWINGS = 20
+# Waits until the page is drawn, and how often at most: for a second, at 60 drawings each.
+MOST_DRAWINGS = 60
 
 DRAWN = 'new Promise(done => requestAnimationFrame(() => setTimeout(done)))'
+
+# The screen is at most as high as so many letters of the legend.
+MOST_LETTERS = 66
 
 # What is cut off of the status, of a choice, or of the page's sides; and how many texts of the letters of the legend are as high as the screen.
 TEXTS = '''(() => {
@@ -416,34 +419,46 @@ def light(colour):
     return sum(weight * (it / 12.92 if it <= 0.04045 else ((it + 0.055) / 1.055) ** 2.4) for weight, it in zip((0.2126, 0.7152, 0.0722), parts))
 
 
-def steady(chrome, what):
-    """The value of an expression, once two drawings of the page in a row give the same one. On a busy machine a page is not always laid out
-    at once."""
+def steady(chrome, what, is_right=lambda _: True):
+    """The value of an expression, once two drawings of the page in a row give the same one, and it is right. On a busy machine a page is
+    not always laid out at once, so a value that is wrong counts only after many drawings."""
     last = None
     for _ in range(MOST_DRAWINGS):
         chrome.value(DRAWN)
         now = chrome.value(what)
-        if now == last:
+        if now == last and is_right(now):
             break
         last = now
     return now
 
 
+def check_nothing(told, chrome, what):
+    """An expression lists nothing, once the page is laid out."""
+    same(told, steady(chrome, what, lambda it: not it), [])
+
+
+def filled_part(sides):
+    """How much of its pane the drawing fills."""
+    (left, top, right, bottom), (west, north, east, south), _ = sides
+    return (east - west) * (south - north) / (right - left) / (bottom - top)
+
+
 def check_sides(told, chrome):
     """The page fits the screen, and the drawing fits its pane and fills at least half of it. Returns the sides of the pane."""
-    (left, top, right, bottom), (west, north, east, south), fits = steady(chrome, SIDES)
+    sides = steady(chrome, SIDES, lambda it: it[2] and filled_part(it) >= 0.5)
+    (left, top, right, bottom), (west, north, east, south), fits = sides
     same(f'{told}: the page fits', fits, True)
     same(f'{told}: the drawing fits', west >= left and north >= top and east <= right and south <= bottom, True)
-    part = (east - west) * (south - north) / (right - left) / (bottom - top)
+    part = filled_part(sides)
     same(f'{told}: the drawing fills half of its pane', part >= 0.5 or f'{part:.2f}', True)
     return left, top, right, bottom
 
 
 def check_texts(told, chrome):
     """No text of the page is cut off, and the letters of the legend grow with the screen."""
-    cut, part = steady(chrome, TEXTS)
+    cut, part = steady(chrome, TEXTS, lambda it: not it[0] and it[1] <= MOST_LETTERS)
     same(f'{told}: texts that are cut off', cut, [])
-    same(f'{told}: the letters of the legend', part <= 66 or f'a part of {part:.0f}', True)
+    same(f'{told}: the letters of the legend', part <= MOST_LETTERS or f'a part of {part:.0f}', True)
 
 
 def node_at(chrome, node):
