@@ -150,11 +150,23 @@ fn sets(line: &str, key: &str) -> bool {
     rest.is_some_and(|it| it.trim_start().starts_with(['=', ']', '.']))
 }
 
+/// What the crate expects, in its words and in those of a reader.
+const EXPECTED: [(&str, &str); 4] = [
+    (
+        "expected u32",
+        "expected a whole number from 0 to 4294967295",
+    ),
+    ("expected u8", "expected a whole number from 1 to 255"),
+    ("expected f64", "expected a number"),
+    ("expected a sequence", "expected a list"),
+];
+
 /// The text of an error without its place, which is printed before it.
 fn why_of(error: &toml::de::Error) -> String {
     let text = error.to_string();
-    text.rsplit_once(" at line ")
-        .map_or(text.clone(), |(why, _)| why.to_string())
+    let why = text.rsplit_once(" at line ").map_or(&*text, |it| it.0);
+    let words = EXPECTED.iter();
+    words.fold(why.into(), |why, (said, read)| why.replace(said, read))
 }
 
 /// The first line that sets this key.
@@ -382,7 +394,10 @@ mod tests {
             ("ceiling = 0", "`ceiling` is at least 1"),
             ("table = 255", "not a table for ways"),
             ("helo = 1.0", "unknown field `helo`"),
-            ("hello = \"1\"", "expected"),
+            ("hello = \"1\"", "expected a number"),
+            ("ceiling = 0.5", "expected a whole number from 0"),
+            ("ceiling = 4294967296", "from 0 to 4294967295"),
+            ("[[key]]\nnumber = 256", "from 1 to 255"),
             ("router = 4", "duplicate"),
             ("= 3", "expected"),
             ("[[key]]\nnumber = 1", "either a `secret` or a `file`"),

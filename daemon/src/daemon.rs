@@ -4,15 +4,17 @@ use crate::boot::next_session;
 use crate::config::{self, Config};
 use crate::control::Control;
 use crate::datagram::MOST_BYTES;
+use crate::echo::Echo;
 use crate::interfaces::{Port, Waiting};
 use crate::kernel::{Kernel, Write};
-use crate::machine::{HOPS, Machine, Settings};
+use crate::machine::{HOPS, Machine, Settings, drawn};
 use crate::netlink::{DeviceNews, DeviceReader, Netlink};
 use crate::view::Status;
 use mio::unix::SourceFd;
 use mio::{Events, Interest, Poll, Token};
 use signal_hook::consts::{SIGHUP, SIGINT, SIGTERM};
 use std::collections::{BTreeMap, BTreeSet};
+use std::hash::RandomState;
 use std::io::Read;
 use std::os::linux::net::SocketAddrExt;
 use std::os::unix::net::{SocketAddr, UnixDatagram};
@@ -46,6 +48,8 @@ pub struct Daemon {
     /// All devices of the system by their index.
     devices: BTreeMap<u32, DeviceNews>,
     ports: BTreeMap<u32, Port>,
+    /// The mark of this process in its echo requests.
+    mark: u64,
     /// Ports at which datagrams may wait.
     ready: BTreeSet<u32>,
     control: Control,
@@ -158,6 +162,7 @@ impl Daemon {
         for (descriptor, token) in all {
             follow(&poll, descriptor, token).map_err(fails("poll"))?;
         }
+        let mark = drawn(settings.router, &RandomState::new());
         let mut daemon = Daemon {
             file: file.into(),
             config,
@@ -167,6 +172,7 @@ impl Daemon {
             reader,
             devices: BTreeMap::new(),
             ports: BTreeMap::new(),
+            mark,
             ready: BTreeSet::new(),
             control,
             _ends: ends,
@@ -298,7 +304,8 @@ impl Daemon {
             Ok(port)
         });
         match opened {
-            Ok(port) => {
+            Ok(mut port) => {
+                port.echo = self.open_echo(it);
                 self.ports.insert(it.index, port);
                 self.look_at_filter(&it.name);
             }
@@ -310,6 +317,21 @@ impl Daemon {
                 self.retry = now + RETRY;
             }
         }
+    }
+
+    /// The socket for echo requests. It can do without: silence is noticed then too, but later.
+    fn open_echo(&mut self, it: &DeviceNews) -> Option<Echo> {
+        let opened = Echo::open(&it.name, it.index, self.mark).and_then(|echo| {
+            let token = Token(PORTS + it.index as usize);
+            follow(&self.poll, echo.descriptor(), token)?;
+            Ok(echo)
+        });
+        opened
+            .map_err(|error| {
+                let text = format!("{}: it can send no echo requests: {error}", it.name);
+                self.machine.journal.add_rarely(text, self.begun.elapsed());
+            })
+            .ok()
     }
 
     /// Opens ports again, and uses devices after a pause.
@@ -404,13 +426,37 @@ impl Daemon {
                     break;
                 }
             }
+            self.take_answers(index);
         }
+    }
+
+    /// Takes the answers to echo requests that wait at a port.
+    fn take_answers(&mut self, index: u32) {
+        let Some(echo) = self.ports.get(&index).and_then(|it| it.echo.as_ref()) else {
+            return;
+        };
+        for _ in 0..MOST_AT_ONCE {
+            let Some(answer) = echo.receive() else {
+                return;
+            };
+            if let Some(source) = answer {
+                let now = self.begun.elapsed();
+                self.machine.system_answers(index, source, now);
+            }
+        }
+        self.ready.insert(index);
     }
 
     fn send(&mut self) {
         for (device, data) in std::mem::take(&mut self.machine.outbox) {
             if let Some(port) = self.ports.get(&device) {
                 port.send(&data);
+            }
+        }
+        for (device, address) in std::mem::take(&mut self.machine.asks) {
+            let port = self.ports.get_mut(&device);
+            if let Some(echo) = port.and_then(|it| it.echo.as_mut()) {
+                echo.ask(address);
             }
         }
     }
@@ -442,8 +488,10 @@ impl Daemon {
     fn serve(&mut self, token: usize) {
         let missing = self.missing_interfaces();
         let (machine, now) = (&self.machine, self.begun.elapsed());
+        let pause = self.quiet.saturating_sub(now);
         let status = || Status {
             missing: missing.clone(),
+            pause_seconds: (!pause.is_zero()).then_some(pause.as_secs_f64()),
             ..machine.status(now)
         };
         // The answers are text and numbers, which can be written.

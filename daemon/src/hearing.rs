@@ -1,5 +1,6 @@
 //! What a machine does with a datagram.
 
+use crate::asking::Step;
 use crate::datagram::{self, Address, Body, Head, Hello, Mac, Peer, Record, Says, Start};
 use crate::destination::Becomes;
 use crate::kernel::{Kernel, Write};
@@ -257,6 +258,7 @@ impl<K: Kernel> Machine<K> {
         it.is_heard = true;
         it.until = now + head.hold.max(SHORTEST_HOLD);
         it.hears_me = hears_me;
+        it.asked.rest(self.settings.hello, now);
         if is_new {
             // The next hello lists the neighbour, so it has to come at once.
             self.say_hello_soon(device, now);
@@ -311,6 +313,7 @@ impl<K: Kernel> Machine<K> {
             .and_then(|it| it.links.get_mut(&device))
         {
             (it.is_up, it.hop) = (true, Some(hop));
+            it.asked.begin(now);
         }
         self.say_hello_soon(device, now);
         self.links_changed(number, "", now);
@@ -332,19 +335,38 @@ impl<K: Kernel> Machine<K> {
         self.links_changed(number, why, now);
     }
 
-    /// Notices that neighbours are silent.
+    /// Notices that neighbours are silent, and asks the systems of those whose hellos are late.
     pub fn notice_silence(&mut self, now: Duration) {
-        let mut late = Vec::new();
+        let mut silent = Vec::new();
         for (number, it) in &mut self.neighbours {
             for (device, link) in &mut it.links {
-                if link.is_heard && link.until <= now {
-                    link.is_heard = false;
-                    late.push((*number, *device));
+                let step = link.is_up.then(|| link.asked.step(now)).flatten();
+                if step == Some(Step::Ask) {
+                    self.asks.push((*device, link.address));
                 }
+                let why = if step == Some(Step::GiveUp) {
+                    "its system does not answer"
+                } else if link.is_heard && link.until <= now {
+                    "nothing is heard from it"
+                } else {
+                    continue;
+                };
+                link.is_heard = false;
+                silent.push((*number, *device, why));
             }
         }
-        for (number, device) in late {
-            self.judge_link(number, device, "nothing is heard from it", now);
+        for (number, device, why) in silent {
+            self.judge_link(number, device, why, now);
+        }
+    }
+
+    /// The system of a neighbour, which has a link-local address, has answered over a device.
+    pub fn system_answers(&mut self, device: u32, source: Ipv6Addr, now: Duration) {
+        let hello = self.settings.hello;
+        let links = self.neighbours.values_mut();
+        let links = links.filter_map(|it| it.links.get_mut(&device));
+        for link in links.filter(|it| it.address == source) {
+            link.asked.answered(hello, now);
         }
     }
 

@@ -1,7 +1,8 @@
 //! The sockets of links: datagrams of UDP to a multicast group of the link, with a hop limit of 255, which no router has
-//! forwarded.
+//! forwarded; and echo requests to the systems of neighbours.
 
 use crate::datagram::MOST_BYTES;
+use crate::echo::Echo;
 use crate::system;
 use socket2::{Domain, Protocol, SockAddr, Socket, Type};
 use std::io;
@@ -15,6 +16,8 @@ const HOP_LIMIT: i32 = 255;
 
 pub struct Port {
     socket: Socket,
+    /// `None` if the system allows no echo requests.
+    pub echo: Option<Echo>,
     index: u32,
 }
 
@@ -42,7 +45,11 @@ impl Port {
         socket.set_nonblocking(true)?;
         // The system may allow less.
         let _ = socket.set_recv_buffer_size(1 << 20);
-        Ok(Port { socket, index })
+        Ok(Port {
+            socket,
+            echo: None,
+            index,
+        })
     }
 
     pub fn descriptor(&self) -> RawFd {

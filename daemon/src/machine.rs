@@ -11,6 +11,7 @@ use crate::prefix::Prefix;
 use revroute::{Node, Policy, Rise};
 use std::collections::{BTreeMap, BTreeSet};
 use std::hash::{BuildHasher, RandomState};
+use std::net::Ipv6Addr;
 use std::time::Duration;
 
 /// The table in which the system finds what it delivers by itself: the networks of its interfaces.
@@ -130,6 +131,8 @@ pub struct Machine<K> {
     pub fading: BTreeMap<Prefix, Duration>,
     /// Datagrams to be sent over devices.
     pub outbox: Vec<(u32, Vec<u8>)>,
+    /// Systems of neighbours that are to be asked for an answer, each over a device.
+    pub asks: Vec<(u32, Ipv6Addr)>,
     /// A later session of this router that a neighbour knows. Then the machine has to end.
     pub later_session: Option<u32>,
     pub counts: Counts,
@@ -182,6 +185,7 @@ impl<K: Kernel> Machine<K> {
             fading: BTreeMap::new(),
             former,
             outbox: Vec::new(),
+            asks: Vec::new(),
             later_session: None,
             counts: Counts::default(),
             starts: 0,
@@ -551,8 +555,9 @@ impl<K: Kernel> Machine<K> {
             .values()
             .filter(|it| it.has_carrier)
             .map(|it| it.next_hello);
-        let links = self.neighbours.values().flat_map(|it| it.links.values());
-        let silence = links.filter(|it| it.is_heard).map(|it| it.until);
+        let links = || self.neighbours.values().flat_map(|it| it.links.values());
+        let silence = links().filter(|it| it.is_heard).map(|it| it.until);
+        let asks = links().filter(|it| it.is_up).map(|it| it.asked.next());
         let news = self
             .neighbours
             .values()
@@ -566,6 +571,7 @@ impl<K: Kernel> Machine<K> {
             .chain(self.fading.values().copied());
         let all = hellos
             .chain(silence)
+            .chain(asks)
             .chain(news)
             .chain(retries)
             .chain(former);

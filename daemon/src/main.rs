@@ -1,11 +1,13 @@
 //! `revrouted`: routes between all routers of a network, without a loop whatever is lost and whoever restarts.
 
+mod asking;
 mod boot;
 mod config;
 mod control;
 mod daemon;
 mod datagram;
 mod destination;
+mod echo;
 mod former;
 mod gates;
 mod hearing;

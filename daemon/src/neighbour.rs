@@ -1,5 +1,6 @@
 //! A neighbour, and the links to it.
 
+use crate::asking::Asked;
 use crate::datagram::{Mac, Peer, Start};
 use crate::news::News;
 use std::collections::BTreeMap;
@@ -14,6 +15,8 @@ pub struct Adjacency {
     /// The neighbour is gone if nothing is heard until then.
     pub until: Duration,
     pub is_heard: bool,
+    /// What its system was asked, while the link is up.
+    pub asked: Asked,
     /// Whether the neighbour says that it hears this session of this router.
     pub hears_me: bool,
     /// The number of the nexthop object in the kernel.
@@ -29,6 +32,7 @@ impl Adjacency {
             mac: None,
             until: Duration::ZERO,
             is_heard: false,
+            asked: Asked::default(),
             hears_me: false,
             hop: None,
             is_up: false,

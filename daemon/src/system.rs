@@ -1,22 +1,25 @@
-//! Calls of the system that no crate of Debian has: the hop limit with which a datagram came.
+//! Calls of the system that no crate of Debian has: the hop limit with which a datagram came, and a filter of ICMPv6.
 
 #![allow(unsafe_code)]
 
 use std::io;
 use std::mem::{size_of, zeroed};
 use std::net::Ipv6Addr;
-use std::os::fd::{AsRawFd, RawFd};
+use std::os::fd::AsRawFd;
 
 /// The length of a control message of one number, with its head, is below this.
 const CONTROL: usize = 64;
 
-fn set_option(socket: RawFd, option: i32, value: i32) -> io::Result<()> {
-    let size = size_of::<i32>() as libc::socklen_t;
-    // SAFETY: the value is a number of that size, and the call keeps no pointer.
+/// The option by which a raw socket says what it does not want (`linux/icmpv6.h`).
+const ICMP6_FILTER: i32 = 1;
+
+fn set_option<T: Copy>(socket: &impl AsRawFd, level: i32, option: i32, value: T) -> io::Result<()> {
+    let size = size_of::<T>() as libc::socklen_t;
+    // SAFETY: the value has that size, and the call keeps no pointer.
     let result = unsafe {
         libc::setsockopt(
-            socket,
-            libc::IPPROTO_IPV6,
+            socket.as_raw_fd(),
+            level,
             option,
             (&raw const value).cast(),
             size,
@@ -31,12 +34,20 @@ fn set_option(socket: RawFd, option: i32, value: i32) -> io::Result<()> {
 
 /// Has the system say with which hop limit each datagram came.
 pub fn want_hop_limits(socket: &impl AsRawFd) -> io::Result<()> {
-    set_option(socket.as_raw_fd(), libc::IPV6_RECVHOPLIMIT, 1)
+    set_option(socket, libc::IPPROTO_IPV6, libc::IPV6_RECVHOPLIMIT, 1)
 }
 
 /// Marks datagrams as those of the network's control (class CS6).
 pub fn set_class(socket: &impl AsRawFd) -> io::Result<()> {
-    set_option(socket.as_raw_fd(), libc::IPV6_TCLASS, 0xc0)
+    set_option(socket, libc::IPPROTO_IPV6, libc::IPV6_TCLASS, 0xc0)
+}
+
+/// Has a raw socket of ICMPv6 take only messages of one kind.
+pub fn want_only(socket: &impl AsRawFd, kind: u8) -> io::Result<()> {
+    // A bit that is set keeps messages of its kind away.
+    let mut kinds = [u32::MAX; 8];
+    kinds[usize::from(kind / 32)] &= !(1 << (kind % 32));
+    set_option(socket, libc::IPPROTO_ICMPV6, ICMP6_FILTER, kinds)
 }
 
 /// A datagram that came in.

@@ -9,7 +9,7 @@ pub use lab::{Dice, settings};
 
 use crate::kernel::Refusal;
 use crate::machine::{HOLD, LONGEST_DEAD, Machine, SENDERS};
-use crate::view::neighbours_text;
+use crate::view::{neighbours_text, status_text};
 use crate::writing::LATER;
 use lab::{Lab, own, prefix, seconds};
 use std::cell::Cell;
@@ -72,6 +72,51 @@ fn a_link_that_loses_all_in_one_direction_is_left() {
     lab.cut.remove(&one_end);
     lab.run(seconds(2));
     assert_eq!(lab.path(0, own(1).address()), [0, 1]);
+}
+
+/// Router 1 does not hear router 0 any more.
+fn deafened(unasked: &[u32]) -> Lab {
+    let mut lab = Lab::new(&RING, 4);
+    lab.unasked.extend(unasked);
+    lab.start_all();
+    lab.run(seconds(2));
+    lab.cut.insert(lab.links[0].0);
+    lab
+}
+
+#[test]
+fn a_link_that_loses_all_is_left_once_the_system_at_its_other_end_does_not_answer() {
+    let mut lab = deafened(&[]);
+    lab.run(Duration::from_millis(1500));
+    assert_eq!(lab.path(0, own(1).address()), [0, 4, 3, 2, 1]);
+    let said: Vec<_> = lab.machines[&1].journal.after(0).collect();
+    let text = "router 0 is down: its system does not answer";
+    assert!(said.iter().any(|it| it.text == text));
+    lab.expect_all_arrive();
+}
+
+#[test]
+fn a_system_that_never_answers_shows_nothing_by_that() {
+    let mut lab = deafened(&[0]);
+    lab.run(Duration::from_millis(2500));
+    assert_eq!(lab.path(0, own(1).address()), [0, 1], "packets are lost");
+    lab.run(Duration::from_millis(2500));
+    lab.expect_all_arrive();
+}
+
+/// The process of router 1 is away for longer than a hello takes, and its system goes on.
+#[test]
+fn a_system_that_answers_stands_for_its_process_until_that_is_dead() {
+    let mut lab = Lab::new(&RING, 5);
+    lab.start_all();
+    lab.run(seconds(2));
+    lab.machines.remove(&1);
+    lab.run(Duration::from_millis(2500));
+    assert!(lab.machines[&0].neighbours[&1].is_up);
+    assert_eq!(lab.path(0, own(2).address()), [0, 1, 2]);
+    lab.run(Duration::from_millis(2500));
+    assert!(!lab.machines[&0].neighbours[&1].is_up);
+    assert_eq!(lab.path(0, own(2).address()), [0, 4, 3, 2]);
 }
 
 #[test]
@@ -325,6 +370,22 @@ fn status_lists_what_the_kernel_refuses_and_not_what_waits() {
     machine.try_again(own(1), LATER, now);
     machine.try_again(own(2), Refusal(libc::EEXIST), now);
     assert_eq!(machine.status(now).refused, [own(2).to_string()]);
+}
+
+/// As after a boot number that has gone back. There is no interface in the list meanwhile.
+#[test]
+fn status_says_that_no_interface_is_used_for_a_while() {
+    let lab = {
+        let mut lab = Lab::new(&RING, 8);
+        lab.start_all();
+        lab
+    };
+    let mut status = lab.machines[&0].status(lab.now);
+    assert!(!status_text(&status).contains("no interface is used"));
+    status.pause_seconds = Some(7.5);
+    let text =
+        "no interface is used for 7.5 s: a neighbour knows another process with the number 0\n";
+    assert!(status_text(&status).contains(text));
 }
 
 #[test]

@@ -21,6 +21,9 @@ pub struct Status {
     /// Interfaces that the configuration names and the system does not have.
     #[serde(default)]
     pub missing: Vec<String>,
+    /// For how many seconds no interface is used yet, because a neighbour knows a later start of this router's number.
+    #[serde(default)]
+    pub pause_seconds: Option<f64>,
     pub neighbours: Vec<NeighbourView>,
     pub prefixes: usize,
     /// Prefixes with a way, or announced here.
@@ -69,6 +72,9 @@ pub struct LinkView {
     pub heard: bool,
     pub hears_us: bool,
     pub up: bool,
+    /// Whether its system has answered an echo request over this link.
+    #[serde(default)]
+    pub answers: bool,
 }
 
 #[derive(Serialize, Deserialize)]
@@ -99,6 +105,7 @@ impl<K: Kernel> Machine<K> {
             seconds: now.as_secs_f64(),
             interfaces: self.interface_views(),
             missing: Vec::new(),
+            pause_seconds: None,
             neighbours: self.neighbour_views(now),
             prefixes: self.destinations.len(),
             reached,
@@ -139,6 +146,7 @@ impl<K: Kernel> Machine<K> {
             heard: link.is_heard,
             hears_us: link.hears_me,
             up: link.is_up,
+            answers: link.asked.is_answered(),
         };
         NeighbourView {
             router: number,
@@ -300,6 +308,13 @@ pub fn status_text(it: &Status) -> String {
         it.reached,
         it.prefixes
     );
+    if let Some(seconds) = it.pause_seconds {
+        text += &format!(
+            "no interface is used for {}: a neighbour knows another process with the number {}\n",
+            span(seconds),
+            it.router
+        );
+    }
     for it in &it.interfaces {
         let state = match (it.carrier, it.gates, it.held) {
             (false, _, _) => "no carrier",

@@ -1,6 +1,6 @@
 // Stands before the C library in a daemon (LD_PRELOAD), and makes its life hard. The environment variable STORM has words NAME=NUMBER:
 //   seed     by which all is drawn, with the number of the process
-//   lost     the share of datagrams that are lost
+//   lost     the share of datagrams that are lost, also of echo requests
 //   late     the share of datagrams that are held back, until later ones have been sent
 //   mute     the share of datagrams that are lost together with all others of the socket for up to 1.5 seconds
 //   slow     the most seconds that a write to the kernel takes
@@ -155,7 +155,7 @@ ssize_t sendmsg(int file, const struct msghdr *message, int flags) {
     getsockopt(file, SOL_SOCKET, SO_DOMAIN, &family, &length);
     getsockopt(file, SOL_SOCKET, SO_TYPE, &kind, &length);
     if (family == AF_NETLINK) return write_to_kernel(file, message, flags, size);
-    if (family == AF_INET6 && kind == SOCK_DGRAM) return send_datagram(file, message, flags, size);
+    if (family == AF_INET6 && (kind == SOCK_DGRAM || kind == SOCK_RAW)) return send_datagram(file, message, flags, size);
     return send_message(file, message, flags);
 }
 

@@ -7,7 +7,7 @@ use crate::neighbour::Neighbour;
 use crate::prefix::Prefix;
 use std::cell::RefCell;
 use std::collections::{BTreeMap, BTreeSet};
-use std::net::IpAddr;
+use std::net::{IpAddr, Ipv6Addr};
 use std::rc::Rc;
 use std::time::Duration;
 
@@ -49,6 +49,10 @@ pub struct Lab {
     /// The same from one device to another one of a LAN.
     pub apart: BTreeSet<((u32, u32), (u32, u32))>,
     pub way: Vec<Datagram>,
+    /// Answers of systems to echo requests: the router and the device that they come to, and from which address.
+    pub answers: Vec<((u32, u32), Ipv6Addr)>,
+    /// Routers whose systems answer no echo requests.
+    pub unasked: BTreeSet<u32>,
     pub now: Duration,
     pub dice: Dice,
     pub lost_percent: u64,
@@ -120,6 +124,8 @@ impl Lab {
             cut: BTreeSet::new(),
             apart: BTreeSet::new(),
             way: Vec::new(),
+            answers: Vec::new(),
+            unasked: BTreeSet::new(),
             now: Duration::from_secs(1),
             dice: Dice(seed),
             lost_percent: 0,
@@ -218,6 +224,11 @@ impl Lab {
                     }
                 }
             }
+            for (to, from) in std::mem::take(&mut self.answers) {
+                if let Some(machine) = self.machines.get_mut(&to.0) {
+                    machine.system_answers(to.1, from, self.now);
+                }
+            }
             if self.late_percent > 0 && self.way.len() > 1 {
                 let at = self.dice.below(self.way.len() as u64) as usize;
                 self.way.swap(0, at);
@@ -255,9 +266,31 @@ impl Lab {
                 }
             }
         }
-        if let Some(later) = machine.later_session {
+        let Some(machine) = self.machines.get_mut(&router) else {
+            return;
+        };
+        let (asks, later) = (std::mem::take(&mut machine.asks), machine.later_session);
+        for (device, to) in asks {
+            self.ask((router, device), to);
+        }
+        if let Some(later) = later {
             self.sessions.insert(router, later);
             self.start(router);
+        }
+    }
+
+    /// Asks the system that has an address for an answer, whether or not a process runs there.
+    fn ask(&mut self, from: (u32, u32), to: Ipv6Addr) {
+        let ends = self.world.borrow().ends[&from].clone();
+        let Some(end) = ends.into_iter().find(|it| address(it.0, it.1) == to) else {
+            return;
+        };
+        let is_cut = |from, to| self.cut.contains(&from) || self.apart.contains(&(from, to));
+        if is_cut(from, end) || is_cut(end, from) || self.unasked.contains(&end.0) {
+            return;
+        }
+        if !self.dice.chance(self.lost_percent) && !self.dice.chance(self.lost_percent) {
+            self.answers.push((from, to));
         }
     }
 
