@@ -258,7 +258,7 @@ class Storm:
             self.network.kill(name)
             self.network.fill_disk(name)
             self.start(name)
-            process = self.network.running.pop(name)
+            (process,) = self.network.running.pop(name)
             try:
                 status = process.wait(SECONDS_TO_REFUSE)
             except Exception:

@@ -1,4 +1,4 @@
-"""A network of routers in namespaces, each with a daemon revrouted, and what is seen of them: probes, loops, bytes and processors."""
+"""A network of routers in namespaces, each with a daemon that routes, and what is seen of them: probes, loops, bytes and processors."""
 
 import os
 import signal
@@ -72,10 +72,12 @@ class Router(Devices, Counters):
 
 
 class Network:
-    """The routers, their links, and their daemons. All of it ends with this process."""
+    """The routers, their links, and their daemons. All of it ends with this process. `daemon` says how a router's daemon is run, as
+    revrouted.Daemon does."""
 
-    def __init__(self, names, links, announced, program, timers):
-        self.names, self.links, self.announced, self.program, self.timers = names, links, announced, program, timers
+    def __init__(self, names, links, announced, daemon):
+        self.names, self.links, self.announced, self.daemon = names, links, announced, daemon
+        # the processes of each router whose daemon runs: some daemons have several
         self.running, self.ended, self.starts, self.taken = {}, [], 0, 0
         # the number with which each router has started last, and its costs that are not 1, by the device
         self.numbers, self.costs = {}, {it: {} for it in names}
@@ -145,30 +147,36 @@ class Network:
         """Starts daemons, perhaps with the number of another router."""
         for name in some:
             self.numbers[name] = self.names.index(name) if number is None else number
-            file = self.write_configuration(name)
-            with open(self.log(name), "ab") as log, entered(name):
-                how = {"stdin": subprocess.DEVNULL, "stdout": log, "stderr": log, "preexec_fn": die_with_parent}
-                how["env"] = {**os.environ, **(environment or {})}
-                self.running[name] = subprocess.Popen([*map(str, revrouted.words(self.program, file))], **how)
+            self.running[name] = []
+            for words in self.daemon.commands(self, name):
+                self.running[name].append(self.spawn(name, words, environment))
             self.starts += 1
+
+    def spawn(self, name, words, environment):
+        with open(self.log(name), "ab") as log, entered(name):
+            how = {"stdin": subprocess.DEVNULL, "stdout": log, "stderr": log, "preexec_fn": die_with_parent}
+            return subprocess.Popen([*map(str, words)], env={**os.environ, **(environment or {})}, **how)
+
+    def processes(self):
+        return [it for some in self.running.values() for it in some]
 
     def write_configuration(self, name):
         """Writes the configuration in one step: a daemon may read it at any time."""
         file, new = FOLDER / f"{name}.toml", FOLDER / f"{name}.toml.new"
         prefixes = [it.prefix for it in self.announced if name in it.routers]
-        new.write_text(revrouted.configuration(self.numbers[name] + 1, self.state(name), prefixes, self.timers, self.costs[name]))
+        new.write_text(revrouted.configuration(self.numbers[name] + 1, self.state(name), prefixes, self.daemon.timers, self.costs[name]))
         return new.replace(file)
 
     def set_costs(self, name, costs):
         """It costs a router something else to send packets over some devices. Its daemon reads that, once it takes the signal."""
         self.costs[name] |= costs
         self.write_configuration(name)
-        if name in self.running and takes(self.running[name].pid, signal.SIGHUP):
+        if all(takes(it.pid, signal.SIGHUP) for it in self.running.get(name, ())):
             self.signal(name, signal.SIGHUP)
 
     def kill(self, *some):
         """Kills daemons. Their kernels keep what they were told."""
-        ended = [self.running.pop(it) for it in [*some] if it in self.running]
+        ended = [it for name in [*some] for it in self.running.pop(name, ())]
         for it in ended:
             self.taken += seconds_of(it.pid)
             it.kill()
@@ -176,16 +184,17 @@ class Network:
             it.wait()
 
     def signal(self, name, what):
-        if name in self.running:
-            self.running[name].send_signal(what)
+        for it in self.running.get(name, ()):
+            it.send_signal(what)
 
     def gone(self):
         """The routers whose daemons have ended by themselves, each with its status and the last line that it said."""
         found = {}
-        for name, it in [*self.running.items()]:
-            if it.poll() is not None:
-                del self.running[name]
-                found[name] = f"the daemon of {name} has ended with status {it.returncode}: {self.last_line(name)}"
+        for name, some in self.running.items():
+            for it in some:
+                if it.poll() is not None:
+                    found[name] = f"the daemon of {name} has ended with status {it.returncode}: {self.last_line(name)}"
+        self.kill(*found)
         return found
 
     def log(self, name):
@@ -208,11 +217,11 @@ class Network:
 
     def seconds(self):
         """The seconds of a processor that all daemons have taken."""
-        return self.taken + sum(seconds_of(it.pid) for it in self.running.values())
+        return self.taken + sum(seconds_of(it.pid) for it in self.processes())
 
     def memory(self):
         """The KiB that each daemon takes, with its share of what several use."""
-        return [memory_of(it.pid) for it in self.running.values()]
+        return [sum(memory_of(it.pid) for it in some) for some in self.running.values()]
 
     def sent(self):
         """The bytes and packets that all routers have sent."""
@@ -269,7 +278,7 @@ class Watch:
         for line in self.process.stdout:
             kind, *words = line.split()
             if kind == "round":
-                self.rounds.append(Round(float(words[0]), int(words[1]), bytes.fromhex(words[2])))
+                self.rounds.append(Round(float(words[0]), int(words[1]), bytes.fromhex("".join(words[2:]))))
             elif kind == "loop":
                 if len(self.loops) < MOST_LOOPS_KEPT:
                     self.network.keep_tables(f"loop-{len(self.loops) + 1}", *words[1:])

@@ -6,7 +6,7 @@ import socket
 import statistics
 import time
 
-from daemon_network import Announced, Network, announced_by_all, memory_of, seconds_of
+from daemon_network import Announced, Network, announced_by_all, seconds_of
 from namespaces import beside
 
 SECONDS_TO_SETTLE, SECONDS_BETWEEN = 600, 0.2
@@ -66,7 +66,7 @@ def silences(network):
 
 def idle(network, seconds):
     """What daemons take while nothing happens: processors of all and the most of one, and bytes and packets of all."""
-    processes = [it.pid for it in network.running.values()]
+    processes = [it.pid for it in network.processes()]
     sent, before, begun = network.sent(), [*map(seconds_of, processes)], time.monotonic()
     time.sleep(seconds)
     taken = [after - it for after, it in zip(map(seconds_of, processes), before)]
@@ -75,10 +75,10 @@ def idle(network, seconds):
     return {"processors": round(sum(taken) / span, 4), "most of one": round(max(taken) / span, 5), "bytes/s": per[0], "packets/s": per[1]}
 
 
-def measured(asked, program, names, links):
+def measured(asked, daemon, names, links):
     """Starts daemons, starts one of them again, and waits. Returns the figures."""
     prefixes = announced(names, asked.prefixes)
-    network = Network(names, links, prefixes, program, (asked.hello, asked.dead))
+    network = Network(names, links, prefixes, daemon)
     degrees = sorted(len(beside(it, links)) for it in names)
     before = silences(network)
     figures = {"routers": len(names), "links": len(links), "neighbours": [statistics.median(degrees), degrees[-1]], "prefixes": len(prefixes)}
@@ -87,7 +87,7 @@ def measured(asked, program, names, links):
         figures["settled"] = seconds_to_settle(network, len(prefixes))
         figures["processor seconds to settle"] = round(network.seconds() / len(names), 2)
         figures["idle"] = idle(network, asked.quiet)
-        memory = [*map(memory_of, (it.pid for it in network.running.values()))]
+        memory = network.memory()
         figures["memory KiB"] = [round(statistics.median(memory)), max(memory)]
         sent = network.sent()[0]
         network.kill(names[0])

@@ -54,6 +54,17 @@ def configuration(number, folder, announced, timers, costs={}):
     return text + "".join(f"[interface.{name}]\ncost = {cost}\n" for name, cost in costs.items())
 
 
+class Daemon:
+    """How a network of daemon_network.py runs the daemon. The timers are the seconds between two hellos and of silence until a
+    neighbour is gone."""
+
+    def __init__(self, program, timers):
+        self.program, self.timers = program, timers
+
+    def commands(self, network, name):
+        yield words(self.program, network.write_configuration(name))
+
+
 def words(program, file):
     """The command that runs a daemon with a configuration file, in the foreground."""
     return [program, "run", "--config", file]
