@@ -7,9 +7,10 @@
 
 use std::time::Duration;
 
-/// If so many requests in a row are not answered, each for so long, nothing comes over the link.
+/// If so many requests in a row are not answered, nothing comes over the link.
 const MOST: u32 = 5;
-const PATIENCE: Duration = Duration::from_millis(60);
+/// A hello is late after such a part of its time.
+const LATE: u32 = 20;
 /// After this time a system that has never answered is tried again.
 const LATER: Duration = Duration::from_secs(60);
 
@@ -40,7 +41,7 @@ impl Asked {
     /// Something came from the neighbour. If its system answers, nothing is asked before the next hello is late.
     pub fn rest(&mut self, hello: Duration, now: Duration) {
         if self.is_answered {
-            (self.count, self.next) = (0, now + hello + hello / 10);
+            (self.count, self.next) = (0, now + hello + hello / LATE);
         }
     }
 
@@ -50,12 +51,13 @@ impl Asked {
         self.rest(hello, now);
     }
 
-    pub fn step(&mut self, now: Duration) -> Option<Step> {
+    /// What is to be done now. For an answer this router waits as for that to a datagram.
+    pub fn step(&mut self, patience: Duration, now: Duration) -> Option<Step> {
         if now < self.next {
             return None;
         }
         if self.count < MOST {
-            (self.count, self.next) = (self.count + 1, now + PATIENCE);
+            (self.count, self.next) = (self.count + 1, now + patience);
             return Some(Step::Ask);
         }
         (self.count, self.next) = (0, now + LATER);
@@ -69,5 +71,51 @@ impl Asked {
 
     pub fn is_answered(&self) -> bool {
         self.is_answered
+    }
+}
+
+#[cfg(test)]
+mod tests {
+    use super::*;
+
+    const HELLO: Duration = Duration::from_secs(1);
+
+    fn ms(count: u64) -> Duration {
+        Duration::from_millis(count)
+    }
+
+    /// When the steps are due, after the system has answered once and nothing comes any more.
+    fn steps(patience: Duration) -> Vec<(Duration, Step)> {
+        let mut it = Asked::default();
+        it.begin(ms(0));
+        assert_eq!(it.step(patience, ms(0)), Some(Step::Ask));
+        it.answered(HELLO, ms(0));
+        (0..10_000)
+            .filter_map(|at| Some((ms(at), it.step(patience, ms(at))?)))
+            .collect()
+    }
+
+    #[test]
+    fn a_silent_system_is_asked_five_times_once_a_hello_is_late() {
+        for patience in [50, 700] {
+            let asks = (0..5).map(|it| (ms(1050 + it * patience), Step::Ask));
+            let end = (ms(1050 + 5 * patience), Step::GiveUp);
+            let wanted: Vec<_> = asks.chain([end]).collect();
+            assert_eq!(steps(ms(patience)), wanted);
+        }
+    }
+
+    #[test]
+    fn a_system_that_has_never_answered_is_tried_again_later() {
+        let mut it = Asked::default();
+        it.begin(ms(0));
+        let asked = (0..120_000).filter(|at| {
+            it.rest(HELLO, ms(*at));
+            it.step(ms(50), ms(*at)).is_some()
+        });
+        let wanted = [0, 50, 100, 150, 200].map(|it| [it, 60_250 + it]);
+        let (first, second): (Vec<u64>, Vec<u64>) =
+            wanted.map(|it| (it[0], it[1])).into_iter().unzip();
+        assert_eq!(asked.collect::<Vec<_>>(), [first, second].concat());
     }
 }

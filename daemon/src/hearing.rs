@@ -339,8 +339,10 @@ impl<K: Kernel> Machine<K> {
     pub fn notice_silence(&mut self, now: Duration) {
         let mut silent = Vec::new();
         for (number, it) in &mut self.neighbours {
+            let patience = it.news.usual_patience();
             for (device, link) in &mut it.links {
-                let step = link.is_up.then(|| link.asked.step(now)).flatten();
+                let step = link.is_up.then(|| link.asked.step(patience, now));
+                let step = step.flatten();
                 if step == Some(Step::Ask) {
                     self.asks.push((*device, link.address));
                 }

@@ -200,7 +200,7 @@ impl News {
     }
 
     /// For how long an answer is awaited where the ones before came.
-    fn usual_patience(&self) -> Duration {
+    pub fn usual_patience(&self) -> Duration {
         let usual = self.round_trip.smoothed();
         let usual = usual.map_or(SHORTEST, |it| it.mean + 4 * it.variation);
         usual.clamp(SHORTEST, MOST_USUAL)

@@ -284,7 +284,7 @@ class Watch:
                     self.network.keep_tables(f"loop-{len(self.loops) + 1}", *words[1:])
                 self.loops.append((float(words[0]), words[1], words[2:]))
             elif kind == "reads":
-                self.reads = Reads(*map(int, words[:3]), float(words[3]))
+                self.reads = Reads(*map(int, words[:4]), float(words[4]))
 
     def last(self, family):
         """The last round of a family, or None."""
@@ -299,8 +299,9 @@ class Watch:
         return self.reads
 
 
-# How often all kernels were read, how often a loop was seen at first, and again, and the milliseconds of a read.
-Reads = namedtuple("Reads", "count once twice milliseconds")
+# How often all kernels were read; how many loops were seen at a first look, how many of them were gone after their tables had changed
+# during the second look, and how many count; and the milliseconds of a read.
+Reads = namedtuple("Reads", "count once unclear twice milliseconds")
 
 
 def hurry():

@@ -12,14 +12,17 @@
 //
 // A packet that comes to a router is looked up by its rules in their order. Where that ends depends on which links have their
 // carrier, so all ways are followed that the kernel would use now or after it loses carriers, if nobody writes to it. A read takes
-// some milliseconds, so it need not show one moment. If it has a loop, the routers of the loop are read again. The loop counts if all its
-// steps are still there.
+// some milliseconds, so it need not show one moment. If it has a loop, the routers of the loop are read again, while their kernels tell what
+// changes. If all steps are still there, and nothing of them has changed meanwhile, there was a moment at which all were there: the
+// loop counts. If something has changed, the routers are read once more. A loop that is there in MOST_AGAIN reads counts as well.
 //
 // It prints these lines, with seconds of the clock CLOCK_MONOTONIC:
 //   loop SECONDS ADDRESS NAME..          a loop
 //   round SECONDS FAMILY STEPS           a round of probes that is over: two hexadecimal digits for each router and each target of the
 //                                        FAMILY 4 or 6, by how many links the probe came, or 00 if it did not arrive in half a second
-//   reads COUNT ONCE TWICE MILLISECONDS  at the end: the reads, the loops at a first look, and at the second, and how long a read took
+//   reads COUNT ONCE UNCLEAR TWICE MILLISECONDS
+//                                        at the end: the reads, the loops at a first look, those that were gone after a read in which something had
+//                                        changed, those that count, and how long a read took
 #define _GNU_SOURCE
 #include <arpa/inet.h>
 #include <errno.h>
@@ -40,7 +43,7 @@
 #include <time.h>
 #include <unistd.h>
 
-enum { MOST_ROUTERS = 128, MOST_TARGETS = 1024, FIRST_DEVICE = 100, MOST_HOPS = 16, TTL = 56, PORT = 7, ROUNDS = 256, LOOKS = 4, PLACES = 4 * MOST_TARGETS, NONE = -1 };
+enum { MOST_ROUTERS = 128, MOST_TARGETS = 1024, FIRST_DEVICE = 100, MOST_HOPS = 16, TTL = 56, PORT = 7, ROUNDS = 256, LOOKS = 4, MOST_AGAIN = 8, PLACES = 4 * MOST_TARGETS, NONE = -1 };
 // Where a packet comes in, if it is not from a router: it is the router's own, or it comes by any device, or by another one.
 enum { OWN = -1, ANY = -2, OTHER = -3 };
 static const double SECONDS_OF_A_PROBE = 0.5;
@@ -78,7 +81,7 @@ struct entry {
 };
 
 struct kernel {
-    int netlink;
+    int netlink, changes;
     struct route *routes;
     struct rule *rules;
     struct entry *entries;
@@ -302,13 +305,52 @@ static void read_kernel(struct kernel *kernel) {
     sort_out(kernel);
 }
 
-static void open_kernel(int router) {
-    int size = 1 << 22, one = 1, netlink;
-    enter(router);
-    netlink = kernels[router].netlink = socket(AF_NETLINK, SOCK_RAW | SOCK_CLOEXEC, NETLINK_ROUTE);
-    if (netlink < 0) stop("netlink");
+static int opened_netlink(void) {
+    int size = 1 << 22, one = 1, netlink = socket(AF_NETLINK, SOCK_RAW | SOCK_CLOEXEC, NETLINK_ROUTE);
+    // Without an address of its own, a socket is told no changes.
+    if (netlink < 0 || bind(netlink, (void *)&(struct sockaddr_nl){.nl_family = AF_NETLINK}, sizeof(struct sockaddr_nl))) stop("netlink");
     setsockopt(netlink, SOL_SOCKET, SO_RCVBUFFORCE, &size, sizeof size);
     setsockopt(netlink, SOL_NETLINK, NETLINK_GET_STRICT_CHK, &one, sizeof one);
+    return netlink;
+}
+
+static void open_kernel(int router) {
+    enter(router);
+    kernels[router].netlink = opened_netlink();
+    kernels[router].changes = opened_netlink();
+}
+
+// What changes in kernels
+
+// Has a kernel tell its changes from now on, or no more.
+static void follow_changes(struct kernel *kernel, bool is_on) {
+    static const int groups[] = {RTNLGRP_LINK, RTNLGRP_IPV4_ROUTE, RTNLGRP_IPV6_ROUTE, RTNLGRP_IPV4_RULE, RTNLGRP_IPV6_RULE, RTNLGRP_NEXTHOP};
+    for (size_t it = 0; it < sizeof groups / sizeof *groups; it++)
+        if (setsockopt(kernel->changes, SOL_NETLINK, is_on ? NETLINK_ADD_MEMBERSHIP : NETLINK_DROP_MEMBERSHIP, &groups[it], sizeof *groups))
+            stop("netlink groups");
+}
+
+// Whether a change can be one of where packets to a target go. That of a route of other targets cannot.
+static bool is_about(struct nlmsghdr *message, int target) {
+    if (message->nlmsg_type != RTM_NEWROUTE && message->nlmsg_type != RTM_DELROUTE) return true;
+    struct rtmsg *head = NLMSG_DATA(message);
+    struct address to = {head->rtm_family, {0}};
+    int left = RTM_PAYLOAD(message);
+    for (struct rtattr *part = RTM_RTA(head); RTA_OK(part, left); part = RTA_NEXT(part, left))
+        if (part->rta_type == RTA_DST) memcpy(to.bytes, RTA_DATA(part), RTA_PAYLOAD(part) < 16 ? RTA_PAYLOAD(part) : 16);
+    return has_prefix(&targets[target].at, &to, head->rtm_dst_len);
+}
+
+// Takes the changes that a kernel has told. Returns whether some were about a target, or were lost.
+static bool take_changes(struct kernel *kernel, int target) {
+    static _Alignas(8) char said[1 << 18];
+    bool has_changed = false;
+    for (;;) {
+        int size = recv(kernel->changes, said, sizeof said, MSG_DONTWAIT);
+        if (size < 0 && errno != ENOBUFS) return has_changed;
+        has_changed |= size < 0;
+        for (struct nlmsghdr *it = (void *)said; size > 0 && NLMSG_OK(it, (unsigned)size); it = NLMSG_NEXT(it, size)) has_changed |= is_about(it, target);
+    }
 }
 
 // Where packets go
@@ -399,15 +441,31 @@ static bool find_loop(struct walk *walk, int target) {
     return false;
 }
 
-// Reads the routers of a loop again, and returns whether it is still there.
-static bool is_still_there(struct walk *walk) {
-    bool is_there = true;
+enum again { GONE, CHANGED, THERE };
+
+// Reads the routers of a loop again.
+static enum again read_again(struct walk *walk) {
+    bool has_changed = false;
+    for (int at = 0; at < walk->depth; at++) take_changes(&kernels[walk->path[at].router], walk->target);
     for (int at = 0; at < walk->depth; at++) read_kernel(&kernels[walk->path[at].router]);
     for (int at = 0; at < walk->depth; at++) {
         struct step it = walk->path[at], next = walk->path[(at + 1) % walk->depth];
-        is_there &= next_of(&kernels[it.router], it.from, walk->target) >> next.router & 1;
+        if (!(next_of(&kernels[it.router], it.from, walk->target) >> next.router & 1)) return GONE;
     }
-    return is_there;
+    for (int at = 0; at < walk->depth; at++) has_changed |= take_changes(&kernels[walk->path[at].router], walk->target);
+    return has_changed ? CHANGED : THERE;
+}
+
+// Whether a loop is still there. It is unclear if it is gone after a read in which something has changed.
+static bool is_still_there(struct walk *walk, long *unclear) {
+    enum again found;
+    int reads = 0;
+    for (int at = 0; at < walk->depth; at++) follow_changes(&kernels[walk->path[at].router], true);
+    do found = read_again(walk);
+    while (found == CHANGED && ++reads < MOST_AGAIN);
+    for (int at = 0; at < walk->depth; at++) follow_changes(&kernels[walk->path[at].router], false);
+    *unclear += found == GONE && reads;
+    return found != GONE;
 }
 
 static void tell_loop(struct walk *walk) {
@@ -421,7 +479,7 @@ static void tell_loop(struct walk *walk) {
 
 static void *read_kernels(void *unused) {
     static struct walk walk;
-    long reads = 0, once = 0, twice = 0;
+    long reads = 0, once = 0, unclear = 0, twice = 0;
     double taken = 0;
     for (int it = 0; it < router_count; it++) open_kernel(it);
     while (!is_over) {
@@ -431,7 +489,7 @@ static void *read_kernels(void *unused) {
             bool is_there = false;
             for (int look = 0; look < LOOKS && !is_there && find_loop(&walk, target); look++) {
                 once++;
-                is_there = is_still_there(&walk);
+                is_there = is_still_there(&walk, &unclear);
             }
             if (is_there) tell_loop(&walk);
             twice += is_there;
@@ -440,7 +498,7 @@ static void *read_kernels(void *unused) {
         reads++;
         usleep(read_ms * 1000);
     }
-    printf("reads %ld %ld %ld %.2f\n", reads, once, twice, reads ? 1000 * taken / reads : 0);
+    printf("reads %ld %ld %ld %ld %.2f\n", reads, once, unclear, twice, reads ? 1000 * taken / reads : 0);
     return unused;
 }
 
