@@ -39,12 +39,20 @@ impl<K: Kernel> Machine<K> {
         }
     }
 
+    /// When the next hello is due after one. It is due on all devices at once, so the process wakes up once for them.
+    fn next_hello(&self, now: Duration) -> Duration {
+        let hello = self.settings.hello;
+        let past = now.as_nanos() % hello.as_nanos().max(1);
+        now + hello - Duration::from_nanos(past as u64)
+    }
+
     fn say_hello(&mut self, index: u32, now: Duration) {
+        let next = self.next_hello(now);
         let Some(device) = self.devices.get_mut(&index) else {
             return;
         };
         device.hello += 1;
-        device.next_hello = now + self.settings.hello;
+        device.next_hello = next;
         let (number, mac) = (device.hello, device.mac);
         let outdated = std::mem::take(&mut device.outdated);
         let is_heard = |it: &Neighbour| it.links.get(&index).is_some_and(|it| it.is_heard);

@@ -521,7 +521,8 @@ fn a_boot_number_that_goes_back_is_noticed() {
     lab.start_all();
     lab.run(seconds(1));
     lab.start_as(1, 3);
-    lab.run(seconds(1));
+    // The next hello of its neighbours comes within a second.
+    lab.run(Duration::from_millis(1200));
     assert_eq!(
         lab.machines[&1].start.session, 9,
         "greater than what its neighbours know"
