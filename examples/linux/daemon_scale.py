@@ -11,7 +11,7 @@ from namespaces import beside
 
 SECONDS_TO_SETTLE, SECONDS_BETWEEN = 600, 0.2
 # What a daemon says of a neighbour that is silent. If nothing fails, the machine is too busy for the timers.
-SILENT = "nothing is heard from it"
+SILENT = "nothing is heard from it", "its system does not answer"
 LONGEST_ANSWER = 1 << 16
 # What all daemons of the usual network may take together while nothing happens, and the KiB that one of them may take.
 MOST_PROCESSORS, MOST_MEMORY = 0.04, 2048
@@ -61,7 +61,7 @@ def seconds_to_settle(network, count):
 def silences(network):
     """How often a daemon has noticed that a neighbour was silent, also in earlier parts."""
     logs = [network.log(it) for it in network.names]
-    return sum(it.read_text().count(SILENT) for it in logs if it.exists())
+    return sum(it.read_text().count(text) for it in logs if it.exists() for text in SILENT)
 
 
 def idle(network, seconds):
