@@ -8,6 +8,7 @@ import daemon_network
 import daemon_run
 import inside
 import routing
+from daemon_figures import ms
 from daemon_network import FOLDER, Announced, addresses_of
 from namespaces import beside, ip
 
@@ -15,7 +16,6 @@ from namespaces import beside, ip
 PLAN = "link:8,double:4,triple:4,kill:2,restart:2,flap:2,one-way:2,stop:1"
 # Probes go to IPv4 by turns with IPv6, where nothing is announced.
 PROBE_MS = 25
-SECONDS_IN_ALL = 3600
 FAILURES = "link", "double", "triple", "flap"
 COLUMNS = (
     "Engine|Loops|Expired|Lost|Failures with an outage|Outage, ms: median; most|One-way loss|Started again|Shortest again after a repair"
@@ -43,12 +43,8 @@ class Network(daemon_network.Network):
         own = {name: addresses_of(at) for at, name in enumerate(names)}
         super().__init__(names, links, [Announced(f"{own[name][0]}/32", own[name][0], [name]) for name in names], daemon)
         for name in names:
-            ends = [(v if u == name else u, f"10.1.{at}.{int(u == name)}/31") for at, (u, v) in enumerate(links) if name in (u, v)]
-            ip(*(f"address add {address} dev {device}" for device, address in ends), f"address add {own[name][1]} dev lo", inside=name)
-
-
-def ms(seconds):
-    return f"{1000 * statistics.median(seconds):.0f}; {1000 * max(seconds):.0f}" if seconds else "-"
+            # probes of IPv6 come from there
+            ip(*routing.addressed(name, links), f"address add {own[name][1]} dev lo", inside=name)
 
 
 def row(name, run, found):
@@ -92,7 +88,7 @@ def main(words):
     asked = parser.parse_args(words)
     protocols = routing.protocols()
     try:
-        inside.go_inside({"nft": "nftables", "cc": "gcc"})
+        inside.go_inside(daemon_run.NEEDED)
         inside.try_out()
     except inside.LeftOut as it:
         sys.exit(f"bench/routers: no routers, since {it.why}")

@@ -100,6 +100,12 @@ class Place(NamedTuple):
         return file
 
 
+def addressed(name, links):
+    """What `ip` has to do for the addresses of a router's links."""
+    ends = [(v if u == name else u, f"10.1.{at}.{int(u == name)}/31") for at, (u, v) in enumerate(links) if name in (u, v)]
+    return [f"address add {address} dev {device}" for device, address in ends]
+
+
 class Bird:
     """OSPF by BIRD."""
 
@@ -176,8 +182,6 @@ class Babel:
 class Revrouted:
     """The daemon revrouted, with its default timers."""
 
-    HELLO_AND_DEAD = 1.0, 4.0
-
     def __init__(self, program):
         self.program = program
 
@@ -187,7 +191,7 @@ class Revrouted:
     def commands(self, at):
         state = at.folder / f"{at.name}.revrouted"
         state.mkdir(exist_ok=True)
-        text = revrouted.configuration(at.number, state, at.announced, self.HELLO_AND_DEAD)
+        text = revrouted.configuration(at.number, state, at.announced, revrouted.HELLO_AND_DEAD)
         config = at.write("toml", "{text}", text=text)
         yield revrouted.words(self.program, config)
 

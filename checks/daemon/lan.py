@@ -208,7 +208,7 @@ def expect(is_so, wrong):
 def kept_apart(routers):
     """Two routers do not hear each other: packets between them go over a third one, by the same device."""
     run("ip", "netns", "exec", SWITCH, "nft", "-f", "-", given=APART.format(1, 2))
-    expect(lambda: "router 2 is down: its system does not answer" in routers.log(1), "router 1 still hears router 2")
+    expect(lambda: "router 2 is down: its kernel does not answer" in routers.log(1), "router 1 still hears router 2")
     expect(lambda: all_arrive(*ROUTERS), "not all arrive while two do not hear each other")
     if routers.routes(1)["10.0.2.0/24"]["ways"][0] not in (3, 4):
         raise Wrong(f"router 1 has {routers.routes(1)}")

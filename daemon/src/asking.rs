@@ -1,27 +1,26 @@
-//! When to ask the system of a neighbour for an answer, and what follows if there is none.
+//! When to send echo requests (ICMPv6) to the kernel of a neighbour, and when to give up its link.
 //!
-//! A link that carries nothing any more in one direction has its carrier at both ends. It should be left before the neighbour
-//! has been silent for as long as its hellos say. So if a hello is late, this router sends echo requests of ICMPv6, which the
-//! neighbour's system answers. It does so also while the process there stands still or starts again, and then its tables
-//! stay in use.
+//! A link can keep its carrier at both ends and carry nothing any more in one direction. The daemon should leave it before the
+//! neighbour's dead interval ends. So if a hello is late, it sends echo requests. A kernel answers them also while the daemon
+//! there is stopped or starts again. Then the link stays up.
 
 use std::time::Duration;
 
-/// If so many requests in a row are not answered, nothing comes over the link.
+/// The link is given up if so many requests in a row are not answered.
 const MOST: u32 = 5;
-/// A hello is late after such a part of its time.
+/// A hello is late once the time between two hellos has passed, and this part of it.
 const LATE: u32 = 20;
-/// After this time a system that has never answered is tried again.
+/// After this time a kernel that has never answered is asked again.
 const LATER: Duration = Duration::from_secs(60);
 
-/// What was asked of a neighbour's system over one link.
+/// The echo requests to a neighbour's kernel over one link.
 #[derive(Default)]
 pub struct Asked {
     /// How many requests were sent since the last sign of life.
     count: u32,
     /// When the next request is due, or the last one has waited for long enough.
     next: Duration,
-    /// Whether the system has ever answered over this link. One that does not, as with a filter, shows nothing by that.
+    /// Whether the kernel has ever answered over this link. If it has not, as behind a filter, its silence means nothing.
     is_answered: bool,
 }
 
@@ -33,25 +32,25 @@ pub enum Step {
 }
 
 impl Asked {
-    /// The link is up. Whether the system answers is tried at once.
+    /// The link is up. The first request is due at once, to learn whether the kernel answers.
     pub fn begin(&mut self, now: Duration) {
         (self.count, self.next) = (0, now);
     }
 
-    /// Something came from the neighbour. If its system answers, nothing is asked before the next hello is late.
+    /// Something came from the neighbour. If its kernel answers, no request is due before the next hello is late.
     pub fn rest(&mut self, hello: Duration, now: Duration) {
         if self.is_answered {
             (self.count, self.next) = (0, now + hello + hello / LATE);
         }
     }
 
-    /// The system has answered.
+    /// The kernel has answered.
     pub fn answered(&mut self, hello: Duration, now: Duration) {
         self.is_answered = true;
         self.rest(hello, now);
     }
 
-    /// What is to be done now. For an answer this router waits as for that to a datagram.
+    /// What is to be done now. `patience` is how long an answer is awaited.
     pub fn step(&mut self, patience: Duration, now: Duration) -> Option<Step> {
         if now < self.next {
             return None;
@@ -84,7 +83,7 @@ mod tests {
         Duration::from_millis(count)
     }
 
-    /// When the steps are due, after the system has answered once and nothing comes any more.
+    /// When the steps are due, after the kernel has answered once and nothing comes any more.
     fn steps(patience: Duration) -> Vec<(Duration, Step)> {
         let mut it = Asked::default();
         it.begin(ms(0));
@@ -96,7 +95,7 @@ mod tests {
     }
 
     #[test]
-    fn a_silent_system_is_asked_five_times_once_a_hello_is_late() {
+    fn a_silent_kernel_is_asked_five_times_once_a_hello_is_late() {
         for patience in [50, 700] {
             let asks = (0..5).map(|it| (ms(1050 + it * patience), Step::Ask));
             let end = (ms(1050 + 5 * patience), Step::GiveUp);
@@ -106,16 +105,15 @@ mod tests {
     }
 
     #[test]
-    fn a_system_that_has_never_answered_is_tried_again_later() {
+    fn a_kernel_that_has_never_answered_is_asked_again_later() {
         let mut it = Asked::default();
         it.begin(ms(0));
         let asked = (0..120_000).filter(|at| {
             it.rest(HELLO, ms(*at));
             it.step(ms(50), ms(*at)).is_some()
         });
-        let wanted = [0, 50, 100, 150, 200].map(|it| [it, 60_250 + it]);
-        let (first, second): (Vec<u64>, Vec<u64>) =
-            wanted.map(|it| (it[0], it[1])).into_iter().unzip();
+        let first = [0, 50, 100, 150, 200];
+        let second = first.map(|it| 60_250 + it);
         assert_eq!(asked.collect::<Vec<_>>(), [first, second].concat());
     }
 }

@@ -4,7 +4,7 @@ use crate::boot::next_session;
 use crate::config::{self, Config};
 use crate::control::Control;
 use crate::datagram::MOST_BYTES;
-use crate::echo::Echo;
+use crate::echo::{Answer, Echo};
 use crate::interfaces::{Port, Waiting};
 use crate::kernel::{Kernel, Write};
 use crate::machine::{HOPS, Machine, Settings, drawn};
@@ -319,7 +319,7 @@ impl Daemon {
         }
     }
 
-    /// The socket for echo requests. It can do without: silence is noticed then too, but later.
+    /// The socket for echo requests. Without it the daemon notices later that a link carries nothing.
     fn open_echo(&mut self, it: &DeviceNews) -> Option<Echo> {
         let opened = Echo::open(&it.name, it.index, self.mark).and_then(|echo| {
             let token = Token(PORTS + it.index as usize);
@@ -436,12 +436,13 @@ impl Daemon {
             return;
         };
         for _ in 0..MOST_AT_ONCE {
-            let Some(answer) = echo.receive() else {
-                return;
-            };
-            if let Some(source) = answer {
-                let now = self.begun.elapsed();
-                self.machine.system_answers(index, source, now);
+            match echo.receive() {
+                Answer::Nothing => return,
+                Answer::Other => (),
+                Answer::From(source) => {
+                    let now = self.begun.elapsed();
+                    self.machine.kernel_answers(index, source, now);
+                }
             }
         }
         self.ready.insert(index);

@@ -1,4 +1,4 @@
-//! The echo requests of ICMPv6 that a device sends to the systems of neighbours, and their answers.
+//! The echo requests of ICMPv6 to the kernels of neighbours, and their answers.
 
 use crate::system;
 use socket2::{Domain, Protocol, Socket, Type};
@@ -11,6 +11,14 @@ const ANSWER: u8 = 129;
 /// A head of four bytes, two numbers of two bytes, and the mark.
 const LENGTH: usize = 16;
 const MARK: usize = 8;
+
+/// What waits at a socket.
+pub enum Answer {
+    /// An answer to a request of this process.
+    From(Ipv6Addr),
+    Other,
+    Nothing,
+}
 
 pub struct Echo {
     socket: Socket,
@@ -43,7 +51,7 @@ impl Echo {
     pub fn ask(&mut self, to: Ipv6Addr) {
         self.count = self.count.wrapping_add(1);
         let mut data = [0; LENGTH];
-        // The system writes the sum into the head.
+        // The kernel writes the checksum.
         data[0] = REQUEST;
         data[4..6].copy_from_slice(&(self.index as u16).to_be_bytes());
         data[6..8].copy_from_slice(&self.count.to_be_bytes());
@@ -53,18 +61,22 @@ impl Echo {
             .send_to(&data, &SocketAddrV6::new(to, 0, 0, self.index).into());
     }
 
-    /// Takes what waits, and returns who has answered. `None` once nothing waits.
-    pub fn receive(&self) -> Option<Option<Ipv6Addr>> {
+    /// Takes a message that waits.
+    pub fn receive(&self) -> Answer {
         let mut data = [0; LENGTH + 1];
         match system::receive(&self.socket, &mut data) {
             Ok(it) => {
                 let is_answer = it.length == LENGTH
                     && data[0] == ANSWER
                     && data[MARK..LENGTH] == self.mark.to_be_bytes();
-                Some(is_answer.then_some(it.source))
+                if is_answer {
+                    Answer::From(it.source)
+                } else {
+                    Answer::Other
+                }
             }
-            Err(error) if error.kind() == io::ErrorKind::Interrupted => Some(None),
-            Err(_) => None,
+            Err(error) if error.kind() == io::ErrorKind::Interrupted => Answer::Other,
+            Err(_) => Answer::Nothing,
         }
     }
 }

@@ -335,7 +335,7 @@ impl<K: Kernel> Machine<K> {
         self.links_changed(number, why, now);
     }
 
-    /// Notices that neighbours are silent, and asks the systems of those whose hellos are late.
+    /// Notices that neighbours are silent, and asks the kernels of those whose hellos are late.
     pub fn notice_silence(&mut self, now: Duration) {
         let mut silent = Vec::new();
         for (number, it) in &mut self.neighbours {
@@ -347,7 +347,7 @@ impl<K: Kernel> Machine<K> {
                     self.asks.push((*device, link.address));
                 }
                 let why = if step == Some(Step::GiveUp) {
-                    "its system does not answer"
+                    "its kernel does not answer"
                 } else if link.is_heard && link.until <= now {
                     "nothing is heard from it"
                 } else {
@@ -362,8 +362,8 @@ impl<K: Kernel> Machine<K> {
         }
     }
 
-    /// The system of a neighbour, which has a link-local address, has answered over a device.
-    pub fn system_answers(&mut self, device: u32, source: Ipv6Addr, now: Duration) {
+    /// The kernel of the neighbour with this link-local address has answered an echo request over a device.
+    pub fn kernel_answers(&mut self, device: u32, source: Ipv6Addr, now: Duration) {
         let hello = self.settings.hello;
         let links = self.neighbours.values_mut();
         let links = links.filter_map(|it| it.links.get_mut(&device));

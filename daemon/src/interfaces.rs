@@ -1,5 +1,5 @@
 //! The sockets of links: datagrams of UDP to a multicast group of the link, with a hop limit of 255, which no router has
-//! forwarded; and echo requests to the systems of neighbours.
+//! forwarded; and echo requests to the kernels of neighbours.
 
 use crate::datagram::MOST_BYTES;
 use crate::echo::Echo;
@@ -16,7 +16,7 @@ const HOP_LIMIT: i32 = 255;
 
 pub struct Port {
     socket: Socket,
-    /// `None` if the system allows no echo requests.
+    /// `None` if the kernel refused the socket.
     pub echo: Option<Echo>,
     index: u32,
 }

@@ -131,7 +131,7 @@ pub struct Machine<K> {
     pub fading: BTreeMap<Prefix, Duration>,
     /// Datagrams to be sent over devices.
     pub outbox: Vec<(u32, Vec<u8>)>,
-    /// Systems of neighbours that are to be asked for an answer, each over a device.
+    /// Echo requests to be sent: the device, and the address of the neighbour.
     pub asks: Vec<(u32, Ipv6Addr)>,
     /// A later session of this router that a neighbour knows. Then the machine has to end.
     pub later_session: Option<u32>,

@@ -15,7 +15,7 @@ pub struct Adjacency {
     /// The neighbour is gone if nothing is heard until then.
     pub until: Duration,
     pub is_heard: bool,
-    /// What its system was asked, while the link is up.
+    /// The echo requests to its kernel, while the link is up.
     pub asked: Asked,
     /// Whether the neighbour says that it hears this session of this router.
     pub hears_me: bool,

@@ -85,18 +85,18 @@ fn deafened(unasked: &[u32]) -> Lab {
 }
 
 #[test]
-fn a_link_that_loses_all_is_left_once_the_system_at_its_other_end_does_not_answer() {
+fn a_link_that_loses_all_is_left_once_the_kernel_at_its_other_end_does_not_answer() {
     let mut lab = deafened(&[]);
     lab.run(Duration::from_millis(1500));
     assert_eq!(lab.path(0, own(1).address()), [0, 4, 3, 2, 1]);
     let said: Vec<_> = lab.machines[&1].journal.after(0).collect();
-    let text = "router 0 is down: its system does not answer";
+    let text = "router 0 is down: its kernel does not answer";
     assert!(said.iter().any(|it| it.text == text));
     lab.expect_all_arrive();
 }
 
 #[test]
-fn a_system_that_never_answers_shows_nothing_by_that() {
+fn the_silence_of_a_kernel_that_never_answers_means_nothing() {
     let mut lab = deafened(&[0]);
     lab.run(Duration::from_millis(2500));
     assert_eq!(lab.path(0, own(1).address()), [0, 1], "packets are lost");
@@ -104,9 +104,9 @@ fn a_system_that_never_answers_shows_nothing_by_that() {
     lab.expect_all_arrive();
 }
 
-/// The process of router 1 is away for longer than a hello takes, and its system goes on.
+/// The process of router 1 is away for longer than the time between two hellos. Its kernel goes on.
 #[test]
-fn a_system_that_answers_stands_for_its_process_until_that_is_dead() {
+fn a_kernel_that_answers_keeps_the_link_until_the_process_is_dead() {
     let mut lab = Lab::new(&RING, 5);
     lab.start_all();
     lab.run(seconds(2));

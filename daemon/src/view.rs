@@ -72,7 +72,7 @@ pub struct LinkView {
     pub heard: bool,
     pub hears_us: bool,
     pub up: bool,
-    /// Whether its system has answered an echo request over this link.
+    /// Whether its kernel has answered an echo request over this link.
     #[serde(default)]
     pub answers: bool,
 }

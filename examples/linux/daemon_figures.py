@@ -69,9 +69,13 @@ def parts(names, targets, events, rounds):
     return found
 
 
+def ms(times):
+    """The median and the most of some seconds, in milliseconds."""
+    return f"{1000 * statistics.median(times):.0f}; {1000 * max(times):.0f}" if times else "-"
+
+
 def row(kind, some):
     """A row of the table."""
-    ms = lambda times: f"{1000 * statistics.median(times):.0f}; {1000 * max(times):.0f}" if times else "-"
     outages = [it.outage for it in some if it.lost]
     lost = f"{sum(it.lost for it in some):,} of {sum(it.asked for it in some):,}"
     settled = ms([it.settled for it in some])

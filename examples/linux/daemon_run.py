@@ -14,7 +14,8 @@ from daemon_network import FOLDER, Watch
 NETWORKS = "ring", "geometric", "fat-tree"
 # The events of the calm part, by their names in daemon_events.py.
 PLAN = "link:8,double:4,triple:4,kill:2,restart:2,flap:2,one-way:2,stop:1,costs:1"
-SEED, ROUTERS, PROBE_MS, READ_MS, DWELL, QUIET, HELLO_AND_DEAD = 22, 28, 50, 20, 2.5, 8, (1.0, 4.0)
+SEED, ROUTERS, PROBE_MS, READ_MS, DWELL, QUIET = 22, 28, 50, 20, 2.5, 8
+NEEDED = {"nft": "nftables", "cc": "gcc"}
 SECONDS_TO_START, SECONDS_TO_REPAIR = 60, 60
 
 
@@ -30,11 +31,8 @@ def add_options(parser):
     parser.add_argument("--plan", metavar="EVENTS", default=PLAN, help="the events of a calm part, with counts (%(default)s)")
     parser.add_argument("--dwell", metavar="SECONDS", type=float, default=DWELL, help="the time after each of them (%(default)s)")
     parser.add_argument("--quiet", metavar="SECONDS", type=float, default=QUIET, help="how long bytes are counted while all is idle (%(default)s)")
-    parser.add_argument("--hello", metavar="SECONDS", type=float, default=HELLO_AND_DEAD[0], help="the time between two hellos (%(default)s)")
-    parser.add_argument("--dead", metavar="SECONDS", type=float, default=HELLO_AND_DEAD[1], help="the silence after which a neighbour is gone (%(default)s)")
     parser.add_argument("--probe", metavar="MS", type=int, default=PROBE_MS, help="milliseconds between rounds of probes (%(default)s)")
     parser.add_argument("--read", metavar="MS", type=int, default=READ_MS, help="milliseconds between reads of all kernels (%(default)s)")
-    parser.add_argument("--out", metavar="FILE", type=Path, help="where a line of JSON with the figures is added")
     parser.add_argument("--logs", metavar="FOLDER", type=Path, help="where what the daemons say is kept, and the tables of routers with a loop")
 
 

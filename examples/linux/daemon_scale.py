@@ -11,7 +11,7 @@ from namespaces import beside
 
 SECONDS_TO_SETTLE, SECONDS_BETWEEN = 600, 0.2
 # What a daemon says of a neighbour that is silent. If nothing fails, the machine is too busy for the timers.
-SILENT = "nothing is heard from it", "its system does not answer"
+SILENT = "nothing is heard from it", "its kernel does not answer"
 LONGEST_ANSWER = 1 << 16
 # What all daemons of the usual network may take together while nothing happens, and the KiB that one of them may take.
 MOST_PROCESSORS, MOST_MEMORY = 0.04, 2048

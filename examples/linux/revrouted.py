@@ -25,6 +25,10 @@ dead = {dead}
 """
 
 
+# The seconds between two hellos, and of silence until a neighbour is gone, as by default.
+HELLO_AND_DEAD = 1.0, 4.0
+
+
 class NotThere(Exception):
     """The daemon cannot be run or built here, and why."""
 

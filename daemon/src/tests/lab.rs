@@ -49,9 +49,9 @@ pub struct Lab {
     /// The same from one device to another one of a LAN.
     pub apart: BTreeSet<((u32, u32), (u32, u32))>,
     pub way: Vec<Datagram>,
-    /// Answers of systems to echo requests: the router and the device that they come to, and from which address.
+    /// Answers to echo requests: the router and the device that they come to, and from which address.
     pub answers: Vec<((u32, u32), Ipv6Addr)>,
-    /// Routers whose systems answer no echo requests.
+    /// Routers whose kernels answer no echo requests.
     pub unasked: BTreeSet<u32>,
     pub now: Duration,
     pub dice: Dice,
@@ -226,7 +226,7 @@ impl Lab {
             }
             for (to, from) in std::mem::take(&mut self.answers) {
                 if let Some(machine) = self.machines.get_mut(&to.0) {
-                    machine.system_answers(to.1, from, self.now);
+                    machine.kernel_answers(to.1, from, self.now);
                 }
             }
             if self.late_percent > 0 && self.way.len() > 1 {
@@ -279,7 +279,7 @@ impl Lab {
         }
     }
 
-    /// Asks the system that has an address for an answer, whether or not a process runs there.
+    /// Sends an echo request to a kernel, whether or not a process runs there.
     fn ask(&mut self, from: (u32, u32), to: Ipv6Addr) {
         let ends = self.world.borrow().ends[&from].clone();
         let Some(end) = ends.into_iter().find(|it| address(it.0, it.1) == to) else {
