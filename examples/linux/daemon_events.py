@@ -142,8 +142,9 @@ KINDS = {
     "fill": (1, 2),
     "double": (1, 2),
     "cost": (2, 1),
+    "withdraw": (2, 3),
 }
-# The daemons of a storm lose datagrams, write slowly and are refused writes: see storm.c.
+# The daemons of a storm lose datagrams, get some late, write slowly and are refused writes: see storm.c.
 STORM = "lost=0.2 late=0.2 mute=0.01 slow=0.02 refused=0.02"
 SECONDS_LASTING, SECONDS_BETWEEN = (0.2, 6), (0.02, 0.4)
 # A day, by which the clock of a router goes back at a start.
@@ -246,6 +247,12 @@ class Storm:
         for name in self.free(self.network.names)[:1]:
             other = self.draw.choice([*beside(name, self.network.links)])
             self.network.set_costs(name, {other: self.draw.choice(SOME_COSTS)})
+
+    def withdraw(self):
+        """A router announces nothing for a while."""
+        for name in self.free(self.network.names)[:1]:
+            self.network.withdraw(name, True)
+            self.last("withdraw", [name], lambda name: self.network.withdraw(name, False))
 
     def stop(self):
         for name in self.free(self.network.names)[:1]:

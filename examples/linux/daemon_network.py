@@ -79,8 +79,8 @@ class Network:
         self.names, self.links, self.announced, self.daemon = names, links, announced, daemon
         # the processes of each router whose daemon runs: some daemons have several
         self.running, self.ended, self.starts, self.taken = {}, [], 0, 0
-        # the number with which each router has started last, and its costs that are not 1, by the device
-        self.numbers, self.costs = {}, {it: {} for it in names}
+        # the number with which each router has started last, its costs that are not 1, by the device, and who announces nothing
+        self.numbers, self.costs, self.silent = {}, {it: {} for it in names}, set()
         run("mkdir", "-p", FOLDER)
         ip(*(f"netns add {name}" for name in names))
         for name in names:
@@ -163,13 +163,22 @@ class Network:
     def write_configuration(self, name):
         """Writes the configuration in one step: a daemon may read it at any time."""
         file, new = FOLDER / f"{name}.toml", FOLDER / f"{name}.toml.new"
-        prefixes = [it.prefix for it in self.announced if name in it.routers]
+        prefixes = [it.prefix for it in self.announced if name in it.routers and name not in self.silent]
         new.write_text(revrouted.configuration(self.numbers[name] + 1, self.state(name), prefixes, self.daemon.timers, self.costs[name]))
         return new.replace(file)
 
     def set_costs(self, name, costs):
-        """It costs a router something else to send packets over some devices. Its daemon reads that, once it takes the signal."""
+        """It costs a router something else to send packets over some devices."""
         self.costs[name] |= costs
+        self.reload(name)
+
+    def withdraw(self, name, is_silent):
+        """Has a router announce no prefix, or all of its own again."""
+        self.silent = self.silent | {name} if is_silent else self.silent - {name}
+        self.reload(name)
+
+    def reload(self, name):
+        """Has a daemon read its configuration, once it takes the signal."""
         self.write_configuration(name)
         if all(takes(it.pid, signal.SIGHUP) for it in self.running.get(name, ())):
             self.signal(name, signal.SIGHUP)
