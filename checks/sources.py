@@ -10,7 +10,8 @@ FLAT = r"<(?:->|[^<>])*>"
 NESTED = rf"<(?:->|[^<>]|{FLAT})*>"
 GENERICS = rf"<(?:->|[^<>]|{NESTED})*>"
 FUNCTION = re.compile(r'( *)(pub )?(?:pub\([\w ]+\) )?(?:(?:const|unsafe|extern "C") )*fn (\w+)')
-IMPL = re.compile(rf"(?:unsafe )?impl(?:{GENERICS})? (?:(\w+)(?:<(\w+).*>)? for )?([\w:]+)")
+# An impl: its parameters, the trait with its first argument, of which the first argument may stand behind it, and the type.
+IMPL = re.compile(rf"(?:unsafe )?impl({GENERICS})? (?:(\w+)(?:<(\w+)(?:<(\w+)>)?.*>)? for )?([\w:]+)")
 # The files whose functions belong to the module of their folder.
 ROOTS = ("lib", "main", "mod")
 
@@ -49,9 +50,10 @@ def functions(crate, file, text):
         elif found := FUNCTION.match(line):
             module, owner = modules(file), []
             if found[1] and block:
-                name = block[3].rpartition("::")[2]
-                module = module if block[1] else home(crate, file, name)
-                owner = [name + (block[1] or "") + (block[2] or "")]
+                parameters, trait, *arguments = [it or "" for it in block.groups()[:-1]]
+                name = block[5].rpartition("::")[2]
+                module = module if trait else home(crate, file, name)
+                owner = ["".join([name, trait, *(it for it in arguments if it not in re.findall(r"\w+", parameters))])]
             yield Function("::".join([*module, *owner, found[3]]), at + 1, begin(at) + 1, bool(found[2]))
 
 
