@@ -176,6 +176,27 @@ def ended_process():
     expect(soon(lambda: all_arrive(*ROUTERS)), "not all arrive after a process was started again")
 
 
+def number_gone_back():
+    """The boot number of a router goes back. Its neighbours know a later process, so it pauses, as its status says, and goes on
+    with a greater number. The pause is short, so a busy machine may miss it."""
+    boot, earlier = STATE / "3" / "boot", "5\n"
+
+    def pause():
+        status, said = call("ask", 3, "status", "--json")
+        return None if status else json.loads(said)["pause_seconds"]
+
+    def is_seen():
+        done("kill", 3)
+        boot.write_text(earlier)
+        done("start", 3)
+        return soon(pause, DEAD)
+
+    expect(any(is_seen() is not None for _ in range(RESTARTS)), f"router 3 does not say that it pauses: {events(3)}")
+    expect(soon(lambda: all_arrive(*ROUTERS)), "not all arrive after a boot number has gone back")
+    expect("a neighbour knows a process with the number 3" in events(3), f"router 3 does not say why it pauses: {events(3)}")
+    expect(boot.read_text() != earlier, "the boot number is not kept")
+
+
 def reloaded():
     """A prefix is announced by HUP, and withdrawn again. A wrong file changes nothing."""
     file, pid, more = STATE / "1.toml", int((STATE / "1.pid").read_text()), "10.9.0.0/16"
@@ -222,6 +243,7 @@ def check():
     first_network()
     took, started = lost_link(), killed_process()
     ended_process()
+    number_gone_back()
     reloaded()
     wrong_words()
     return f"daemon: three routers reach each other by IPv4 and IPv6, {took:.1f} s after a link is cut, {1000 * started:.0f} ms after a start"
