@@ -352,6 +352,24 @@ mod tests {
         }
     }
 
+    /// The configurations that README and DAEMON show are taken as they are.
+    #[test]
+    fn what_the_pages_show_is_taken() {
+        let top = Path::new(env!("CARGO_MANIFEST_DIR")).join("..");
+        for page in ["README.md", "docs/DAEMON.md"] {
+            let text = std::fs::read_to_string(top.join(page)).unwrap();
+            let shown: Vec<&str> = text
+                .split("```toml\n")
+                .skip(1)
+                .filter_map(|it| it.split("```").next())
+                .collect();
+            assert!(!shown.is_empty(), "{page}");
+            for it in shown {
+                assert!(read(it).is_ok(), "{page}: {:?}", read(it).err());
+            }
+        }
+    }
+
     #[test]
     fn patterns() {
         for (pattern, name, fits) in [
