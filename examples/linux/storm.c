@@ -1,7 +1,7 @@
 // Stands before the C library in a daemon (LD_PRELOAD), and makes its life hard. The environment variable STORM has words NAME=NUMBER:
 //   seed     by which all is drawn, with the number of the process
 //   lost     the share of datagrams that are lost, also of echo requests
-//   late     the share of datagrams that arrive late, up to 3 seconds, and also after a new start of the process that sent them
+//   late     the share of datagrams that arrive late, up to 3 seconds, also after a new start of their sender
 //   mute     the share of datagrams that are lost together with all others of the socket for up to 1.5 seconds
 //   slow     the most seconds that a write to the kernel takes
 //   refused  the share of requests in writes that the kernel refuses, from the first datagram on
@@ -85,12 +85,13 @@ static double chance(void) {
 static int hold_back(int file, const struct msghdr *message, size_t size) {
     int at = 0;
     while (at < MOST_LATE && held[at]) at++;
-    if (at == MOST_LATE || message->msg_iovlen != 1 || size > MOST_BYTES || message->msg_controllen > sizeof held[0]->control) return 0;
+    if (at == MOST_LATE || message->msg_iovlen != 1 || size > MOST_BYTES) return 0;
+    if (message->msg_controllen > sizeof held[0]->control) return 0;
     struct late *it = held[at] = calloc(1, sizeof *it);
     if (!it) return 0;
     double share = chance();
-    *it = (struct late){.due = now() + share * share * MOST_SECONDS_LATE, .file = file, .flags = message->msg_flags, .size = size};
-    it->from_size = message->msg_namelen, it->control_size = message->msg_controllen;
+    *it = (struct late){.due = now() + share * share * MOST_SECONDS_LATE, .file = file, .flags = message->msg_flags};
+    it->size = size, it->from_size = message->msg_namelen, it->control_size = message->msg_controllen;
     if (it->from_size) memcpy(&it->from, message->msg_name, it->from_size);
     memcpy(it->control, message->msg_control, it->control_size);
     memcpy(it->data, message->msg_iov[0].iov_base, size);
@@ -102,13 +103,15 @@ static ssize_t hand_out(int file, struct msghdr *message) {
     double time = now();
     for (int at = 0; at < MOST_LATE; at++) {
         struct late *it = held[at];
-        if (!it || it->file != file || it->due > time || message->msg_iovlen != 1) continue;
-        if (message->msg_iov[0].iov_len < it->size || message->msg_controllen < it->control_size || message->msg_namelen < it->from_size) continue;
+        if (!it || it->file != file || it->due > time) continue;
+        if (message->msg_iovlen != 1 || message->msg_iov[0].iov_len < it->size) continue;
+        if (message->msg_controllen < it->control_size || message->msg_namelen < it->from_size) continue;
         ssize_t size = (ssize_t)it->size;
         memcpy(message->msg_iov[0].iov_base, it->data, it->size);
         if (it->from_size) memcpy(message->msg_name, &it->from, it->from_size);
         memcpy(message->msg_control, it->control, it->control_size);
-        message->msg_namelen = it->from_size, message->msg_controllen = it->control_size, message->msg_flags = it->flags;
+        message->msg_namelen = it->from_size, message->msg_controllen = it->control_size;
+        message->msg_flags = it->flags;
         free(it);
         held[at] = NULL;
         return size;
